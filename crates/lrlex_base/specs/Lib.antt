@@ -1,0 +1,5 @@
+pub mod Classes
+pub mod Spans
+pub mod Places
+pub mod Edits
+pub mod Lexemes

@@ -1,0 +1,20 @@
+//! What a lexer's types are: places in a text, classes of characters, ids of tokens, lexemes and errors.
+#![tactic(auto)]
+
+mod classes;
+mod defaults;
+mod edits;
+mod ids;
+mod lexemes;
+mod lexers;
+mod spans;
+#[cfg(test)]
+mod tests;
+
+pub use crate::classes::{is_blank, is_line_sep, is_white_space};
+pub use crate::defaults::{DefaultLexeme, DefaultLexerTypes};
+pub use crate::edits::Edit;
+pub use crate::ids::Id;
+pub use crate::lexemes::{LexError, Lexeme};
+pub use crate::lexers::LexerTypes;
+pub use crate::spans::{Span, Spanned, SpansKind};

@@ -1,0 +1,2 @@
+//! What the program `lrlex` does, over any writer, reader and files.
+#![tactic(auto)]
