@@ -1,10 +1,10 @@
 -- What contracts see of faults and errors.
-use Rattle.std.specs.Prelude.{ℕ, List, ◌++◌, codes, Option, Some, None}
+use Rattle.std.specs.Prelude.{ℕ, ◌<◌, List, All, ◌++◌, codes, length, Option, Some, None}
 use Rattle.std.specs.Fmt.{decimal}
 use Rattle.lrlex_base.specs.declared.spans.Span.{Span}
 use Rattle.lrlex_base.specs.declared.spans.SpansKind.{SpansKind}
 use Rattle.lrlex_base.specs.declared.spans.SpansKind.TheVariants as shown
-use Rattle.lrlex_base.specs.Spans.{span_start}
+use Rattle.lrlex_base.specs.Spans.{Fits, span_start}
 use Rattle.lrlex.specs.declared.states.StartStateId.{StartStateId}
 use Rattle.lrlex.specs.declared.errors.LRLexError.{LRLexError}
 use Rattle.lrlex.specs.declared.faults.LexErrorKind.{LexErrorKind}
@@ -48,3 +48,8 @@ fault_kind e = e.kind
 
 abbrev pub fault_spans : LexBuildError → List Span
 fault_spans e = e.spans.items
+
+-- the fault names a place, and each of its places is in the rule text
+pub record IsPlaced (rules : List ℕ) (e : LexBuildError) : Type 0 where
+  pub some : 0 < length (fault_spans e)
+  pub fit : All (Fits rules) (fault_spans e)

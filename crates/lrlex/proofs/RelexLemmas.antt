@@ -1,0 +1,45 @@
+-- Where a new run meets the old one.
+use Rattle.std.proofs.Common.{◌≡◌, ◌≢◌, ℕ, zero, suc, ◌+◌, ◌-◌, ◌*◌, ◌^◌, ◌<◌, ◌≤◌, Bool, true, false, true≢false, ◌&&◌, ◌==◌, List, [], ◌∷◌, ◌++◌, length, map, take, drop, get_or, Option, None, Some, slice_get, refl, sym, ap, ap₂, ◌∙◌, subst, inl, inr, arith, All, eq-eqb, append_assoc, length-append}
+use Rattle.std.specs.Bool.{Decides}
+use Rattle.std.proofs.lemmas.Bool.{eqb-true, cases_lt}
+use Rattle.std.proofs.lemmas.Option.{none-some, same_Some, slice_get-map, slice_get_within, slice_get-get_or, get_or_from_slice_get}
+use Rattle.std.proofs.lemmas.List.{length-drop, get_or-drop, map_more, length-map, map-append, get_or_at, get_or-map}
+use Rattle.lrlex.specs.Marks.{Mark, no_mark, mark_at, last_runs, bound}
+use Rattle.lrlex.specs.Edits.{IsMovableMark, moved_mark, Meets, IsSortedRuns}
+use Rattle.lrlex.specs.Runs.{plain, AreRuns}
+
+-- ---- the same pairs
+
+both : (a b : Bool) → (a && b) ≡ true → (a ≡ true) × (b ≡ true)
+both true true e = (refl, refl)
+both true false e = absurd (true≢false (sym e))
+both false b e = absurd (true≢false (sym e))
+
+pub pair_decides : (a b : ℕ × ℕ) → Decides (a.0 == b.0 && a.1 == b.1) (a ≡ b)
+pair_decides a b =
+    (λ e. let h = both _ _ e in ap₂ (λ (x y : ℕ). (x, y)) (eqb-true a.0 b.0 h.0) (eqb-true a.1 b.1 h.1),
+     λ e. ap₂ ◌&&◌ (eq-eqb a.0 b.0 (ap (λ x. x.0) e)) (eq-eqb a.1 b.1 (ap (λ x. x.1) e)))
+
+-- ---- the tail of the old boundaries
+
+pub movable_at : (old : List Mark) (i next p q g n : ℕ) → All (IsMovableMark p q g n) (drop (i + 1) old) → i + 1 ≤ next → next < length old → IsMovableMark p q g n (mark_at old next)
+movable_at old i next p q g n h le within =
+    let k : ℕ = next - (i + 1) in
+    let at : (i + 1) + k ≡ next = omega arith in
+    subst (IsMovableMark p q g n) (get_or-drop (i + 1) old k no_mark ∙ ap (mark_at old) at) (h k no_mark (omega (arith, length-drop (i + 1) old)))
+
+pub last_runs-push : (ms : List Mark) (m : Mark) → last_runs (ms ++ m ∷ []) ≡ m.runs
+last_runs-push ms m =
+    let n : length ms ≡ length (ms ++ m ∷ []) - 1 = omega (arith, length-append ms (m ∷ [])) in
+    ap (λ i. (mark_at (ms ++ m ∷ []) i).runs) (sym n) ∙ ap (λ (x : Mark). x.runs) (get_or_at ms m [] no_mark (length ms) refl)
+
+pub tail_more : (base self now old : List Mark) (f : Mark → Mark) (i next : ℕ) → i + 1 ≤ next → next < length old →
+    self ≡ base ++ map f (take (next - (i + 1)) (drop (i + 1) old)) → now ≡ self ++ f (mark_at old next) ∷ [] →
+    now ≡ base ++ map f (take (next + 1 - (i + 1)) (drop (i + 1) old))
+tail_more base self now old f i next le within was is =
+    let k : ℕ = next - (i + 1) in
+    let at : (i + 1) + k ≡ next = omega arith in
+    let more : k + 1 ≡ next + 1 - (i + 1) = omega arith in
+    let step = map_more f (drop (i + 1) old) k no_mark (omega (arith, length-drop (i + 1) old)) in
+    is ∙ ap (λ xs. xs ++ f (mark_at old next) ∷ []) was ∙ append_assoc base (map f (take k (drop (i + 1) old))) (f (mark_at old next) ∷ [])
+    ∙ ap (λ xs. base ++ xs) (ap (λ x. map f (take k (drop (i + 1) old)) ++ f x ∷ []) (sym (get_or-drop (i + 1) old k no_mark ∙ ap (mark_at old) at)) ∙ sym step ∙ ap (λ n. map f (take n (drop (i + 1) old))) more)

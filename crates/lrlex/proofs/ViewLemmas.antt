@@ -1,0 +1,151 @@
+-- Rules and states, seen through their views.
+use Rattle.std.proofs.Common.{◌≡◌, ◌≢◌, zero, suc, ne_eqb, ℕ, ◌<◌, Bool, true, false, cond, not, ◌||◌, ◌==◌, List, [], ◌∷◌, map, length, get_or, Option, Some, None, option_map, unwrap_or, slice_get, refl, sym, ap, ◌∙◌, subst, arith, eq-eqb, ◌&&◌, true≢false, nat_lt, ◌≤◌, take, ◌++◌, IsCharBoundary}
+use Rattle.std.proofs.Math.Seq.{take-append_seam}
+use Rattle.std.proofs.lemmas.Bool.{cond-true, cond-false, ltb-true, ltb-false}
+use Rattle.std.proofs.lemmas.List.Sums.{passes_at_first, fails_before_first}
+use Rattle.std.proofs.lemmas.List.Folds.{Any-from_list_any}
+use Rattle.std.proofs.lemmas.List.{length-map}
+use Rattle.std.proofs.lemmas.Option.{slice_get-map, slice_get_read, same_Some, none-some}
+use Rattle.regex.specs.Strings.{regex_pattern, matcher_pattern}
+use Rattle.regex.specs.declared.string.matcher.Matcher.{Matcher}
+use Rattle.regex.specs.Patterns.{Re, find_str, span}
+use Rattle.regex_hir.specs.Text.{is_boundary}
+use Rattle.regex.proofs.Utf8Lemmas.{test_of_IsCharBoundary}
+use Rattle.std.specs.List.{list_any, find, position, position_or_len}
+use Rattle.regex_hir.specs.Text.{is_some_and}
+use Rattle.lrlex.specs.Definition.{Definition, Rule, StartState}
+use Rattle.lrlex.specs.Patterns.{end_from_zero, match_length, pattern_of}
+use Rattle.lrlex.specs.Active.{is_active, taken_by, taken_by_any, taken, no_rule, rule_at}
+use Rattle.lrlex.specs.Parts.{as_state, as_rule, rule_regex}
+use Rattle.lrlex.specs.Views.{definition_of, ArePaired}
+use Rattle.lrlex.specs.declared.rules.Rule as code
+use Rattle.lrlex.specs.declared.lexer.definition.LRNonStreamingLexerDef.{LRNonStreamingLexerDef}
+use Rattle.lrlex.specs.declared.states.StartState as start
+
+pub list_any-map : {A B : Type 0} (f : A → B) (p : B → Bool) (xs : List A) → list_any p (map f xs) ≡ list_any (λ x. p (f x)) xs
+list_any-map f p [] = refl
+list_any-map f p (x ∷ xs) = ap (λ b. p (f x) || b) (list_any-map f p xs)
+
+cond_map : {A B : Type 0} (f : A → B) (b : Bool) (x : A) (o : Option A) (u : Option B) → u ≡ option_map f o → cond b (Some (f x)) u ≡ option_map f (cond b (Some x) o)
+cond_map f true x o u e = refl
+cond_map f false x o u e = e
+
+pub find-map : {A B : Type 0} (f : A → B) (p : B → Bool) (xs : List A) → find p (map f xs) ≡ option_map f (find (λ x. p (f x)) xs)
+find-map f p [] = refl
+find-map f p (x ∷ xs) = cond_map f (p (f x)) x _ _ (find-map f p xs)
+
+test_viewed : (o : Option start.StartState) → is_some_and (option_map as_state o) (λ s. not s.exclusive) ≡ is_some_and o (λ s. not s.exclusive)
+test_viewed None = refl
+test_viewed (Some s) = refl
+
+pub inclusive_as : (states : List start.StartState) (id : ℕ) (o : Option start.StartState) → o ≡ find (λ s. s.id == id) states →
+    is_some_and o (λ s. not s.exclusive) ≡ is_some_and (find (λ s. s.id == id) (map as_state states)) (λ s. not s.exclusive)
+inclusive_as states id o e =
+    sym (test_viewed o) ∙ ap (λ (u : Option StartState). is_some_and u (λ s. not s.exclusive))
+    (ap (option_map as_state) e ∙ sym (find-map as_state (λ s. s.id == id) states))
+
+-- ---- what a search answers
+
+end_at_zero : (text : List ℕ) (s e : ℕ) → s ≡ 0 → IsCharBoundary text e → end_from_zero text (Some (s, e)) ≡ e
+end_at_zero text s e at cut =
+    let first : (s == 0) ≡ true = eq-eqb s 0 at in
+    cond-true (s == 0 && is_boundary text e) e 0 (rw (first, test_of_IsCharBoundary text e cut) refl)
+
+pub match_length_found : (re : Re) (text : List ℕ) (s e : ℕ) → Some (s, e) ≡ option_map span (find_str re text 0) → s ≡ 0 → IsCharBoundary text e →
+    e ≡ match_length re text
+unfolding match_length
+match_length_found re text s e found at cut = sym (end_at_zero text s e at cut) ∙ ap (end_from_zero text) found
+
+pub match_length_other : (re : Re) (text : List ℕ) (o : Option (ℕ × ℕ)) → o ≡ option_map span (find_str re text 0) → end_from_zero text o ≡ 0 →
+    0 ≡ match_length re text
+unfolding match_length
+match_length_other re text o found none = sym none ∙ ap (end_from_zero text) found
+
+pub end_elsewhere : (text : List ℕ) (s e : ℕ) → s ≢ 0 → end_from_zero text (Some (s, e)) ≡ 0
+end_elsewhere text s e h =
+    let first : (s == 0) ≡ false = ne_eqb s 0 h in
+    cond-false (s == 0 && is_boundary text e) e 0 (rw first refl)
+
+-- ---- rules and their matchers by place
+
+pub paired_len : {S : Type 0} (matchers : List Matcher) (rules : List (code.Rule S)) → ArePaired matchers rules → length matchers ≡ length rules
+paired_len matchers rules p =
+    sym (length-map matchers matcher_pattern) ∙ ap length p ∙ length-map rules (λ r. regex_pattern (rule_regex r))
+
+module _ {S : Type 0} (rules : List (code.Rule S)) (i : ℕ) (r : code.Rule S) (within : i < length rules) (read : r ≡ get_or rules i r) where
+  view_at : {B : Type 0} (f : code.Rule S → B) → slice_get (map f rules) i ≡ Some (f r)
+  view_at f = slice_get-map f rules i ∙ ap (option_map f) (slice_get_read rules (length rules) i r refl within read)
+
+pub rule_at_place : {S : Type 0} (number : S → ℕ) (rules : List (code.Rule S)) (i : ℕ) (r : code.Rule S) → i < length rules → r ≡ get_or rules i r →
+    slice_get (map (as_rule number) rules) i ≡ Some (as_rule number r)
+rule_at_place number rules i r within read = view_at rules i r within read (as_rule number)
+
+pub rule_read : {L X S E P Q : Type 0} (number : S → ℕ) (d : LRNonStreamingLexerDef L X S E P Q) (i : ℕ) (r : code.Rule S) →
+    i < length d.table.rules.items → r ≡ get_or d.table.rules.items i r → rule_at (definition_of number d) i ≡ as_rule number r
+rule_read number d i r within read = ap (λ (o : Option Rule). unwrap_or o no_rule) (view_at d.table.rules.items i r within read (as_rule number))
+
+-- ---- what an active rule takes
+
+by_active : (d : Definition) (q : ℕ) (text : List ℕ) (r : Rule) → is_active d.states q r ≡ true → taken_by d q text r ≡ match_length (pattern_of r) text
+unfolding taken_by
+by_active d q text r e = cond-true _ (match_length (pattern_of r) text) 0 e
+
+by_inactive : (d : Definition) (q : ℕ) (text : List ℕ) (r : Rule) → is_active d.states q r ≡ false → taken_by d q text r ≡ 0
+unfolding taken_by
+by_inactive d q text r e = cond-false _ (match_length (pattern_of r) text) 0 e
+
+pub taken_inactive : (d : Definition) (q : ℕ) (text : List ℕ) (o : Option Rule) → is_some_and o (is_active d.states q) ≡ false → taken_by_any d q text o ≡ 0
+taken_inactive d q text None e = refl
+taken_inactive d q text (Some r) e = by_inactive d q text r e
+
+pub taken_active : (d : Definition) (q : ℕ) (text : List ℕ) (o : Option Rule) (r : Rule) → is_some_and o (is_active d.states q) ≡ true →
+    o ≡ Some r → taken_by_any d q text o ≡ match_length (pattern_of r) text
+taken_active d q text None r e at = absurd (none-some _ at)
+taken_active d q text (Some s) r e at = by_active d q text s e ∙ ap (λ x. match_length (pattern_of x) text) (same_Some _ _ at)
+
+-- ---- the first state with an id
+
+position_cases : (n len i : ℕ) (b : Bool) → nat_lt n len ≡ b → Some i ≡ cond b (Some n) None → (i ≡ n) × (n < len)
+position_cases n len i true t e = (same_Some _ _ e, ltb-true n len t)
+position_cases n len i false t e = absurd (none-some _ (sym e))
+
+pub position_within : {A : Type 0} (p : A → Bool) (xs : List A) (i : ℕ) → Some i ≡ position p xs → i < length xs
+position_within p xs i e =
+    let found = position_cases (position_or_len p xs) (length xs) i _ refl e in
+    omega (arith, found.0, found.1)
+
+pub item_at : {A : Type 0} (xs : List A) (i : ℕ) → i < length xs → A
+item_at [] i h = absurd (omega arith)
+item_at (x ∷ xs) zero h = x
+item_at (x ∷ xs) (suc i) h = item_at xs i (omega arith)
+
+-- the place that a search for the first gives
+pub position_some : {A : Type 0} (p : A → Bool) (xs : List A) (i : ℕ) → Some i ≡ position p xs → (d : A) → (i < length xs) × (p (get_or xs i d) ≡ true)
+position_some p xs i e d =
+    let found = position_cases (position_or_len p xs) (length xs) i _ refl e in
+    (omega (arith, found.0, found.1), ap (λ k. p (get_or xs k d)) found.0 ∙ passes_at_first p xs d found.1)
+
+none_cases : (n len : ℕ) (b : Bool) → nat_lt n len ≡ b → None ≡ cond b (Some n) None → len ≤ n
+none_cases n len true t e = absurd (none-some _ e)
+none_cases n len false t e = ltb-false n len t
+
+pub position_none : {A : Type 0} (p : A → Bool) (xs : List A) → None ≡ position p xs → list_any p xs ≡ true → ⊥
+position_none p xs e some =
+    let past = none_cases (position_or_len p xs) (length xs) _ refl e in
+    let any = Any-from_list_any p xs some in
+    let no = fails_before_first p xs any.0 any.1 (omega (arith, any.2, past)) in
+    true≢false (sym any.4 ∙ ap p (sym any.3) ∙ no)
+
+-- the item at the same place of two lists
+pub at_same_place : {A B C : Type 0} (f : A → C) (g : B → C) (xs : List A) (ys : List B) (i : ℕ) (x : A) (y : B) → map f xs ≡ map g ys →
+    i < length ys → x ≡ get_or xs i x → y ≡ get_or ys i y → f x ≡ g y
+at_same_place f g xs ys i x y e within at bt =
+    let len : length xs ≡ length ys = sym (length-map xs f) ∙ ap length e ∙ length-map ys g in
+    same_Some _ _ (
+    sym (slice_get-map f xs i ∙ ap (option_map f) (slice_get_read xs (length xs) i x refl (omega arith) at))
+    ∙ ap (λ zs. slice_get zs i) e
+    ∙ slice_get-map g ys i ∙ ap (option_map g) (slice_get_read ys (length ys) i y refl within bt))
+
+-- a slice that was lent whole is back
+pub taken_back : {A : Type 0} (new rest : List A) (n : ℕ) → n ≡ length new → take n (new ++ rest) ≡ new
+taken_back new rest n e = ap (λ i. take i (new ++ rest)) e ∙ take-append_seam new rest

@@ -1,0 +1,86 @@
+use Rattle.std.proofs.Common.{◌≡◌, ◌+◌, ◌*◌, ◌<◌, ◌≤◌, true, false, true≢false, List, [], ◌∷◌, ◌++◌, length, map, drop, refl, sym, ap, ap₂, ◌∙◌, subst, arith, append-nil, IsCharBoundary}
+use Rattle.std.proofs.lemmas.Str.{IsCharBoundary-start}
+use Rattle.std.proofs.lemmas.List.{length-map}
+use Rattle.lrlex.specs.Active.{is_state}
+use Rattle.lrlex.specs.Tiling.{Item, Done}
+use Rattle.lrlex.specs.Marks.{Mark}
+use Rattle.lrlex.specs.Parts.{as_rule}
+use Rattle.lrlex.specs.Reach.{Reached, IsLexed, IsRun, searches}
+use Rattle.lrlex.specs.Views.{definition_of, items_by, ArePaired}
+use Rattle.lrlex.proofs.ViewLemmas.{paired_len, taken_back}
+use Rattle.lrlex.proofs.ReachLemmas.{ended, nothing_left, asked_now, few_searches, run_of}
+use Rattle.lrlex.proofs.lexer.definition.LRNonStreamingLexerDef.run.Goals as goal
+
+pub tiles-init : goal.tiles-init
+tiles-init g c = record {
+  paired = rw c.deref.ensures.value at c.in_ok-matchers.ensures;
+  boundary = subst (IsCharBoundary c.args.text.now) (sym c.in_ok-progress.ensures.start) (IsCharBoundary-start c.args.text.now c.utf8.text);
+  reached = c.in_ok-progress.ensures.reached;
+}
+
+pub tiles-preserved : goal.tiles-preserved
+tiles-preserved g c =
+    let on : c.in_ok-advance.field-0 ≡ true = c.if-not-branch.false in
+    record {
+      paired = subst (λ ms. ArePaired ms c.args.self.now.table.rules.items)
+          (sym (taken_back c.advance.new.matchers (drop (length c.advance.new.matchers) c.tiles.matchers.items) c.tiles.matchers.len
+          (omega (arith, c.tiles.matchers.ok.0, paired_len c.advance.new.matchers c.args.self.now.table.rules.items c.in_ok-advance.ensures.paired, paired_len c.tiles.matchers.items c.args.self.now.table.rules.items c.tiles.invariant.paired))))
+          c.in_ok-advance.ensures.paired;
+      boundary = c.in_ok-advance.ensures.boundary on;
+      reached = c.in_ok-advance.ensures.goes_on on;
+    }
+
+pub finished-requires-2 : goal.finished-requires-2
+finished-requires-2 g c =
+    let p = c.tiles.progress in
+    let d = definition_of g.L.StorageT.Id.number c.args.self.now in
+    let found = items_by g.L.StorageT.Id.number g.L.LexemeT.Lexeme.id_of g.L.LexemeT.Lexeme.start_of g.L.LexemeT.Lexeme.len_of g.L.LexemeT.Lexeme.is_faulty p.items.items in
+    run_of d c.args.text.now found p.boundaries c.tiles.invariant.reached.initial
+    (ended d c.args.text.now p.place p.stack.items found p.boundaries p.asked c.tiles.invariant.reached found Done (nothing_left c.args.text.now p.place c.tiles-test.false) (sym (append-nil found)))
+
+pub returns-clause-run : goal.returns-clause-run
+returns-clause-run g c =
+    let p = c.tiles.progress in
+    let d = definition_of g.L.StorageT.Id.number c.args.self.now in
+    let found = items_by g.L.StorageT.Id.number g.L.LexemeT.Lexeme.id_of g.L.LexemeT.Lexeme.start_of g.L.LexemeT.Lexeme.len_of g.L.LexemeT.Lexeme.is_faulty p.items.items in
+    subst (λ xs. IsRun d c.args.text.now (items_by g.L.StorageT.Id.number g.L.LexemeT.Lexeme.id_of g.L.LexemeT.Lexeme.start_of g.L.LexemeT.Lexeme.len_of g.L.LexemeT.Lexeme.is_faulty xs) c.finished-2.result.boundaries) (sym c.finished-2.ensures.items)
+    (subst (IsRun d c.args.text.now found) (sym c.finished-2.ensures.boundaries)
+    (run_of d c.args.text.now found p.boundaries c.tiles.invariant.reached.initial
+    (ended d c.args.text.now p.place p.stack.items found p.boundaries p.asked c.tiles.invariant.reached found Done (nothing_left c.args.text.now p.place c.tiles-test.false) (sym (append-nil found)))))
+
+pub returns-clause-few : goal.returns-clause-few
+returns-clause-few g c =
+    let p = c.tiles.progress in
+    let d = definition_of g.L.StorageT.Id.number c.args.self.now in
+    few_searches d c.args.text.now p.boundaries c.finished-2.result.boundaries p.asked c.finished-2.result.asked
+    (asked_now d c.args.text.now p.place p.stack.items (items_by g.L.StorageT.Id.number g.L.LexemeT.Lexeme.id_of g.L.LexemeT.Lexeme.start_of g.L.LexemeT.Lexeme.len_of g.L.LexemeT.Lexeme.is_faulty p.items.items) p.boundaries p.asked c.tiles.invariant.reached)
+    c.finished-2.ensures.asked c.finished-2.ensures.boundaries
+
+pub returns-clause-asked : goal.returns-clause-asked
+returns-clause-asked g c =
+    let p = c.tiles.progress in
+    let d = definition_of g.L.StorageT.Id.number c.args.self.now in
+    subst (λ ms. c.finished-2.result.asked ≤ searches d c.args.text.now ms) (sym c.finished-2.ensures.boundaries)
+    (omega (arith, c.finished-2.ensures.asked, asked_now d c.args.text.now p.place p.stack.items (items_by g.L.StorageT.Id.number g.L.LexemeT.Lexeme.id_of g.L.LexemeT.Lexeme.start_of g.L.LexemeT.Lexeme.len_of g.L.LexemeT.Lexeme.is_faulty p.items.items) p.boundaries p.asked c.tiles.invariant.reached))
+
+pub returns-then-not-branch-clause-run : goal.returns-then-not-branch-clause-run
+returns-then-not-branch-clause-run g c =
+    let d = definition_of g.L.StorageT.Id.number c.args.self.now in
+    let p = c.advance.new.progress in
+    let off : c.in_ok-advance.field-0 ≡ false = c.if-not-branch.true in
+    subst (λ xs. IsRun d c.args.text.now (items_by g.L.StorageT.Id.number g.L.LexemeT.Lexeme.id_of g.L.LexemeT.Lexeme.start_of g.L.LexemeT.Lexeme.len_of g.L.LexemeT.Lexeme.is_faulty xs) c.finished.result.boundaries) (sym c.finished.ensures.items)
+    (subst (IsRun d c.args.text.now (items_by g.L.StorageT.Id.number g.L.LexemeT.Lexeme.id_of g.L.LexemeT.Lexeme.start_of g.L.LexemeT.Lexeme.len_of g.L.LexemeT.Lexeme.is_faulty p.items.items)) (sym c.finished.ensures.boundaries)
+    (run_of d c.args.text.now (items_by g.L.StorageT.Id.number g.L.LexemeT.Lexeme.id_of g.L.LexemeT.Lexeme.start_of g.L.LexemeT.Lexeme.len_of g.L.LexemeT.Lexeme.is_faulty p.items.items) p.boundaries c.tiles.invariant.reached.initial (c.in_ok-advance.ensures.ends off)))
+
+pub returns-then-not-branch-clause-few : goal.returns-then-not-branch-clause-few
+returns-then-not-branch-clause-few g c =
+    let d = definition_of g.L.StorageT.Id.number c.args.self.now in
+    let off : c.in_ok-advance.field-0 ≡ false = c.if-not-branch.true in
+    few_searches d c.args.text.now c.tiles.progress.boundaries c.finished.result.boundaries c.advance.new.progress.asked c.finished.result.asked
+    c.in_ok-advance.ensures.asked c.finished.ensures.asked (c.finished.ensures.boundaries ∙ c.in_ok-advance.ensures.same off)
+
+pub finished-requires : goal.finished-requires
+finished-requires g c =
+    let d = definition_of g.L.StorageT.Id.number c.args.self.now in
+    let p = c.advance.new.progress in
+    run_of d c.args.text.now (items_by g.L.StorageT.Id.number g.L.LexemeT.Lexeme.id_of g.L.LexemeT.Lexeme.start_of g.L.LexemeT.Lexeme.len_of g.L.LexemeT.Lexeme.is_faulty p.items.items) p.boundaries c.tiles.invariant.reached.initial (c.in_ok-advance.ensures.ends c.if-not-branch.true)

@@ -1,0 +1,160 @@
+use Rattle.std.proofs.Common.{◌≡◌, ◌+◌, ◌<◌, ◌≤◌, List, [], ◌∷◌, ◌++◌, None, map, length, drop, refl, sym, ap, ◌∙◌, subst, arith, append_assoc, IsCharBoundary}
+use Rattle.std.proofs.lemmas.List.{map-append, length-map}
+use Rattle.std.proofs.lemmas.Str.{IsCharBoundary-from_rest}
+use Rattle.lrlex.specs.Definition.{Rule}
+use Rattle.lrlex.specs.Active.{active_count, lacks_id, lacks_target, lexeme_id}
+use Rattle.lrlex.specs.Tiling.{Item, Error, top, IsStuck, IsWinner, IsTaken, stack_after, stack_past, lexeme_of, tile_items, NoMatch, NoId, NoTarget}
+use Rattle.lrlex.specs.Parts.{as_rule}
+use Rattle.lrlex.specs.Runs.{plain, AreRuns}
+use Rattle.lrlex.specs.Reach.{Reached, searches}
+use Rattle.lrlex.specs.Views.{definition_of, items_by}
+use Rattle.lrlex.proofs.ViewLemmas.{rule_read}
+use Rattle.lrlex.proofs.ReachLemmas.{Reached-more, ended, runs_now, searches_now, searches-few, last_now, length_now, room_for, wins_at, something_left, top_is_state}
+use Rattle.lrlex.proofs.lexer.lexing.advance.Goals as goal
+
+pub winner-requires-clause-room : goal.winner-requires-clause-room
+winner-requires-clause-room g c =
+    let d = definition_of g.L.StorageT.Id.number c.args.definition.now in
+    let r = c.requires.reached in
+    let rules_len = length-map c.args.definition.now.table.rules.items (as_rule g.L.StorageT.Id.number) in
+    let few = searches-few d c.args.text.now r.before in
+    let room = room_for c.args.progress.now.asked (length r.before) (length d.rules) (omega (arith, r.few)) (omega (arith, c.args.definition.now.table.rules.ok.0, c.args.definition.now.table.rules.ok.1, c.args.definition.now.table.rules.small))
+    (omega (arith, few, r.asks)) in
+    omega (arith, c.args.definition.now.table.rules.ok.0, room)
+
+pub returns-in_default-clause-ends : goal.returns-in_default-clause-ends
+returns-in_default-clause-ends g c on =
+    let d = definition_of g.L.StorageT.Id.number c.args.definition.now in
+    let text = c.args.text.now in
+    let p = c.args.progress.now in
+    let r = c.requires.reached in
+    let found = items_by g.L.StorageT.Id.number g.L.LexemeT.Lexeme.id_of g.L.LexemeT.Lexeme.start_of g.L.LexemeT.Lexeme.len_of g.L.LexemeT.Lexeme.is_faulty p.items.items in
+    let on_top : c.top_of-state.result ≡ top (plain p.stack.items) = c.top_of-state.ensures ∙ ap (λ s. top (plain s)) c.deref.ensures.value in
+    let q = c.top_of-state.result in
+    ended d text p.place p.stack.items found p.boundaries p.asked r (items_by g.L.StorageT.Id.number g.L.LexemeT.Lexeme.id_of g.L.LexemeT.Lexeme.start_of g.L.LexemeT.Lexeme.len_of g.L.LexemeT.Lexeme.is_faulty c.give_error.new.items.items) (NoMatch q)
+    (something_left text p.place c.requires.inside, on_top, subst (IsStuck d q) c.range_from-rest.ensures.value c.in_default.ensures.winner)
+    c.in_ok-give_error.ensures
+
+pub returns-then-lacks_id-clause-ends : goal.returns-then-lacks_id-clause-ends
+returns-then-lacks_id-clause-ends g c on =
+    let d = definition_of g.L.StorageT.Id.number c.args.definition.now in
+    let text = c.args.text.now in
+    let p = c.args.progress.now in
+    let r = c.requires.reached in
+    let found = items_by g.L.StorageT.Id.number g.L.LexemeT.Lexeme.id_of g.L.LexemeT.Lexeme.start_of g.L.LexemeT.Lexeme.len_of g.L.LexemeT.Lexeme.is_faulty p.items.items in
+    let on_top : c.top_of-state.result ≡ top (plain p.stack.items) = c.top_of-state.ensures ∙ ap (λ s. top (plain s)) c.deref.ensures.value in
+    let t = c.in-Some.tile in
+    let won = c.in-Some.ensures in
+    let within : t.rule < length c.args.definition.now.table.rules.items = omega (arith, c.args.definition.now.table.rules.ok.0, won.rule) in
+    let rule_is = rule_read g.L.StorageT.Id.number c.args.definition.now t.rule c.index-rule.result.now within c.index-rule.ensures in
+    let wins = wins_at d c.top_of-state.result (plain p.stack.items) c.range_from-rest.result.now (drop p.place text) t on_top c.range_from-rest.ensures.value won.winner in
+    ended d text p.place p.stack.items found p.boundaries p.asked r (items_by g.L.StorageT.Id.number g.L.LexemeT.Lexeme.id_of g.L.LexemeT.Lexeme.start_of g.L.LexemeT.Lexeme.len_of g.L.LexemeT.Lexeme.is_faulty c.give_error-then-lacks_id.new.items.items) NoId
+    (t, wins, ap lacks_id rule_is ∙ sym c.if-lacks_id.ensures)
+    c.in_ok-give_error-2.ensures
+
+pub returns-then-lacks_id-clause-asked : goal.returns-then-lacks_id-clause-asked
+returns-then-lacks_id-clause-asked g c =
+    let d = definition_of g.L.StorageT.Id.number c.args.definition.now in
+    let text = c.args.text.now in
+    let p = c.args.progress.now in
+    let r = c.requires.reached in
+    let found = items_by g.L.StorageT.Id.number g.L.LexemeT.Lexeme.id_of g.L.LexemeT.Lexeme.start_of g.L.LexemeT.Lexeme.len_of g.L.LexemeT.Lexeme.is_faulty p.items.items in
+    let on_top : c.top_of-state.result ≡ top (plain p.stack.items) = c.top_of-state.ensures ∙ ap (λ s. top (plain s)) c.deref.ensures.value in
+    let few : c.winner.new.asked ≤ p.asked + active_count d (top (plain p.stack.items)) = subst (λ q. c.winner.new.asked ≤ p.asked + active_count d q) on_top c.in-Some.ensures.counted in
+    searches_now d text p.place p.stack.items found p.boundaries p.asked r c.winner.new.asked c.requires.inside few
+
+pub returns-then-lacks_target-clause-ends : goal.returns-then-lacks_target-clause-ends
+returns-then-lacks_target-clause-ends g c on =
+    let d = definition_of g.L.StorageT.Id.number c.args.definition.now in
+    let text = c.args.text.now in
+    let p = c.args.progress.now in
+    let r = c.requires.reached in
+    let found = items_by g.L.StorageT.Id.number g.L.LexemeT.Lexeme.id_of g.L.LexemeT.Lexeme.start_of g.L.LexemeT.Lexeme.len_of g.L.LexemeT.Lexeme.is_faulty p.items.items in
+    let on_top : c.top_of-state.result ≡ top (plain p.stack.items) = c.top_of-state.ensures ∙ ap (λ s. top (plain s)) c.deref.ensures.value in
+    let t = c.in-Some.tile in
+    let won = c.in-Some.ensures in
+    let within : t.rule < length c.args.definition.now.table.rules.items = omega (arith, c.args.definition.now.table.rules.ok.0, won.rule) in
+    let rule_is = rule_read g.L.StorageT.Id.number c.args.definition.now t.rule c.index-rule.result.now within c.index-rule.ensures in
+    let wins = wins_at d c.top_of-state.result (plain p.stack.items) c.range_from-rest.result.now (drop p.place text) t on_top c.range_from-rest.ensures.value won.winner in
+    let given : items_by g.L.StorageT.Id.number g.L.LexemeT.Lexeme.id_of g.L.LexemeT.Lexeme.start_of g.L.LexemeT.Lexeme.len_of g.L.LexemeT.Lexeme.is_faulty c.give.new.items.items ≡ found ++ tile_items d p.place t =
+    c.in_ok-give.ensures ∙ sym (ap (λ (x : Rule). found ++ lexeme_of (lexeme_id x) p.place t.len) rule_is) in
+    ended d text p.place p.stack.items found p.boundaries p.asked r (items_by g.L.StorageT.Id.number g.L.LexemeT.Lexeme.id_of g.L.LexemeT.Lexeme.start_of g.L.LexemeT.Lexeme.len_of g.L.LexemeT.Lexeme.is_faulty c.give_error-then-lacks_target.new.items.items) (NoTarget t)
+    (wins, ap lacks_id rule_is ∙ sym c.if-lacks_id.ensures, ap (lacks_target d) rule_is ∙ sym c.if-lacks_target.ensures)
+    (c.in_ok-give_error-3.ensures ∙ ap (λ (xs : List Item). xs ++ Error p.place p.place None ∷ []) given
+    ∙ append_assoc found (tile_items d p.place t) (Error p.place p.place None ∷ []))
+
+pub returns-then-lacks_target-clause-asked : goal.returns-then-lacks_target-clause-asked
+returns-then-lacks_target-clause-asked g c =
+    let d = definition_of g.L.StorageT.Id.number c.args.definition.now in
+    let text = c.args.text.now in
+    let p = c.args.progress.now in
+    let r = c.requires.reached in
+    let found = items_by g.L.StorageT.Id.number g.L.LexemeT.Lexeme.id_of g.L.LexemeT.Lexeme.start_of g.L.LexemeT.Lexeme.len_of g.L.LexemeT.Lexeme.is_faulty p.items.items in
+    let on_top : c.top_of-state.result ≡ top (plain p.stack.items) = c.top_of-state.ensures ∙ ap (λ s. top (plain s)) c.deref.ensures.value in
+    let few : c.winner.new.asked ≤ p.asked + active_count d (top (plain p.stack.items)) = subst (λ q. c.winner.new.asked ≤ p.asked + active_count d q) on_top c.in-Some.ensures.counted in
+    searches_now d text p.place p.stack.items found p.boundaries p.asked r c.winner.new.asked c.requires.inside few
+
+pub enter-requires-clause-runs : goal.enter-requires-clause-runs
+enter-requires-clause-runs g c =
+    let p = c.args.progress.now in
+    runs_now (definition_of g.L.StorageT.Id.number c.args.definition.now) c.args.text.now p.place p.stack.items (items_by g.L.StorageT.Id.number g.L.LexemeT.Lexeme.id_of g.L.LexemeT.Lexeme.start_of g.L.LexemeT.Lexeme.len_of g.L.LexemeT.Lexeme.is_faulty p.items.items) p.boundaries p.asked c.requires.reached
+
+pub enter-requires-clause-last : goal.enter-requires-clause-last
+enter-requires-clause-last g c =
+    let p = c.args.progress.now in
+    last_now (definition_of g.L.StorageT.Id.number c.args.definition.now) c.args.text.now p.place p.stack.items (items_by g.L.StorageT.Id.number g.L.LexemeT.Lexeme.id_of g.L.LexemeT.Lexeme.start_of g.L.LexemeT.Lexeme.len_of g.L.LexemeT.Lexeme.is_faulty p.items.items) p.boundaries p.asked c.requires.reached
+
+pub returns-clause-goes_on : goal.returns-clause-goes_on
+returns-clause-goes_on g c on =
+    let d = definition_of g.L.StorageT.Id.number c.args.definition.now in
+    let text = c.args.text.now in
+    let p = c.args.progress.now in
+    let r = c.requires.reached in
+    let found = items_by g.L.StorageT.Id.number g.L.LexemeT.Lexeme.id_of g.L.LexemeT.Lexeme.start_of g.L.LexemeT.Lexeme.len_of g.L.LexemeT.Lexeme.is_faulty p.items.items in
+    let on_top : c.top_of-state.result ≡ top (plain p.stack.items) = c.top_of-state.ensures ∙ ap (λ s. top (plain s)) c.deref.ensures.value in
+    let t = c.in-Some.tile in
+    let won = c.in-Some.ensures in
+    let within : t.rule < length c.args.definition.now.table.rules.items = omega (arith, c.args.definition.now.table.rules.ok.0, won.rule) in
+    let rule_is = rule_read g.L.StorageT.Id.number c.args.definition.now t.rule c.index-rule.result.now within c.index-rule.ensures in
+    let wins = wins_at d c.top_of-state.result (plain p.stack.items) c.range_from-rest.result.now (drop p.place text) t on_top c.range_from-rest.ensures.value won.winner in
+    let given : items_by g.L.StorageT.Id.number g.L.LexemeT.Lexeme.id_of g.L.LexemeT.Lexeme.start_of g.L.LexemeT.Lexeme.len_of g.L.LexemeT.Lexeme.is_faulty c.give.new.items.items ≡ found ++ tile_items d p.place t =
+    c.in_ok-give.ensures ∙ sym (ap (λ (x : Rule). found ++ lexeme_of (lexeme_id x) p.place t.len) rule_is) in
+    let taken : IsTaken d (drop p.place text) (plain p.stack.items) t = record {
+      wins = wins;
+      has_id = ap lacks_id rule_is ∙ sym c.if-lacks_id.ensures;
+      has_target = ap (lacks_target d) rule_is ∙ sym c.if-lacks_target.ensures;
+    } in
+    let n = c.enter.new.progress in
+    let e = c.in_ok-enter.ensures in
+    let few : n.asked ≤ p.asked + active_count d (top (plain p.stack.items)) =
+    subst (λ q. n.asked ≤ p.asked + active_count d q) on_top (omega (arith, e.asked, won.counted)) in
+    let more : items_by g.L.StorageT.Id.number g.L.LexemeT.Lexeme.id_of g.L.LexemeT.Lexeme.start_of g.L.LexemeT.Lexeme.len_of g.L.LexemeT.Lexeme.is_faulty n.items.items ≡ found ++ tile_items d p.place t = ap (items_by g.L.StorageT.Id.number g.L.LexemeT.Lexeme.id_of g.L.LexemeT.Lexeme.start_of g.L.LexemeT.Lexeme.len_of g.L.LexemeT.Lexeme.is_faulty) e.items ∙ given in
+    let count : length c.give.new.items.items ≡ length (items_by g.L.StorageT.Id.number g.L.LexemeT.Lexeme.id_of g.L.LexemeT.Lexeme.start_of g.L.LexemeT.Lexeme.len_of g.L.LexemeT.Lexeme.is_faulty n.items.items) = ap length (sym e.items) ∙ sym (length-map n.items.items _) in
+    subst (λ i. Reached d text i n.stack.items (items_by g.L.StorageT.Id.number g.L.LexemeT.Lexeme.id_of g.L.LexemeT.Lexeme.start_of g.L.LexemeT.Lexeme.len_of g.L.LexemeT.Lexeme.is_faulty n.items.items) n.boundaries n.asked) (sym e.place)
+    (Reached-more d text p.place p.stack.items found p.boundaries p.asked r n.stack.items (items_by g.L.StorageT.Id.number g.L.LexemeT.Lexeme.id_of g.L.LexemeT.Lexeme.start_of g.L.LexemeT.Lexeme.len_of g.L.LexemeT.Lexeme.is_faulty n.items.items) n.boundaries n.asked t c.requires.inside taken few
+    e.runs (e.moved ∙ sym (ap (λ (x : Rule). stack_after (plain p.stack.items) x.target) rule_is)) more
+    (e.kept ∙ ap (λ i. p.boundaries ++ record { place = p.place + t.len; given = i; runs = n.stack.items } ∷ []) count))
+
+pub returns-clause-boundary : goal.returns-clause-boundary
+returns-clause-boundary g c on =
+    let d = definition_of g.L.StorageT.Id.number c.args.definition.now in
+    let text = c.args.text.now in
+    let p = c.args.progress.now in
+    let r = c.requires.reached in
+    let found = items_by g.L.StorageT.Id.number g.L.LexemeT.Lexeme.id_of g.L.LexemeT.Lexeme.start_of g.L.LexemeT.Lexeme.len_of g.L.LexemeT.Lexeme.is_faulty p.items.items in
+    let t = c.in-Some.tile in
+    subst (IsCharBoundary text) (sym c.in_ok-enter.ensures.place)
+    (IsCharBoundary-from_rest text p.place t.len c.requires.boundary.0 (subst (λ rest. IsCharBoundary rest t.len) c.range_from-rest.ensures.value c.in-Some.ensures.boundary))
+
+pub returns-clause-asked : goal.returns-clause-asked
+returns-clause-asked g c =
+    let d = definition_of g.L.StorageT.Id.number c.args.definition.now in
+    let text = c.args.text.now in
+    let p = c.args.progress.now in
+    let r = c.requires.reached in
+    let found = items_by g.L.StorageT.Id.number g.L.LexemeT.Lexeme.id_of g.L.LexemeT.Lexeme.start_of g.L.LexemeT.Lexeme.len_of g.L.LexemeT.Lexeme.is_faulty p.items.items in
+    let on_top : c.top_of-state.result ≡ top (plain p.stack.items) = c.top_of-state.ensures ∙ ap (λ s. top (plain s)) c.deref.ensures.value in
+    let few : c.enter.new.progress.asked ≤ p.asked + active_count d (top (plain p.stack.items)) =
+    subst (λ q. c.enter.new.progress.asked ≤ p.asked + active_count d q) on_top (omega (arith, c.in_ok-enter.ensures.asked, c.in-Some.ensures.counted)) in
+    searches_now d text p.place p.stack.items found p.boundaries p.asked r c.enter.new.progress.asked c.requires.inside few
+

@@ -1,0 +1,14 @@
+use Rattle.std.proofs.Common.{◌≡◌, ◌+◌, ◌<◌, [], ◌∷◌, ◌++◌, length, map, take, sym, ap, ◌∙◌, subst, arith, append_assoc}
+use Rattle.std.proofs.lemmas.List.{get_or-map, length-map, map_more, map-append}
+use Rattle.lrlex.specs.Tiling.{Item, rebased}
+use Rattle.lrlex.specs.Edits.{IsMovable}
+use Rattle.lrlex.specs.Views.{item_of}
+use Rattle.lrlex.proofs.lexer.relexing.append_moved.Goals as goal
+
+pub moved-requires : goal.moved-requires
+moved-requires g c =
+    let x = c.index-tail-index.result in
+    let len = length-map c.args.tail.now (item_of g.L.StorageT.Id.number g.L.LexemeT.Lexeme.id_of g.L.LexemeT.Lexeme.start_of g.L.LexemeT.Lexeme.len_of g.L.LexemeT.Lexeme.is_faulty) in
+    subst (IsMovable c.args.from c.args.to)
+    (get_or-map (item_of g.L.StorageT.Id.number g.L.LexemeT.Lexeme.id_of g.L.LexemeT.Lexeme.start_of g.L.LexemeT.Lexeme.len_of g.L.LexemeT.Lexeme.is_faulty) c.args.tail.now c.tail.index x _ (omega arith) ∙ ap (item_of g.L.StorageT.Id.number g.L.LexemeT.Lexeme.id_of g.L.LexemeT.Lexeme.start_of g.L.LexemeT.Lexeme.len_of g.L.LexemeT.Lexeme.is_faulty) (sym c.index-tail-index.is))
+    (c.requires c.tail.index (item_of g.L.StorageT.Id.number g.L.LexemeT.Lexeme.id_of g.L.LexemeT.Lexeme.start_of g.L.LexemeT.Lexeme.len_of g.L.LexemeT.Lexeme.is_faulty x) (omega arith))

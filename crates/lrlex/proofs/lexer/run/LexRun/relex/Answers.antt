@@ -1,0 +1,274 @@
+use Rattle.std.proofs.Common.{◌≡◌, ℕ, ◌+◌, ◌*◌, ◌^◌, ◌<◌, ◌≤◌, true, false, true≢false, List, [], ◌∷◌, ◌++◌, All, length, map, drop, take, refl, sym, ap, ap₂, ◌∙◌, subst, arith, append-nil, length-append, IsCharBoundary}
+use Rattle.std.proofs.lemmas.Str.{IsCharBoundary-start}
+use Rattle.std.proofs.lemmas.List.{length-map, drop-map, same_from_push}
+use Rattle.lrlex.specs.Active.{is_state}
+use Rattle.lrlex.specs.Tiling.{Item, Done, rebased}
+use Rattle.lrlex.specs.Runs.{plain, AreRuns}
+use Rattle.lrlex.specs.Marks.{Mark, mark_at}
+use Rattle.lrlex.specs.Edits.{Meets, IsMovable, IsMovableMark, moved_mark}
+use Rattle.lrlex.specs.Reach.{Reached, IsLexed, IsRun, searches}
+use Rattle.lrlex.specs.Views.{definition_of, items_by, item_of, ArePaired}
+use Rattle.lrlex.proofs.ViewLemmas.{paired_len, taken_back}
+use Rattle.lrlex.proofs.ReachLemmas.{ended, nothing_left, run_of, runs_now, last_now}
+use Rattle.lrlex.proofs.KnownLemmas.{known, sorted}
+use Rattle.lrlex.proofs.MeetLemmas.{whole, given_in, items_movable, marks_movable, met, none_met, meets_front}
+use Rattle.lrlex.proofs.lexer.run.LexRun.relex.Goals as goal
+
+pub tiles-init : goal.tiles-init
+tiles-init g c =
+    let def = c.args.self.now.definition.now in
+    let d = definition_of g.L.StorageT.Id.number def in
+    let new = c.args.new.now in
+    let s = c.args.self.now in
+    let edit = c.args.edit.now in
+    record {
+      paired = rw c.deref.ensures.value at c.in_ok-matchers.ensures;
+      boundary = subst (IsCharBoundary new) (sym c.in_ok-progress.ensures.start) (IsCharBoundary-start new c.utf8.new);
+      reached = c.in_ok-progress.ensures.reached;
+      cursor = omega arith;
+      behind = λ j lt. absurd (omega arith);
+      unmet = λ k lt m. absurd (omega (arith, c.in_ok-progress.ensures.one));
+    }
+
+pub meets-requires-clause-sorted : goal.meets-requires-clause-sorted
+meets-requires-clause-sorted g c =
+    let def = c.args.self.now.definition.now in
+    let d = definition_of g.L.StorageT.Id.number def in
+    let new = c.args.new.now in
+    let s = c.args.self.now in
+    let edit = c.args.edit.now in
+    let p = c.tiles.progress in
+    let found = items_by g.L.StorageT.Id.number g.L.LexemeT.Lexeme.id_of g.L.LexemeT.Lexeme.start_of g.L.LexemeT.Lexeme.len_of g.L.LexemeT.Lexeme.is_faulty p.items.items in
+    let r = c.tiles.invariant.reached in
+    let h = known d s.text.now (items_by g.L.StorageT.Id.number g.L.LexemeT.Lexeme.id_of g.L.LexemeT.Lexeme.start_of g.L.LexemeT.Lexeme.len_of g.L.LexemeT.Lexeme.is_faulty s.items.items) s.boundaries r.initial s.lexed in
+    sorted d s.text.now (items_by g.L.StorageT.Id.number g.L.LexemeT.Lexeme.id_of g.L.LexemeT.Lexeme.start_of g.L.LexemeT.Lexeme.len_of g.L.LexemeT.Lexeme.is_faulty s.items.items) s.boundaries h
+
+pub meets-requires-clause-stack : goal.meets-requires-clause-stack
+meets-requires-clause-stack g c =
+    let def = c.args.self.now.definition.now in
+    let d = definition_of g.L.StorageT.Id.number def in
+    let new = c.args.new.now in
+    let s = c.args.self.now in
+    let edit = c.args.edit.now in
+    let p = c.tiles.progress in
+    let found = items_by g.L.StorageT.Id.number g.L.LexemeT.Lexeme.id_of g.L.LexemeT.Lexeme.start_of g.L.LexemeT.Lexeme.len_of g.L.LexemeT.Lexeme.is_faulty p.items.items in
+    let r = c.tiles.invariant.reached in
+    subst AreRuns (sym c.deref-in-tiles.ensures.value) (runs_now d new p.place p.stack.items found p.boundaries p.asked r)
+
+pub take_over-requires-clause-given : goal.take_over-requires-clause-given
+take_over-requires-clause-given g c =
+    let def = c.args.self.now.definition.now in
+    let d = definition_of g.L.StorageT.Id.number def in
+    let new = c.args.new.now in
+    let s = c.args.self.now in
+    let edit = c.args.edit.now in
+    let p = c.tiles.progress in
+    let found = items_by g.L.StorageT.Id.number g.L.LexemeT.Lexeme.id_of g.L.LexemeT.Lexeme.start_of g.L.LexemeT.Lexeme.len_of g.L.LexemeT.Lexeme.is_faulty p.items.items in
+    let r = c.tiles.invariant.reached in
+    let h = known d s.text.now (items_by g.L.StorageT.Id.number g.L.LexemeT.Lexeme.id_of g.L.LexemeT.Lexeme.start_of g.L.LexemeT.Lexeme.len_of g.L.LexemeT.Lexeme.is_faulty s.items.items) s.boundaries r.initial s.lexed in
+    let j = c.meets.new.cursor in
+    let stacks : (mark_at s.boundaries j).runs ≡ p.stack.items = c.meets.ensures.stack c.if-meets.true ∙ c.deref-in-tiles.ensures.value in
+    omega (arith, given_in d s.text.now new edit.removed.start edit.removed.end edit.put.now (items_by g.L.StorageT.Id.number g.L.LexemeT.Lexeme.id_of g.L.LexemeT.Lexeme.start_of g.L.LexemeT.Lexeme.len_of g.L.LexemeT.Lexeme.is_faulty s.items.items) s.boundaries h p.place p.stack.items found p.boundaries p.asked r
+    j (c.meets.ensures.within c.if-meets.true) edit.removed.in_order c.requires.fits.1.0 c.requires.gives (c.meets.ensures.past c.if-meets.true) (c.meets.ensures.place c.if-meets.true) stacks j (c.meets.ensures.within c.if-meets.true), length-map s.items.items (item_of g.L.StorageT.Id.number g.L.LexemeT.Lexeme.id_of g.L.LexemeT.Lexeme.start_of g.L.LexemeT.Lexeme.len_of g.L.LexemeT.Lexeme.is_faulty))
+
+pub take_over-requires-clause-items : goal.take_over-requires-clause-items
+take_over-requires-clause-items g c =
+    let def = c.args.self.now.definition.now in
+    let d = definition_of g.L.StorageT.Id.number def in
+    let new = c.args.new.now in
+    let s = c.args.self.now in
+    let edit = c.args.edit.now in
+    let p = c.tiles.progress in
+    let found = items_by g.L.StorageT.Id.number g.L.LexemeT.Lexeme.id_of g.L.LexemeT.Lexeme.start_of g.L.LexemeT.Lexeme.len_of g.L.LexemeT.Lexeme.is_faulty p.items.items in
+    let r = c.tiles.invariant.reached in
+    let h = known d s.text.now (items_by g.L.StorageT.Id.number g.L.LexemeT.Lexeme.id_of g.L.LexemeT.Lexeme.start_of g.L.LexemeT.Lexeme.len_of g.L.LexemeT.Lexeme.is_faulty s.items.items) s.boundaries r.initial s.lexed in
+    let j = c.meets.new.cursor in
+    let stacks : (mark_at s.boundaries j).runs ≡ p.stack.items = c.meets.ensures.stack c.if-meets.true ∙ c.deref-in-tiles.ensures.value in
+    subst (All (IsMovable (mark_at s.boundaries j).place p.place)) (drop-map _ (mark_at s.boundaries j).given s.items.items)
+    (items_movable d s.text.now new edit.removed.start edit.removed.end edit.put.now (items_by g.L.StorageT.Id.number g.L.LexemeT.Lexeme.id_of g.L.LexemeT.Lexeme.start_of g.L.LexemeT.Lexeme.len_of g.L.LexemeT.Lexeme.is_faulty s.items.items) s.boundaries h p.place p.stack.items found p.boundaries p.asked r
+    j (c.meets.ensures.within c.if-meets.true) edit.removed.in_order c.requires.fits.1.0 c.requires.gives (c.meets.ensures.past c.if-meets.true) (c.meets.ensures.place c.if-meets.true) stacks c.tiles.invariant.boundary.0 (omega arith))
+
+pub take_over-requires-clause-boundaries : goal.take_over-requires-clause-boundaries
+take_over-requires-clause-boundaries g c =
+    let def = c.args.self.now.definition.now in
+    let d = definition_of g.L.StorageT.Id.number def in
+    let new = c.args.new.now in
+    let s = c.args.self.now in
+    let edit = c.args.edit.now in
+    let p = c.tiles.progress in
+    let found = items_by g.L.StorageT.Id.number g.L.LexemeT.Lexeme.id_of g.L.LexemeT.Lexeme.start_of g.L.LexemeT.Lexeme.len_of g.L.LexemeT.Lexeme.is_faulty p.items.items in
+    let r = c.tiles.invariant.reached in
+    let h = known d s.text.now (items_by g.L.StorageT.Id.number g.L.LexemeT.Lexeme.id_of g.L.LexemeT.Lexeme.start_of g.L.LexemeT.Lexeme.len_of g.L.LexemeT.Lexeme.is_faulty s.items.items) s.boundaries r.initial s.lexed in
+    let j = c.meets.new.cursor in
+    let stacks : (mark_at s.boundaries j).runs ≡ p.stack.items = c.meets.ensures.stack c.if-meets.true ∙ c.deref-in-tiles.ensures.value in
+    marks_movable d s.text.now new edit.removed.start edit.removed.end edit.put.now (items_by g.L.StorageT.Id.number g.L.LexemeT.Lexeme.id_of g.L.LexemeT.Lexeme.start_of g.L.LexemeT.Lexeme.len_of g.L.LexemeT.Lexeme.is_faulty s.items.items) s.boundaries h p.place p.stack.items found p.boundaries p.asked r
+    j (c.meets.ensures.within c.if-meets.true) edit.removed.in_order c.requires.fits.1.0 c.requires.gives (c.meets.ensures.past c.if-meets.true) (c.meets.ensures.place c.if-meets.true) stacks (length p.items.items) c.tiles.invariant.boundary.0 (omega arith)
+    (omega (arith, length-map s.items.items (item_of g.L.StorageT.Id.number g.L.LexemeT.Lexeme.id_of g.L.LexemeT.Lexeme.start_of g.L.LexemeT.Lexeme.len_of g.L.LexemeT.Lexeme.is_faulty), s.items.ok.0, s.items.ok.1, s.items.small, p.items.ok.0, p.items.ok.1, p.items.small))
+
+pub finished-requires : goal.finished-requires
+finished-requires g c =
+    let def = c.args.self.now.definition.now in
+    let d = definition_of g.L.StorageT.Id.number def in
+    let new = c.args.new.now in
+    let s = c.args.self.now in
+    let edit = c.args.edit.now in
+    let p = c.tiles.progress in
+    let found = items_by g.L.StorageT.Id.number g.L.LexemeT.Lexeme.id_of g.L.LexemeT.Lexeme.start_of g.L.LexemeT.Lexeme.len_of g.L.LexemeT.Lexeme.is_faulty p.items.items in
+    let r = c.tiles.invariant.reached in
+    let h = known d s.text.now (items_by g.L.StorageT.Id.number g.L.LexemeT.Lexeme.id_of g.L.LexemeT.Lexeme.start_of g.L.LexemeT.Lexeme.len_of g.L.LexemeT.Lexeme.is_faulty s.items.items) s.boundaries r.initial s.lexed in
+    let j = c.meets.new.cursor in
+    let stacks : (mark_at s.boundaries j).runs ≡ p.stack.items = c.meets.ensures.stack c.if-meets.true ∙ c.deref-in-tiles.ensures.value in
+    let n : length found ≡ length p.items.items = length-map p.items.items _ in
+    let items_is : items_by g.L.StorageT.Id.number g.L.LexemeT.Lexeme.id_of g.L.LexemeT.Lexeme.start_of g.L.LexemeT.Lexeme.len_of g.L.LexemeT.Lexeme.is_faulty c.take_over.new.progress.items.items ≡ found ++ map (rebased (mark_at s.boundaries j).place p.place) (drop (mark_at s.boundaries j).given (items_by g.L.StorageT.Id.number g.L.LexemeT.Lexeme.id_of g.L.LexemeT.Lexeme.start_of g.L.LexemeT.Lexeme.len_of g.L.LexemeT.Lexeme.is_faulty s.items.items)) =
+    c.in_ok-take_over.ensures.items ∙ ap (λ xs. found ++ map (rebased (mark_at s.boundaries j).place p.place) xs) (sym (drop-map _ (mark_at s.boundaries j).given s.items.items)) in
+    let marks_is : c.take_over.new.progress.boundaries ≡ p.boundaries ++ map (moved_mark (mark_at s.boundaries j).place p.place (mark_at s.boundaries j).given (length found)) (drop (j + 1) s.boundaries) =
+    c.in_ok-take_over.ensures.boundaries ∙ ap (λ i. p.boundaries ++ map (moved_mark (mark_at s.boundaries j).place p.place (mark_at s.boundaries j).given i) (drop (j + 1) s.boundaries)) (sym n) in
+    let lexed : IsLexed d new (items_by g.L.StorageT.Id.number g.L.LexemeT.Lexeme.id_of g.L.LexemeT.Lexeme.start_of g.L.LexemeT.Lexeme.len_of g.L.LexemeT.Lexeme.is_faulty c.take_over.new.progress.items.items) c.take_over.new.progress.boundaries =
+    subst (λ xs. IsLexed d new xs c.take_over.new.progress.boundaries) (sym items_is) (subst (IsLexed d new _) (sym marks_is) (whole d s.text.now new edit.removed.start edit.removed.end edit.put.now (items_by g.L.StorageT.Id.number g.L.LexemeT.Lexeme.id_of g.L.LexemeT.Lexeme.start_of g.L.LexemeT.Lexeme.len_of g.L.LexemeT.Lexeme.is_faulty s.items.items) s.boundaries h p.place p.stack.items found p.boundaries p.asked r
+    j (c.meets.ensures.within c.if-meets.true) edit.removed.in_order c.requires.fits.1.0 c.requires.gives (c.meets.ensures.past c.if-meets.true) (c.meets.ensures.place c.if-meets.true) stacks)) in
+    run_of d new (items_by g.L.StorageT.Id.number g.L.LexemeT.Lexeme.id_of g.L.LexemeT.Lexeme.start_of g.L.LexemeT.Lexeme.len_of g.L.LexemeT.Lexeme.is_faulty c.take_over.new.progress.items.items) c.take_over.new.progress.boundaries r.initial lexed
+
+pub returns-then-meets-clause-run : goal.returns-then-meets-clause-run
+returns-then-meets-clause-run g c =
+    let def = c.args.self.now.definition.now in
+    let d = definition_of g.L.StorageT.Id.number def in
+    let new = c.args.new.now in
+    let s = c.args.self.now in
+    let edit = c.args.edit.now in
+    let p = c.tiles.progress in
+    let found = items_by g.L.StorageT.Id.number g.L.LexemeT.Lexeme.id_of g.L.LexemeT.Lexeme.start_of g.L.LexemeT.Lexeme.len_of g.L.LexemeT.Lexeme.is_faulty p.items.items in
+    let r = c.tiles.invariant.reached in
+    let h = known d s.text.now (items_by g.L.StorageT.Id.number g.L.LexemeT.Lexeme.id_of g.L.LexemeT.Lexeme.start_of g.L.LexemeT.Lexeme.len_of g.L.LexemeT.Lexeme.is_faulty s.items.items) s.boundaries r.initial s.lexed in
+    let j = c.meets.new.cursor in
+    let stacks : (mark_at s.boundaries j).runs ≡ p.stack.items = c.meets.ensures.stack c.if-meets.true ∙ c.deref-in-tiles.ensures.value in
+    let n : length found ≡ length p.items.items = length-map p.items.items _ in
+    let items_is : items_by g.L.StorageT.Id.number g.L.LexemeT.Lexeme.id_of g.L.LexemeT.Lexeme.start_of g.L.LexemeT.Lexeme.len_of g.L.LexemeT.Lexeme.is_faulty c.take_over.new.progress.items.items ≡ found ++ map (rebased (mark_at s.boundaries j).place p.place) (drop (mark_at s.boundaries j).given (items_by g.L.StorageT.Id.number g.L.LexemeT.Lexeme.id_of g.L.LexemeT.Lexeme.start_of g.L.LexemeT.Lexeme.len_of g.L.LexemeT.Lexeme.is_faulty s.items.items)) =
+    c.in_ok-take_over.ensures.items ∙ ap (λ xs. found ++ map (rebased (mark_at s.boundaries j).place p.place) xs) (sym (drop-map _ (mark_at s.boundaries j).given s.items.items)) in
+    let marks_is : c.take_over.new.progress.boundaries ≡ p.boundaries ++ map (moved_mark (mark_at s.boundaries j).place p.place (mark_at s.boundaries j).given (length found)) (drop (j + 1) s.boundaries) =
+    c.in_ok-take_over.ensures.boundaries ∙ ap (λ i. p.boundaries ++ map (moved_mark (mark_at s.boundaries j).place p.place (mark_at s.boundaries j).given i) (drop (j + 1) s.boundaries)) (sym n) in
+    let lexed : IsLexed d new (items_by g.L.StorageT.Id.number g.L.LexemeT.Lexeme.id_of g.L.LexemeT.Lexeme.start_of g.L.LexemeT.Lexeme.len_of g.L.LexemeT.Lexeme.is_faulty c.take_over.new.progress.items.items) c.take_over.new.progress.boundaries =
+    subst (λ xs. IsLexed d new xs c.take_over.new.progress.boundaries) (sym items_is) (subst (IsLexed d new _) (sym marks_is) (whole d s.text.now new edit.removed.start edit.removed.end edit.put.now (items_by g.L.StorageT.Id.number g.L.LexemeT.Lexeme.id_of g.L.LexemeT.Lexeme.start_of g.L.LexemeT.Lexeme.len_of g.L.LexemeT.Lexeme.is_faulty s.items.items) s.boundaries h p.place p.stack.items found p.boundaries p.asked r
+    j (c.meets.ensures.within c.if-meets.true) edit.removed.in_order c.requires.fits.1.0 c.requires.gives (c.meets.ensures.past c.if-meets.true) (c.meets.ensures.place c.if-meets.true) stacks)) in
+    subst (λ xs. IsRun d new (items_by g.L.StorageT.Id.number g.L.LexemeT.Lexeme.id_of g.L.LexemeT.Lexeme.start_of g.L.LexemeT.Lexeme.len_of g.L.LexemeT.Lexeme.is_faulty xs) c.finished.result.boundaries) (sym c.finished.ensures.items)
+    (subst (IsRun d new (items_by g.L.StorageT.Id.number g.L.LexemeT.Lexeme.id_of g.L.LexemeT.Lexeme.start_of g.L.LexemeT.Lexeme.len_of g.L.LexemeT.Lexeme.is_faulty c.take_over.new.progress.items.items)) (sym c.finished.ensures.boundaries)
+    (run_of d new (items_by g.L.StorageT.Id.number g.L.LexemeT.Lexeme.id_of g.L.LexemeT.Lexeme.start_of g.L.LexemeT.Lexeme.len_of g.L.LexemeT.Lexeme.is_faulty c.take_over.new.progress.items.items) c.take_over.new.progress.boundaries r.initial lexed))
+
+pub returns-then-meets-clause-met : goal.returns-then-meets-clause-met
+returns-then-meets-clause-met g c =
+    let def = c.args.self.now.definition.now in
+    let d = definition_of g.L.StorageT.Id.number def in
+    let new = c.args.new.now in
+    let s = c.args.self.now in
+    let edit = c.args.edit.now in
+    let p = c.tiles.progress in
+    let found = items_by g.L.StorageT.Id.number g.L.LexemeT.Lexeme.id_of g.L.LexemeT.Lexeme.start_of g.L.LexemeT.Lexeme.len_of g.L.LexemeT.Lexeme.is_faulty p.items.items in
+    let r = c.tiles.invariant.reached in
+    met d new s.boundaries edit.removed.start edit.removed.end (length edit.put.now) p.place p.stack.items found p.boundaries _ c.finished.result.boundaries p.asked c.finished.result.asked r c.tiles.invariant.unmet
+    (c.finished.ensures.boundaries ∙ c.in_ok-take_over.ensures.boundaries) (omega (arith, c.finished.ensures.asked, c.in_ok-take_over.ensures.asked))
+
+pub returns-then-not-branch-clause-run : goal.returns-then-not-branch-clause-run
+returns-then-not-branch-clause-run g c =
+    let def = c.args.self.now.definition.now in
+    let d = definition_of g.L.StorageT.Id.number def in
+    let new = c.args.new.now in
+    let s = c.args.self.now in
+    let edit = c.args.edit.now in
+    let p = c.tiles.progress in
+    let found = items_by g.L.StorageT.Id.number g.L.LexemeT.Lexeme.id_of g.L.LexemeT.Lexeme.start_of g.L.LexemeT.Lexeme.len_of g.L.LexemeT.Lexeme.is_faulty p.items.items in
+    let r = c.tiles.invariant.reached in
+    let n = c.advance.new.progress in
+    subst (λ xs. IsRun d new (items_by g.L.StorageT.Id.number g.L.LexemeT.Lexeme.id_of g.L.LexemeT.Lexeme.start_of g.L.LexemeT.Lexeme.len_of g.L.LexemeT.Lexeme.is_faulty xs) c.finished-then-not-branch.result.boundaries) (sym c.finished-then-not-branch.ensures.items)
+    (subst (IsRun d new (items_by g.L.StorageT.Id.number g.L.LexemeT.Lexeme.id_of g.L.LexemeT.Lexeme.start_of g.L.LexemeT.Lexeme.len_of g.L.LexemeT.Lexeme.is_faulty n.items.items)) (sym c.finished-then-not-branch.ensures.boundaries)
+    (run_of d new (items_by g.L.StorageT.Id.number g.L.LexemeT.Lexeme.id_of g.L.LexemeT.Lexeme.start_of g.L.LexemeT.Lexeme.len_of g.L.LexemeT.Lexeme.is_faulty n.items.items) n.boundaries r.initial (c.in_ok-advance.ensures.ends c.if-not-branch.true)))
+
+pub returns-then-not-branch-clause-met : goal.returns-then-not-branch-clause-met
+returns-then-not-branch-clause-met g c =
+    let def = c.args.self.now.definition.now in
+    let d = definition_of g.L.StorageT.Id.number def in
+    let new = c.args.new.now in
+    let s = c.args.self.now in
+    let edit = c.args.edit.now in
+    let p = c.tiles.progress in
+    let found = items_by g.L.StorageT.Id.number g.L.LexemeT.Lexeme.id_of g.L.LexemeT.Lexeme.start_of g.L.LexemeT.Lexeme.len_of g.L.LexemeT.Lexeme.is_faulty p.items.items in
+    let r = c.tiles.invariant.reached in
+    let none = none_met d new s.boundaries edit.removed.start edit.removed.end (length edit.put.now) p.place p.stack.items found p.boundaries p.asked r c.tiles.invariant.unmet
+    (λ past j within at same. c.meets.ensures.none c.if-meets.false past j within at (same ∙ ap (λ xs. plain xs) (sym c.deref-in-tiles.ensures.value))) in
+    λ k m. absurd (none k (subst (λ ms. Meets s.boundaries ms edit.removed.start edit.removed.end (length edit.put.now) k) (c.finished-then-not-branch.ensures.boundaries ∙ c.in_ok-advance.ensures.same c.if-not-branch.true) m))
+
+pub tiles-preserved : goal.tiles-preserved
+tiles-preserved g c =
+    let def = c.args.self.now.definition.now in
+    let d = definition_of g.L.StorageT.Id.number def in
+    let new = c.args.new.now in
+    let s = c.args.self.now in
+    let edit = c.args.edit.now in
+    let p = c.tiles.progress in
+    let found = items_by g.L.StorageT.Id.number g.L.LexemeT.Lexeme.id_of g.L.LexemeT.Lexeme.start_of g.L.LexemeT.Lexeme.len_of g.L.LexemeT.Lexeme.is_faulty p.items.items in
+    let r = c.tiles.invariant.reached in
+    let none = none_met d new s.boundaries edit.removed.start edit.removed.end (length edit.put.now) p.place p.stack.items found p.boundaries p.asked r c.tiles.invariant.unmet
+    (λ past j within at same. c.meets.ensures.none c.if-meets.false past j within at (same ∙ ap (λ xs. plain xs) (sym c.deref-in-tiles.ensures.value))) in
+    let on = c.if-not-branch.false in
+    let more = c.in_ok-advance.ensures.more on in
+    let grows = c.in_ok-advance.ensures.grows on in
+    record {
+      paired = subst (λ ms. ArePaired ms def.table.rules.items)
+          (sym (taken_back c.advance.new.matchers (drop (length c.advance.new.matchers) c.tiles.matchers.items) c.tiles.matchers.len
+          (omega (arith, c.tiles.matchers.ok.0, paired_len c.advance.new.matchers def.table.rules.items c.in_ok-advance.ensures.paired, paired_len c.tiles.matchers.items def.table.rules.items c.tiles.invariant.paired))))
+          c.in_ok-advance.ensures.paired;
+      boundary = c.in_ok-advance.ensures.boundary on;
+      reached = c.in_ok-advance.ensures.goes_on on;
+      cursor = c.meets.ensures.cursor;
+      behind = λ j lt. omega (arith, c.meets.ensures.behind j lt, grows);
+      unmet = λ k lt m. none k (meets_front s.boundaries p.boundaries (more.0 ∷ []) c.advance.new.progress.boundaries edit.removed.start edit.removed.end (length edit.put.now) k more.1 (omega (arith, lt, ap length more.1, length-append p.boundaries (more.0 ∷ []))) m);
+    }
+
+pub finished-requires-2 : goal.finished-requires-2
+finished-requires-2 g c =
+    let def = c.args.self.now.definition.now in
+    let d = definition_of g.L.StorageT.Id.number def in
+    let new = c.args.new.now in
+    let s = c.args.self.now in
+    let edit = c.args.edit.now in
+    let p = c.tiles.progress in
+    let found = items_by g.L.StorageT.Id.number g.L.LexemeT.Lexeme.id_of g.L.LexemeT.Lexeme.start_of g.L.LexemeT.Lexeme.len_of g.L.LexemeT.Lexeme.is_faulty p.items.items in
+    let r = c.tiles.invariant.reached in
+    let lexed = ended d new p.place p.stack.items found p.boundaries p.asked r found Done (nothing_left new p.place c.tiles-test.false) (sym (append-nil found)) in
+    run_of d new found p.boundaries r.initial lexed
+
+pub returns-clause-run : goal.returns-clause-run
+returns-clause-run g c =
+    let def = c.args.self.now.definition.now in
+    let d = definition_of g.L.StorageT.Id.number def in
+    let new = c.args.new.now in
+    let s = c.args.self.now in
+    let edit = c.args.edit.now in
+    let p = c.tiles.progress in
+    let found = items_by g.L.StorageT.Id.number g.L.LexemeT.Lexeme.id_of g.L.LexemeT.Lexeme.start_of g.L.LexemeT.Lexeme.len_of g.L.LexemeT.Lexeme.is_faulty p.items.items in
+    let r = c.tiles.invariant.reached in
+    let lexed = ended d new p.place p.stack.items found p.boundaries p.asked r found Done (nothing_left new p.place c.tiles-test.false) (sym (append-nil found)) in
+    subst (λ xs. IsRun d new (items_by g.L.StorageT.Id.number g.L.LexemeT.Lexeme.id_of g.L.LexemeT.Lexeme.start_of g.L.LexemeT.Lexeme.len_of g.L.LexemeT.Lexeme.is_faulty xs) c.finished-2.result.boundaries) (sym c.finished-2.ensures.items)
+    (subst (IsRun d new found) (sym c.finished-2.ensures.boundaries) (run_of d new found p.boundaries r.initial lexed))
+
+pub returns-clause-met : goal.returns-clause-met
+returns-clause-met g c =
+    let def = c.args.self.now.definition.now in
+    let d = definition_of g.L.StorageT.Id.number def in
+    let new = c.args.new.now in
+    let s = c.args.self.now in
+    let edit = c.args.edit.now in
+    let p = c.tiles.progress in
+    let found = items_by g.L.StorageT.Id.number g.L.LexemeT.Lexeme.id_of g.L.LexemeT.Lexeme.start_of g.L.LexemeT.Lexeme.len_of g.L.LexemeT.Lexeme.is_faulty p.items.items in
+    let r = c.tiles.invariant.reached in
+    met d new s.boundaries edit.removed.start edit.removed.end (length edit.put.now) p.place p.stack.items found p.boundaries [] c.finished-2.result.boundaries p.asked c.finished-2.result.asked r c.tiles.invariant.unmet
+    (c.finished-2.ensures.boundaries ∙ sym (append-nil p.boundaries)) (omega (arith, c.finished-2.ensures.asked))
+
+pub take_over-requires-clause-last : goal.take_over-requires-clause-last
+take_over-requires-clause-last g c =
+    let p = c.tiles.progress in
+    last_now (definition_of g.L.StorageT.Id.number c.args.self.now.definition.now) c.args.new.now p.place p.stack.items (items_by g.L.StorageT.Id.number g.L.LexemeT.Lexeme.id_of g.L.LexemeT.Lexeme.start_of g.L.LexemeT.Lexeme.len_of g.L.LexemeT.Lexeme.is_faulty p.items.items) p.boundaries p.asked c.tiles.invariant.reached
+    ∙ sym (c.meets.ensures.stack c.if-meets.true ∙ c.deref-in-tiles.ensures.value)
+
+pub finished-requires-then-not-branch : goal.finished-requires-then-not-branch
+finished-requires-then-not-branch g c =
+    let p = c.advance.new.progress in
+    run_of (definition_of g.L.StorageT.Id.number c.args.self.now.definition.now) c.args.new.now (items_by g.L.StorageT.Id.number g.L.LexemeT.Lexeme.id_of g.L.LexemeT.Lexeme.start_of g.L.LexemeT.Lexeme.len_of g.L.LexemeT.Lexeme.is_faulty p.items.items) p.boundaries c.tiles.invariant.reached.initial (c.in_ok-advance.ensures.ends c.if-not-branch.true)

@@ -1,0 +1,42 @@
+-- What a definition of the program says, and what a run of it answers.
+use Rattle.std.specs.Prelude.{◌≡◌, ℕ, Bool, List, option_map, Result, Ok, Err, map}
+use Rattle.regex.specs.Strings.{regex_pattern, matcher_pattern}
+use Rattle.regex.specs.declared.string.matcher.Matcher.{Matcher}
+use Rattle.lrlex_base.specs.Spans.{span_start, span_end}
+use Rattle.lrlex.specs.Definition.{Definition}
+use Rattle.lrlex.specs.Faults.{lex_error_span, lex_error_state}
+use Rattle.lrlex.specs.Parts.{as_rule, as_state, state_number, rule_regex}
+use Rattle.lrlex.specs.Tiling.{Item, Lexeme, Error}
+use Rattle.lrlex.specs.declared.errors.LRLexError.{LRLexError}
+use Rattle.lrlex.specs.declared.rules.Rule as code
+use Rattle.lrlex.specs.declared.states.StartState as start
+use Rattle.lrlex.specs.declared.lexer.definition.LRNonStreamingLexerDef.{LRNonStreamingLexerDef}
+
+-- a definition, where `number` gives the number that an id stands for
+abbrev pub definition_of : {L X S E P Q : Type 0} → (S → ℕ) → LRNonStreamingLexerDef L X S E P Q → Definition
+definition_of number d = record {
+  states = map as_state d.table.start_states.items;
+  rules = map (as_rule number) d.table.rules.items;
+  flags = d.flags;
+}
+
+-- its rules and its start states, as the program has them
+abbrev pub definition_rules : {L X S E P Q : Type 0} → LRNonStreamingLexerDef L X S E P Q → List (code.Rule S)
+definition_rules d = d.table.rules.items
+
+abbrev pub definition_states : {L X S E P Q : Type 0} → LRNonStreamingLexerDef L X S E P Q → List start.StartState
+definition_states d = d.table.start_states.items
+
+-- each matcher searches for the pattern of the rule at its place
+abbrev pub ArePaired : {S : Type 0} → List Matcher → List (code.Rule S) → Type 0
+ArePaired matchers rules = map matcher_pattern matchers ≡ map (λ r. regex_pattern (rule_regex r)) rules
+
+-- an item of the program, by what the functions say of an id and a lexeme
+abbrev pub item_of : {S X : Type 0} → (S → ℕ) → (X → S) → (X → ℕ) → (X → ℕ) → (X → Bool) → Result X LRLexError → Item
+item_of number id start len is_faulty (Ok x) = Lexeme (number (id x)) (start x) (len x) (is_faulty x)
+item_of number id start len is_faulty (Err e) =
+    Error (span_start (lex_error_span e)) (span_end (lex_error_span e)) (option_map state_number (lex_error_state e))
+
+-- the items of the program
+abbrev pub items_by : {S X : Type 0} → (S → ℕ) → (X → S) → (X → ℕ) → (X → ℕ) → (X → Bool) → List (Result X LRLexError) → List Item
+items_by number id start len is_faulty xs = map (item_of number id start len is_faulty) xs

@@ -1,0 +1,161 @@
+ghost use Rattle.std.specs.Prelude.{◌≡◌, ◌+◌, ◌^◌, ◌<◌, ◌≤◌, true, false, [], ◌∷◌, ◌++◌, length, map, IfOk, OnOk, IsCharBoundary};
+ghost use Rattle.lrlex.specs.Active.{is_state, lexeme_id};
+ghost use Rattle.lrlex.specs.Parts.{as_rule};
+ghost use Rattle.lrlex.specs.Tiling.{Error, stack_after, lexeme_of};
+ghost use Rattle.lrlex.specs.Runs.{plain, AreRuns};
+ghost use Rattle.lrlex.specs.Marks.{Mark, last_runs};
+ghost use Rattle.lrlex.specs.Reach.{Reached, IsLexed, searches};
+ghost use Rattle.lrlex.specs.Views.{definition_of, ArePaired, item_of, items_by};
+
+use crate::errors::LRLexError;
+use crate::lexer::boundaries::Boundaries;
+use crate::lexer::definition::LRNonStreamingLexerDef;
+use crate::lexer::searching::winner;
+use crate::lexer::stack::{step, top_of};
+use crate::rules::Rule;
+use crate::states::{StartStateId, StartStateOperation};
+use lrlex_base::{Lexeme, LexerTypes, Span};
+use regex::Matcher;
+use std::alloc::{AllocError, Global};
+
+/// What a run has found so far. Its last boundary is its place with its stack.
+#[derive(Drop)]
+pub(crate) struct Progress<L: LexerTypes> {
+    pub(crate) place: usize,
+    pub(crate) stack: Vec<(usize, usize)>,
+    pub(crate) items: Vec<Result<L::LexemeT, LRLexError>>,
+    pub(crate) boundaries: Boundaries,
+    pub(crate) asked: u128,
+}
+
+/// Nothing found yet, in state 0.
+pub(crate) fn begin<L: LexerTypes>(
+    alloc: Global,
+    definition: &LRNonStreamingLexerDef<L>,
+    text: &str,
+) -> Result<Progress<L>, AllocError>
+    requires { is_state (definition_of L.StorageT.number definition.now) 0 ≡ true }
+    ensures reached { IfOk result (λ p. Reached (definition_of L.StorageT.number definition.now) text.now p.place p.stack.items (items_by L.StorageT.number L.LexemeT.id_of L.LexemeT.start_of L.LexemeT.len_of L.LexemeT.is_faulty p.items.items) p.boundaries p.asked) }
+    ensures start { IfOk result (λ p. p.place ≡ 0) }
+    ensures one { IfOk result (λ p. length p.boundaries ≡ 1) }
+{
+    let mut stack = Vec::new(alloc);
+    stack.push((1, 0))?;
+    let mut boundaries = Boundaries::new(alloc);
+    boundaries.push(0, 0, &stack)?;
+    Ok(Progress {
+        place: 0,
+        stack,
+        items: Vec::new(alloc),
+        boundaries,
+        asked: 0,
+    })
+}
+
+/// Gives the tile's lexeme, if its rule gives one.
+fn give<L: LexerTypes>(
+    items: &mut Vec<Result<L::LexemeT, LRLexError>>,
+    rule: &Rule<L::StorageT>,
+    place: usize,
+    len: usize,
+) -> Result<(), AllocError>
+    requires { place + len < 2 ^ 64 }
+    ensures { OnOk result (map (item_of L.StorageT.number L.LexemeT.id_of L.LexemeT.start_of L.LexemeT.len_of L.LexemeT.is_faulty) items.new.items
+        ≡ map (item_of L.StorageT.number L.LexemeT.id_of L.LexemeT.start_of L.LexemeT.len_of L.LexemeT.is_faulty) items.old.items
+        ++ lexeme_of (lexeme_id (as_rule L.StorageT.number rule.now)) place len) }
+{
+    if let Some(id) = rule.lexeme_id() {
+        items.push(Ok(Lexeme::new(id, place, len)))?;
+    }
+    Ok(())
+}
+
+/// Gives an error at the place, with the state in which no rule matches there, if that is why.
+pub(crate) fn give_error<L: LexerTypes>(
+    items: &mut Vec<Result<L::LexemeT, LRLexError>>,
+    place: usize,
+    state: Option<usize>,
+) -> Result<(), AllocError>
+    ensures { OnOk result (items_by L.StorageT.number L.LexemeT.id_of L.LexemeT.start_of L.LexemeT.len_of L.LexemeT.is_faulty items.new.items
+        ≡ items_by L.StorageT.number L.LexemeT.id_of L.LexemeT.start_of L.LexemeT.len_of L.LexemeT.is_faulty items.old.items ++ Error place place state ∷ []) }
+{
+    let span = Span::new(place, place);
+    let error = match state {
+        Some(state) => LRLexError::new_with_lexing_state(span, StartStateId::new(state)),
+        None => LRLexError::new(span),
+    };
+    items.push(Err(error))?;
+    Ok(())
+}
+
+/// Enters the next boundary: moves the stack by a rule's target.
+fn enter<L: LexerTypes>(
+    progress: &mut Progress<L>,
+    target: Option<(usize, StartStateOperation)>,
+    place: usize,
+) -> Result<(), AllocError>
+    requires runs { AreRuns progress.old.stack.items }
+    requires room { length (plain progress.old.stack.items) + 1 < 2 ^ 64 }
+    requires last { last_runs progress.old.boundaries ≡ progress.old.stack.items }
+    ensures place { OnOk result (progress.new.place ≡ place) }
+    ensures runs { OnOk result (AreRuns progress.new.stack.items) }
+    ensures moved { OnOk result (plain progress.new.stack.items ≡ stack_after (plain progress.old.stack.items) target) }
+    ensures items { OnOk result (progress.new.items.items ≡ progress.old.items.items) }
+    ensures asked { OnOk result (progress.new.asked ≡ progress.old.asked) }
+    ensures kept { OnOk result (progress.new.boundaries ≡ progress.old.boundaries
+        ++ record { place = place; given = length progress.old.items.items; runs = progress.new.stack.items } ∷ []) }
+{
+    let given = progress.items.len();
+    progress.place = place;
+    step(&mut progress.stack, target)?;
+    if target.is_some() {
+        progress.boundaries.push(place, given, &progress.stack)?;
+    } else {
+        progress.boundaries.push_same(place, given)?;
+    }
+    Ok(())
+}
+
+/// Takes the tile at the place, and answers whether lexing goes on after it.
+pub(crate) fn advance<L: LexerTypes>(
+    definition: &LRNonStreamingLexerDef<L>,
+    text: &str,
+    matchers: &mut [Matcher<'_>],
+    progress: &mut Progress<L>,
+) -> Result<bool, AllocError>
+    requires inside { progress.old.place < length text.now }
+    requires boundary { IsCharBoundary text.now progress.old.place }
+    requires paired { ArePaired matchers.old definition.now.table.rules.items }
+    requires reached { Reached (definition_of L.StorageT.number definition.now) text.now progress.old.place progress.old.stack.items
+        (items_by L.StorageT.number L.LexemeT.id_of L.LexemeT.start_of L.LexemeT.len_of L.LexemeT.is_faulty progress.old.items.items) progress.old.boundaries progress.old.asked }
+    ensures paired { ArePaired matchers.new definition.now.table.rules.items }
+    ensures goes_on { IfOk result (λ on. on ≡ true → Reached (definition_of L.StorageT.number definition.now) text.now progress.new.place progress.new.stack.items
+        (items_by L.StorageT.number L.LexemeT.id_of L.LexemeT.start_of L.LexemeT.len_of L.LexemeT.is_faulty progress.new.items.items) progress.new.boundaries progress.new.asked) }
+    ensures boundary { IfOk result (λ on. on ≡ true → IsCharBoundary text.now progress.new.place) }
+    ensures grows { IfOk result (λ on. on ≡ true → progress.old.place < progress.new.place) }
+    ensures more { IfOk result (λ on. on ≡ true → (m : Mark) × (progress.new.boundaries ≡ progress.old.boundaries ++ m ∷ [])) }
+    ensures ends { IfOk result (λ on. on ≡ false → IsLexed (definition_of L.StorageT.number definition.now) text.now
+        (items_by L.StorageT.number L.LexemeT.id_of L.LexemeT.start_of L.LexemeT.len_of L.LexemeT.is_faulty progress.new.items.items) progress.new.boundaries) }
+    ensures same { IfOk result (λ on. on ≡ false → progress.new.boundaries ≡ progress.old.boundaries) }
+    ensures asked { IfOk result (λ _. progress.new.asked ≤ searches (definition_of L.StorageT.number definition.now) text.now progress.old.boundaries) }
+{
+    let place = progress.place;
+    let state = top_of(&progress.stack);
+    let rest = &text[place..];
+    let Some(tile) = winner(definition, state, matchers, rest, &mut progress.asked) else {
+        give_error::<L>(&mut progress.items, place, Some(state))?;
+        return Ok(false);
+    };
+    let rule = &definition.table.rules[tile.rule];
+    if rule.lacks_id() {
+        give_error::<L>(&mut progress.items, place, None)?;
+        return Ok(false);
+    }
+    give::<L>(&mut progress.items, rule, place, tile.len)?;
+    if definition.lacks_target(rule) {
+        give_error::<L>(&mut progress.items, place, None)?;
+        return Ok(false);
+    }
+    enter(progress, rule.target_state, place + tile.len)?;
+    Ok(true)
+}

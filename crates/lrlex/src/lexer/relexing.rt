@@ -1,0 +1,200 @@
+ghost use Rattle.std.specs.Prelude.{◌≡◌, ◌≢◌, ℕ, ◌+◌, ◌-◌, ◌*◌, ◌<◌, ◌≤◌, ◌^◌, true, false, All, ◌++◌, length, map, drop, take, IfOk, OnOk};
+ghost use Rattle.lrlex.specs.Active.{is_state};
+ghost use Rattle.lrlex_base.specs.Spans.{span_start, span_end, as_span, Fits};
+ghost use Rattle.lrlex_base.specs.Edits.{edited};
+ghost use Rattle.lrlex.specs.Tiling.{rebased};
+ghost use Rattle.lrlex.specs.Marks.{mark_at, last_runs};
+ghost use Rattle.lrlex.specs.Edits.{IsMovable, IsMovableMark, moved_mark, Meets, IsSortedRuns};
+ghost use Rattle.lrlex.specs.Runs.{plain, AreRuns};
+ghost use Rattle.lrlex.specs.Reach.{IsRun, searches};
+ghost use Rattle.lrlex.specs.Views.{definition_of, items_by, item_of};
+
+use crate::errors::LRLexError;
+use crate::lexer::boundaries::Boundaries;
+use crate::lexer::lexing::{Progress, advance, begin};
+use crate::lexer::run::{LexRun, finished, refused};
+use crate::lexer::searching::matchers_of;
+use lrlex_base::{Edit, LexError, Lexeme, LexerTypes, Span};
+use std::alloc::{AllocError, Global};
+
+/// The item once what stood at `from` stands at `to`.
+fn moved<L: LexerTypes<LexErrorT = LRLexError>>(
+    item: &Result<L::LexemeT, LRLexError>,
+    from: usize,
+    to: usize,
+) -> Result<L::LexemeT, LRLexError>
+    requires { IsMovable from to (item_of L.StorageT.number L.LexemeT.id_of L.LexemeT.start_of L.LexemeT.len_of L.LexemeT.is_faulty item.now) }
+    ensures { item_of L.StorageT.number L.LexemeT.id_of L.LexemeT.start_of L.LexemeT.len_of L.LexemeT.is_faulty result
+        ≡ rebased from to (item_of L.StorageT.number L.LexemeT.id_of L.LexemeT.start_of L.LexemeT.len_of L.LexemeT.is_faulty item.now) }
+{
+    match item {
+        Ok(lexeme) => {
+            let id = lexeme.tok_id();
+            let span = lexeme.span();
+            let start = span.start() - from + to;
+            if lexeme.faulty() {
+                Ok(Lexeme::new_faulty(id, start, span.len()))
+            } else {
+                Ok(Lexeme::new(id, start, span.len()))
+            }
+        }
+        Err(error) => {
+            let span = error.span();
+            let span = Span::new(span.start() - from + to, span.end() - from + to);
+            match error.lexing_state() {
+                Some(state) => Err(LRLexError::new_with_lexing_state(span, state)),
+                None => Err(LRLexError::new(span)),
+            }
+        }
+    }
+}
+
+/// Adds the items once what stood at `from` stands at `to`.
+fn append_moved<L: LexerTypes<LexErrorT = LRLexError>>(
+    items: &mut Vec<Result<L::LexemeT, LRLexError>>,
+    tail: &[Result<L::LexemeT, LRLexError>],
+    from: usize,
+    to: usize,
+) -> Result<(), AllocError>
+    requires { All (IsMovable from to) (map (item_of L.StorageT.number L.LexemeT.id_of L.LexemeT.start_of L.LexemeT.len_of L.LexemeT.is_faulty) tail.now) }
+    ensures { OnOk result (map (item_of L.StorageT.number L.LexemeT.id_of L.LexemeT.start_of L.LexemeT.len_of L.LexemeT.is_faulty) items.new.items
+        ≡ map (item_of L.StorageT.number L.LexemeT.id_of L.LexemeT.start_of L.LexemeT.len_of L.LexemeT.is_faulty) items.old.items
+        ++ map (rebased from to) (map (item_of L.StorageT.number L.LexemeT.id_of L.LexemeT.start_of L.LexemeT.len_of L.LexemeT.is_faulty) tail.now)) }
+{
+    'tail: for index in 0..tail.len() {
+        items.push(moved::<L>(&tail[index], from, to))?;
+    }
+    Ok(())
+}
+
+/// The first boundary from `cursor` on that doesn't stand before the place.
+fn first_from(boundaries: &Boundaries, cursor: usize, place: usize) -> usize
+    requires { cursor ≤ length boundaries.now }
+    ensures within { result ≤ length boundaries.now }
+    ensures skipped { (j : ℕ) → cursor ≤ j → j < result → (mark_at boundaries.now j).place < place }
+    ensures forward { cursor ≤ result }
+    ensures stops { result < length boundaries.now → place ≤ (mark_at boundaries.now result).place }
+{
+    let mut next = cursor;
+    'walk: while next < boundaries.len() {
+        if boundaries.place(next) >= place {
+            break;
+        }
+        next += 1;
+    }
+    next
+}
+
+/// Whether the boundary is there, stands at the place and has the stack.
+fn is_at(boundaries: &Boundaries, index: usize, place: usize, stack: &[(usize, usize)]) -> bool
+    ensures within { result ≡ true → index < length boundaries.now }
+    ensures place { result ≡ true → (mark_at boundaries.now index).place ≡ place }
+    ensures stack { result ≡ true → (mark_at boundaries.now index).runs ≡ stack.now }
+    ensures none { result ≡ false → index < length boundaries.now → (mark_at boundaries.now index).place ≡ place → (mark_at boundaries.now index).runs ≢ stack.now }
+{
+    if index >= boundaries.len() || boundaries.place(index) != place {
+        return false;
+    }
+    boundaries.stack(index) == stack
+}
+
+/// Whether an old boundary stands where the new one stood before the edit, with the same stack.
+/// The cursor moves forward to the place.
+fn meets(
+    old: &Boundaries,
+    edit: &Edit<'_>,
+    cursor: &mut usize,
+    place: usize,
+    stack: &[(usize, usize)],
+) -> bool
+    requires sorted { IsSortedRuns old.now }
+    requires stack { AreRuns stack.now }
+    requires put { span_start edit.now.removed + length edit.now.put.now < 2 ^ 64 }
+    requires room { place + span_end edit.now.removed < span_start edit.now.removed + length edit.now.put.now + 2 ^ 64 }
+    requires cursor { cursor.old ≤ length old.now }
+    requires behind { (j : ℕ) → j < cursor.old → (mark_at old.now j).place + (span_start edit.now.removed + length edit.now.put.now) < place + span_end edit.now.removed }
+    ensures cursor { cursor.new ≤ length old.now }
+    ensures behind { (j : ℕ) → j < cursor.new → (mark_at old.now j).place + (span_start edit.now.removed + length edit.now.put.now) < place + span_end edit.now.removed }
+    ensures within { result ≡ true → cursor.new < length old.now }
+    ensures past { result ≡ true → span_start edit.now.removed + length edit.now.put.now ≤ place }
+    ensures place { result ≡ true → (mark_at old.now cursor.new).place + (span_start edit.now.removed + length edit.now.put.now) ≡ place + span_end edit.now.removed }
+    ensures stack { result ≡ true → (mark_at old.now cursor.new).runs ≡ stack.now }
+    ensures none { result ≡ false → span_start edit.now.removed + length edit.now.put.now ≤ place → (j : ℕ) → j < length old.now
+        → (mark_at old.now j).place + (span_start edit.now.removed + length edit.now.put.now) ≡ place + span_end edit.now.removed → plain (mark_at old.now j).runs ≢ plain stack.now }
+{
+    let put_end = edit.removed.start() + edit.put.len();
+    if place < put_end {
+        return false;
+    }
+    let back = place - put_end + edit.removed.end();
+    *cursor = first_from(old, *cursor, back);
+    is_at(old, *cursor, back, stack)
+}
+
+/// Takes over what follows the old boundary, moved to the place of the new one.
+fn take_over<L: LexerTypes<LexErrorT = LRLexError>>(
+    old: &LexRun<'_, '_, L>,
+    index: usize,
+    progress: &mut Progress<L>,
+) -> Result<(), AllocError>
+    requires within { index < length old.now.boundaries }
+    requires given { (mark_at old.now.boundaries index).given ≤ length old.now.items.items }
+    requires items { All (IsMovable (mark_at old.now.boundaries index).place progress.old.place)
+        (map (item_of L.StorageT.number L.LexemeT.id_of L.LexemeT.start_of L.LexemeT.len_of L.LexemeT.is_faulty) (drop (mark_at old.now.boundaries index).given old.now.items.items)) }
+    requires last { last_runs progress.old.boundaries ≡ (mark_at old.now.boundaries index).runs }
+    requires boundaries { All (IsMovableMark (mark_at old.now.boundaries index).place progress.old.place (mark_at old.now.boundaries index).given (length progress.old.items.items))
+        (drop (index + 1) old.now.boundaries) }
+    ensures items { OnOk result (map (item_of L.StorageT.number L.LexemeT.id_of L.LexemeT.start_of L.LexemeT.len_of L.LexemeT.is_faulty) progress.new.items.items
+        ≡ map (item_of L.StorageT.number L.LexemeT.id_of L.LexemeT.start_of L.LexemeT.len_of L.LexemeT.is_faulty) progress.old.items.items
+        ++ map (rebased (mark_at old.now.boundaries index).place progress.old.place)
+        (map (item_of L.StorageT.number L.LexemeT.id_of L.LexemeT.start_of L.LexemeT.len_of L.LexemeT.is_faulty) (drop (mark_at old.now.boundaries index).given old.now.items.items))) }
+    ensures boundaries { OnOk result (progress.new.boundaries ≡ progress.old.boundaries
+        ++ map (moved_mark (mark_at old.now.boundaries index).place progress.old.place (mark_at old.now.boundaries index).given (length progress.old.items.items))
+        (drop (index + 1) old.now.boundaries)) }
+    ensures asked { OnOk result (progress.new.asked ≡ progress.old.asked) }
+{
+    let to = progress.place;
+    let before = progress.items.len();
+    let from = old.boundaries.place(index);
+    let given = old.boundaries.given(index);
+    append_moved::<L>(&mut progress.items, &old.items[given..], from, to)?;
+    progress.boundaries.append_moved(&old.boundaries, index, to, before)
+}
+
+impl<'lexer, L: LexerTypes<LexErrorT = LRLexError>> LexRun<'lexer, '_, L> {
+    /// Lexes the text after an edit. From the first boundary on where place and stack meet the old ones,
+    /// the old items are taken over.
+    pub fn relex<'new>(
+        &self,
+        alloc: Global,
+        edit: &Edit<'_>,
+        new: &'new str,
+    ) -> Result<LexRun<'lexer, 'new, L>, AllocError>
+        requires fits { Fits self.now.text.now edit.now.removed }
+        requires gives { new.now ≡ edited self.now.text.now (as_span edit.now.removed) edit.now.put.now }
+        ensures run { IfOk result (λ r. IsRun (definition_of L.StorageT.number self.now.definition.now) new.now (items_by L.StorageT.number L.LexemeT.id_of L.LexemeT.start_of L.LexemeT.len_of L.LexemeT.is_faulty r.items.items) r.boundaries) }
+        ensures definition { IfOk result (λ r. r.definition.now ≡ self.now.definition.now) }
+        ensures text { IfOk result (λ r. r.text.now ≡ new.now) }
+        ensures asked { IfOk result (λ r. r.asked ≤ searches (definition_of L.StorageT.number self.now.definition.now) new.now r.boundaries) }
+        ensures met { IfOk result (λ r. (k : ℕ) → Meets self.now.boundaries r.boundaries (span_start edit.now.removed) (span_end edit.now.removed) (length edit.now.put.now) k
+            → r.asked ≤ searches (definition_of L.StorageT.number self.now.definition.now) new.now (take k r.boundaries)) }
+    {
+        let definition = self.definition;
+        if !definition.is_state(0) {
+            return refused(alloc, definition, new);
+        }
+        let mut matchers = matchers_of(alloc, &definition.table.rules)?;
+        let mut progress = begin(alloc, definition, new)?;
+        let mut cursor = 0usize;
+        'tiles: while progress.place < new.len() {
+            if meets(&self.boundaries, edit, &mut cursor, progress.place, &progress.stack) {
+                take_over(self, cursor, &mut progress)?;
+                return Ok(finished(definition, new, progress));
+            }
+            if !advance(definition, new, &mut matchers, &mut progress)? {
+                return Ok(finished(definition, new, progress));
+            }
+        }
+        Ok(finished(definition, new, progress))
+    }
+}

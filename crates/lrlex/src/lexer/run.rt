@@ -1,0 +1,160 @@
+ghost use Rattle.std.specs.Prelude.{◌≡◌, ◌+◌, ◌-◌, ◌*◌, ◌<◌, ◌≤◌, true, false, length, vec_len, IfOk};
+ghost use Rattle.lrlex.specs.Active.{is_state};
+ghost use Rattle.lrlex.specs.Marks.{mark_at, most_runs};
+ghost use Rattle.lrlex.specs.Runs.{AreRuns};
+ghost use Rattle.lrlex.specs.Reach.{Reached, IsLexed, IsRun, searches};
+ghost use Rattle.lrlex.specs.Views.{definition_of, items_by};
+
+use crate::errors::LRLexError;
+use crate::lexer::boundaries::Boundaries;
+use crate::lexer::definition::LRNonStreamingLexerDef;
+use crate::lexer::lexing::{Progress, advance, begin, give_error};
+use crate::lexer::searching::matchers_of;
+use lrlex_base::LexerTypes;
+use std::alloc::{AllocError, Global};
+
+/// What lexing a text gave.
+#[derive(Drop)]
+pub struct LexRun<'lexer, 'input, L: LexerTypes<LexErrorT = LRLexError>> {
+    pub(crate) definition: &'lexer LRNonStreamingLexerDef<L>,
+    pub(crate) text: &'input str,
+    pub(crate) items: Vec<Result<L::LexemeT, LRLexError>>,
+    pub(crate) boundaries: Boundaries,
+    pub(crate) asked: u128,
+    ghost lexed: { ∥ IsRun (definition_of L.StorageT.number definition.now) text.now (items_by L.StorageT.number L.LexemeT.id_of L.LexemeT.start_of L.LexemeT.len_of L.LexemeT.is_faulty items.items) boundaries ∥₁ },
+}
+
+impl<'lexer, 'input, L: LexerTypes<LexErrorT = LRLexError>> LexRun<'lexer, 'input, L> {
+    /// The lexemes, and an error at the end where lexing stopped early.
+    pub fn items(&self) -> &[Result<L::LexemeT, LRLexError>]
+        ensures { result.now ≡ self.now.items.items }
+    {
+        &self.items
+    }
+
+    /// How many tiles the text was cut into.
+    pub fn tiles(&self) -> usize
+        ensures { result ≡ length self.now.boundaries - 1 }
+    {
+        self.boundaries.len().saturating_sub(1)
+    }
+
+    /// How many searches the call that made this run needed.
+    pub fn asked(&self) -> u128
+        ensures { result ≡ self.now.asked }
+    {
+        self.asked
+    }
+
+    /// The greatest number of runs of equal neighbours in a stack of a boundary.
+    pub fn entries_peak(&self) -> usize
+        ensures { result ≡ most_runs self.now.boundaries }
+    {
+        self.boundaries.peak()
+    }
+
+    /// One more than the tiles, or 0 without a state 0.
+    pub fn boundaries(&self) -> usize
+        ensures { result ≡ length self.now.boundaries }
+    {
+        self.boundaries.len()
+    }
+
+    /// Where the boundary stands.
+    pub fn place(&self, index: usize) -> usize
+        requires { index < length self.now.boundaries }
+        ensures { result ≡ (mark_at self.now.boundaries index).place }
+    {
+        self.boundaries.place(index)
+    }
+
+    /// The boundary's stack from bottom to top, as runs of a count and a state.
+    pub fn stack(&self, index: usize) -> &[(usize, usize)]
+        requires { index < length self.now.boundaries }
+        ensures stack { result.now ≡ (mark_at self.now.boundaries index).runs }
+        ensures runs { AreRuns result.now }
+    {
+        self.boundaries.stack(index)
+    }
+}
+
+/// The run of a definition without a state 0.
+pub(crate) fn refused<'lexer, 'input, L: LexerTypes<LexErrorT = LRLexError>>(
+    alloc: Global,
+    definition: &'lexer LRNonStreamingLexerDef<L>,
+    text: &'input str,
+) -> Result<LexRun<'lexer, 'input, L>, AllocError>
+    requires { is_state (definition_of L.StorageT.number definition.now) 0 ≡ false }
+    ensures run { IfOk result (λ r. IsRun (definition_of L.StorageT.number definition.now) text.now (items_by L.StorageT.number L.LexemeT.id_of L.LexemeT.start_of L.LexemeT.len_of L.LexemeT.is_faulty r.items.items) r.boundaries) }
+    ensures definition { IfOk result (λ r. r.definition.now ≡ definition.now) }
+    ensures text { IfOk result (λ r. r.text.now ≡ text.now) }
+    ensures asked { IfOk result (λ r. r.asked ≡ 0) }
+{
+    let mut items = Vec::new(alloc);
+    give_error::<L>(&mut items, 0, None)?;
+    Ok(LexRun {
+        definition,
+        text,
+        items,
+        boundaries: Boundaries::new(alloc),
+        asked: 0,
+    })
+}
+
+/// The run that has come to its end.
+pub(crate) fn finished<'lexer, 'input, L: LexerTypes<LexErrorT = LRLexError>>(
+    definition: &'lexer LRNonStreamingLexerDef<L>,
+    text: &'input str,
+    progress: Progress<L>,
+) -> LexRun<'lexer, 'input, L>
+    requires { IsRun (definition_of L.StorageT.number definition.now) text.now (items_by L.StorageT.number L.LexemeT.id_of L.LexemeT.start_of L.LexemeT.len_of L.LexemeT.is_faulty progress.items.items) progress.boundaries }
+    ensures definition { result.definition.now ≡ definition.now }
+    ensures text { result.text.now ≡ text.now }
+    ensures items { result.items.items ≡ progress.items.items }
+    ensures boundaries { result.boundaries ≡ progress.boundaries }
+    ensures asked { result.asked ≡ progress.asked }
+{
+    let Progress {
+        place: _,
+        stack: _,
+        items,
+        boundaries,
+        asked,
+    } = progress;
+    LexRun {
+        definition,
+        text,
+        items,
+        boundaries,
+        asked,
+    }
+}
+
+impl<L: LexerTypes<LexErrorT = LRLexError>> LRNonStreamingLexerDef<L> {
+    /// Cuts the text into tiles, from state 0 on: at each place the rule wins that matches the most bytes there, and of
+    /// several the earliest. It stops where no rule matches, where the winner has a name and no id, and where its target
+    /// is no state.
+    pub fn run<'lexer, 'input>(
+        &'lexer self,
+        alloc: Global,
+        text: &'input str,
+    ) -> Result<LexRun<'lexer, 'input, L>, AllocError>
+        ensures run { IfOk result (λ r. IsRun (definition_of L.StorageT.number self.now) text.now (items_by L.StorageT.number L.LexemeT.id_of L.LexemeT.start_of L.LexemeT.len_of L.LexemeT.is_faulty r.items.items) r.boundaries) }
+        ensures definition { IfOk result (λ r. r.definition.now ≡ self.now) }
+        ensures text { IfOk result (λ r. r.text.now ≡ text.now) }
+        ensures asked { IfOk result (λ r. r.asked ≤ searches (definition_of L.StorageT.number self.now) text.now r.boundaries) }
+        ensures few { IfOk result (λ r. r.asked ≤ length r.boundaries * length (definition_of L.StorageT.number self.now).rules) }
+    {
+        if !self.is_state(0) {
+            return refused(alloc, self, text);
+        }
+        let mut matchers = matchers_of(alloc, &self.table.rules)?;
+        let mut progress = begin(alloc, self, text)?;
+        'tiles: while progress.place < text.len() {
+            if !advance(self, text, &mut matchers, &mut progress)? {
+                return Ok(finished(self, text, progress));
+            }
+        }
+        Ok(finished(self, text, progress))
+    }
+}
