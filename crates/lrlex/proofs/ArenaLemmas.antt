@@ -1,7 +1,7 @@
 -- More runs at the end change no earlier range.
-use Rattle.std.proofs.Common.{◌≡◌, ℕ, suc, ◌+◌, ◌-◌, ◌≤◌, max, List, [], ◌∷◌, ◌++◌, All, map, length, take, drop, get_or, Option, None, Some, slice_get, refl, sym, ap, ap₂, ◌∙◌, subst, arith, length-append}
+use Rattle.std.proofs.Common.{◌≡◌, ℕ, suc, ◌+◌, ◌-◌, ◌≤◌, max, List, [], ◌∷◌, ◌++◌, All, length, take, drop, get_or, slice_get, refl, sym, ap, ap₂, ◌∙◌, subst, arith, length-append}
 use Rattle.std.specs.List.{slice_range}
-use Rattle.std.proofs.lemmas.List.{drop_at, take_all, length-drop, length-map, get_or-map, get_or_past, map_push, take-append-le, drop-append-le}
+use Rattle.std.proofs.lemmas.List.{drop_at, take_all, length-drop, length-map, get_or-map, map_push, take-append-le, drop-append-le}
 use Rattle.std.proofs.lemmas.List.Elements.{All-head, All-tail, All-push, All-weaker}
 use Rattle.std.proofs.lemmas.Option.{slice_get-get_or}
 use Rattle.lrlex.specs.Marks.{Mark, no_mark, mark_at, last_runs, most_runs}

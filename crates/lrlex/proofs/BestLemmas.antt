@@ -5,7 +5,7 @@ use Rattle.std.proofs.lemmas.Option.{slice_get_past}
 use Rattle.std.proofs.lemmas.List.{length-drop}
 use Rattle.lrlex.specs.Definition.{Definition}
 use Rattle.lrlex.specs.Active.{taken_by_any, taken, rule_at, lacks_id, lacks_target}
-use Rattle.lrlex.specs.declared.lexer.searching.Tile.{Tile}
+use Rattle.lrlex.specs.Tiling.{Tile}
 use Rattle.lrlex.specs.Tiling.{Wins, IsStuck, top, End, Done, NoMatch, NoId, NoTarget, stack_past, IsTiling}
 
 -- Of the first m rules none takes more than n bytes, and where that is not 0, rule k is the first that takes n.

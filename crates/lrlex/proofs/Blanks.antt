@@ -14,7 +14,7 @@ use Rattle.lrlex_base.specs.Classes.{is_blank}
 use Rattle.lrlex.proofs.Cuts.{blank_ascii, chars_around}
 use Rattle.lrlex.proofs.Trims.{cut_prefixes, first_fails, FirstFails}
 
-blank_low : (c : ℕ) → is_blank c ≡ true → c < 128
+pub blank_low : (c : ℕ) → is_blank c ≡ true → c < 128
 blank_low c h = grind (arith, nat_tests)
 
 same_bytes : (ws : List ℕ) → list_all is_blank ws ≡ true → encode_utf8_all ws ≡ ws

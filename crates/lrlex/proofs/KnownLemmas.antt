@@ -1,18 +1,17 @@
 -- What is known of an old run.
-use Rattle.std.proofs.Common.{◌≡◌, ◌≢◌, ℕ, zero, suc, ◌+◌, ◌-◌, ◌^◌, ◌<◌, ◌≤◌, Bool, true, false, List, [], ◌∷◌, ◌++◌, length, map, take, drop, get_or, Option, None, Some, slice_get, refl, sym, ap, ap₂, ◌∙◌, subst, arith, All, length-append}
-use Rattle.std.specs.Coded.{×_prop, Unit-prop, Π_prop, →_prop, le_prop}
+use Rattle.std.proofs.Common.{◌≡◌, ℕ, zero, suc, ◌+◌, ◌<◌, ◌≤◌, Bool, true, false, List, [], ◌∷◌, length, map, drop, get_or, refl, sym, ap, ap₂, ◌∙◌, subst, arith}
+use Rattle.std.specs.Coded.{×_prop, Unit-prop, →_prop, le_prop}
 use Rattle.std.proofs.Props.{props}
 use Rattle.std.proofs.Math.Logic.{∥∥₁_elim}
 use Rattle.std.proofs.lemmas.List.{drop-drop, length-drop, get_or-map, length-map}
-use Rattle.std.proofs.lemmas.Option.{slice_get-get_or}
 use Rattle.lrlex.specs.Definition.{Definition}
 use Rattle.lrlex.specs.Active.{is_state}
 use Rattle.lrlex.specs.Tiling.{Item, Item-set, End, IsTiling, stack_past, items, boundaries, counts}
-use Rattle.lrlex.specs.Runs.{plain, Differ, AreRuns}
+use Rattle.lrlex.specs.Runs.{Differ, AreRuns}
 use Rattle.lrlex.specs.Marks.{Mark, bound, no_mark, mark_at}
 use Rattle.lrlex.specs.Edits.{IsSortedRuns}
 use Rattle.lrlex.specs.Reach.{IsLexed, IsRun}
-use Rattle.lrlex.specs.declared.lexer.searching.Tile.{Tile}
+use Rattle.lrlex.specs.Tiling.{Tile}
 use Rattle.lrlex.proofs.BestLemmas.{HasTiling, a_tiling}
 use Rattle.lrlex.proofs.TilingLemmas.{one_tiling, only_one, Wins-le}
 use Rattle.lrlex.proofs.SpliceLemmas.{bounds_within}
@@ -49,8 +48,10 @@ module _ (d : Definition) (text : List ℕ) (found : List Item) (marks : List Ma
   } where
     items_prop : (xs ys : List Item) → IsProp (xs ≡ ys)
     items_prop xs ys = Prim.hlevel (props, Item-set)
+
     bounds_prop : (xs ys : List (ℕ × List ℕ)) → IsProp (xs ≡ ys)
     bounds_prop xs ys = Prim.hlevel props
+
     counts_prop : (xs ys : List ℕ) → IsProp (xs ≡ ys)
     counts_prop xs ys = Prim.hlevel props
 

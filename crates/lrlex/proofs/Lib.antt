@@ -23,6 +23,8 @@ pub mod Parted
 pub mod PatternLemmas
 pub mod PeakLemmas
 pub mod PlaceLemmas
+pub mod Placed
+pub mod PlacedFaults
 pub mod Places
 pub mod ReachLemmas
 pub mod Refusals

@@ -10,7 +10,7 @@ use Rattle.lrlex.specs.declared.parser.text.Line.{Line}
 use Rattle.lrlex.specs.Declaration.{ends_section}
 use Rattle.lrlex.specs.Reading.{StandsIn, MarkAt}
 
-percent : (t : List ℕ) → ends_section t ≡ true → (1 < length t) × (get_or t 1 0 ≡ 37)
+pub percent : (t : List ℕ) → ends_section t ≡ true → (1 < length t) × (get_or t 1 0 ≡ 37)
 percent [] h = cc
 percent (x ∷ []) h = let bad : false ≡ true = second_so (eqb 37 x) false h in absurd (true≢false (sym bad))
 percent (x ∷ y ∷ zs) h =

@@ -1,24 +1,24 @@
 -- A run that meets the old one, in whole.
-use Rattle.std.proofs.Common.{◌≡◌, ◌≢◌, ℕ, zero, suc, ◌+◌, ◌-◌, ◌^◌, ◌<◌, ◌≤◌, Bool, true, false, List, [], ◌∷◌, ◌++◌, length, map, take, drop, get_or, Option, None, Some, slice_get, refl, sym, ap, ap₂, ◌∙◌, subst, inl, inr, arith, All, append_assoc, length-append}
+use Rattle.std.proofs.Common.{◌≡◌, ◌≢◌, ℕ, zero, suc, ◌+◌, ◌-◌, ◌^◌, ◌<◌, ◌≤◌, List, [], ◌∷◌, ◌++◌, length, map, take, drop, get_or, Some, slice_get, refl, sym, ap, ◌∙◌, subst, inl, inr, arith, All, append_assoc, ◌*◌, length-append}
 use Rattle.std.specs.List.{sum_by}
 use Rattle.std.proofs.lemmas.Bool.{cases_lt}
-use Rattle.std.proofs.lemmas.List.{length-drop, length-map, get_or-drop, get_or-map, map-append, take_all}
+use Rattle.std.proofs.lemmas.List.{length-drop, length-map, get_or-drop, get_or-map, map-append}
 use Rattle.std.proofs.lemmas.List.Sums.{sum_by-append}
 use Rattle.std.proofs.lemmas.Option.{slice_get-get_or, get_or_from_slice_get, slice_get_within, same_Some}
+use Rattle.std.proofs.Math.Nat.{mul-le-mul_right}
 use Rattle.lrlex.specs.Definition.{Definition}
-use Rattle.lrlex.specs.Tiling.{Item, End, IsTiling, items, boundaries, counts, rebased, asked_at}
-use Rattle.lrlex.specs.Runs.{plain, AreRuns}
+use Rattle.lrlex.specs.Tiling.{Item, boundaries, counts, rebased, asked_at}
+use Rattle.lrlex.specs.Runs.{plain}
 use Rattle.lrlex.specs.Marks.{Mark, bound, no_mark, mark_at}
-use Rattle.lrlex.specs.Edits.{IsMovable, IsMovableMark, moved_mark, Meets, IsSortedRuns}
+use Rattle.lrlex.specs.Edits.{IsMovable, IsMovableMark, moved_mark, Meets}
 use Rattle.lrlex.specs.Reach.{Reached, IsLexed, searches}
-use Rattle.lrlex.specs.declared.lexer.searching.Tile.{Tile}
 use Rattle.lrlex.proofs.TailLemmas.{tail_tiling}
 use Rattle.lrlex_base.specs.Spans.{span}
 use Rattle.lrlex_base.specs.Edits.{edited}
 use Rattle.lrlex.proofs.EditLemmas.{drop-edited}
 use Rattle.lrlex.proofs.SpliceLemmas.{AtBoundary, at_bound, tail_items, tail_counts, IsWithin, spliced, items_within, all_movable, bounds_within, counts_within}
 use Rattle.lrlex.proofs.KnownLemmas.{sorted}
-use Rattle.lrlex.proofs.ReachLemmas.{length_now}
+use Rattle.lrlex.proofs.ReachLemmas.{length_now, searches-few}
 
 get_or_any : (xs : List Mark) (k : ℕ) (x y : Mark) → k < length xs → get_or xs k x ≡ get_or xs k y
 get_or_any [] k x y h = absurd (omega arith)
@@ -26,9 +26,9 @@ get_or_any (z ∷ xs) zero x y h = refl
 get_or_any (z ∷ xs) (suc k) x y h = get_or_any xs k x y (omega arith)
 
 module _ (d : Definition) (old new : List ℕ) (low high : ℕ) (put : List ℕ) (old_found : List Item) (olds : List Mark) (h : IsLexed d old old_found olds)
-  (q : ℕ) (stack : List (ℕ × ℕ)) (found : List Item) (marks : List Mark) (asked : ℕ) (r : Reached d new q stack found marks asked)
-  (j : ℕ) (within : j < length olds) (ordered : low ≤ high) (fits : high ≤ length old) (gives : new ≡ edited old (span low high) put)
-  (past : low + length put ≤ q) (back : (mark_at olds j).place + (low + length put) ≡ q + high) (stacks : (mark_at olds j).runs ≡ stack) where
+    (q : ℕ) (stack : List (ℕ × ℕ)) (found : List Item) (marks : List Mark) (asked : ℕ) (r : Reached d new q stack found marks asked)
+    (j : ℕ) (within : j < length olds) (ordered : low ≤ high) (fits : high ≤ length old) (gives : new ≡ edited old (span low high) put)
+    (past : low + length put ≤ q) (back : (mark_at olds j).place + (low + length put) ≡ q + high) (stacks : (mark_at olds j).runs ≡ stack) where
   at_old : AtBoundary d h.cut h.end old_found olds j (mark_at olds j)
   at_old = record { items_are = h.items_are; boundaries_are = h.boundaries_are; counts_are = h.counts_are; at = slice_get-get_or olds j no_mark within }
 
@@ -127,9 +127,22 @@ met d text olds low high len place stack found marks tail all asked now r unmet 
     let n = length_now d text place stack found marks asked r in
     elim (cases_lt (k + 1) (length marks)) [
       | inl early ↦ absurd (unmet k early (meets_front olds marks tail all low high len k e (omega arith) m))
-      | inr late ↦ omega (arith, few, r.asks, searches_front d text r.before (record { place = place; given = length found; runs = stack } ∷ tail) all k
-          (e ∙ ap (λ ms. ms ++ tail) r.kept ∙ append_assoc r.before (record { place = place; given = length found; runs = stack } ∷ []) tail) (omega arith))
+      | inr late ↦ omega (
+        arith,
+        few,
+        r.asks,
+        searches_front d text r.before (record { place = place; given = length found; runs = stack } ∷ tail) all k
+            (e ∙ ap (λ ms. ms ++ tail) r.kept ∙ append_assoc r.before (record { place = place; given = length found; runs = stack } ∷ []) tail) (omega arith),
+      )
     ]
+
+-- the searches so far are few
+pub few_met : (d : Definition) (text : List ℕ) (place : ℕ) (stack : List (ℕ × ℕ)) (found : List Item) (marks tail all : List Mark) (asked now : ℕ) →
+    (r : Reached d text place stack found marks asked) → all ≡ marks ++ tail → now ≤ asked → now ≤ length all * length d.rules
+few_met d text place stack found marks tail all asked now r e few =
+    let n : length r.before ≤ length all = omega (arith, length_now d text place stack found marks asked r, ap length e, length-append marks tail) in
+    let most : length r.before * length d.rules ≤ length all * length d.rules = mul-le-mul_right (length d.rules) n in
+    omega (arith, few, r.asks, searches-few d text r.before, most)
 
 last_at : (xs : List Mark) (x : Mark) (k : ℕ) → length xs ≡ k → slice_get (xs ++ x ∷ []) k ≡ Some x
 last_at [] x zero e = refl

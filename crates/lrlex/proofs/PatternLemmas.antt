@@ -7,14 +7,12 @@ use Rattle.std.proofs.Math.Logic.{∥∥₁_elim}
 use Rattle.regex_syntax.specs.Brackets.{Nested}
 use Rattle.regex_syntax.specs.Grammar.{Names, group_count, read}
 use Rattle.regex_syntax.specs.Verdict.{Reads}
-use Rattle.regex_syntax.specs.declared.Config.{Config}
 use Rattle.regex.specs.Patterns.{Re, SameCaptures, empty}
 use Rattle.regex.specs.Strings.{regex_pattern, regex_config, regex_source, IsReadFromSource}
 use Rattle.regex.specs.declared.string.regex.Regex.{Regex}
 use Rattle.regex.proofs.ForCallers.{span_alike}
 use Rattle.lrlex.specs.Parts.{as_rule, rule_regex}
 use Rattle.lrlex.specs.Patterns.{pattern_read, pattern_of, end_from_zero, match_length}
-use Rattle.lrlex.specs.Wrapping.{wrapped}
 use Rattle.lrlex.specs.declared.rules.Rule as code
 
 read_value : (o : Option (Nested Re × Names)) (most : ℕ) (a : Re) (names : Names) →
@@ -40,5 +38,5 @@ pub rule_length : {S : Type 0} (number : S → ℕ) (r : code.Rule S) (text : Li
 unfolding pattern_of
 rule_length number r text bytes =
     ∥∥₁_elim r.read (nat_prop _ _) (λ h.
-        length_alike _ _ (as_read r.re h) text bytes
-        ∙ ap (λ source. match_length (pattern_read (regex_config r.re) source) text) r.source)
+    length_alike _ _ (as_read r.re h) text bytes
+    ∙ ap (λ source. match_length (pattern_read (regex_config r.re) source) text) r.source)

@@ -5,13 +5,13 @@ use Rattle.std.proofs.lemmas.List.{length-map}
 use Rattle.lrlex.specs.Definition.{Definition}
 use Rattle.lrlex.specs.Active.{rule_at}
 use Rattle.lrlex.specs.Tiling.{Item, top, or_initial, stack_after, stack_past, boundaries}
-use Rattle.lrlex.specs.Runs.{plain, AreRuns, begins_with, entries}
+use Rattle.lrlex.specs.Runs.{AreRuns, entries}
 use Rattle.lrlex.specs.Marks.{Mark, bound, most_runs, most_entries}
 use Rattle.lrlex.specs.Reach.{IsLexed}
 use Rattle.lrlex.specs.Peaks.{pushes_other, pushes}
 use Rattle.lrlex.specs.declared.states.StartStateOperation.{StartStateOperation}
 use Rattle.lrlex.specs.declared.states.StartStateOperation.TheVariants.{ReplaceStack, Push, Pop}
-use Rattle.lrlex.specs.declared.lexer.searching.Tile.{Tile}
+use Rattle.lrlex.specs.Tiling.{Tile}
 use Rattle.lrlex.proofs.RunsLemmas.{entries-plain, top-last}
 
 pub most-plain : (ms : List Mark) → All (λ m. AreRuns m.runs) ms → most_runs ms ≡ most_entries (map bound ms)

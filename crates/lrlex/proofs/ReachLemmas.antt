@@ -1,19 +1,19 @@
 -- One more tile, and the end of a run.
-use Rattle.std.proofs.Common.{◌≡◌, ◌≢◌, ℕ, ◌+◌, ◌-◌, ◌*◌, ◌^◌, ◌<◌, ◌≤◌, Bool, true, false, not, List, [], ◌∷◌, ◌++◌, length, map, drop, Option, Some, None, get_or, refl, sym, ap, ap₂, ◌∙◌, subst, arith, true≢false, is_some, take, All, append_assoc, append-nil, length-append}
+use Rattle.std.proofs.Common.{◌≡◌, ◌≢◌, ℕ, ◌+◌, ◌-◌, ◌*◌, ◌^◌, ◌<◌, ◌≤◌, Bool, true, false, not, List, [], ◌∷◌, ◌++◌, length, map, drop, Option, Some, None, refl, sym, ap, ap₂, ◌∙◌, subst, arith, true≢false, is_some, take, All, append_assoc, length-append}
 use Rattle.std.specs.List.{sum_by}
 use Rattle.regex_hir.specs.Text.{is_some_and}
-use Rattle.std.proofs.lemmas.List.{drop-drop, length-drop, length-take, length-map, nil_from_length, map-append, map_push, get_or_at}
-use Rattle.std.proofs.lemmas.List.Elements.{All-push, All-pop, All-take, All-cons, All-nil, All-head}
+use Rattle.std.proofs.lemmas.List.{drop-drop, length-drop, length-take, length-map, nil_from_length, map_push, get_or_at}
+use Rattle.std.proofs.lemmas.List.Elements.{All-push, All-pop, All-take, All-nil}
 use Rattle.std.proofs.lemmas.List.Sums.{sum_by-append, sum_by-cons}
 use Rattle.std.proofs.lemmas.Bool.{cond-true, lt-ltb}
 use Rattle.std.proofs.Math.Nat.{mul-le-mul_right}
-use Rattle.lrlex.specs.Definition.{Definition, Rule}
-use Rattle.lrlex.specs.Active.{active_count, is_state, rule_at, lexeme_id, lacks_target}
+use Rattle.lrlex.specs.Definition.{Definition}
+use Rattle.lrlex.specs.Active.{active_count, is_state, rule_at, lexeme_id}
 use Rattle.lrlex.specs.Tiling.{Item, Error, top, Wins, End, IsTaken, IsEnd, IsWinner, stack_past, stack_after, or_initial, IsTiling, lexeme_of, tile_items, end_items, items, boundaries, counts, given_by, asked_at}
 use Rattle.lrlex.specs.Runs.{plain, AreRuns}
 use Rattle.lrlex.specs.Marks.{Mark, bound, no_mark, mark_at, last_runs}
 use Rattle.lrlex.specs.Reach.{Reached, IsLexed, IsRun, searches}
-use Rattle.lrlex.specs.declared.lexer.searching.Tile.{Tile}
+use Rattle.lrlex.specs.Tiling.{Tile}
 use Rattle.lrlex.specs.declared.states.StartStateOperation.{StartStateOperation}
 use Rattle.lrlex.specs.declared.states.StartStateOperation.TheVariants.{ReplaceStack, Push, Pop}
 use Rattle.lrlex.proofs.RunsLemmas.{runs-one}

@@ -1,12 +1,10 @@
 -- Where a new run meets the old one.
-use Rattle.std.proofs.Common.{◌≡◌, ◌≢◌, ℕ, zero, suc, ◌+◌, ◌-◌, ◌*◌, ◌^◌, ◌<◌, ◌≤◌, Bool, true, false, true≢false, ◌&&◌, ◌==◌, List, [], ◌∷◌, ◌++◌, length, map, take, drop, get_or, Option, None, Some, slice_get, refl, sym, ap, ap₂, ◌∙◌, subst, inl, inr, arith, All, eq-eqb, append_assoc, length-append}
+use Rattle.std.proofs.Common.{◌≡◌, ℕ, ◌+◌, ◌-◌, ◌<◌, ◌≤◌, Bool, true, false, true≢false, ◌&&◌, ◌==◌, List, [], ◌∷◌, ◌++◌, length, map, take, drop, refl, sym, ap, ap₂, ◌∙◌, subst, arith, All, eq-eqb, append_assoc, length-append}
 use Rattle.std.specs.Bool.{Decides}
-use Rattle.std.proofs.lemmas.Bool.{eqb-true, cases_lt}
-use Rattle.std.proofs.lemmas.Option.{none-some, same_Some, slice_get-map, slice_get_within, slice_get-get_or, get_or_from_slice_get}
-use Rattle.std.proofs.lemmas.List.{length-drop, get_or-drop, map_more, length-map, map-append, get_or_at, get_or-map}
-use Rattle.lrlex.specs.Marks.{Mark, no_mark, mark_at, last_runs, bound}
-use Rattle.lrlex.specs.Edits.{IsMovableMark, moved_mark, Meets, IsSortedRuns}
-use Rattle.lrlex.specs.Runs.{plain, AreRuns}
+use Rattle.std.proofs.lemmas.Bool.{eqb-true}
+use Rattle.std.proofs.lemmas.List.{length-drop, get_or-drop, map_more, get_or_at}
+use Rattle.lrlex.specs.Marks.{Mark, no_mark, mark_at, last_runs}
+use Rattle.lrlex.specs.Edits.{IsMovableMark}
 
 -- ---- the same pairs
 
@@ -16,9 +14,10 @@ both true false e = absurd (true≢false (sym e))
 both false b e = absurd (true≢false (sym e))
 
 pub pair_decides : (a b : ℕ × ℕ) → Decides (a.0 == b.0 && a.1 == b.1) (a ≡ b)
-pair_decides a b =
-    (λ e. let h = both _ _ e in ap₂ (λ (x y : ℕ). (x, y)) (eqb-true a.0 b.0 h.0) (eqb-true a.1 b.1 h.1),
-     λ e. ap₂ ◌&&◌ (eq-eqb a.0 b.0 (ap (λ x. x.0) e)) (eq-eqb a.1 b.1 (ap (λ x. x.1) e)))
+pair_decides a b = (
+  λ e. let h = both _ _ e in ap₂ (λ (x y : ℕ). (x, y)) (eqb-true a.0 b.0 h.0) (eqb-true a.1 b.1 h.1),
+  λ e. ap₂ ◌&&◌ (eq-eqb a.0 b.0 (ap (λ x. x.0) e)) (eq-eqb a.1 b.1 (ap (λ x. x.1) e)),
+)
 
 -- ---- the tail of the old boundaries
 

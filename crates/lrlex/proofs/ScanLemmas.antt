@@ -1,17 +1,14 @@
 -- A scan over the places of the active rules keeps the best so far.
-use Rattle.std.proofs.Common.{◌≡◌, ℕ, zero, suc, ◌+◌, ◌-◌, ◌<◌, ◌≤◌, Bool, true, false, List, [], ◌∷◌, length, drop, get_or, Option, None, Some, option_map, slice_get, refl, sym, ap, ◌∙◌, subst, inl, inr, arith, add_assoc}
+use Rattle.std.proofs.Common.{◌≡◌, ℕ, zero, suc, ◌+◌, ◌-◌, ◌<◌, ◌≤◌, Bool, true, List, [], ◌∷◌, length, drop, get_or, Option, None, Some, slice_get, refl, sym, ap, ◌∙◌, inl, inr, arith}
 use Rattle.std.proofs.lemmas.Bool.{cases_lt}
 use Rattle.std.proofs.lemmas.List.{drop-drop, nil_from_length, length-drop}
 use Rattle.std.proofs.lemmas.Option.{slice_get_within}
 use Rattle.regex_hir.specs.Text.{is_some_and}
-use Rattle.regex.specs.Patterns.{Re}
 use Rattle.lrlex.specs.Definition.{Definition, Rule}
-use Rattle.lrlex.specs.Patterns.{match_length}
 use Rattle.lrlex.specs.Active.{is_active, active_count, active_places, places_from, taken, taken_by_any}
-use Rattle.lrlex.specs.Tiling.{Wins, IsStuck}
-use Rattle.lrlex.proofs.BestLemmas.{IsBest, IsBest-none, IsBest-kept, IsBest-taken, IsBest-skip, Wins-of_IsBest, IsStuck-of_IsBest}
+use Rattle.lrlex.proofs.BestLemmas.{IsBest, IsBest-none, IsBest-kept, IsBest-taken, IsBest-skip}
 use Rattle.lrlex.proofs.PlaceLemmas.{IsNext, next_place, no_place, length-places}
-use Rattle.lrlex.proofs.ViewLemmas.{taken_active, taken_inactive}
+use Rattle.lrlex.proofs.ViewLemmas.{taken_inactive}
 
 -- the places before the one at `index` were looked at, and with them all rules before `upto`
 pub record IsScanned (d : Definition) (q : ℕ) (text : List ℕ) (places : List ℕ) (index k n : ℕ) : Type 0 where
@@ -76,12 +73,14 @@ module _ (d : Definition) (q : ℕ) (text : List ℕ) where
   scanned_all places index k n s past = finish (drop-past places index past) where
     drop-past : (xs : List ℕ) (i : ℕ) → length xs ≤ i → drop i xs ≡ []
     drop-past xs i h = nil_from_length (drop i xs) (omega (arith, length-drop i xs))
+
     none_left : places_from test s.upto (drop s.upto d.rules) ≡ [] → (i : ℕ) → s.upto ≤ i → taken d q text i ≡ 0
     none_left e i ge =
         let n : ℕ = i - s.upto in
         let at : s.upto + n ≡ i = omega arith in
         taken_inactive d q text (slice_get d.rules i)
         (ap (λ o. is_some_and o test) (ap (slice_get d.rules) (sym at) ∙ sym (slice_get-drop d.rules s.upto n)) ∙ no_place test s.upto (drop s.upto d.rules) e n)
+
     finish : drop index places ≡ [] → IsBest d q text (length d.rules) k n
     finish e =
         let none = none_left (sym s.left ∙ e) in
@@ -94,9 +93,9 @@ module _ (d : Definition) (q : ℕ) (text : List ℕ) where
           first = s.best.first;
           within = λ h. within_rules (slice_get d.rules k) refl (omega (arith, s.best.takes h, h));
         } where
-      within_rules : (o : Option Rule) → slice_get d.rules k ≡ o → 0 < taken_by_any d q text (slice_get d.rules k) → k < length d.rules
-      within_rules None e h = let z : taken_by_any d q text (slice_get d.rules k) ≡ 0 = ap (taken_by_any d q text) e in absurd (omega arith)
-      within_rules (Some r) e h = slice_get_within d.rules k r e
+          within_rules : (o : Option Rule) → slice_get d.rules k ≡ o → 0 < taken_by_any d q text (slice_get d.rules k) → k < length d.rules
+          within_rules None e h = let z : taken_by_any d q text (slice_get d.rules k) ≡ 0 = ap (taken_by_any d q text) e in absurd (omega arith)
+          within_rules (Some r) e h = slice_get_within d.rules k r e
 
 pub length-active : (d : Definition) (q : ℕ) → length (active_places d.states d.rules q) ≡ active_count d q
 unfolding active_count

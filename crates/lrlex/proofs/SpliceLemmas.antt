@@ -10,7 +10,7 @@ use Rattle.lrlex.specs.Runs.{plain, AreRuns}
 use Rattle.lrlex.specs.Marks.{Mark, bound, no_mark, mark_at}
 use Rattle.lrlex.specs.Edits.{IsMovable, IsMovableMark, moved_mark}
 use Rattle.lrlex.specs.Reach.{Reached, IsLexed}
-use Rattle.lrlex.specs.declared.lexer.searching.Tile.{Tile}
+use Rattle.lrlex.specs.Tiling.{Tile}
 use Rattle.lrlex.proofs.TilingLemmas.{Wins-le, only_one}
 use Rattle.lrlex.proofs.TailLemmas.{tail_tiling, boundaries_moved}
 use Rattle.lrlex.proofs.EditLemmas.{items_tail, items_rebased}
@@ -113,7 +113,7 @@ module _ (d : Definition) (ts : List Tile) (e : End) (found : List Item) (marks 
       ∙ ap (λ i. map (shift m.place q) (boundaries d i (plain m.runs) (drop j ts))) y
       ∙ ap (map (shift m.place q)) (sym tail_bounds ∙ ap (map bound) (drop_found marks j m b.at))
       ∙ ap₂ (λ i (bs : List (ℕ × List ℕ)). (i, plain m.runs) ∷ bs) f
-        (map_twice (shift m.place q) bound (drop (j + 1) marks) ∙ sym (map_twice bound (moved_mark m.place q m.given n) (drop (j + 1) marks)))
+      (map_twice (shift m.place q) bound (drop (j + 1) marks) ∙ sym (map_twice bound (moved_mark m.place q m.given n) (drop (j + 1) marks)))
 
   pub moved_counts : (q n : ℕ) → counts d n (drop j ts) ≡ n ∷ map (λ x. x.given) (map (moved_mark m.place q m.given n) (drop (j + 1) marks))
   moved_counts q n =
@@ -125,7 +125,7 @@ module _ (d : Definition) (ts : List Tile) (e : End) (found : List Item) (marks 
       ∙ ap (λ i. map (λ k. (k + n) - m.given) (counts d i (drop j ts))) y
       ∙ ap (map (λ k. (k + n) - m.given)) (sym tail_counts ∙ ap (map (λ x. x.given)) (drop_found marks j m b.at))
       ∙ ap₂ (λ i (is : List ℕ). i ∷ is) f
-        (map_twice (λ k. (k + n) - m.given) (λ x. x.given) (drop (j + 1) marks) ∙ sym (map_twice (λ x. x.given) (moved_mark m.place q m.given n) (drop (j + 1) marks)))
+      (map_twice (λ k. (k + n) - m.given) (λ x. x.given) (drop (j + 1) marks) ∙ sym (map_twice (λ x. x.given) (moved_mark m.place q m.given n) (drop (j + 1) marks)))
 
 -- a run that meets the old one, with the old tail moved
 pub spliced : (d : Definition) (old new : List ℕ) (ts : List Tile) (e : End) (found marks_found : List Item) (marks olds : List Mark) (j q : ℕ) (m : Mark) (stack : List (ℕ × ℕ)) (asked : ℕ) →
@@ -144,7 +144,7 @@ spliced d old new ts e found old_found marks olds j q m stack asked r tiling b r
       map-append bound marks _ ∙ ap (λ xs. xs ++ map bound (map (moved_mark m.place q m.given (length found)) (drop (j + 1) olds))) (bounds_now d new q stack found marks asked r)
       ∙ append_assoc (map bound r.before) ((q, plain stack) ∷ []) _
       ∙ ap (λ xs. map bound r.before ++ xs) (ap (λ s. (q, plain s) ∷ map bound (map (moved_mark m.place q m.given (length found)) (drop (j + 1) olds))) (sym stacks)
-        ∙ sym (moved_bounds d ts e old_found olds j m b q (length found)) ∙ ap (λ s. boundaries d q (plain s) (drop j ts)) stacks)
+      ∙ sym (moved_bounds d ts e old_found olds j m b q (length found)) ∙ ap (λ s. boundaries d q (plain s) (drop j ts)) stacks)
       ∙ sym (r.enters (drop j ts));
   counts_are =
       map-append (λ x. x.given) marks _ ∙ ap (λ xs. xs ++ map (λ x. x.given) (map (moved_mark m.place q m.given (length found)) (drop (j + 1) olds))) (givens_now d new q stack found marks asked r)

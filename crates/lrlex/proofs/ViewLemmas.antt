@@ -1,5 +1,5 @@
 -- Rules and states, seen through their views.
-use Rattle.std.proofs.Common.{◌≡◌, ◌≢◌, zero, suc, ne_eqb, ℕ, ◌<◌, Bool, true, false, cond, not, ◌||◌, ◌==◌, List, [], ◌∷◌, map, length, get_or, Option, Some, None, option_map, unwrap_or, slice_get, refl, sym, ap, ◌∙◌, subst, arith, eq-eqb, ◌&&◌, true≢false, nat_lt, ◌≤◌, take, ◌++◌, IsCharBoundary}
+use Rattle.std.proofs.Common.{◌≡◌, ◌≢◌, zero, suc, ne_eqb, ℕ, ◌<◌, Bool, true, false, cond, not, ◌||◌, ◌==◌, List, [], ◌∷◌, map, length, get_or, Option, Some, None, option_map, unwrap_or, slice_get, refl, sym, ap, ◌∙◌, arith, eq-eqb, ◌&&◌, true≢false, nat_lt, ◌≤◌, take, ◌++◌, IsCharBoundary}
 use Rattle.std.proofs.Math.Seq.{take-append_seam}
 use Rattle.std.proofs.lemmas.Bool.{cond-true, cond-false, ltb-true, ltb-false}
 use Rattle.std.proofs.lemmas.List.Sums.{passes_at_first, fails_before_first}
@@ -15,7 +15,7 @@ use Rattle.std.specs.List.{list_any, find, position, position_or_len}
 use Rattle.regex_hir.specs.Text.{is_some_and}
 use Rattle.lrlex.specs.Definition.{Definition, Rule, StartState}
 use Rattle.lrlex.specs.Patterns.{end_from_zero, match_length, pattern_of}
-use Rattle.lrlex.specs.Active.{is_active, taken_by, taken_by_any, taken, no_rule, rule_at}
+use Rattle.lrlex.specs.Active.{is_active, taken_by, taken_by_any, no_rule, rule_at}
 use Rattle.lrlex.specs.Parts.{as_state, as_rule, rule_regex}
 use Rattle.lrlex.specs.Views.{definition_of, ArePaired}
 use Rattle.lrlex.specs.declared.rules.Rule as code

@@ -1,5 +1,5 @@
 -- What the boundaries of the program say.
-use Rattle.std.specs.Prelude.{◌≡◌, ℕ, List, All, length}
+use Rattle.std.specs.Prelude.{◌≡◌, List, All, length}
 use Rattle.lrlex.specs.Marks.{Mark, most_runs}
 use Rattle.lrlex.specs.Ranges.{marks_in, IsRange}
 use Rattle.lrlex.specs.declared.lexer.boundaries.Boundaries.TheInside.{Inside}

@@ -1,6 +1,5 @@
 -- What a run keeps of its boundaries.
-use Rattle.std.specs.Prelude.{ℕ, ◌-◌, max, List, [], ◌∷◌, ◌++◌, map, length, get_or}
-use Rattle.std.specs.List.{slice_range}
+use Rattle.std.specs.Prelude.{ℕ, ◌-◌, max, List, [], ◌∷◌, length, get_or}
 use Rattle.lrlex.specs.Runs.{plain, entries}
 
 -- a boundary's place, how many items came before it, and the runs of its stack

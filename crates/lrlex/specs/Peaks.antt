@@ -5,7 +5,7 @@ use Rattle.lrlex.specs.Active.{rule_at}
 use Rattle.lrlex.specs.Tiling.{top, stack_past}
 use Rattle.lrlex.specs.declared.states.StartStateOperation.{StartStateOperation}
 use Rattle.lrlex.specs.declared.states.StartStateOperation.TheVariants.{ReplaceStack, Push, Pop}
-use Rattle.lrlex.specs.declared.lexer.searching.Tile.{Tile}
+use Rattle.lrlex.specs.Tiling.{Tile}
 
 -- 1 where the target pushes a state other than the top
 abbrev pub pushes_other : List ℕ → Option (ℕ × StartStateOperation) → ℕ

@@ -1,5 +1,5 @@
 -- Boundaries whose stacks are ranges of one list of runs.
-use Rattle.std.specs.Prelude.{◌≡◌, ℕ, ◌≤◌, List, Option, None, Some, All, map, length}
+use Rattle.std.specs.Prelude.{ℕ, ◌≤◌, List, Option, None, Some, map}
 use Rattle.std.specs.List.{slice_range}
 use Rattle.lrlex.specs.Marks.{Mark}
 use Rattle.lrlex.specs.declared.lexer.boundary.Boundary.{Boundary}

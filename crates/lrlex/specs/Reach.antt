@@ -1,12 +1,12 @@
 -- How far a run has come, and what it answers in the end.
-use Rattle.std.specs.Prelude.{◌≡◌, ℕ, ◌+◌, ◌<◌, ◌≤◌, Bool, true, false, None, List, All, [], ◌∷◌, ◌++◌, map, length, drop}
+use Rattle.std.specs.Prelude.{◌≡◌, ℕ, ◌+◌, ◌<◌, ◌≤◌, true, false, None, List, All, [], ◌∷◌, ◌++◌, map, length, drop}
 use Rattle.std.specs.List.{sum_by}
 use Rattle.lrlex.specs.Definition.{Definition}
 use Rattle.lrlex.specs.Active.{is_state}
 use Rattle.lrlex.specs.Tiling.{Item, Error, End, IsTiling, items, boundaries, counts, asked_at}
 use Rattle.lrlex.specs.Runs.{plain, AreRuns}
 use Rattle.lrlex.specs.Marks.{Mark, bound}
-use Rattle.lrlex.specs.declared.lexer.searching.Tile.{Tile}
+use Rattle.lrlex.specs.Tiling.{Tile}
 
 -- From the beginning, the tiles in `cut` lead to this place and stack, and give these items and boundaries.
 pub record Reached (d : Definition) (text : List ℕ) (place : ℕ) (stack : List (ℕ × ℕ)) (found : List Item) (marks : List Mark) (asked : ℕ) : Type 0 where
@@ -37,14 +37,14 @@ pub record IsLexed (d : Definition) (text : List ℕ) (found : List Item) (marks
   pub runs : All (λ m. AreRuns m.runs) marks
 
 -- without a state 0 there is one error and no boundary
-pub record IsRefused (found : List Item) (marks : List Mark) : Type 0 where
+pub record IsStateless (found : List Item) (marks : List Mark) : Type 0 where
   pub items_are : found ≡ Error 0 0 None ∷ []
   pub boundaries_are : marks ≡ []
 
 -- what a run answers
 pub record IsRun (d : Definition) (text : List ℕ) (found : List Item) (marks : List Mark) : Type 0 where
   pub lexed : is_state d 0 ≡ true → IsLexed d text found marks
-  pub refused : is_state d 0 ≡ false → IsRefused found marks
+  pub refused : is_state d 0 ≡ false → IsStateless found marks
 
 -- one search for each active rule at each boundary before the text's end
 abbrev pub searches : Definition → List ℕ → List Mark → ℕ

@@ -3,8 +3,12 @@ use Rattle.std.specs.Prelude.{◌≡◌, ◌≢◌, ℕ, ◌+◌, ◌-◌, ◌<�
 use Rattle.lrlex.specs.Definition.{Definition}
 use Rattle.lrlex.specs.Active.{active_count, taken, rule_at, lexeme_id, lacks_id, lacks_target}
 use Rattle.lrlex.specs.declared.states.StartStateOperation.{StartStateOperation}
-use Rattle.lrlex.specs.declared.lexer.searching.Tile.{Tile}
 use Rattle.lrlex.specs.declared.states.StartStateOperation.TheVariants.{ReplaceStack, Push, Pop}
+
+-- the text that a winner takes: the place of its rule, counted from 0, and how many bytes it takes
+pub record Tile : Type 0 where
+  pub rule : ℕ
+  pub len : ℕ
 
 -- What a run gives: a lexeme by its id, place and length, and whether it is marked as made up by error recovery, or
 -- an error by the two ends of its span, with its state.

@@ -13,13 +13,14 @@ use std::slice::Iter;
 
 /// The definition of a lexer: start states and rules, read from a rule text or put together from parts.
 pub trait LexerDef<L: LexerTypes>: Sized {
-    ghost use Rattle.std.specs.Prelude.{◌≡◌, IfOk, List, slice_get};
+    ghost use Rattle.std.specs.Prelude.{◌≡◌, IfOk, IfErr, All, List, slice_get};
     ghost use Rattle.std.specs.Option.{option_copied};
     ghost use Rattle.std.specs.Slice.Iter.{iter_rest};
     ghost use Rattle.lrlex.specs.declared.rules.Rule.{Rule};
     ghost use Rattle.lrlex.specs.declared.states.StartState.{StartState};
     ghost use Rattle.lrlex.specs.Definition.{Definition};
     ghost use Rattle.lrlex.specs.Answer.{IsAnswer, AreOwnRefusals};
+    ghost use Rattle.lrlex.specs.Faults.{IsPlaced};
 
     // What it says.
     ghost said: { Self → Definition };
@@ -41,7 +42,8 @@ pub trait LexerDef<L: LexerTypes>: Sized {
     /// Reads a rule text with unset flags. The inner `Err` has each fault of the text, and there is at least one.
     fn from_str(alloc: Global, text: &str) -> Result<LexBuildResult<Self>, AllocError>
         ensures answer { IfOk result (IsAnswer said UNSPECIFIED_LEX_FLAGS L.StorageT.greatest text.now) }
-        ensures refusals { IfOk result (AreOwnRefusals UNSPECIFIED_LEX_FLAGS L.StorageT.greatest text.now) };
+        ensures refusals { IfOk result (AreOwnRefusals UNSPECIFIED_LEX_FLAGS L.StorageT.greatest text.now) }
+        ensures placed { IfOk result (λ built. IfErr built (λ faults. All (IsPlaced text.now) faults.items)) };
 
     /// The rule at this place, counted from 0.
     fn get_rule(&self, idx: usize) -> Option<&Rule<L::StorageT>>
@@ -98,7 +100,8 @@ impl<L: LexerTypes> LexerDef<L> for LRNonStreamingLexerDef<L> {
 }
 
 impl<L: LexerTypes> LRNonStreamingLexerDef<L> {
-    ghost use Rattle.std.specs.Prelude.{true};
+    ghost use Rattle.std.specs.Prelude.{true, IfErr, All};
+    ghost use Rattle.lrlex.specs.Faults.{IsPlaced};
     ghost use Rattle.lrlex.specs.Active.{is_state};
     ghost use Rattle.lrlex.specs.Views.{definition_of, definition_rules};
 
@@ -110,6 +113,7 @@ impl<L: LexerTypes> LRNonStreamingLexerDef<L> {
     ) -> Result<LexBuildResult<LRNonStreamingLexerDef<L>>, AllocError>
         ensures answer { IfOk result (IsAnswer (definition_of L.StorageT.number) flags L.StorageT.greatest text.now) }
         ensures refusals { IfOk result (AreOwnRefusals flags L.StorageT.greatest text.now) }
+        ensures placed { IfOk result (λ built. IfErr built (λ faults. All (IsPlaced text.now) faults.items)) }
         ensures initial { IfOk result (λ built. IfOk built (λ d. is_state (definition_of L.StorageT.number d) 0 ≡ true)) }
     {
         match read_rules::<L::StorageT>(alloc, text, flags)? {

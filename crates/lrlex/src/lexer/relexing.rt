@@ -158,7 +158,9 @@ fn take_over<L: LexerTypes<LexErrorT = LRLexError>>(
     let from = old.boundaries.place(index);
     let given = old.boundaries.given(index);
     append_moved::<L>(&mut progress.items, &old.items[given..], from, to)?;
-    progress.boundaries.append_moved(&old.boundaries, index, to, before)
+    progress
+        .boundaries
+        .append_moved(&old.boundaries, index, to, before)
 }
 
 impl<'lexer, L: LexerTypes<LexErrorT = LRLexError>> LexRun<'lexer, '_, L> {
@@ -176,6 +178,7 @@ impl<'lexer, L: LexerTypes<LexErrorT = LRLexError>> LexRun<'lexer, '_, L> {
         ensures definition { IfOk result (λ r. r.definition.now ≡ self.now.definition.now) }
         ensures text { IfOk result (λ r. r.text.now ≡ new.now) }
         ensures asked { IfOk result (λ r. r.asked ≤ searches (definition_of L.StorageT.number self.now.definition.now) new.now r.boundaries) }
+        ensures few { IfOk result (λ r. r.asked ≤ length r.boundaries * length (definition_of L.StorageT.number self.now.definition.now).rules) }
         ensures met { IfOk result (λ r. (k : ℕ) → Meets self.now.boundaries r.boundaries (span_start edit.now.removed) (span_end edit.now.removed) (length edit.now.put.now) k
             → r.asked ≤ searches (definition_of L.StorageT.number self.now.definition.now) new.now (take k r.boundaries)) }
     {
@@ -187,7 +190,13 @@ impl<'lexer, L: LexerTypes<LexErrorT = LRLexError>> LexRun<'lexer, '_, L> {
         let mut progress = begin(alloc, definition, new)?;
         let mut cursor = 0usize;
         'tiles: while progress.place < new.len() {
-            if meets(&self.boundaries, edit, &mut cursor, progress.place, &progress.stack) {
+            if meets(
+                &self.boundaries,
+                edit,
+                &mut cursor,
+                progress.place,
+                &progress.stack,
+            ) {
                 take_over(self, cursor, &mut progress)?;
                 return Ok(finished(definition, new, progress));
             }

@@ -21,12 +21,7 @@ pub(crate) struct Tile {
 
 /// How many bytes of the text the rule's pattern matches. No other function searches.
 #[tactic(auto, unfolding(crate::specs::Patterns::match_length))]
-fn ask<S: Id>(
-    matcher: &mut Matcher<'_>,
-    rule: &Rule<S>,
-    text: &str,
-    asked: &mut u128,
-) -> usize
+fn ask<S: Id>(matcher: &mut Matcher<'_>, rule: &Rule<S>, text: &str, asked: &mut u128) -> usize
     requires rule { matcher_pattern matcher.old ≡ regex_pattern (rule_regex rule.now) }
     requires room { asked.old + 1 < 2 ^ 128 }
     ensures length { result ≡ match_length (pattern_of (as_rule S.number rule.now)) text.now }
@@ -36,8 +31,11 @@ fn ask<S: Id>(
 {
     *asked += 1;
     match matcher.find(text) {
-        Some(found) if found.start() == 0 => found.end(),
-        _ => 0,
+        Some(found) => {
+            let start = found.start();
+            if start == 0 { found.end() } else { 0 }
+        }
+        None => 0,
     }
 }
 
@@ -79,7 +77,8 @@ pub(crate) fn winner<L: LexerTypes>(
         let place = active[index];
         let rule = &definition.table.rules[place];
         let len = ask(&mut matchers[place], rule, text, asked);
-        if len > best.len {
+        let better = len > best.len;
+        if better {
             best = Tile { rule: place, len };
         }
     }

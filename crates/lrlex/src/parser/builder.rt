@@ -1,4 +1,5 @@
-ghost use Rattle.std.specs.Prelude.{◌≡◌, ◌-◌, ◌^◌, ◌<◌, ◌∷◌, [], length, map, false, OnOk, IfOk};
+ghost use Rattle.std.specs.Prelude.{◌≡◌, ◌-◌, ◌^◌, ◌<◌, ◌∷◌, [], length, map, false, OnOk, IfOk, All};
+ghost use Rattle.std.specs.Result.{IfErr};
 ghost use Rattle.std.specs.List.{find, flat_map};
 ghost use Rattle.std.specs.String.{string_bytes};
 ghost use Rattle.std.specs.Option.{option_copied, option_map};
@@ -10,6 +11,7 @@ ghost use Rattle.lrlex.specs.Event.Event.{Fatal, Verbatim, NewState};
 ghost use Rattle.lrlex.specs.Declaration.{initial, declarations, trimmed_lines, section_end, state_event, declared_name, declared_by};
 ghost use Rattle.lrlex.specs.Outcome.{then_fatal, rules_events, events_after, has_name, rule_named, rule_event, split_event, line_event};
 ghost use Rattle.lrlex.specs.Kinds.{as_kind, is_regex_error};
+ghost use Rattle.lrlex.specs.Faults.{IsPlaced};
 ghost use Rattle.lrlex.specs.Reading.{name_of, as_piece, as_parts, as_pattern, AddsLine, ReadsLines, AreApart, MarkAt, IsAnswer, AreOwnRefusals, as_definition, refused_of, Represents, Adds, AddsRefused, Reads, EndBy, line_end};
 
 use crate::faults::{LexBuildError, LexErrorKind};
@@ -405,6 +407,7 @@ pub(crate) fn read_rules<StorageT: Id>(
 ) -> Result<Result<RuleFile<StorageT>, Vec<LexBuildError>>, AllocError>
     ensures answer { IfOk result (IsAnswer (as_definition StorageT.number) flags StorageT.greatest text.now) }
     ensures refusals { IfOk result (AreOwnRefusals flags StorageT.greatest text.now) }
+    ensures placed { IfOk result (λ answer. IfErr answer (λ faults. All (IsPlaced text.now) faults.items)) }
 {
     let resolved = flags.resolved();
     let mut builder = Builder::<StorageT>::new(alloc)?;

@@ -3,7 +3,7 @@ use Rattle.std.proofs.lemmas.List.{map-append, length-map}
 use Rattle.std.proofs.lemmas.Str.{IsCharBoundary-from_rest}
 use Rattle.lrlex.specs.Definition.{Rule}
 use Rattle.lrlex.specs.Active.{active_count, lacks_id, lacks_target, lexeme_id}
-use Rattle.lrlex.specs.Tiling.{Item, Error, top, IsStuck, IsWinner, IsTaken, stack_after, stack_past, lexeme_of, tile_items, NoMatch, NoId, NoTarget}
+use Rattle.lrlex.specs.Tiling.{Tile, Item, Error, top, IsStuck, IsWinner, IsTaken, stack_after, stack_past, lexeme_of, tile_items, NoMatch, NoId, NoTarget}
 use Rattle.lrlex.specs.Parts.{as_rule}
 use Rattle.lrlex.specs.Runs.{plain, AreRuns}
 use Rattle.lrlex.specs.Reach.{Reached, searches}
@@ -43,7 +43,7 @@ returns-then-lacks_id-clause-ends g c on =
     let r = c.requires.reached in
     let found = items_by g.L.StorageT.Id.number g.L.LexemeT.Lexeme.id_of g.L.LexemeT.Lexeme.start_of g.L.LexemeT.Lexeme.len_of g.L.LexemeT.Lexeme.is_faulty p.items.items in
     let on_top : c.top_of-state.result ≡ top (plain p.stack.items) = c.top_of-state.ensures ∙ ap (λ s. top (plain s)) c.deref.ensures.value in
-    let t = c.in-Some.tile in
+    let t : Tile = record { rule = c.in-Some.tile.rule; len = c.in-Some.tile.len } in
     let won = c.in-Some.ensures in
     let within : t.rule < length c.args.definition.now.table.rules.items = omega (arith, c.args.definition.now.table.rules.ok.0, won.rule) in
     let rule_is = rule_read g.L.StorageT.Id.number c.args.definition.now t.rule c.index-rule.result.now within c.index-rule.ensures in
@@ -71,7 +71,7 @@ returns-then-lacks_target-clause-ends g c on =
     let r = c.requires.reached in
     let found = items_by g.L.StorageT.Id.number g.L.LexemeT.Lexeme.id_of g.L.LexemeT.Lexeme.start_of g.L.LexemeT.Lexeme.len_of g.L.LexemeT.Lexeme.is_faulty p.items.items in
     let on_top : c.top_of-state.result ≡ top (plain p.stack.items) = c.top_of-state.ensures ∙ ap (λ s. top (plain s)) c.deref.ensures.value in
-    let t = c.in-Some.tile in
+    let t : Tile = record { rule = c.in-Some.tile.rule; len = c.in-Some.tile.len } in
     let won = c.in-Some.ensures in
     let within : t.rule < length c.args.definition.now.table.rules.items = omega (arith, c.args.definition.now.table.rules.ok.0, won.rule) in
     let rule_is = rule_read g.L.StorageT.Id.number c.args.definition.now t.rule c.index-rule.result.now within c.index-rule.ensures in
@@ -112,7 +112,7 @@ returns-clause-goes_on g c on =
     let r = c.requires.reached in
     let found = items_by g.L.StorageT.Id.number g.L.LexemeT.Lexeme.id_of g.L.LexemeT.Lexeme.start_of g.L.LexemeT.Lexeme.len_of g.L.LexemeT.Lexeme.is_faulty p.items.items in
     let on_top : c.top_of-state.result ≡ top (plain p.stack.items) = c.top_of-state.ensures ∙ ap (λ s. top (plain s)) c.deref.ensures.value in
-    let t = c.in-Some.tile in
+    let t : Tile = record { rule = c.in-Some.tile.rule; len = c.in-Some.tile.len } in
     let won = c.in-Some.ensures in
     let within : t.rule < length c.args.definition.now.table.rules.items = omega (arith, c.args.definition.now.table.rules.ok.0, won.rule) in
     let rule_is = rule_read g.L.StorageT.Id.number c.args.definition.now t.rule c.index-rule.result.now within c.index-rule.ensures in
@@ -142,7 +142,7 @@ returns-clause-boundary g c on =
     let p = c.args.progress.now in
     let r = c.requires.reached in
     let found = items_by g.L.StorageT.Id.number g.L.LexemeT.Lexeme.id_of g.L.LexemeT.Lexeme.start_of g.L.LexemeT.Lexeme.len_of g.L.LexemeT.Lexeme.is_faulty p.items.items in
-    let t = c.in-Some.tile in
+    let t : Tile = record { rule = c.in-Some.tile.rule; len = c.in-Some.tile.len } in
     subst (IsCharBoundary text) (sym c.in_ok-enter.ensures.place)
     (IsCharBoundary-from_rest text p.place t.len c.requires.boundary.0 (subst (λ rest. IsCharBoundary rest t.len) c.range_from-rest.ensures.value c.in-Some.ensures.boundary))
 
@@ -157,4 +157,3 @@ returns-clause-asked g c =
     let few : c.enter.new.progress.asked ≤ p.asked + active_count d (top (plain p.stack.items)) =
     subst (λ q. c.enter.new.progress.asked ≤ p.asked + active_count d q) on_top (omega (arith, c.in_ok-enter.ensures.asked, c.in-Some.ensures.counted)) in
     searches_now d text p.place p.stack.items found p.boundaries p.asked r c.enter.new.progress.asked c.requires.inside few
-

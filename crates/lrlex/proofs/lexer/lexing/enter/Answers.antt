@@ -1,5 +1,4 @@
-use Rattle.std.proofs.Common.{◌≡◌, List, [], ◌∷◌, ◌++◌, length, refl, sym, ap, ap₂, ◌∙◌, subst}
-use Rattle.lrlex.specs.Marks.{Mark}
+use Rattle.std.proofs.Common.{[], ◌∷◌, ◌++◌, sym, ap₂, ◌∙◌}
 use Rattle.lrlex.proofs.ReachLemmas.{stays}
 use Rattle.lrlex.proofs.RunsLemmas.{same_runs}
 use Rattle.lrlex.proofs.lexer.lexing.enter.Goals as goal

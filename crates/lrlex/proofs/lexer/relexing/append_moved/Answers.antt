@@ -1,6 +1,5 @@
-use Rattle.std.proofs.Common.{◌≡◌, ◌+◌, ◌<◌, [], ◌∷◌, ◌++◌, length, map, take, sym, ap, ◌∙◌, subst, arith, append_assoc}
-use Rattle.std.proofs.lemmas.List.{get_or-map, length-map, map_more, map-append}
-use Rattle.lrlex.specs.Tiling.{Item, rebased}
+use Rattle.std.proofs.Common.{sym, ap, ◌∙◌, subst, arith}
+use Rattle.std.proofs.lemmas.List.{get_or-map, length-map}
 use Rattle.lrlex.specs.Edits.{IsMovable}
 use Rattle.lrlex.specs.Views.{item_of}
 use Rattle.lrlex.proofs.lexer.relexing.append_moved.Goals as goal

@@ -1,7 +1,7 @@
-use Rattle.std.proofs.Common.{◌≡◌, ℕ, ◌+◌, ◌-◌, ◌<◌, ◌≤◌, length, inl, inr, sym, ap, ◌∙◌, arith, All}
+use Rattle.std.proofs.Common.{◌≡◌, inl, inr, ap, ◌∙◌, arith}
 use Rattle.std.proofs.lemmas.Bool.{cases_lt}
 use Rattle.lrlex.specs.Marks.{no_mark, mark_at}
-use Rattle.lrlex.specs.Runs.{plain, AreRuns}
+use Rattle.lrlex.specs.Runs.{plain}
 use Rattle.lrlex.proofs.RunsLemmas.{same_runs}
 use Rattle.lrlex.proofs.lexer.relexing.meets.Goals as goal
 

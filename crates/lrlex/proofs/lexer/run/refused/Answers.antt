@@ -1,5 +1,5 @@
-use Rattle.std.proofs.Common.{List, [], ◌∷◌, ◌++◌, None, ap, ◌∙◌}
-use Rattle.lrlex.specs.Tiling.{Item, Error}
+use Rattle.std.proofs.Common.{[], ◌∷◌, ◌++◌, None, ap, ◌∙◌}
+use Rattle.lrlex.specs.Tiling.{Error}
 use Rattle.lrlex.specs.Views.{definition_of, items_by}
 use Rattle.lrlex.proofs.ReachLemmas.{refused_of}
 use Rattle.lrlex.proofs.lexer.run.refused.Goals as goal

@@ -1,10 +1,9 @@
-use Rattle.std.proofs.Common.{◌≡◌, ◌+◌, ◌*◌, ◌<◌, true, rules, length, get_or, map, slice_get, slice_set, refl, sym, ap, ◌∙◌, subst, arith, IsCharBoundary}
+use Rattle.std.proofs.Common.{◌≡◌, ◌+◌, ◌<◌, length, get_or, slice_get, slice_set, refl, sym, ap, ◌∙◌, subst, arith, IsCharBoundary}
 use Rattle.std.proofs.lemmas.Str.{IsCharBoundary-start}
 use Rattle.std.proofs.lemmas.List.{length-map}
 use Rattle.regex.specs.Strings.{regex_pattern, matcher_pattern}
 use Rattle.regex.proofs.SetLemmas.{patterns_stay}
-use Rattle.lrlex.specs.Patterns.{match_length}
-use Rattle.lrlex.specs.Active.{taken, active_count}
+use Rattle.lrlex.specs.Active.{taken}
 use Rattle.lrlex.specs.Parts.{as_rule, rule_regex}
 use Rattle.lrlex.specs.Views.{definition_of, ArePaired}
 use Rattle.lrlex.specs.declared.lexer.searching.Tile.{Tile}
@@ -13,7 +12,7 @@ use Rattle.lrlex.proofs.CountLemmas.{active_count-le}
 use Rattle.lrlex.proofs.ScanLemmas.{IsScanned, IsScanned-none, IsScanned-kept, IsScanned-taken, scanned_all, place_within, passes, length-places_of}
 use Rattle.lrlex.proofs.ViewLemmas.{paired_len, at_same_place, rule_at_place, taken_active}
 use Rattle.lrlex.proofs.lexer.searching.winner.Goals as goal
-use Rattle.lrlex.proofs.lexer.searching.winner.Goals.{then-len-best, else-len-best}
+use Rattle.lrlex.proofs.lexer.searching.winner.Goals.{then-better, else-better}
 
 pub rules-init : goal.rules-init
 rules-init g c = record {
@@ -93,15 +92,15 @@ rules-preserved g c =
     let paired : ArePaired (slice_set c.rules.matchers place c.ask-len.new.matcher) c.args.definition.now.table.rules.items =
     patterns_stay matcher_pattern c.rules.matchers place m among read c.ask-len.new.matcher (c.ask-len.ensures.same ∙ ap matcher_pattern (sym read))
     ∙ inv.paired in
-    elim c.if-len-best.branch [
-      | then-len-best w ↦ record {
+    elim c.if-better.branch [
+      | then-better w ↦ record {
         paired = paired;
         counted = omega (arith, inv.counted);
         scanned = subst (λ (t : Tile). IsScanned d q text places (i + 1) t.rule t.len) (sym w.best-is)
             (IsScanned-taken d q text places i c.rules.best.rule c.rules.best.len place inv.scanned within refl c.ask-len.result is (omega arith));
         boundary = subst (λ (t : Tile). IsCharBoundary text t.len) (sym w.best-is) c.ask-len.ensures.boundary;
       }
-      | else-len-best w ↦ record {
+      | else-better w ↦ record {
         paired = paired;
         counted = omega (arith, inv.counted);
         scanned = subst (λ (t : Tile). IsScanned d q text places (i + 1) t.rule t.len) (sym w.best-is)

@@ -1,6 +1,6 @@
-use Rattle.std.proofs.Common.{◌≡◌, ◌-◌, ◌<◌, [], ◌∷◌, ◌++◌, length, Some, vec_len, append-nil, true≢false, refl, sym, ap, subst, ◌∙◌, arith}
+use Rattle.std.proofs.Common.{◌≡◌, ◌-◌, ◌<◌, [], ◌∷◌, ◌++◌, length, vec_len, append-nil, true≢false, sym, ap, subst, ◌∙◌, arith}
 use Rattle.lrlex.specs.Runs.{plain, AreRuns}
-use Rattle.lrlex.proofs.RunsLemmas.{runs-front, runs-last, runs-raised, runs-one, plain-more, plain-one, popped, some_plain, some_of_runs, not_none}
+use Rattle.lrlex.proofs.RunsLemmas.{runs-front, runs-last, runs-raised, plain-more, plain-one, popped, some_plain, some_of_runs, not_none}
 use Rattle.lrlex.proofs.lexer.stack.pop_state.Goals as goal
 use Rattle.lrlex.proofs.lexer.stack.pop_state.Goals.{in-Some+then-count-gt1+in_ok-push, in-Some+else-count-gt1, in_default}
 

@@ -1,4 +1,4 @@
-use Rattle.std.proofs.Common.{◌≡◌, ◌+◌, ◌<◌, ◌∷◌, [], ◌++◌, length, refl, sym, ap, ◌∙◌, subst, arith}
+use Rattle.std.proofs.Common.{◌+◌, ◌∷◌, [], ◌++◌, length, refl, sym, ap, ◌∙◌, subst, arith}
 use Rattle.lrlex.specs.Runs.{plain, AreRuns}
 use Rattle.lrlex.proofs.RunsLemmas.{plain-more, plain-one, length-plain-last, runs-raised, runs-more}
 use Rattle.lrlex.proofs.lexer.stack.push_state.Goals as goal

@@ -6,6 +6,7 @@ use Rattle.lrlex.specs.Event.{refused_patterns}
 use Rattle.lrlex.specs.Outcome.{events_of}
 use Rattle.lrlex.specs.Flags.{config_of}
 use Rattle.lrlex.proofs.Answer.{whole, answers_faults, answers_definition, none_told}
+use Rattle.lrlex.proofs.PlacedFaults.{outcome_placed}
 use Rattle.lrlex.proofs.parser.builder.read_rules.Goals as goal
 
 pub returns-then-not-is_empty-clause-answer : goal.returns-then-not-is_empty-clause-answer
@@ -32,3 +33,7 @@ returns-then-not-is_empty-clause-refusals g c =
     let all = whole g.StorageT.Id.number c.args.flags rr g.StorageT.Id.greatest r c.args.text.now c.read.new.self c.resolved-resolved.ensures (c.in_ok-read.ensures (settings c.args.flags g.StorageT.Id.greatest r) suits _ (c.in_ok-builder.ensures rr) refl) in
     let P : LexFlags → Type 0 = λ f. AreRefusals (config_of f) (refused_patterns (events_of (settings c.args.flags g.StorageT.Id.greatest r) c.args.text.now)) (regex_errors c.read.new.self.errors.items) in
     subst P c.resolved-resolved.ensures all.refusals
+
+pub returns-then-not-is_empty-clause-placed : goal.returns-then-not-is_empty-clause-placed
+returns-then-not-is_empty-clause-placed g c =
+    outcome_placed (settings c.args.flags g.StorageT.Id.greatest (refused_of c.read.new.self)) c.args.text.now c.read.new.self.errors.items c.utf8.text (returns-then-not-is_empty-clause-answer g c)

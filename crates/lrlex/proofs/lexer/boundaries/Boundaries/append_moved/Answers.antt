@@ -1,6 +1,6 @@
-use Rattle.std.proofs.Common.{◌≡◌, ◌+◌, ◌-◌, ◌<◌, ◌≤◌, List, [], ◌∷◌, ◌++◌, length, map, take, drop, sym, ap, ap₂, ◌∙◌, subst, arith}
+use Rattle.std.proofs.Common.{◌≡◌, ◌+◌, ◌-◌, [], ◌∷◌, ◌++◌, sym, ap, ap₂, ◌∙◌, arith}
 use Rattle.lrlex.specs.Marks.{Mark, mark_at, last_runs}
-use Rattle.lrlex.specs.Edits.{moved_mark, IsMovableMark}
+use Rattle.lrlex.specs.Edits.{moved_mark}
 use Rattle.lrlex.proofs.RelexLemmas.{movable_at, tail_more, last_runs-push}
 use Rattle.lrlex.proofs.lexer.boundaries.Boundaries.append_moved.Goals as goal
 use Rattle.lrlex.proofs.lexer.boundaries.Boundaries.append_moved.Goals.{then-shares+in_ok-push_same, else-shares+in_ok-push}

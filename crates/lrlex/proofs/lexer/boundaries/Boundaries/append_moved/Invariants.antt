@@ -1,4 +1,4 @@
-use Rattle.std.proofs.Common.{◌≡◌, ◌+◌, ◌-◌, ◌≤◌, ◌++◌, length, map, take, drop}
+use Rattle.std.proofs.Common.{◌≡◌, ◌+◌, ◌-◌, ◌≤◌, ◌++◌, map, take, drop}
 use Rattle.lrlex.specs.Marks.{mark_at, last_runs}
 use Rattle.lrlex.specs.Edits.{moved_mark}
 use Rattle.lrlex.proofs.lexer.boundaries.Boundaries.append_moved.Given as goal

@@ -1,6 +1,6 @@
-use Rattle.std.proofs.Common.{◌≡◌, [], ◌∷◌, ◌++◌, sym, ap, ◌∙◌}
+use Rattle.std.proofs.Common.{[], ◌∷◌, ◌++◌, ap, ◌∙◌}
 use Rattle.lrlex.specs.declared.lexer.boundary.Boundary.{Boundary}
-use Rattle.lrlex.proofs.ArenaLemmas.{AreStored, added, unused}
+use Rattle.lrlex.proofs.ArenaLemmas.{added, unused}
 use Rattle.lrlex.proofs.lexer.boundaries.Boundaries.push.Goals as goal
 
 pub invariant_of-self-in_err-push : goal.invariant_of-self-in_err-push

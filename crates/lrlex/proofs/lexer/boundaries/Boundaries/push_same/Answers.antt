@@ -1,8 +1,8 @@
-use Rattle.std.proofs.Common.{◌≡◌, ◌-◌, List, [], ◌∷◌, ◌++◌, length, slice_get, sym, ap, ◌∙◌}
+use Rattle.std.proofs.Common.{◌-◌, List, [], ◌∷◌, ◌++◌, length, slice_get, ap, ◌∙◌}
 use Rattle.lrlex.specs.Marks.{Mark, last_runs}
 use Rattle.lrlex.specs.Ranges.{range_of}
 use Rattle.lrlex.specs.declared.lexer.boundary.Boundary.{Boundary}
-use Rattle.lrlex.proofs.ArenaLemmas.{AreStored, added_same}
+use Rattle.lrlex.proofs.ArenaLemmas.{added_same}
 use Rattle.lrlex.proofs.lexer.boundaries.Boundaries.push_same.Goals as goal
 
 pub invariant_of-self-2 : goal.invariant_of-self-2

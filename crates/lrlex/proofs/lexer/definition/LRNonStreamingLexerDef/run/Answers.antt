@@ -1,11 +1,7 @@
-use Rattle.std.proofs.Common.{◌≡◌, ◌+◌, ◌*◌, ◌<◌, ◌≤◌, true, false, true≢false, List, [], ◌∷◌, ◌++◌, length, map, drop, refl, sym, ap, ap₂, ◌∙◌, subst, arith, append-nil, IsCharBoundary}
+use Rattle.std.proofs.Common.{◌≡◌, ◌≤◌, true, false, length, drop, sym, ◌∙◌, subst, arith, append-nil, IsCharBoundary}
 use Rattle.std.proofs.lemmas.Str.{IsCharBoundary-start}
-use Rattle.std.proofs.lemmas.List.{length-map}
-use Rattle.lrlex.specs.Active.{is_state}
-use Rattle.lrlex.specs.Tiling.{Item, Done}
-use Rattle.lrlex.specs.Marks.{Mark}
-use Rattle.lrlex.specs.Parts.{as_rule}
-use Rattle.lrlex.specs.Reach.{Reached, IsLexed, IsRun, searches}
+use Rattle.lrlex.specs.Tiling.{Done}
+use Rattle.lrlex.specs.Reach.{IsRun, searches}
 use Rattle.lrlex.specs.Views.{definition_of, items_by, ArePaired}
 use Rattle.lrlex.proofs.ViewLemmas.{paired_len, taken_back}
 use Rattle.lrlex.proofs.ReachLemmas.{ended, nothing_left, asked_now, few_searches, run_of}

@@ -1,17 +1,16 @@
-use Rattle.std.proofs.Common.{◌≡◌, ℕ, ◌+◌, ◌*◌, ◌^◌, ◌<◌, ◌≤◌, true, false, true≢false, List, [], ◌∷◌, ◌++◌, All, length, map, drop, take, refl, sym, ap, ap₂, ◌∙◌, subst, arith, append-nil, length-append, IsCharBoundary}
+use Rattle.std.proofs.Common.{◌≡◌, ◌+◌, [], ◌∷◌, ◌++◌, All, length, map, drop, sym, ap, ◌∙◌, subst, arith, append-nil, length-append, IsCharBoundary}
 use Rattle.std.proofs.lemmas.Str.{IsCharBoundary-start}
-use Rattle.std.proofs.lemmas.List.{length-map, drop-map, same_from_push}
-use Rattle.lrlex.specs.Active.{is_state}
-use Rattle.lrlex.specs.Tiling.{Item, Done, rebased}
+use Rattle.std.proofs.lemmas.List.{length-map, drop-map}
+use Rattle.lrlex.specs.Tiling.{Done, rebased}
 use Rattle.lrlex.specs.Runs.{plain, AreRuns}
-use Rattle.lrlex.specs.Marks.{Mark, mark_at}
-use Rattle.lrlex.specs.Edits.{Meets, IsMovable, IsMovableMark, moved_mark}
-use Rattle.lrlex.specs.Reach.{Reached, IsLexed, IsRun, searches}
+use Rattle.lrlex.specs.Marks.{mark_at}
+use Rattle.lrlex.specs.Edits.{Meets, IsMovable, moved_mark}
+use Rattle.lrlex.specs.Reach.{IsLexed, IsRun}
 use Rattle.lrlex.specs.Views.{definition_of, items_by, item_of, ArePaired}
 use Rattle.lrlex.proofs.ViewLemmas.{paired_len, taken_back}
-use Rattle.lrlex.proofs.ReachLemmas.{ended, nothing_left, run_of, runs_now, last_now}
+use Rattle.lrlex.proofs.ReachLemmas.{ended, nothing_left, run_of, runs_now, last_now, few_searches}
 use Rattle.lrlex.proofs.KnownLemmas.{known, sorted}
-use Rattle.lrlex.proofs.MeetLemmas.{whole, given_in, items_movable, marks_movable, met, none_met, meets_front}
+use Rattle.lrlex.proofs.MeetLemmas.{whole, given_in, items_movable, marks_movable, met, few_met, none_met, meets_front}
 use Rattle.lrlex.proofs.lexer.run.LexRun.relex.Goals as goal
 
 pub tiles-init : goal.tiles-init
@@ -68,8 +67,12 @@ take_over-requires-clause-given g c =
     let h = known d s.text.now (items_by g.L.StorageT.Id.number g.L.LexemeT.Lexeme.id_of g.L.LexemeT.Lexeme.start_of g.L.LexemeT.Lexeme.len_of g.L.LexemeT.Lexeme.is_faulty s.items.items) s.boundaries r.initial s.lexed in
     let j = c.meets.new.cursor in
     let stacks : (mark_at s.boundaries j).runs ≡ p.stack.items = c.meets.ensures.stack c.if-meets.true ∙ c.deref-in-tiles.ensures.value in
-    omega (arith, given_in d s.text.now new edit.removed.start edit.removed.end edit.put.now (items_by g.L.StorageT.Id.number g.L.LexemeT.Lexeme.id_of g.L.LexemeT.Lexeme.start_of g.L.LexemeT.Lexeme.len_of g.L.LexemeT.Lexeme.is_faulty s.items.items) s.boundaries h p.place p.stack.items found p.boundaries p.asked r
-    j (c.meets.ensures.within c.if-meets.true) edit.removed.in_order c.requires.fits.1.0 c.requires.gives (c.meets.ensures.past c.if-meets.true) (c.meets.ensures.place c.if-meets.true) stacks j (c.meets.ensures.within c.if-meets.true), length-map s.items.items (item_of g.L.StorageT.Id.number g.L.LexemeT.Lexeme.id_of g.L.LexemeT.Lexeme.start_of g.L.LexemeT.Lexeme.len_of g.L.LexemeT.Lexeme.is_faulty))
+    omega (
+      arith,
+      given_in d s.text.now new edit.removed.start edit.removed.end edit.put.now (items_by g.L.StorageT.Id.number g.L.LexemeT.Lexeme.id_of g.L.LexemeT.Lexeme.start_of g.L.LexemeT.Lexeme.len_of g.L.LexemeT.Lexeme.is_faulty s.items.items) s.boundaries h p.place p.stack.items found p.boundaries p.asked r
+          j (c.meets.ensures.within c.if-meets.true) edit.removed.in_order c.requires.fits.1.0 c.requires.gives (c.meets.ensures.past c.if-meets.true) (c.meets.ensures.place c.if-meets.true) stacks j (c.meets.ensures.within c.if-meets.true),
+      length-map s.items.items (item_of g.L.StorageT.Id.number g.L.LexemeT.Lexeme.id_of g.L.LexemeT.Lexeme.start_of g.L.LexemeT.Lexeme.len_of g.L.LexemeT.Lexeme.is_faulty),
+    )
 
 pub take_over-requires-clause-items : goal.take_over-requires-clause-items
 take_over-requires-clause-items g c =
@@ -272,3 +275,20 @@ pub finished-requires-then-not-branch : goal.finished-requires-then-not-branch
 finished-requires-then-not-branch g c =
     let p = c.advance.new.progress in
     run_of (definition_of g.L.StorageT.Id.number c.args.self.now.definition.now) c.args.new.now (items_by g.L.StorageT.Id.number g.L.LexemeT.Lexeme.id_of g.L.LexemeT.Lexeme.start_of g.L.LexemeT.Lexeme.len_of g.L.LexemeT.Lexeme.is_faulty p.items.items) p.boundaries c.tiles.invariant.reached.initial (c.in_ok-advance.ensures.ends c.if-not-branch.true)
+
+pub returns-then-meets-clause-few : goal.returns-then-meets-clause-few
+returns-then-meets-clause-few g c =
+    let p = c.tiles.progress in
+    few_met (definition_of g.L.StorageT.Id.number c.args.self.now.definition.now) c.args.new.now p.place p.stack.items (items_by g.L.StorageT.Id.number g.L.LexemeT.Lexeme.id_of g.L.LexemeT.Lexeme.start_of g.L.LexemeT.Lexeme.len_of g.L.LexemeT.Lexeme.is_faulty p.items.items) p.boundaries _ c.finished.result.boundaries p.asked c.finished.result.asked c.tiles.invariant.reached
+    (c.finished.ensures.boundaries ∙ c.in_ok-take_over.ensures.boundaries) (omega (arith, c.finished.ensures.asked, c.in_ok-take_over.ensures.asked))
+
+pub returns-then-not-branch-clause-few : goal.returns-then-not-branch-clause-few
+returns-then-not-branch-clause-few g c =
+    few_searches (definition_of g.L.StorageT.Id.number c.args.self.now.definition.now) c.args.new.now c.tiles.progress.boundaries c.finished-then-not-branch.result.boundaries c.advance.new.progress.asked c.finished-then-not-branch.result.asked
+    c.in_ok-advance.ensures.asked c.finished-then-not-branch.ensures.asked (c.finished-then-not-branch.ensures.boundaries ∙ c.in_ok-advance.ensures.same c.if-not-branch.true)
+
+pub returns-clause-few : goal.returns-clause-few
+returns-clause-few g c =
+    let p = c.tiles.progress in
+    few_met (definition_of g.L.StorageT.Id.number c.args.self.now.definition.now) c.args.new.now p.place p.stack.items (items_by g.L.StorageT.Id.number g.L.LexemeT.Lexeme.id_of g.L.LexemeT.Lexeme.start_of g.L.LexemeT.Lexeme.len_of g.L.LexemeT.Lexeme.is_faulty p.items.items) p.boundaries [] c.finished-2.result.boundaries p.asked c.finished-2.result.asked c.tiles.invariant.reached
+    (c.finished-2.ensures.boundaries ∙ sym (append-nil p.boundaries)) (omega (arith, c.finished-2.ensures.asked))
