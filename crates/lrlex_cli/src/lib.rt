@@ -1,2 +1,13 @@
 //! What the program `lrlex` does, over any writer, reader and files.
 #![tactic(auto)]
+
+mod command;
+pub mod engine;
+mod lines;
+pub mod program;
+mod report;
+#[cfg(test)]
+mod tests;
+mod texts;
+pub mod words;
+mod writing;

@@ -1,0 +1,4 @@
+pub mod CommandLemmas
+pub mod LineLemmas
+pub mod PlaceLemmas
+pub mod EngineLemmas

@@ -1,0 +1,10 @@
+-- The lines of the items so far stand in `bytes`.
+use Rattle.std.proofs.Common.{◌≡◌, map, take}
+use Rattle.lrlex.specs.Parts.{as_rule}
+use Rattle.lrlex.specs.Views.{item_of}
+use Rattle.lrlex_cli.specs.Lines.{lines}
+use Rattle.lrlex_cli.proofs.lines.lines.Given as goal
+
+abbrev pub invariant-loop-item : goal.invariant-loop-item
+invariant-loop-item g l = l.bytes.items ≡ lines (map (as_rule g.L.StorageT.Id.number) l.rules) l.text
+    (map (item_of g.L.StorageT.Id.number g.L.LexemeT.Lexeme.id_of g.L.LexemeT.Lexeme.start_of g.L.LexemeT.Lexeme.len_of g.L.LexemeT.Lexeme.is_faulty) (take l.item-index l.items))

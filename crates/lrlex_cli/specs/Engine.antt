@@ -1,0 +1,53 @@
+-- What the engine answers, and what it leaves in its writer.
+use Rattle.std.specs.Prelude.{◌≡◌, ◌≢◌, ℕ, List, All, [], ◌∷◌, Option, None, Result, Ok, Err}
+use Rattle.std.specs.Io.KnownBytes.{Appends, Keeps}
+use Rattle.lrlex.specs.declared.flags.LexFlags.{LexFlags}
+use Rattle.lrlex.specs.Definition.{Definition}
+use Rattle.lrlex.specs.Faults.{IsPlaced}
+use Rattle.lrlex.specs.Outcome.{outcome}
+use Rattle.lrlex.specs.Answer.{settings, refused_in, as_faults}
+use Rattle.lrlex.specs.Tiling.{Tile, End, Done, IsTiling, items}
+use Rattle.lrlex_cli.specs.Lines.{lines}
+use Rattle.lrlex_cli.specs.Writing.{AppendsFront}
+use Rattle.lrlex_cli.specs.declared.engine.Ended.{Ended}
+use Rattle.lrlex_cli.specs.declared.engine.Ended.TheVariants.{Lexed, Stopped, Refused}
+use Rattle.lrlex_cli.specs.declared.engine.EngineFault.{EngineFault}
+use Rattle.lrlex_cli.specs.declared.engine.EngineFault.TheVariants.{Memory, Write}
+
+-- what the engine is asked: a rule text and a text to lex, with flags and the greatest number of an id
+pub record Request : Type 0 where
+  pub greatest : ℕ
+  pub flags : LexFlags
+  pub rules : List ℕ
+  pub input : List ℕ
+
+-- the definition that the rule text says, and the one way in which it cuts the text
+pub record Lexing (q : Request) : Type 0 where
+  pub definition : Definition
+  pub says : outcome (settings q.flags q.greatest None) q.rules ≡ Ok definition
+  pub cut : List Tile
+  pub end : End
+  pub tiling : IsTiling definition q.input (0 ∷ []) cut end
+  pub only : (ts : List Tile) (e : End) → IsTiling definition q.input (0 ∷ []) ts e → (ts ≡ cut) × (e ≡ end)
+
+-- the lines of the items
+abbrev pub lines_in : (q : Request) → Lexing q → List ℕ
+lines_in q x = lines x.definition.rules q.input (items x.definition 0 x.cut x.end)
+
+-- `Lexed` where the whole text was cut and `Stopped` where not, with all lines written; `Refused` with the rule text's
+-- faults, each at places in it, and nothing written; nothing written for want of memory, and a beginning of the lines where a write failed
+abbrev pub IsEngineRun : Request → Option (List ℕ) → Option (List ℕ) → Result Ended EngineFault → Type 0
+IsEngineRun q old new (Ok Lexed) = (x : Lexing q) × (x.end ≡ Done) × Appends old new (lines_in q x)
+IsEngineRun q old new (Ok Stopped) = (x : Lexing q) × (x.end ≢ Done) × Appends old new (lines_in q x)
+IsEngineRun q old new (Ok (Refused faults)) =
+    (outcome (settings q.flags q.greatest (refused_in (as_faults faults))) q.rules ≡ Err (as_faults faults))
+    × All (IsPlaced q.rules) faults.items
+    × Keeps old new
+IsEngineRun q old new (Err Memory) = Keeps old new
+IsEngineRun q old new (Err (Write e)) = (x : Lexing q) × AppendsFront old new (lines_in q x)
+
+-- all of the text at `Ok`, nothing for want of memory, and a beginning of it where a write failed
+abbrev pub IsReport : {X : Type 0} → Option (List ℕ) → Option (List ℕ) → Result X EngineFault → List ℕ → Type 0
+IsReport old new (Ok x) text = Appends old new text
+IsReport old new (Err Memory) text = Keeps old new
+IsReport old new (Err (Write e)) text = AppendsFront old new text

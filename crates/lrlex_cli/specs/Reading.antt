@@ -1,0 +1,32 @@
+-- What is read from the matches of the command.
+use Rattle.std.specs.Prelude.{◌≡◌, Bool, List, Option, Some, codes, option_map, string_bytes}
+use Rattle.std.specs.Str.{bytes_eq}
+use Rattle.clap.specs.Words.{Row, Text, first_of}
+use Rattle.lrlex.specs.declared.flags.LexFlags.{LexFlags}
+use Rattle.lrlex_cli.specs.declared.words.Words.{Words}
+
+-- a value `true` is true, any other is false, and no value is none
+abbrev pub truth_in : Option Text → Option Bool
+truth_in value = option_map (λ text. bytes_eq text (codes "true")) value
+
+-- the option of this name has this truth value
+abbrev pub IsTruth : List Row → Text → Option Bool → Type 0
+IsTruth rows name flag = flag ≡ truth_in (first_of name rows)
+
+pub record ReadsTruths (rows : List Row) (flags : LexFlags) : Type 0 where
+  pub dot_matches_new_line : IsTruth rows (codes "dot-matches-new-line") flags.dot_matches_new_line
+  pub multi_line : IsTruth rows (codes "multi-line") flags.multi_line
+  pub octal : IsTruth rows (codes "octal") flags.octal
+  pub posix_escapes : IsTruth rows (codes "posix-escapes") flags.posix_escapes
+  pub allow_wholeline_comments :
+      IsTruth rows (codes "allow-wholeline-comments") flags.allow_wholeline_comments
+  pub case_insensitive : IsTruth rows (codes "case-insensitive") flags.case_insensitive
+  pub swap_greed : IsTruth rows (codes "swap-greed") flags.swap_greed
+  pub ignore_whitespace : IsTruth rows (codes "ignore-whitespace") flags.ignore_whitespace
+  pub unicode : IsTruth rows (codes "unicode") flags.unicode
+
+-- the paths are the values of the two positionals, and the flags those of their options
+pub record IsReadFrom (rows : List Row) (words : Words) : Type 0 where
+  pub rules : first_of (codes "rules") rows ≡ Some (string_bytes words.rules)
+  pub input : first_of (codes "input") rows ≡ Some (string_bytes words.input)
+  pub flags : ReadsTruths rows words.flags

@@ -1,0 +1,102 @@
+//! Builds a lexer of a rule text, lexes a text and writes what it finds.
+ghost use Rattle.std.specs.Prelude.{◌≡◌, All, is_err};
+ghost use Rattle.std.specs.List.{list_any};
+ghost use Rattle.lrlex_cli.specs.Engine.{IsEngineRun, IsReport};
+ghost use Rattle.lrlex.specs.Faults.{IsPlaced};
+ghost use Rattle.lrlex_cli.specs.Report.{fault_lines};
+
+use crate::lines::lines;
+use crate::report::fault_lines;
+use crate::writing::write_bytes;
+use lrlex::{LRLexError, LRNonStreamingLexerDef, LexBuildError, LexFlags};
+use lrlex_base::LexerTypes;
+use std::alloc::Global;
+use std::io;
+use std::io::Write;
+
+/// How a run ended.
+#[derive(Debug, Drop)]
+pub enum Ended {
+    /// The whole text was lexed.
+    Lexed,
+    /// Lexing stopped at an error, whose line was written last.
+    Stopped,
+    /// The rule text is refused for these faults, and nothing was written.
+    Refused(Vec<LexBuildError>),
+}
+
+/// Why a run, or a report, wasn't written whole.
+#[derive(Debug, Drop)]
+pub enum EngineFault {
+    /// Memory was wanting, and nothing was written.
+    Memory,
+    /// The writer failed, or took nothing. It has a beginning of the text.
+    Write(io::Error),
+}
+
+/// Whether one of the items is an error.
+fn has_error<X>(items: &[Result<X, LRLexError>]) -> bool
+    ensures { result ≡ list_any (λ item. is_err item) items.now }
+{
+    items.iter().any(|item| item.is_err())
+}
+
+/// Builds a lexer of the rule text, lexes the input and writes a line an item, which ends by U+000A.
+/// A lexeme's line is its rule's name, a blank and the matched text; an error's is its text.
+///
+/// The lines are made before the first is written. No fault of the writer is tried again.
+pub fn run<L: LexerTypes<LexErrorT = LRLexError>, W: Write>(
+    alloc: Global,
+    rules: &str,
+    flags: LexFlags,
+    input: &str,
+    out: &mut W,
+) -> Result<Ended, EngineFault>
+    ensures { IsEngineRun (record { greatest = L.StorageT.greatest; flags = flags; rules = rules.now; input = input.now })
+        (W.contents out.old) (W.contents out.new) result }
+{
+    let Ok(built) = LRNonStreamingLexerDef::<L>::new_with_options(alloc, rules, flags) else {
+        return Err(EngineFault::Memory);
+    };
+    let definition = match built {
+        Ok(definition) => definition,
+        Err(faults) => return Ok(Ended::Refused(faults)),
+    };
+    let Ok(lexed) = definition.run(alloc, input) else {
+        return Err(EngineFault::Memory);
+    };
+    let items = lexed.items();
+    let Ok(text) = lines::<L>(alloc, definition.rules(), input.as_bytes(), items) else {
+        return Err(EngineFault::Memory);
+    };
+    let stopped = has_error(items);
+    if let Err(fault) = write_bytes(out, text.as_slice()) {
+        return Err(EngineFault::Write(fault));
+    }
+    if stopped {
+        Ok(Ended::Stopped)
+    } else {
+        Ok(Ended::Lexed)
+    }
+}
+
+/// Writes what is wrong with a rule text, a line a fault: `L:C: TEXT`, where `L:C` is the place at which its first span
+/// starts. Lines and columns count from 1, columns in characters, and U+000A alone ends a line. The places of further
+/// spans follow, as `, again at L:C` and then `, L:C` each. What `regex` says of a pattern isn't told.
+///
+/// Each fault has a span, and all its spans fit the rule text, as in the faults of a build of it.
+/// The lines are made before the first is written. No fault of the writer is tried again.
+pub fn report<W: Write>(
+    alloc: Global,
+    faults: &[LexBuildError],
+    rules: &str,
+    err: &mut W,
+) -> Result<(), EngineFault>
+    requires { All (IsPlaced rules.now) faults.now }
+    ensures { IsReport (W.contents err.old) (W.contents err.new) result (fault_lines rules.now faults.now) }
+{
+    let Ok(text) = fault_lines(alloc, rules, faults) else {
+        return Err(EngineFault::Memory);
+    };
+    write_bytes(err, text.as_bytes()).map_err(EngineFault::Write)
+}

@@ -1,0 +1,151 @@
+//! The program: its words, its files, its standard streams and its status.
+use crate::engine::{Ended, EngineFault};
+use crate::texts::{TextFault, read_text, split, text_at};
+use crate::words::WordsFault;
+use crate::writing::write_bytes;
+use crate::{engine, words};
+use lrlex::{DefaultLexerTypes, LexFlags, UNSPECIFIED_LEX_FLAGS};
+use std::alloc::Global;
+use std::io::{Read, Write};
+use std::rt::Files;
+
+/// Why the program can't do what it is asked, without a rule text's own faults.
+#[derive(Clone, Copy, Debug, PartialEq, Eq)]
+pub enum Fault<'a> {
+    /// The words are refused for another cause than memory.
+    Usage,
+    /// The file at this path can't be opened or read.
+    CannotOpen(&'a str),
+    /// The file at this path isn't UTF-8.
+    NotText(&'a str),
+    /// Memory is wanting.
+    Memory,
+    /// Writing or flushing standard output failed.
+    CannotWrite,
+}
+
+impl<'a> Fault<'a> {
+    fn of_text(path: &'a str, fault: TextFault) -> Fault<'a> {
+        match fault {
+            TextFault::Memory => Fault::Memory,
+            TextFault::Unreadable => Fault::CannotOpen(path),
+            TextFault::NotText => Fault::NotText(path),
+        }
+    }
+
+    fn of_engine(fault: &EngineFault) -> Fault<'a> {
+        match fault {
+            EngineFault::Memory => Fault::Memory,
+            EngineFault::Write(_) => Fault::CannotWrite,
+        }
+    }
+}
+
+/// Writes the pieces, and passes over a fault of the writer.
+fn say<E: Write>(err: &mut E, pieces: &[&str]) {
+    for piece in pieces {
+        if write_bytes(err, piece.as_bytes()).is_err() {
+            return;
+        }
+    }
+}
+
+/// Writes the line of the fault, and answers the status, 1. A fault of `err` is passed over.
+pub fn refuse<E: Write>(fault: Fault<'_>, err: &mut E) -> u8 {
+    match fault {
+        Fault::Usage => say(err, &["Usage: lrlex <lexer.l> <input file>\n"]),
+        Fault::CannotOpen(path) => say(err, &["Can't open file ", path, "\n"]),
+        Fault::NotText(path) => say(err, &["File ", path, " is not UTF-8\n"]),
+        Fault::Memory => say(err, &["Out of memory\n"]),
+        Fault::CannotWrite => say(err, &["Can't write\n"]),
+    }
+    1
+}
+
+/// Flushes what was written, and answers the status: 0 where the whole text was lexed.
+fn flushed<W: Write>(out: &mut W, status: u8) -> Result<u8, Fault<'static>> {
+    match out.flush() {
+        Ok(()) => Ok(status),
+        Err(_) => Err(Fault::CannotWrite),
+    }
+}
+
+/// Lexes the input by the rules, and answers the status.
+fn lex<W: Write, E: Write>(
+    alloc: Global,
+    rules: &str,
+    flags: LexFlags,
+    input: &str,
+    out: &mut W,
+    err: &mut E,
+) -> Result<u8, Fault<'static>> {
+    match engine::run::<DefaultLexerTypes<u32>, W>(alloc, rules, flags, input, out) {
+        Ok(Ended::Lexed) => flushed(out, 0),
+        Ok(Ended::Stopped) => flushed(out, 1),
+        Ok(Ended::Refused(faults)) => match engine::report(alloc, faults.as_slice(), rules, err) {
+            Err(EngineFault::Memory) => Err(Fault::Memory),
+            _ => Ok(1),
+        },
+        Err(fault) => Err(Fault::of_engine(&fault)),
+    }
+}
+
+/// Lexes by both texts of standard input.
+fn serve_input<R: AllocGlobal, I: Read, W: Write, E: Write>(
+    rt: &R,
+    stdin: &mut I,
+    out: &mut W,
+    err: &mut E,
+) -> Result<u8, Fault<'static>> {
+    let both = read_text(rt.alloc(), stdin).map_err(|fault| Fault::of_text("-", fault))?;
+    let (rules, input) = split(both.as_str());
+    lex(rt.alloc(), rules, UNSPECIFIED_LEX_FLAGS, input, out, err)
+}
+
+/// Does all that the program does, and answers the status: 0 where the whole text was lexed and what was written is
+/// flushed, and otherwise 1. `words` are the program's, its own name first.
+///
+/// The rule text is read first, then the input, both before the build; the first fault decides. Lines go to `out`;
+/// a rule text's faults, and a line for any other fault, go to `err`, whose own faults are passed over.
+/// With no word, or one, `stdin` holds both texts: the rule text stands before the first line `----`, the input after
+/// it. Nothing that fails is tried again.
+pub fn serve<R: Files + AllocGlobal, I: Read, W: Write, E: Write>(
+    rt: &R,
+    words: &[&str],
+    stdin: &mut I,
+    out: &mut W,
+    err: &mut E,
+) -> u8 {
+    if words.len() < 2 {
+        return match serve_input(rt, stdin, out, err) {
+            Ok(status) => status,
+            Err(fault) => refuse(fault, err),
+        };
+    }
+    let read = match words::read(rt.alloc(), words) {
+        Ok(read) => read,
+        Err(WordsFault::Memory) => return refuse(Fault::Memory, err),
+        Err(WordsFault::Refused) => return refuse(Fault::Usage, err),
+    };
+    let rules_path = read.rules.as_str();
+    let rules = match text_at(rt, rules_path, stdin) {
+        Ok(rules) => rules,
+        Err(fault) => return refuse(Fault::of_text(rules_path, fault), err),
+    };
+    let input_path = read.input.as_str();
+    let input = match text_at(rt, input_path, stdin) {
+        Ok(input) => input,
+        Err(fault) => return refuse(Fault::of_text(input_path, fault), err),
+    };
+    match lex(
+        rt.alloc(),
+        rules.as_str(),
+        read.flags,
+        input.as_str(),
+        out,
+        err,
+    ) {
+        Ok(status) => status,
+        Err(fault) => refuse(fault, err),
+    }
+}

@@ -1,0 +1,5 @@
+mod engine;
+mod program;
+mod words;
+mod writers;
+mod writing;

@@ -1,0 +1,146 @@
+//! Rows on the engine and its report.
+use crate::engine::{Ended, EngineFault, report, run};
+use crate::tests::writers::{TestWriter, Trouble};
+use lrlex::{DefaultLexerTypes, UNSPECIFIED_LEX_FLAGS};
+use std::io;
+use std::io::{ErrorKind, Write};
+use std::process::Abort;
+use std::test::Fail;
+
+const ROW_1: &str = "%%\n[0-9]+ 'INT'\n[a-z]+ 'ID'\n[ ] ;";
+
+/// Runs with ids of `u32` and no flag set.
+fn ran<W: Write>(
+    rt: &impl AllocGlobal,
+    rules: &str,
+    input: &str,
+    out: &mut W,
+) -> Result<Ended, EngineFault> {
+    run::<DefaultLexerTypes<u32>, W>(rt.alloc(), rules, UNSPECIFIED_LEX_FLAGS, input, out)
+}
+
+#[test]
+fn lines(rt: HostRuntime) -> Result<(), Fail> {
+    let mut out = TestWriter::new(rt.alloc(), 100, Trouble::Never);
+    assert!(rt; matches!(ran(&rt, ROW_1, "abc 123", &mut out), Ok(Ended::Lexed)));
+    assert_eq!(rt; out.held(), b"ID abc\nINT 123\n".as_slice());
+    let mut out = TestWriter::new(rt.alloc(), 100, Trouble::Never);
+    assert!(rt; matches!(ran(&rt, "%%\na|ab 'X'", "ab", &mut out), Ok(Ended::Stopped)));
+    assert_eq!(rt;
+        out.held(),
+        b"X a\nCouldn't lex input starting at byte 1\n".as_slice()
+    );
+    let mut out = TestWriter::new(rt.alloc(), 100, Trouble::Never);
+    assert!(rt; matches!(ran(&rt, "%%\n", "", &mut out), Ok(Ended::Lexed)));
+    assert!(rt; out.held().is_empty());
+    Ok(())
+}
+
+/// Where the rule text is refused nothing is written; its report is this one.
+fn reports(rt: &(impl AllocGlobal + Abort), rules: &str, want: &str) {
+    let mut out = TestWriter::new(rt.alloc(), 100, Trouble::Never);
+    let ended = run::<DefaultLexerTypes<u32>, TestWriter>(
+        rt.alloc(),
+        rules,
+        UNSPECIFIED_LEX_FLAGS,
+        "a",
+        &mut out,
+    );
+    let faults = match ended {
+        Ok(Ended::Refused(faults)) => faults,
+        other => panic!(rt; "{other:?}"),
+    };
+    assert!(rt; out.held().is_empty());
+    let mut err = TestWriter::new(rt.alloc(), 3, Trouble::Never);
+    assert!(rt; report(rt.alloc(), faults.as_slice(), rules, &mut err).is_ok());
+    assert_eq!(rt; err.held(), want.as_bytes());
+}
+
+#[test]
+fn report_rows(rt: HostRuntime) {
+    reports(&rt, "", "1:1: File ends prematurely\n");
+    reports(
+        &rt,
+        "%%\na 'A'\n( 'A'\n[0-9] int",
+        "2:4: Rule name already exists, again at 3:4\n4:7: Invalid rule name\n",
+    );
+    reports(
+        &rt,
+        "%s INITIAL\n%%",
+        "1:1: Start state already exists, again at 1:4\n",
+    );
+    reports(
+        &rt,
+        "%%\n x\na 'A'\nb 'A'\nc 'A'",
+        "2:1: Verbatim code not supported\n3:4: Rule name already exists, again at 4:4, 5:4\n",
+    );
+    reports(&rt, "%%\n( 'A'", "2:1: Invalid regular expression\n");
+    reports(&rt, "%S X\u{2028}", "1:6: File ends prematurely\n");
+}
+
+#[test]
+fn no_fault_no_line(rt: HostRuntime) {
+    let mut err = TestWriter::new(rt.alloc(), 3, Trouble::Fails(1, ErrorKind::Other));
+    assert!(rt; report(rt.alloc(), &[], "%%", &mut err).is_ok());
+    assert!(rt; err.held().is_empty());
+}
+
+#[test]
+fn writers_that_fail(rt: HostRuntime) -> Result<(), Fail> {
+    let mut out = TestWriter::new(rt.alloc(), 5, Trouble::Fails(2, ErrorKind::Other));
+    let result = ran(&rt, ROW_1, "abc 123", &mut out);
+    assert_eq!(rt; out.held(), b"ID ab".as_slice());
+    assert!(rt; matches!(result, Err(EngineFault::Write(e)) if e.kind() == ErrorKind::Other));
+    for k in 1..=15u64 {
+        for kind in [ErrorKind::Other, ErrorKind::Interrupted] {
+            let mut out = TestWriter::new(rt.alloc(), 1, Trouble::Fails(k, kind));
+            let result = ran(&rt, ROW_1, "abc 123", &mut out);
+            assert!(rt; out.held().len() as u64 == k - 1);
+            assert!(rt; matches!(result, Err(EngineFault::Write(e)) if e.kind() == kind));
+        }
+    }
+    let mut out = TestWriter::new(rt.alloc(), 1, Trouble::TakesNone(6));
+    let result = ran(&rt, ROW_1, "abc 123", &mut out);
+    assert_eq!(rt; out.held(), b"ID ab".as_slice());
+    assert!(rt; matches!(result, Err(EngineFault::Write(e)) if e.kind() == ErrorKind::WriteZero));
+    Ok(())
+}
+
+/// Holds what it takes in itself, so it asks for no memory.
+struct Small {
+    held: [u8; 32],
+    len: usize,
+}
+
+impl Write for Small {
+    fn write(&mut self, buf: &[u8]) -> io::Result<usize> {
+        let Some(first) = buf.first() else {
+            return Ok(0);
+        };
+        if self.len >= 32 {
+            return Ok(0);
+        }
+        self.held[self.len] = *first;
+        self.len += 1;
+        Ok(1)
+    }
+
+    fn flush(&mut self) -> io::Result<()> {
+        Ok(())
+    }
+}
+
+// Holds with memory for all, and where any request for memory is refused.
+#[test]
+fn memory_before_the_first_byte(rt: HostRuntime) {
+    let mut out = Small {
+        held: [0; 32],
+        len: 0,
+    };
+    match ran(&rt, ROW_1, "abc 123", &mut out) {
+        Ok(Ended::Lexed) => assert!(rt; out.len == 15),
+        Err(EngineFault::Memory) => assert!(rt; out.len == 0),
+        other => panic!(rt; "{other:?}"),
+    }
+    let Small { held: _, len: _ } = out;
+}

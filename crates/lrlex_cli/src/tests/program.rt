@@ -1,0 +1,204 @@
+//! Rows on the program, over files of the test's own and texts in memory.
+use crate::program::serve;
+use crate::tests::writers::{FailingReader, TestWriter, Trouble};
+use std::io::ErrorKind;
+use std::process::Abort;
+use std::rt::Files;
+use std::test::Fail;
+use std::{env, fs, process};
+
+const ROW_1: &str = "%%\n[0-9]+ 'INT'\n[a-z]+ 'ID'\n[ ] ;";
+
+const BOTH: &str = "%%\n[0-9]+ 'INT'\n[a-z]+ 'ID'\n[ ] ;\n----\nabc 123";
+
+const LINES: &str = "ID abc\nINT 123\n";
+
+const USAGE: &str = "Usage: lrlex <lexer.l> <input file>\n";
+
+/// Serves, and expects this output, these messages and this status.
+fn expects<R: Files + AllocGlobal + Abort>(
+    rt: &R,
+    words: &[&str],
+    stdin: &str,
+    want: (&str, &str, u8),
+) {
+    let mut input = stdin.as_bytes();
+    let mut out = Vec::new(rt.alloc());
+    let mut err = Vec::new(rt.alloc());
+    let status = serve(rt, words, &mut input, &mut out, &mut err);
+    assert_eq!(rt; err.as_slice(), want.1.as_bytes(), "{words:?}");
+    assert_eq!(rt; out.as_slice(), want.0.as_bytes(), "{words:?}");
+    assert_eq!(rt; status, want.2, "{words:?}");
+}
+
+#[test]
+fn words_refused(rt: HostRuntime) {
+    let rows: [&[&str]; 8] = [
+        &["lrlex", "-"],
+        &["lrlex", "--help"],
+        &["lrlex", "-", "-", "-"],
+        &["lrlex", "--octal", "yes", "-", "-"],
+        &["lrlex", "--octal", "-", "-"],
+        &["lrlex", "--nest-limit", "4294967296", "-", "-"],
+        &["lrlex", "--bad", "-", "-"],
+        &["lrlex", "--octal", "true", "--octal", "true", "-", "-"],
+    ];
+    for words in rows {
+        expects(&rt, words, BOTH, ("", USAGE, 1));
+    }
+}
+
+#[test]
+fn both_in_standard_input(rt: HostRuntime) {
+    expects(&rt, &[], BOTH, (LINES, "", 0));
+    expects(&rt, &["lrlex"], BOTH, (LINES, "", 0));
+    expects(&rt, &["lrlex"], ROW_1, ("", "", 0));
+    expects(&rt, &["lrlex"], "%%\na 'A'\n----", ("", "", 0));
+    expects(&rt, &["lrlex"], "%%\na 'A'\n----\na", ("A a\n", "", 0));
+    expects(
+        &rt,
+        &["lrlex"],
+        "%%\n[a\\-\\n]+ 'A'\n----\na\n----\na",
+        ("A a\n----\na\n", "", 0),
+    );
+    expects(
+        &rt,
+        &["lrlex"],
+        "%%\na 'A'\n----\nab",
+        ("A a\nCouldn't lex input starting at byte 1\n", "", 1),
+    );
+    expects(
+        &rt,
+        &["lrlex"],
+        "----\nab",
+        ("", "1:1: File ends prematurely\n", 1),
+    );
+    expects(
+        &rt,
+        &["lrlex"],
+        "%%\na 'A'\n( 'A'\n[0-9] int\n----\na",
+        (
+            "",
+            "2:4: Rule name already exists, again at 3:4\n4:7: Invalid rule name\n",
+            1,
+        ),
+    );
+}
+
+#[test]
+fn flags_are_handed_on(rt: HostRuntime) {
+    // The first `-` takes all of standard input, so the second is the empty text.
+    expects(&rt, &["lrlex", "-", "-"], ROW_1, ("", "", 0));
+    expects(
+        &rt,
+        &["lrlex", "-", "-"],
+        "// c\n%%\na 'A'",
+        ("", "1:1: Unknown declaration\n", 1),
+    );
+    expects(
+        &rt,
+        &["lrlex", "--allow-wholeline-comments", "true", "-", "-"],
+        "// c\n%%\na 'A'",
+        ("", "", 0),
+    );
+}
+
+#[test]
+fn texts_in_files(rt: HostRuntime) -> Result<(), Fail> {
+    let alloc = rt.alloc();
+    let id = process::id(rt.process());
+    let folder = format!(in alloc; "{}/lrlex_rows_{id}", env::temp_dir(&rt)?.as_str())?;
+    fs::create_dir(&rt, folder.as_str())?;
+    let rules = format!(in alloc; "{folder}/rules")?;
+    let input = format!(in alloc; "{folder}/input")?;
+    let bad = format!(in alloc; "{folder}/bad")?;
+    let none = format!(in alloc; "{folder}/none")?;
+    fs::write(&rt, rules.as_str(), ROW_1)?;
+    fs::write(&rt, input.as_str(), "abc 123")?;
+    fs::write(&rt, bad.as_str(), [255u8].as_slice())?;
+    let not_text = format!(in alloc; "File {bad} is not UTF-8\n")?;
+    let cannot = format!(in alloc; "Can't open file {none}\n")?;
+    let is_folder = format!(in alloc; "Can't open file {folder}\n")?;
+    let (rules, input, bad, none) = (rules.as_str(), input.as_str(), bad.as_str(), none.as_str());
+    expects(&rt, &["lrlex", rules, input], "", (LINES, "", 0));
+    expects(&rt, &["lrlex", rules, "-"], "abc 123", (LINES, "", 0));
+    expects(&rt, &["lrlex", "-", input], ROW_1, (LINES, "", 0));
+    expects(&rt, &["lrlex", bad, input], "", ("", not_text.as_str(), 1));
+    expects(&rt, &["lrlex", bad, none], "", ("", not_text.as_str(), 1));
+    expects(&rt, &["lrlex", bad, bad], "", ("", not_text.as_str(), 1));
+    expects(&rt, &["lrlex", rules, bad], "", ("", not_text.as_str(), 1));
+    expects(&rt, &["lrlex", "-", bad], "", ("", not_text.as_str(), 1));
+    expects(&rt, &["lrlex", none, bad], "", ("", cannot.as_str(), 1));
+    expects(&rt, &["lrlex", rules, none], "", ("", cannot.as_str(), 1));
+    expects(
+        &rt,
+        &["lrlex", folder.as_str(), input],
+        "",
+        ("", is_folder.as_str(), 1),
+    );
+    fs::remove_dir_all(&rt, folder.as_str())?;
+    Ok(())
+}
+
+#[test]
+fn reads_that_fail(rt: HostRuntime) {
+    for kind in [ErrorKind::Other, ErrorKind::Interrupted] {
+        for (words, left) in [
+            (["lrlex"].as_slice(), b"".as_slice()),
+            (["lrlex"].as_slice(), b"ab".as_slice()),
+            (["lrlex", "-", "none"].as_slice(), b"ab".as_slice()),
+        ] {
+            let calls = left.len() as u64 + 1;
+            let mut stdin = FailingReader {
+                left,
+                kind,
+                calls: 0,
+            };
+            let mut out = Vec::new(rt.alloc());
+            let mut err = Vec::new(rt.alloc());
+            let status = serve(&rt, words, &mut stdin, &mut out, &mut err);
+            assert_eq!(rt; err.as_slice(), b"Can't open file -\n".as_slice());
+            assert!(rt; status == 1 && stdin.calls == calls && out.is_empty());
+        }
+    }
+    let mut err = Vec::new(rt.alloc());
+    let mut out = Vec::new(rt.alloc());
+    let status = serve(
+        &rt,
+        &["lrlex"],
+        &mut b"%%\n\xff".as_slice(),
+        &mut out,
+        &mut err,
+    );
+    assert_eq!(rt; err.as_slice(), b"File - is not UTF-8\n".as_slice());
+    assert!(rt; status == 1 && out.is_empty());
+}
+
+#[test]
+fn writes_that_fail(rt: HostRuntime) {
+    // Standard error takes two bytes, and its fault is passed over.
+    for input in ["abc 123", "abc 12!"] {
+        let mut out = TestWriter::new(rt.alloc(), 3, Trouble::FailsAtFlush);
+        let mut err = TestWriter::new(rt.alloc(), 1, Trouble::Fails(3, ErrorKind::Other));
+        let mut stdin = Vec::new(rt.alloc());
+        assert!(rt; stdin.extend_from_slice(ROW_1.as_bytes()).is_ok());
+        assert!(rt; stdin.extend_from_slice(b"\n----\n").is_ok());
+        assert!(rt; stdin.extend_from_slice(input.as_bytes()).is_ok());
+        let status = serve(&rt, &["lrlex"], &mut stdin.as_slice(), &mut out, &mut err);
+        assert!(rt; !out.held().is_empty());
+        assert_eq!(rt; err.held(), b"Ca".as_slice());
+        assert!(rt; status == 1 && out.flushes() == 1);
+    }
+    let mut out = TestWriter::new(rt.alloc(), 5, Trouble::Fails(2, ErrorKind::Interrupted));
+    let mut err = Vec::new(rt.alloc());
+    let status = serve(&rt, &["lrlex"], &mut BOTH.as_bytes(), &mut out, &mut err);
+    assert_eq!(rt; out.held(), b"ID ab".as_slice());
+    assert_eq!(rt; err.as_slice(), b"Can't write\n".as_slice());
+    assert!(rt; status == 1 && out.flushes() == 0);
+    // A refused rule text is told on standard error, and nothing is flushed.
+    let mut out = TestWriter::new(rt.alloc(), 5, Trouble::FailsAtFlush);
+    let mut err = TestWriter::new(rt.alloc(), 4, Trouble::TakesNone(2));
+    let status = serve(&rt, &["lrlex"], &mut b"".as_slice(), &mut out, &mut err);
+    assert_eq!(rt; err.held(), b"1:1:".as_slice());
+    assert!(rt; status == 1 && out.held().is_empty() && out.flushes() == 0);
+}

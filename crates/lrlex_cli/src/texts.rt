@@ -1,0 +1,78 @@
+//! The texts that the program reads.
+ghost use Rattle.std.specs.Prelude.{IfOk};
+ghost use Rattle.lrlex_cli.specs.Texts.{GaveAll};
+
+use std::alloc::{AllocError, Global};
+use std::io::Read;
+use std::rt::Files;
+use std::{fs, io};
+
+/// Calls of `read` that a text may take.
+const READS: u64 = 4_294_967_296;
+
+/// Why a text can't be had.
+#[derive(Clone, Copy, Debug, PartialEq, Eq)]
+pub enum TextFault {
+    Memory,
+    Unreadable,
+    NotText,
+}
+
+impl From<AllocError> for TextFault {
+    fn from(_fault: AllocError) -> TextFault {
+        TextFault::Memory
+    }
+}
+
+/// Reads to the end. No fault is tried again.
+pub fn read_bytes<R: Read>(alloc: Global, reader: &mut R) -> Result<Vec<u8>, TextFault>
+    ensures { IfOk result (λ bytes. GaveAll (R.remaining reader.old) (R.remaining reader.new) bytes.items) }
+{
+    let mut bytes = Vec::new(alloc);
+    let mut buf = [0u8; 8192];
+    for _ in 0..READS {
+        match reader.read(&mut buf) {
+            Ok(0) => return Ok(bytes),
+            Ok(n) => bytes.extend_from_slice(&buf[..n])?,
+            Err(_) => return Err(TextFault::Unreadable),
+        }
+    }
+    Err(TextFault::Unreadable)
+}
+
+/// Reads to the end, as text.
+pub fn read_text<R: Read>(alloc: Global, reader: &mut R) -> Result<String, TextFault> {
+    String::from_utf8(read_bytes(alloc, reader)?).map_err(|_| TextFault::NotText)
+}
+
+/// The text of the file, or of standard input where the path is `-`.
+pub fn text_at<R: Files + AllocGlobal, I: Read>(
+    rt: &R,
+    path: &str,
+    stdin: &mut I,
+) -> Result<String, TextFault> {
+    if path == "-" {
+        return read_text(rt.alloc(), stdin);
+    }
+    match fs::open(rt, path) {
+        Ok(mut file) => read_text(rt.alloc(), &mut file),
+        Err(fault) if fault.kind() == io::ErrorKind::OutOfMemory => Err(TextFault::Memory),
+        Err(_) => Err(TextFault::Unreadable),
+    }
+}
+
+/// The text before the first line `----`, and what stands after that line.
+pub fn split(text: &str) -> (&str, &str) {
+    let mut at = 0usize;
+    for line in text.split_inclusive('\n') {
+        let end = at.saturating_add(line.len());
+        if line == "----\n" || line == "----" {
+            return (
+                text.get(..at).unwrap_or(text),
+                text.get(end..).unwrap_or(""),
+            );
+        }
+        at = end;
+    }
+    (text, "")
+}

@@ -1,0 +1,101 @@
+//! The words of the command line.
+ghost use Rattle.std.specs.Prelude.{◌≡◌, IfOk, map, option_map};
+ghost use Rattle.clap.specs.Words.{first_of, found_of, rows_of};
+ghost use Rattle.lrlex_cli.specs.declared.words.WordsFault.TheVariants.{Memory};
+ghost use Rattle.lrlex_cli.specs.Command.{given};
+ghost use Rattle.lrlex_cli.specs.Reading.{IsReadFrom, ReadsTruths, truth_in};
+
+use crate::command::lrlex_command;
+use clap::ArgMatches;
+use clap::error::ErrorKind;
+use lrlex::LexFlags;
+use std::alloc::{AllocError, Global};
+
+/// What the words say.
+#[derive(Debug, Drop)]
+pub struct Words {
+    pub rules: String,
+    pub input: String,
+    pub flags: LexFlags,
+}
+
+/// Why there are no words.
+#[derive(Clone, Copy, Debug, PartialEq, Eq)]
+pub enum WordsFault {
+    Memory,
+    Refused,
+}
+
+impl From<AllocError> for WordsFault {
+    ghost from_gives = { λ _ e. e ≡ Memory };
+
+    fn from(_fault: AllocError) -> WordsFault {
+        WordsFault::Memory
+    }
+}
+
+/// The first value of this name.
+fn value<'a>(matches: &ArgMatches<'a>, name: &str) -> Option<&'a str>
+    ensures { option_map (λ s. s.now) result ≡ first_of name.now (rows_of (found_of matches.now)) }
+{
+    matches.get_str(name)
+}
+
+/// The value of an option of one truth value.
+fn truth(matches: &ArgMatches<'_>, name: &str) -> Option<bool>
+    ensures { result ≡ truth_in (first_of name.now (rows_of (found_of matches.now))) }
+{
+    match value(matches, name) {
+        Some(text) => Some(text == "true"),
+        None => None,
+    }
+}
+
+/// The flags that the matches give.
+fn flags_of(matches: &ArgMatches<'_>) -> LexFlags
+    ensures { ReadsTruths (rows_of (found_of matches.now)) result }
+{
+    LexFlags {
+        dot_matches_new_line: truth(matches, "dot-matches-new-line"),
+        multi_line: truth(matches, "multi-line"),
+        octal: truth(matches, "octal"),
+        posix_escapes: truth(matches, "posix-escapes"),
+        allow_wholeline_comments: truth(matches, "allow-wholeline-comments"),
+        case_insensitive: truth(matches, "case-insensitive"),
+        swap_greed: truth(matches, "swap-greed"),
+        ignore_whitespace: truth(matches, "ignore-whitespace"),
+        unicode: truth(matches, "unicode"),
+        size_limit: matches.get_one("size-limit"),
+        dfa_size_limit: matches.get_one("dfa-size-limit"),
+        nest_limit: matches.get_one("nest-limit"),
+    }
+}
+
+/// The words of the matches: both paths have to be there.
+fn words_of(alloc: Global, matches: &ArgMatches<'_>) -> Result<Words, WordsFault>
+    ensures { IfOk result (IsReadFrom (rows_of (found_of matches.now))) }
+{
+    let Some(rules) = value(matches, "rules") else {
+        return Err(WordsFault::Refused);
+    };
+    let Some(input) = value(matches, "input") else {
+        return Err(WordsFault::Refused);
+    };
+    Ok(Words {
+        rules: String::from_str(alloc, rules)?,
+        input: String::from_str(alloc, input)?,
+        flags: flags_of(matches),
+    })
+}
+
+/// Reads the words, the program's own name first.
+pub fn read(alloc: Global, words: &[&str]) -> Result<Words, WordsFault>
+    ensures { IfOk result (IsReadFrom (given (map (λ w. w.now) words.now))) }
+{
+    let matches = match lrlex_command(alloc)?.try_get_matches_from(words) {
+        Ok(matches) => matches,
+        Err(error) if error.kind() == ErrorKind::OutOfMemory => return Err(WordsFault::Memory),
+        Err(_) => return Err(WordsFault::Refused),
+    };
+    words_of(alloc, &matches)
+}
