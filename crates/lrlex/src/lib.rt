@@ -17,7 +17,7 @@ pub use crate::flags::{DEFAULT_LEX_FLAGS, LexFlags, UNSPECIFIED_LEX_FLAGS};
 pub use crate::lexer::{LRNonStreamingLexerDef, LexRun};
 pub use crate::rules::Rule;
 pub use crate::states::{StartState, StartStateId, StartStateOperation};
-pub use lrlex_base::DefaultLexeme;
+pub use lrlex_base::{CTTokenMapBuilder, DefaultLexeme, TokenMapFault, ct_token_map};
 
 /// The usual types of a lexer, with this crate's error.
 pub type DefaultLexerTypes<T = u32> = lrlex_base::DefaultLexerTypes<T, LRLexError>;

@@ -65,13 +65,13 @@ impl<StorageT: Id> Rule<StorageT> {
         flags: &LexFlags,
     ) -> Result<Result<Rule<StorageT>, regex::Error>, AllocError>
         ensures made { IfOk result (λ made. IfOk made (λ r. as_rule StorageT.number r ≡ record {
-            id = option_map StorageT.number tok_id;
-            name = option_map string_bytes name;
-            name_span = as_span name_span;
-            re_str = string_bytes re_str;
-            start_states = start_states.items;
-            target = target_state;
-            config = config_of flags.now;
+          id = option_map StorageT.number tok_id;
+          name = option_map string_bytes name;
+          name_span = as_span name_span;
+          re_str = string_bytes re_str;
+          start_states = start_states.items;
+          target = target_state;
+          config = config_of flags.now;
         })) }
         ensures refused { IfOk result (λ made. IfErr made (IsRefusal (config_of flags.now) (wrapped (string_bytes re_str)))) }
         ensures kind { IfOk result (λ made. IfErr made (IsRightKind (config_of flags.now) (wrapped (string_bytes re_str)))) }

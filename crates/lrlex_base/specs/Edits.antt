@@ -1,5 +1,5 @@
 -- Changes of a text.
-use Rattle.std.specs.Prelude.{ℕ, ◌≡◌, List, ◌++◌, take, drop}
+use Rattle.std.specs.Prelude.{ℕ, List, ◌++◌, take, drop}
 use Rattle.lrlex_base.specs.Spans.{Span}
 
 -- the old text with the bytes of a span replaced

@@ -3,3 +3,6 @@ pub mod Spans
 pub mod Places
 pub mod Edits
 pub mod Lexemes
+pub mod Items
+pub mod TokenModule
+pub mod TokenMap

@@ -1,7 +1,10 @@
-ghost use Rattle.std.specs.Prelude.{◌↔◌, IsTrue};
-ghost use Rattle.lrlex_base.specs.Spans.{Fits};
+ghost use Rattle.std.specs.Prelude.{◌≡◌, ◌≢◌, ◌↔◌, ◌++◌, List, ℕ, IsTrue, IfOk, MatchOption};
+ghost use Rattle.std.specs.String.{string_bytes};
+ghost use Rattle.lrlex_base.specs.Spans.{Fits, as_span};
+ghost use Rattle.lrlex_base.specs.Edits.{edited};
 
 use crate::spans::Span;
+use std::alloc::{AllocError, Allocator};
 
 /// A change of a text: the bytes of `removed` give way to `put`.
 #[derive(Clone, Copy, Debug)]
@@ -10,11 +13,48 @@ pub struct Edit<'e> {
     pub put: &'e str,
 }
 
+// What stands behind this front, or none where the bytes have another.
+fn behind<'t>(bytes: &'t [u8], front: &[u8]) -> Option<&'t [u8]>
+    ensures { MatchOption result ((rest : List ℕ) → bytes.now ≢ front.now ++ rest) (λ rest. bytes.now ≡ front.now ++ rest.now) }
+{
+    bytes.strip_prefix(front)
+}
+
 impl<'e> Edit<'e> {
     /// Whether the edit can be made on `old`: both ends of `removed` are in range and on character boundaries.
     pub fn fits(&self, old: &str) -> bool
         ensures { IsTrue result ↔ Fits old.now self.now.removed }
     {
         self.removed.fits(old)
+    }
+
+    /// Whether the edit makes `new` of `old`. False where it doesn't fit `old`.
+    pub fn gives(&self, old: &str, new: &str) -> bool
+        ensures { IsTrue result ↔ (Fits old.now self.now.removed × (new.now ≡ edited old.now (as_span self.now.removed) self.now.put.now)) }
+    {
+        if !self.fits(old) {
+            return false;
+        }
+        let front = old[..self.removed.start()].as_bytes();
+        let tail = old[self.removed.end()..].as_bytes();
+        match behind(new.as_bytes(), front) {
+            Some(rest) => match behind(rest, self.put.as_bytes()) {
+                Some(rest) => rest == tail,
+                None => false,
+            },
+            None => false,
+        }
+    }
+
+    /// The text that the edit makes of `old`, which it fits.
+    pub fn apply<A: Allocator>(&self, alloc: A, old: &str) -> Result<String<A>, AllocError>
+        requires { Fits old.now self.now.removed }
+        ensures { IfOk result (λ s. string_bytes s ≡ edited old.now (as_span self.now.removed) self.now.put.now) }
+    {
+        let mut new = String::new(alloc);
+        new.push_str(&old[..self.removed.start()])?;
+        new.push_str(self.put)?;
+        new.push_str(&old[self.removed.end()..])?;
+        Ok(new)
     }
 }

@@ -109,4 +109,3 @@ impl Id for usize {
 
     ghost equal_law = { Prim.search rules };
 }
-

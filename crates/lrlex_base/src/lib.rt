@@ -7,14 +7,20 @@ mod edits;
 mod ids;
 mod lexemes;
 mod lexers;
+mod newlines;
 mod spans;
 #[cfg(test)]
 mod tests;
+mod token_map;
+mod token_map_fault;
 
 pub use crate::classes::{is_blank, is_line_sep, is_white_space};
 pub use crate::defaults::{DefaultLexeme, DefaultLexerTypes};
 pub use crate::edits::Edit;
 pub use crate::ids::Id;
 pub use crate::lexemes::{LexError, Lexeme};
-pub use crate::lexers::LexerTypes;
+pub use crate::lexers::{Items, Lexer, LexerTypes, NonStreamingLexer};
+pub use crate::newlines::NewlineCache;
 pub use crate::spans::{Span, Spanned, SpansKind};
+pub use crate::token_map::{CTTokenMapBuilder, ct_token_map};
+pub use crate::token_map_fault::TokenMapFault;

@@ -8,7 +8,10 @@ use std::test::Fail;
 fn faults_and_their_places(rt: HostRuntime) -> Result<(), Fail> {
     let rows = [
         ("", "PrematureEnd 0..0"),
-        ("%%\na 'A'\n( 'A'\n[0-9] int", "DuplicateName 6..7 12..13, InvalidName 21..21"),
+        (
+            "%%\na 'A'\n( 'A'\n[0-9] int",
+            "DuplicateName 6..7 12..13, InvalidName 21..21",
+        ),
         ("%%\n\\qab\\ 'x'", "RegexError 3..3"),
         ("%s a  b\n%%", "InvalidStartStateName 5..5"),
         ("%s INITIAL\n%%", "DuplicateStartState 0..0 3..10"),
@@ -25,7 +28,10 @@ fn faults_and_their_places(rt: HostRuntime) -> Result<(), Fail> {
             "%%\n x\na 'A'\nb 'A'\nc 'A'",
             "VerbatimNotSupported 3..5, DuplicateName 9..10 15..16 21..22",
         ),
-        ("%s p\n%%\na 'A'\n<NONE>( 'A'", "DuplicateName 11..12 23..24"),
+        (
+            "%s p\n%%\na 'A'\n<NONE>( 'A'",
+            "DuplicateName 11..12 23..24",
+        ),
         ("%%\n<*,INITIAL>a 'A'", "UnknownStartState 3..3"),
         ("%%\na <*>'A'", "UnknownStartState 5..5"),
         ("%s *\n%%", "InvalidStartStateName 3..3"),
@@ -66,7 +72,10 @@ fn texts_that_the_original_refuses(rt: HostRuntime) -> Result<(), Fail> {
             "%%\n[0-9] 'int'\n[A-Z] 'ALPHA'\n[0-9] 'int'\n[A-Z] 'ALPHA'\n[0-9] 'int'\n[A-Z] 'ALPHA'",
             "DuplicateName 10..13 36..39 62..65, DuplicateName 22..27 48..53 74..79",
         ),
-        ("%start_state KNOWN\n%%\n<KNOWN>. 'known'", "UnknownDeclaration 0..0"),
+        (
+            "%start_state KNOWN\n%%\n<KNOWN>. 'known'",
+            "UnknownDeclaration 0..0",
+        ),
         ("%s\n%%\n<KNOWN>. 'known'", "UnknownDeclaration 0..0"),
         ("%s 1KNOWN\n%%\n. 'x'", "InvalidStartStateName 3..3"),
         ("%s 123\n%%\n. 'x'", "InvalidStartStateName 3..3"),
@@ -77,9 +86,18 @@ fn texts_that_the_original_refuses(rt: HostRuntime) -> Result<(), Fail> {
         ("%%\n. <UNKNOWN>'unknown'", "UnknownStartState 5..5"),
         ("%%\n<test. 'TEST'", "InvalidStartState 3..3"),
         ("%%\n. <test'TEST'", "InvalidStartState 4..4"),
-        ("%s test\n%s test\n%%\n. 'TEST'", "DuplicateStartState 3..7 11..15"),
-        ("%x test\n%s test\n%%\n. 'TEST'", "DuplicateStartState 3..7 11..15"),
-        ("%s test test1 test\n%%\n. 'TEST'", "DuplicateStartState 3..7 14..18"),
+        (
+            "%s test\n%s test\n%%\n. 'TEST'",
+            "DuplicateStartState 3..7 11..15",
+        ),
+        (
+            "%x test\n%s test\n%%\n. 'TEST'",
+            "DuplicateStartState 3..7 11..15",
+        ),
+        (
+            "%s test test1 test\n%%\n. 'TEST'",
+            "DuplicateStartState 3..7 14..18",
+        ),
         (
             "%s test test2\n%s test test2\n%%\n. 'TEST'",
             "DuplicateStartState 3..7 17..21, DuplicateStartState 8..13 22..27",
@@ -95,7 +113,10 @@ fn texts_that_the_original_refuses(rt: HostRuntime) -> Result<(), Fail> {
         ("\n%%\n // x\n. \"A\"\n", "VerbatimNotSupported 4..9"),
         ("\n%%\n    \n. \"A\"\n", "VerbatimNotSupported 4..8"),
         ("\n// c\n%s S\n%%\n. 'dot'\n", "UnknownDeclaration 1..1"),
-        ("\n%%\n// \"Invalid rule name\"\n. 'dot'\n", "InvalidName 21..21"),
+        (
+            "\n%%\n// \"Invalid rule name\"\n. 'dot'\n",
+            "InvalidName 21..21",
+        ),
     ];
     for (rules, want) in rows {
         let got = faults_of(rt.alloc(), rules, UNSPECIFIED_LEX_FLAGS)?;
@@ -168,7 +189,10 @@ fn an_id_type_ends_at_its_greatest_id(rt: HostRuntime) -> Result<(), Fail> {
     let most = many_rules(alloc, 256)?;
     assert_eq!(rt; faults_over_u8(alloc, most.as_str())?.as_str(), "builds");
     let more = many_rules(alloc, 257)?;
-    assert_eq!(rt; faults_over_u8(alloc, more.as_str())?.as_str(), "TooManyRules 2453..2453");
+    assert_eq!(rt;
+        faults_over_u8(alloc, more.as_str())?.as_str(),
+        "TooManyRules 2453..2453"
+    );
     let rows = [
         ("x 'x0'", "DuplicateName 6..8 2456..2458"),
         ("( 'x256'", "TooManyRules 2453..2453"),
@@ -177,7 +201,11 @@ fn an_id_type_ends_at_its_greatest_id(rt: HostRuntime) -> Result<(), Fail> {
     for (line, want) in rows {
         let mut rules = many_rules(alloc, 256)?;
         rules.push_str(line)?;
-        assert_eq!(rt; faults_over_u8(alloc, rules.as_str())?.as_str(), want, "{line}");
+        assert_eq!(rt;
+            faults_over_u8(alloc, rules.as_str())?.as_str(),
+            want,
+            "{line}"
+        );
     }
     Ok(())
 }

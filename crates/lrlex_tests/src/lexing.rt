@@ -3,15 +3,25 @@ use crate::shown::{Definition, items_of, items_text};
 use lrlex::{LexFlags, LexerDef, UNSPECIFIED_LEX_FLAGS};
 use std::test::Fail;
 
-const NESTED: &str = "%x c\n%%\n\\( <+c>'OPEN'\n<c>\\( <+c>'OPEN2'\n<c>\\) <-c>'CLOSE'\n<c>[a-z]+ 'IN'\n[a-z]+ 'OUT'";
+const NESTED: &str =
+    "%x c\n%%\n\\( <+c>'OPEN'\n<c>\\( <+c>'OPEN2'\n<c>\\) <-c>'CLOSE'\n<c>[a-z]+ 'IN'\n[a-z]+ 'OUT'";
 
-const BRACKETS: &str = "%x bracket brace\n%%\n<*>\\{ <+brace>'OPEN_BRACE'\n<brace>\\} <-brace>'CLOSE_BRACE'\n<*>\\[ <+bracket>'OPEN_BRACKET'\n<bracket>\\] <-bracket>'CLOSE_BRACKET'";
+const BRACKETS: &str =
+    "%x bracket brace\n%%\n<*>\\{ <+brace>'OPEN_BRACE'\n<brace>\\} <-brace>'CLOSE_BRACE'\n<*>\\[ <+bracket>'OPEN_BRACKET'\n<bracket>\\] <-bracket>'CLOSE_BRACKET'";
 
 #[test]
 fn greatest_match_earliest_rule(rt: HostRuntime) -> Result<(), Fail> {
     let rows = [
-        ("%%\n[0-9]+ 'INT'\n[a-z]+ 'ID'\n[ ] ;", "abc 123", "ID 0+3, INT 4+3"),
-        ("%%\nif 'IF'\n[a-z]+ 'ID'\n[ ] ;", "iff if", "ID 0+3, IF 4+2"),
+        (
+            "%%\n[0-9]+ 'INT'\n[a-z]+ 'ID'\n[ ] ;",
+            "abc 123",
+            "ID 0+3, INT 4+3",
+        ),
+        (
+            "%%\nif 'IF'\n[a-z]+ 'ID'\n[ ] ;",
+            "iff if",
+            "ID 0+3, IF 4+2",
+        ),
         ("%%\na|ab 'X'", "ab", "X 0+1, error 1..1 in 0"),
         ("%%\na)|(b 'X'", "xb", "error 0..0 in 0"),
         ("%%\na)|(b 'X'", "b", "X 0+1"),

@@ -15,11 +15,17 @@ fn names_places_and_patterns(rt: HostRuntime) -> Result<(), Fail> {
         ("%%\n\\x41 'X'", "X 9..10 \\x41"),
         ("%%\n\\B 'X'", "X 7..8 B"),
         ("%%\n[\\<a] 'X'", "X 10..11 [<a]"),
-        ("%%\n[0-9]+ 'int'\n[a-zA-Z]+ 'id'\n\\+ '+'\n", "int 11..14 [0-9]+ | id 27..29 [a-zA-Z]+ | + 35..36 \\+"),
+        (
+            "%%\n[0-9]+ 'int'\n[a-zA-Z]+ 'id'\n\\+ '+'\n",
+            "int 11..14 [0-9]+ | id 27..29 [a-zA-Z]+ | + 35..36 \\+",
+        ),
         ("%%\n[0-9]+ ;\n", "- 10..10 [0-9]+"),
         ("%s KNOWN\n%%\n<KNOWN>. 'known'", "known 22..27 . in 1"),
         ("%%\n< * >a 'A'", "A 11..12 a in 0"),
-        ("%%\na 'A'\nb 'B'\n[ \\n] ;", "A 6..7 a | B 12..13 b | - 21..21 [ \\n]"),
+        (
+            "%%\na 'A'\nb 'B'\n[ \\n] ;",
+            "A 6..7 a | B 12..13 b | - 21..21 [ \\n]",
+        ),
         (
             "%x EXCLUSIVE_START\n%s INCLUSIVE_START\n%%\na 'A'\nb 'B'\n[ \\n] ;",
             "A 44..45 a | B 50..51 b | - 59..59 [ \\n]",
@@ -44,9 +50,10 @@ fn comments_are_allowed_by_their_flag(rt: HostRuntime) -> Result<(), Fail> {
     };
     let got = rules_of(rt.alloc(), "// c\n%%\n// d\na 'A'", flags)?;
     assert_eq!(rt; got.as_str(), "A 16..17 a");
-    let rules = "\n// comment\n%s InclusiveState\n%%\n// \"no rule\"\n\\/\\/ 'escaping_required'\n. 'dot'\n";
+    let rules =
+        "\n// comment\n%s InclusiveState\n%%\n// \"no rule\"\n\\/\\/ 'escaping_required'\n. 'dot'\n";
     let got = rules_of(rt.alloc(), rules, flags)?;
-    assert_eq!(rt; got.as_str(), "escaping_required 54..71 // | dot 76..79 .");
+    assert_eq!(rt; got.as_str(), "escaping_required 52..69 // | dot 74..77 .");
     Ok(())
 }
 
@@ -56,7 +63,10 @@ fn start_states_as_declared(rt: HostRuntime) -> Result<(), Fail> {
         ("%%", "0 INITIAL 0..0"),
         ("%START test\n%%\n. 'TEST'", "0 INITIAL 0..0 | 1 test 7..11"),
         ("%S test\n%%\n. 'TEST'", "0 INITIAL 0..0 | 1 test 3..7"),
-        ("%x test\n%%\n. 'TEST'", "0 INITIAL 0..0 | 1 test 3..7 exclusive"),
+        (
+            "%x test\n%%\n. 'TEST'",
+            "0 INITIAL 0..0 | 1 test 3..7 exclusive",
+        ),
     ];
     for (rules, want) in rows {
         let got = states_of(rt.alloc(), rules)?;
@@ -67,7 +77,8 @@ fn start_states_as_declared(rt: HostRuntime) -> Result<(), Fail> {
 
 #[test]
 fn pushes_pops_and_replacements(rt: HostRuntime) -> Result<(), Fail> {
-    let rules = "%x bracket brace\n%%\n<brace>\\{   <+brace>'OPEN_BRACE'\n<brace>\\}   <-brace>'CLOSE_BRACE'\n<bracket>\\[ <+bracket>'OPEN_BRACKET'\n<bracket>\\] <-bracket>'CLOSE_BRACKET'\n\\{ <brace>'OPEN_FIRST_BRACE'\n\\[ <bracket>'OPEN_FIRST_BRACKET'";
+    let rules =
+        "%x bracket brace\n%%\n<brace>\\{   <+brace>'OPEN_BRACE'\n<brace>\\}   <-brace>'CLOSE_BRACE'\n<bracket>\\[ <+bracket>'OPEN_BRACKET'\n<bracket>\\] <-bracket>'CLOSE_BRACKET'\n\\{ <brace>'OPEN_FIRST_BRACE'\n\\[ <bracket>'OPEN_FIRST_BRACKET'";
     assert_eq!(rt;
         states_of(rt.alloc(), rules)?.as_str(),
         "0 INITIAL 0..0 | 1 bracket 3..10 exclusive | 2 brace 11..16 exclusive"

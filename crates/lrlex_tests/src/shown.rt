@@ -3,7 +3,7 @@ use lrlex::{
     DefaultLexerTypes, LRLexError, LRNonStreamingLexerDef, LexBuildError, LexErrorKind, LexFlags,
     LexRun, LexerDef, Rule, StartStateOperation,
 };
-use lrlex_base::{Lexeme, LexError, LexerTypes, Span, Spanned};
+use lrlex_base::{LexError, Lexeme, LexerTypes, Span, Spanned};
 use std::alloc::{AllocError, Global};
 use std::fmt::Write;
 

@@ -28,10 +28,22 @@ fn written(alloc: Global, rules: &str, input: &str) -> Result<String, AllocError
 #[test]
 fn lines_of_the_items(rt: HostRuntime) -> Result<(), Fail> {
     let rows = [
-        ("%%\n[0-9]+ 'INT'\n[a-z]+ 'ID'\n[ ] ;", "abc 123", "Lexed: ID abc\nINT 123\n"),
-        ("%%\na|ab 'X'", "ab", "Stopped: X a\nCouldn't lex input starting at byte 1\n"),
+        (
+            "%%\n[0-9]+ 'INT'\n[a-z]+ 'ID'\n[ ] ;",
+            "abc 123",
+            "Lexed: ID abc\nINT 123\n",
+        ),
+        (
+            "%%\na|ab 'X'",
+            "ab",
+            "Stopped: X a\nCouldn't lex input starting at byte 1\n",
+        ),
         ("%%", "", "Lexed: "),
-        ("%%", "a", "Stopped: Couldn't lex input starting at byte 0\n"),
+        (
+            "%%",
+            "a",
+            "Stopped: Couldn't lex input starting at byte 0\n",
+        ),
         ("%%\na 'A'\n\nb \"B\"", "ba", "Lexed: B b\nA a\n"),
         ("%%\n( 'A'", "a", "Refused: "),
         ("%%\n\\( 'A'", "(", "Lexed: A (\n"),
@@ -52,7 +64,9 @@ fn lines_of_the_items(rt: HostRuntime) -> Result<(), Fail> {
 
 /// The report of a rule text's faults.
 fn report_of(alloc: Global, rules: &str, flags: LexFlags) -> Result<String, AllocError> {
-    let built = LRNonStreamingLexerDef::<DefaultLexerTypes<u32>>::new_with_options(alloc, rules, flags)?;
+    let built = LRNonStreamingLexerDef::<DefaultLexerTypes<u32>>::new_with_options(
+        alloc, rules, flags,
+    )?;
     let Err(faults) = built else {
         return String::from_str(alloc, "builds");
     };
@@ -71,7 +85,10 @@ fn reports_tell_lines_and_columns(rt: HostRuntime) -> Result<(), Fail> {
             "%%\na 'A'\n( 'A'\n[0-9] int",
             "2:4: Rule name already exists, again at 3:4\n4:7: Invalid rule name\n",
         ),
-        ("%s INITIAL\n%%", "1:1: Start state already exists, again at 1:4\n"),
+        (
+            "%s INITIAL\n%%",
+            "1:1: Start state already exists, again at 1:4\n",
+        ),
         (
             "%%\n x\na 'A'\nb 'A'\nc 'A'",
             "2:1: Verbatim code not supported\n3:4: Rule name already exists, again at 4:4, 5:4\n",
@@ -89,7 +106,10 @@ fn reports_tell_lines_and_columns(rt: HostRuntime) -> Result<(), Fail> {
 
 #[test]
 fn a_definition_can_be_read_from_any_text(rt: HostRuntime) -> Result<(), Fail> {
-    let built = LRNonStreamingLexerDef::<DefaultLexerTypes<u32>>::from_str(rt.alloc(), "%%\na 'A'")?;
+    let built = LRNonStreamingLexerDef::<DefaultLexerTypes<u32>>::from_str(
+        rt.alloc(),
+        "%%\na 'A'",
+    )?;
     assert!(rt; built.is_ok());
     Ok(())
 }

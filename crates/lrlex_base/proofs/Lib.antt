@@ -1,0 +1,2 @@
+pub mod NewlineLemmas
+pub mod TokenLemmas

@@ -1,0 +1,24 @@
+use Rattle.std.proofs.Common.{◌≡◌, ◌<◌, ◌-◌, ◌++◌, ℕ, map, sym, ◌∙◌, ap, subst}
+use Rattle.std.specs.List.{All}
+use Rattle.std.proofs.lemmas.List.{map-append}
+use Rattle.std.proofs.lemmas.List.Elements.{All-append}
+use Rattle.lrlex_base.specs.Places.{newlines_from, starts_after}
+use Rattle.lrlex_base.proofs.NewlineLemmas.{newlines_back, starts_positive}
+use Rattle.lrlex_base.proofs.newlines.NewlineCache.feed.Goals as goal
+
+pub invariant_of-self-2 : goal.invariant_of-self-2
+invariant_of-self-2 g c =
+    let added = newlines_from c.self.inside.bytes c.args.piece.now in
+    subst (All (λ (s : ℕ). 0 < s)) (sym c.in_ok-add_starts.ensures.ok) (All-append (λ (s : ℕ). 0 < s) c.self.inside.starts.items (starts_after added) c.self.invariant (starts_positive added))
+
+pub returns-clause-newlines : goal.returns-clause-newlines
+returns-clause-newlines g c =
+    let back : ℕ → ℕ = λ s. s - 1 in
+    let added = newlines_from c.self.inside.bytes c.args.piece.now in
+    let old = c.self.inside.starts.items in
+    let fed : c.self.inside.bytes ≡ c.args.self.now.fed = ap (λ v. v.fed) c.self.view_is in
+    let had : map back old ≡ c.args.self.now.newlines = ap (λ v. v.newlines) c.self.view_is in
+    ap (map back) c.in_ok-add_starts.ensures.ok ∙ map-append back old (starts_after added)
+    ∙ ap (λ l. map back old ++ l) (newlines_back added)
+    ∙ ap (λ l. l ++ added) had
+    ∙ ap (λ n. c.args.self.now.newlines ++ newlines_from n c.args.piece.now) fed

@@ -1,0 +1,148 @@
+ghost use Rattle.std.specs.Prelude.{◌≡◌, ◌≢◌, ◌<◌, ◌≤◌, ◌+◌, ◌^◌, ◌++◌, ◌∷◌, slice_index, ◌⊎◌, ◌↔◌, ℕ, List, IsOk, IfOk, OnOk, OnErr, IsNone, IfSome, [], length, take, count_by, All, IsCharBoundary, IsUtf8, nat_le};
+ghost use Rattle.lrlex_base.specs.Places.{newlines_from, starts_after, AreBreaksOf, is_newline, place_of, whole_lines};
+ghost use Rattle.lrlex_base.specs.Spans.{span_end, as_span};
+
+use crate::spans::Span;
+use std::alloc::{AllocError, Allocator, Global};
+use std::marker::Model;
+
+/// Where the lines of a text begin: how many bytes were fed, and the offsets of the lines but the first, ascending. It keeps no
+/// text. A line ends by U+000A alone.
+#[derive(Drop)]
+pub struct NewlineCache<A: Allocator = Global> {
+    starts: Vec<usize, A>,
+    bytes: usize,
+}
+
+impl<A: Allocator> Model for NewlineCache<A> {
+    ghost use Rattle.std.specs.Prelude.{◌-◌, ◌<◌, All, map};
+    ghost use Rattle.lrlex_base.specs.Places.{Breaks};
+
+    ghost Value = { Breaks };
+
+    ghost view = { λ c. record { fed = c.bytes; newlines = map (λ s. s - 1) c.starts.items } };
+
+    ghost invariant = { λ c. All (λ s. 0 < s) c.starts.items };
+}
+
+// Adds where lines begin in a text that stands at this offset. For want of memory nothing has changed.
+fn add_starts<A: Allocator>(
+    starts: &mut Vec<usize, A>,
+    at: usize,
+    piece: &str,
+) -> Result<(), AllocError>
+    requires { at + length piece.now < 2 ^ 64 }
+    ensures ok { OnOk result (starts.new.items ≡ starts.old.items ++ starts_after (newlines_from at piece.now)) }
+    ensures err { OnErr result (starts.new.items ≡ starts.old.items) }
+    ensures no_newline { newlines_from at piece.now ≡ [] → IsOk result }
+{
+    let before = starts.len();
+    for (i, b) in piece.as_bytes().iter().enumerate() {
+        if *b == b'\n' {
+            if starts.push(at + i + 1).is_err() {
+                starts.truncate(before);
+                return Err(AllocError);
+            }
+        }
+    }
+    Ok(())
+}
+
+// How many lines but the first begin at or before the place.
+fn lines_begun(starts: &[usize], at: usize) -> usize
+    ensures bound { result ≤ length starts.now }
+    ensures count { (text : List ℕ) → at ≤ length text → starts.now ≡ starts_after (newlines_from 0 text) → result ≡ count_by is_newline (take at text) }
+{
+    starts.partition_point(
+        |s: &usize| -> bool
+            ensures { result ≡ nat_le s.now at }
+        { *s <= at },
+    )
+}
+
+// Where the line begins that comes after the first n that begin behind the text's beginning.
+fn line_begin(starts: &[usize], n: usize) -> usize
+    requires { n ≤ length starts.now }
+    ensures { result ≡ slice_index (0 ∷ starts.now) n }
+{
+    if n == 0 { 0 } else { starts[n - 1] }
+}
+
+impl<A: Allocator> NewlineCache<A> {
+    /// A cache that was fed nothing. It takes no memory.
+    pub fn new(alloc: A) -> NewlineCache<A>
+        ensures fed { result.fed ≡ 0 }
+        ensures newlines { result.newlines ≡ [] }
+    {
+        NewlineCache {
+            starts: Vec::new(alloc),
+            bytes: 0,
+        }
+    }
+
+    /// A cache that was fed this text.
+    pub fn from_str(alloc: A, text: &str) -> Result<NewlineCache<A>, AllocError>
+        ensures ok { IfOk result (AreBreaksOf text.now) }
+        ensures no_newline { newlines_from 0 text.now ≡ [] → IsOk result }
+    {
+        let mut cache = NewlineCache::new(alloc);
+        cache.feed(text)?;
+        Ok(cache)
+    }
+
+    /// How many bytes were fed.
+    pub fn fed(&self) -> usize
+        ensures { result ≡ self.now.fed }
+    {
+        self.bytes
+    }
+
+    /// Adds a piece behind what was fed, so that feeding a text in pieces equals feeding it whole. A piece without U+000A takes no
+    /// memory. The bytes fed in all fit `usize`.
+    pub fn feed(&mut self, piece: &str) -> Result<(), AllocError>
+        requires { self.old.fed + length piece.now < 2 ^ 64 }
+        ensures fed { OnOk result (self.new.fed ≡ self.old.fed + length piece.now) }
+        ensures newlines { OnOk result (self.new.newlines ≡ self.old.newlines ++ newlines_from self.old.fed piece.now) }
+        ensures unchanged { OnErr result (self.new ≡ self.old) }
+        ensures no_newline { newlines_from self.old.fed piece.now ≡ [] → IsOk result }
+    {
+        add_starts(&mut self.starts, self.bytes, piece)?;
+        self.bytes += piece.len();
+        Ok(())
+    }
+
+    /// Line and column of the place before this byte, both from 1. The column counts the characters of the line's front in `src`. None
+    /// exactly where `src` hasn't the length that was fed or the byte is past its end.
+    pub fn byte_to_line_num_and_col_num(&self, src: &str, byte: usize) -> Option<(usize, usize)>
+        requires newlines { length src.now ≡ self.now.fed → self.now.newlines ≡ newlines_from 0 src.now }
+        requires boundary { byte ≤ length src.now → IsCharBoundary src.now byte }
+        ensures none { IsNone result ↔ ((length src.now ≢ self.now.fed) ⊎ (length src.now < byte)) }
+        ensures place { IfSome result (λ p. p ≡ place_of src.now byte) }
+    {
+        if src.len() != self.bytes || src.len() < byte {
+            return None;
+        }
+        let n = lines_begun(&self.starts, byte);
+        let begin = line_begin(&self.starts, n);
+        Some((n + 1, 1 + src[begin..byte].chars().count()))
+    }
+
+    /// The ends of the whole lines that the span touches, without the newline of the last one.
+    pub fn span_line_bytes(&self, span: Span) -> (usize, usize)
+        requires { span_end span ≤ self.now.fed }
+        ensures lines { (text : List ℕ) → AreBreaksOf text self.now → let lines = whole_lines text (as_span span) in
+            (result.0 ≡ lines.start) × (result.1 ≡ lines.end) }
+
+        // They can be cut out of the text.
+        ensures fits { (text : List ℕ) → IsUtf8 text → AreBreaksOf text self.now → (result.0 ≤ result.1) × IsCharBoundary text result.0 × IsCharBoundary text result.1 }
+    {
+        let first = lines_begun(&self.starts, span.start());
+        let last = lines_begun(&self.starts, span.end());
+        let end = if last < self.starts.len() {
+            self.starts[last] - 1
+        } else {
+            self.bytes
+        };
+        (line_begin(&self.starts, first), end)
+    }
+}
