@@ -124,7 +124,8 @@ impl<A: Allocator> NewlineCache<A> {
         }
         let n = lines_begun(&self.starts, byte);
         let begin = line_begin(&self.starts, n);
-        Some((n + 1, 1 + src[begin..byte].chars().count()))
+        let front = src[begin..byte].chars().count();
+        Some((n + 1, 1 + front))
     }
 
     /// The ends of the whole lines that the span touches, without the newline of the last one.

@@ -36,7 +36,7 @@ returns-clause-place g c =
     let begin : c.line_begin-begin.result + length (after_last is_newline (take at src)) ≡ at =
     begin_is S c.deref-2.result.now src at c.lines_begun-n.result c.line_begin-begin.result is c.deref-2.ensures.value (omega arith) n c.line_begin-begin.ensures in
     let front : c.range.result.now ≡ after_last is_newline (take at src) = c.range.ensures.value ∙ line_front src at c.line_begin-begin.result (omega arith) begin in
-    let counted : c.count.result ≡ length (chars c.range.result.now) = search (rules, chars_from_encodes) in
+    let counted : c.count-front.result ≡ length (chars c.range.result.now) = search (rules, chars_from_encodes) in
     let line : c.lines_begun-n.result + 1 ≡ line_of src at = omega arith in
-    let column : 1 + c.count.result ≡ column_of src at = ap (λ m. 1 + m) (counted ∙ ap (λ l. length (chars l)) front) in
+    let column : 1 + c.count-front.result ≡ column_of src at = ap (λ m. 1 + m) (counted ∙ ap (λ l. length (chars l)) front) in
     cc
