@@ -1,18 +1,18 @@
 -- A run that meets the old one ends as that does.
-use Rattle.std.proofs.Common.{◌≡◌, ℕ, zero, suc, ◌+◌, ◌-◌, ◌^◌, ◌<◌, ◌≤◌, List, [], ◌∷◌, ◌++◌, length, map, take, drop, get_or, Option, None, Some, slice_get, option_map, refl, sym, ap, ap₂, ◌∙◌, subst, arith, All, append_assoc, length-append, false}
+use Rattle.std.proofs.Common.{◌≡◌, ℕ, zero, suc, ◌+◌, ◌-◌, ◌^◌, ◌<◌, ◌≤◌, List, [], ◌∷◌, ◌++◌, length, map, take, drop, Option, None, Some, slice_get, option_map, refl, sym, ap, ap₂, ◌∙◌, subst, arith, All, append_assoc, length-append, false}
 use Rattle.std.proofs.lemmas.Option.{none-some, same_Some, slice_get-map}
-use Rattle.std.proofs.lemmas.List.{drop-drop, length-drop, drop_at, map-append, drop-map, length-map}
+use Rattle.std.proofs.lemmas.List.{drop-drop, length-drop, drop_at, map-append, drop-map}
 use Rattle.std.proofs.lemmas.List.Elements.{All-append, All-map, All-drop, All-cons, All-nil, All-weaker, All-push}
 use Rattle.lrlex.specs.Definition.{Definition}
 use Rattle.lrlex.specs.Active.{rule_at, lexeme_id}
-use Rattle.lrlex.specs.Tiling.{Item, Lexeme, Error, End, Done, NoMatch, NoId, NoTarget, stack_past, IsTiling, lexeme_of, tile_items, end_items, items, boundaries, counts, given_by, moved, rebased, lexemes}
+use Rattle.lrlex.specs.Tiling.{Item, Lexeme, Error, End, Done, NoMatch, NoId, NoTarget, stack_past, IsTiling, lexeme_of, tile_items, items, boundaries, counts, given_by, rebased, lexemes}
 use Rattle.lrlex.specs.Runs.{plain, AreRuns}
-use Rattle.lrlex.specs.Marks.{Mark, bound, no_mark, mark_at}
-use Rattle.lrlex.specs.Edits.{IsMovable, IsMovableMark, moved_mark}
+use Rattle.lrlex.specs.Marks.{Mark, bound}
+use Rattle.lrlex.specs.Edits.{IsMovable, moved_mark}
 use Rattle.lrlex.specs.Reach.{Reached, IsLexed}
 use Rattle.lrlex.specs.Tiling.{Tile}
 use Rattle.lrlex.proofs.TilingLemmas.{Wins-le, only_one}
-use Rattle.lrlex.proofs.TailLemmas.{tail_tiling, boundaries_moved}
+use Rattle.lrlex.proofs.TailLemmas.{tail_tiling}
 use Rattle.lrlex.proofs.EditLemmas.{items_tail, items_rebased}
 use Rattle.lrlex.proofs.ReachLemmas.{bounds_now, givens_now, given-tile}
 

@@ -4,7 +4,7 @@ use Rattle.std.specs.Fmt.{decimal}
 use Rattle.lrlex_base.specs.declared.spans.Span.{Span}
 use Rattle.lrlex_base.specs.declared.spans.SpansKind.{SpansKind}
 use Rattle.lrlex_base.specs.declared.spans.SpansKind.TheVariants as shown
-use Rattle.lrlex_base.specs.Spans.{Fits, span_start}
+use Rattle.lrlex_base.specs.Spans.{Fits}
 use Rattle.lrlex.specs.declared.states.StartStateId.{StartStateId}
 use Rattle.lrlex.specs.declared.errors.LRLexError.{LRLexError}
 use Rattle.lrlex.specs.declared.faults.LexErrorKind.{LexErrorKind}

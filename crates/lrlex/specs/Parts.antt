@@ -1,5 +1,5 @@
 -- What a rule and a start state of the program say.
-use Rattle.std.specs.Prelude.{ℕ, List, Option, option_map, string_bytes}
+use Rattle.std.specs.Prelude.{ℕ, option_map, string_bytes}
 use Rattle.regex.specs.Strings.{regex_config}
 use Rattle.regex.specs.declared.string.regex.Regex.{Regex}
 use Rattle.lrlex_base.specs.Spans.{as_span}

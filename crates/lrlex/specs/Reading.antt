@@ -1,19 +1,12 @@
 -- What contracts see of the types that read a rule text.
-use Rattle.std.specs.Prelude.{◌≡◌, ◌≢◌, ℕ, take, drop, codes, ◌+◌, ◌-◌, ◌≤◌, ◌<◌, ◌==◌, Bool, true, false, if◌then◌else◌, Option, Some, None, List, [], ◌∷◌, ◌++◌, length, map, Result, Ok, Err, Vec, slice_index}
+use Rattle.std.specs.Prelude.{◌≡◌, ℕ, take, drop, codes, ◌+◌, ◌-◌, ◌≤◌, ◌<◌, ◌==◌, Bool, true, false, Option, List, [], ◌∷◌, ◌++◌, length, map, Vec, slice_index}
 use Rattle.std.specs.Option.{option_map_or, option_copied}
-use Rattle.std.specs.List.{slice_index_or, list_any, filter_map}
+use Rattle.std.specs.List.{slice_index_or, list_any}
 use Rattle.std.specs.String.{string_bytes}
 use Rattle.std.specs.declared.alloc.Global.{Global}
-use Rattle.regex.specs.Patterns.{Config}
-use Rattle.regex.specs.Sources.{IsRefusal}
-use Rattle.regex.specs.Failures.{IsRightKind}
 use Rattle.regex.specs.declared.error.Error.{Error}
-use Rattle.regex.specs.declared.error.Error.TheVariants.{OutOfMemory}
-use Rattle.lrlex_base.specs.Spans.{Span, as_span}
+use Rattle.lrlex_base.specs.Spans.{as_span}
 use Rattle.lrlex.specs.declared.flags.LexFlags.{LexFlags}
-use Rattle.lrlex.specs.declared.faults.LexBuildError.{LexBuildError}
-use Rattle.lrlex.specs.declared.faults.LexErrorKind.{LexErrorKind}
-use Rattle.lrlex.specs.declared.faults.LexErrorKind.TheVariants.{RegexError}
 use Rattle.lrlex.specs.declared.parser.text.Line.{Line}
 use Rattle.lrlex.specs.declared.parser.fatal.Fatal.{Fatal}
 use Rattle.lrlex.specs.declared.parser.rule_line.Label.{Label}
@@ -28,14 +21,13 @@ use Rattle.lrlex.specs.declared.parser.builder.RuleFile.{RuleFile}
 use Rattle.lrlex.specs.Definition.{Definition}
 use Rattle.lrlex.specs.Parts.{as_rule, as_state}
 use Rattle.lrlex.specs.Flags.{resolved, config_of}
-use Rattle.lrlex.specs.Wrapping.{wrapped}
 use Rattle.lrlex.specs.Text.{Piece, piece, begins_with}
-use Rattle.lrlex.specs.Event.{Fault, fault, fault_at, Subject, Event, states_of, rules_of, is_refused, refused_patterns}
+use Rattle.lrlex.specs.Event.{Fault, fault_at, Subject, Event, states_of, rules_of, is_refused, refused_patterns}
 use Rattle.lrlex.specs.Event.Event.{Refused}
 use Rattle.lrlex.specs.Declaration.{Declared, declared_name, declared_by}
 use Rattle.lrlex.specs.RuleLine.{RuleLabel, RuleParts, Pattern, is_greater, in_angles, after_angles}
-use Rattle.lrlex.specs.Outcome.{Settings, faults_after, events_of, outcome}
-use Rattle.lrlex.specs.Kinds.{as_kind, is_regex_error}
+use Rattle.lrlex.specs.Outcome.{Settings, faults_after}
+use Rattle.lrlex.specs.Kinds.{as_kind}
 pub use Rattle.lrlex.specs.Answer.{seen, as_fault, as_faults, first_start, refused_in, regex_error, kind_error, regex_errors, IsRefused, AreRefusals, settings, refused_by, IsAnswer, AreOwnRefusals}
 
 -- ---- lines

@@ -1,15 +1,15 @@
-use Rattle.std.proofs.Common.{◌≡◌, ◌+◌, ◌<◌, ◌≤◌, List, [], ◌∷◌, ◌++◌, None, map, length, drop, refl, sym, ap, ◌∙◌, subst, arith, append_assoc, IsCharBoundary}
-use Rattle.std.proofs.lemmas.List.{map-append, length-map}
+use Rattle.std.proofs.Common.{◌≡◌, ◌+◌, ◌<◌, ◌≤◌, List, [], ◌∷◌, ◌++◌, None, length, drop, sym, ap, ◌∙◌, subst, arith, append_assoc, IsCharBoundary}
+use Rattle.std.proofs.lemmas.List.{length-map}
 use Rattle.std.proofs.lemmas.Str.{IsCharBoundary-from_rest}
 use Rattle.lrlex.specs.Definition.{Rule}
 use Rattle.lrlex.specs.Active.{active_count, lacks_id, lacks_target, lexeme_id}
-use Rattle.lrlex.specs.Tiling.{Tile, Item, Error, top, IsStuck, IsWinner, IsTaken, stack_after, stack_past, lexeme_of, tile_items, NoMatch, NoId, NoTarget}
+use Rattle.lrlex.specs.Tiling.{Tile, Item, Error, top, IsStuck, IsTaken, stack_after, lexeme_of, tile_items, NoMatch, NoId, NoTarget}
 use Rattle.lrlex.specs.Parts.{as_rule}
-use Rattle.lrlex.specs.Runs.{plain, AreRuns}
-use Rattle.lrlex.specs.Reach.{Reached, searches}
+use Rattle.lrlex.specs.Runs.{plain}
+use Rattle.lrlex.specs.Reach.{Reached}
 use Rattle.lrlex.specs.Views.{definition_of, items_by}
 use Rattle.lrlex.proofs.ViewLemmas.{rule_read}
-use Rattle.lrlex.proofs.ReachLemmas.{Reached-more, ended, runs_now, searches_now, searches-few, last_now, length_now, room_for, wins_at, something_left, top_is_state}
+use Rattle.lrlex.proofs.ReachLemmas.{Reached-more, ended, runs_now, searches_now, searches-few, last_now, room_for, wins_at, something_left}
 use Rattle.lrlex.proofs.lexer.lexing.advance.Goals as goal
 
 pub winner-requires-clause-room : goal.winner-requires-clause-room

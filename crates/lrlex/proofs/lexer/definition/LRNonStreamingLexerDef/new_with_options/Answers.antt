@@ -1,4 +1,4 @@
-use Rattle.std.proofs.Common.{◌≡◌, Ok, None, ap, sym, subst, ◌∙◌}
+use Rattle.std.proofs.Common.{Ok, None, ap, sym, subst, ◌∙◌}
 use Rattle.lrlex.specs.Answer.{IsAnswer, settings}
 use Rattle.lrlex.specs.Definition.{Definition}
 use Rattle.lrlex.specs.Reading.{as_definition}
