@@ -1,4 +1,3 @@
 pub mod CommandLemmas
 pub mod LineLemmas
-pub mod PlaceLemmas
 pub mod EngineLemmas

@@ -1,51 +1,30 @@
 //! Says what is wrong with a rule text.
-ghost use Rattle.std.specs.Prelude.{◌≡◌, ◌++◌, ◌∷◌, [], All, IfOk, OnOk, IsCharBoundary, codes, string_bytes};
-ghost use Rattle.std.specs.List.{after_last};
-ghost use Rattle.lrlex_base.specs.Places.{is_newline, line_of, column_of};
+ghost use Rattle.std.specs.Prelude.{◌≡◌, ◌++◌, ◌∷◌, [], All, IfOk, OnOk, codes, string_bytes};
+ghost use Rattle.lrlex_base.specs.Places.{AreBreaksOf};
 ghost use Rattle.lrlex_base.specs.Spans.{Fits};
 ghost use Rattle.lrlex.specs.Faults.{IsPlaced};
 ghost use Rattle.lrlex_cli.specs.Report.{place, words_of, more_places, other_places, fault_line, fault_lines};
 
 use lrlex::{LexBuildError, LexErrorKind};
-use lrlex_base::{Span, Spanned};
+use lrlex_base::{NewlineCache, Span, Spanned};
 use std::alloc::{AllocError, Global};
 use std::fmt::Write;
 
-/// What stands behind the last newline.
-fn last_line(before: &str) -> &str
-    ensures { result.now ≡ after_last is_newline before.now }
-{
-    match before.rfind('\n') {
-        Some(at) => &before[at + 1..],
-        None => before,
-    }
-}
-
-/// The line of a place, from 1.
-fn line_of(rules: &str, at: usize) -> usize
-    requires { IsCharBoundary rules.now at }
-    ensures { result ≡ line_of rules.now at }
-{
-    let before = &rules.as_bytes()[..at];
-    1 + before.iter().filter(|byte| **byte == b'\n').count()
-}
-
-/// The column of a place, from 1, in characters.
-fn column_of(rules: &str, at: usize) -> usize
-    requires { IsCharBoundary rules.now at }
-    ensures { result ≡ column_of rules.now at }
-{
-    1 + last_line(&rules[..at]).chars().count()
-}
-
 /// Adds the place of the span's start.
-fn push_place(text: &mut String, rules: &str, span: Span) -> Result<(), AllocError>
-    requires { Fits rules.now span }
+fn push_place(
+    text: &mut String,
+    rules: &str,
+    newlines: &NewlineCache,
+    span: Span,
+) -> Result<(), AllocError>
+    requires own { AreBreaksOf rules.now newlines.now }
+    requires fits { Fits rules.now span }
     ensures { OnOk result (string_bytes text.new ≡ string_bytes text.old ++ place rules.now span) }
 {
-    let line = line_of(rules, span.start());
-    let column = column_of(rules, span.start());
-    write!(text, "{line}:{column}")
+    match newlines.byte_to_line_num_and_col_num(rules, span.start()) {
+        Some((line, column)) => write!(text, "{line}:{column}"),
+        None => unreachable!(),
+    }
 }
 
 /// What is wrong, without the words of `regex`.
@@ -70,44 +49,62 @@ fn words_of(kind: &LexErrorKind) -> &'static str
 }
 
 /// Adds places that follow others.
-fn push_more(text: &mut String, rules: &str, spans: &[Span]) -> Result<(), AllocError>
-    requires { All (Fits rules.now) spans.now }
+fn push_more(
+    text: &mut String,
+    rules: &str,
+    newlines: &NewlineCache,
+    spans: &[Span],
+) -> Result<(), AllocError>
+    requires own { AreBreaksOf rules.now newlines.now }
+    requires fit { All (Fits rules.now) spans.now }
     ensures { OnOk result (string_bytes text.new ≡ string_bytes text.old ++ more_places rules.now spans.now) }
 {
     for span in spans {
         text.push_str(", ")?;
-        push_place(text, rules, *span)?;
+        push_place(text, rules, newlines, *span)?;
     }
     Ok(())
 }
 
 /// Adds the places after a fault's first.
-fn push_others(text: &mut String, rules: &str, spans: &[Span]) -> Result<(), AllocError>
-    requires { All (Fits rules.now) spans.now }
+fn push_others(
+    text: &mut String,
+    rules: &str,
+    newlines: &NewlineCache,
+    spans: &[Span],
+) -> Result<(), AllocError>
+    requires own { AreBreaksOf rules.now newlines.now }
+    requires fit { All (Fits rules.now) spans.now }
     ensures { OnOk result (string_bytes text.new ≡ string_bytes text.old ++ other_places rules.now spans.now) }
 {
     match spans.split_first() {
         None => Ok(()),
         Some((span, more)) => {
             text.push_str(", again at ")?;
-            push_place(text, rules, *span)?;
-            push_more(text, rules, more)
+            push_place(text, rules, newlines, *span)?;
+            push_more(text, rules, newlines, more)
         }
     }
 }
 
 /// Adds the line of a fault.
-fn push_fault(text: &mut String, rules: &str, fault: &LexBuildError) -> Result<(), AllocError>
-    requires { IsPlaced rules.now fault.now }
+fn push_fault(
+    text: &mut String,
+    rules: &str,
+    newlines: &NewlineCache,
+    fault: &LexBuildError,
+) -> Result<(), AllocError>
+    requires own { AreBreaksOf rules.now newlines.now }
+    requires placed { IsPlaced rules.now fault.now }
     ensures { OnOk result (string_bytes text.new ≡ string_bytes text.old ++ fault_line rules.now fault.now) }
 {
     match fault.spans().split_first() {
         None => Ok(()),
         Some((span, others)) => {
-            push_place(text, rules, *span)?;
+            push_place(text, rules, newlines, *span)?;
             text.push_str(": ")?;
             text.push_str(words_of(fault.kind()))?;
-            push_others(text, rules, others)?;
+            push_others(text, rules, newlines, others)?;
             text.push_str("\n")
         }
     }
@@ -122,9 +119,10 @@ pub(crate) fn fault_lines(
     requires { All (IsPlaced rules.now) faults.now }
     ensures { IfOk result (λ text. string_bytes text ≡ fault_lines rules.now faults.now) }
 {
+    let newlines = NewlineCache::from_str(alloc, rules)?;
     let mut text = String::new(alloc);
     for fault in faults {
-        push_fault(&mut text, rules, fault)?;
+        push_fault(&mut text, rules, &newlines, fault)?;
     }
     Ok(text)
 }
