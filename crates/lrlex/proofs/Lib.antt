@@ -15,6 +15,7 @@ pub mod Extends
 pub mod Fronts
 pub mod Initial
 pub mod KnownLemmas
+pub mod Lawful
 pub mod Lists
 pub mod Marks
 pub mod MeetLemmas
@@ -37,6 +38,7 @@ pub mod RunsLemmas
 pub mod ScanLemmas
 pub mod Sections
 pub mod SpliceLemmas
+pub mod Steady
 pub mod TailLemmas
 pub mod Tells
 pub mod TilingLemmas

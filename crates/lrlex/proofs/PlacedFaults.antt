@@ -35,7 +35,7 @@ use Rattle.lrlex.proofs.Marks.{percent}
 use Rattle.lrlex.proofs.Placed.{IsPiece, inside, starts, ends, suffix, whole_text, cut_pieces, trimmed_end, trimmed, past_word, last_at, past_blanks}
 
 -- ---- lists and options
-either : {A : Type 0} (P : A → Type 0) (b : Bool) (x y : A) → P x → P y → P (if b then x else y)
+pub either : {A : Type 0} (P : A → Type 0) (b : Bool) (x y : A) → P x → P y → P (if b then x else y)
 either P true x y h k = h
 either P false x y h k = k
 
@@ -64,14 +64,14 @@ all_flat_map P Q f h [] a = All-nil Q
 all_flat_map P Q f h (x ∷ xs) a = All-append Q (f x) (flat_map f xs) (h x (All-head P x xs a)) (all_flat_map P Q f h xs (All-tail P x xs a))
 
 -- ---- what names places in the text
-abbrev SpanFits : List ℕ → Span → Type 0
+abbrev pub SpanFits : List ℕ → Span → Type 0
 SpanFits text s = IsCharBoundary text s.start × IsCharBoundary text s.end
 
-record FaultFits (text : List ℕ) (f : Fault) : Type 0 where
-  some : 0 < length f.spans
-  fit : All (SpanFits text) f.spans
+pub record FaultFits (text : List ℕ) (f : Fault) : Type 0 where
+  pub some : 0 < length f.spans
+  pub fit : All (SpanFits text) f.spans
 
-abbrev DeclaredFits : List ℕ → Declared → Type 0
+abbrev pub DeclaredFits : List ℕ → Declared → Type 0
 DeclaredFits text (Name exclusive name) = IsPiece text name
 DeclaredFits text (Wrong f) = FaultFits text f
 
@@ -108,17 +108,17 @@ line_declared text line p =
     let rest = piece (line.at + length word) (drop (length word) line.text) in
     names_declared text line (declares_exclusive word) (trim rest) p (trimmed text rest (past_word text line p))
 
-section_pieces : (text : List ℕ) (comments : Bool) (ls : List Piece) → All (IsPiece text) ls → All (IsPiece text) (section_lines comments ls)
+pub section_pieces : (text : List ℕ) (comments : Bool) (ls : List Piece) → All (IsPiece text) ls → All (IsPiece text) (section_lines comments ls)
 section_pieces text comments ls a =
     let n = prefix_len (λ (line : Piece). not (ends_section line.text)) ls in
     All-filter (λ (line : Piece). not (is_skipped comments line.text)) (IsPiece text) (take n ls) (All-take (IsPiece text) n ls a)
 
-trimmed_pieces : (text : List ℕ) → IsUtf8 text → All (IsPiece text) (trimmed_lines text)
+pub trimmed_pieces : (text : List ℕ) → IsUtf8 text → All (IsPiece text) (trimmed_lines text)
 trimmed_pieces text u =
     let ls = lines (piece 0 text) in
     All-map (IsPiece text) trim ls (All-weaker (IsPiece text) (λ x. IsPiece text (trim x)) (trimmed text) ls (cut_pieces is_line_sep text (piece 0 text) (whole_text text u)))
 
-all_declared : (text : List ℕ) (comments : Bool) → IsUtf8 text → All (DeclaredFits text) (declarations comments text)
+pub all_declared : (text : List ℕ) (comments : Bool) → IsUtf8 text → All (DeclaredFits text) (declarations comments text)
 all_declared text comments u =
     all_flat_map (IsPiece text) (DeclaredFits text) declared_by (line_declared text) (section_lines comments (trimmed_lines text)) (section_pieces text comments (trimmed_lines text) (trimmed_pieces text u))
 
@@ -204,9 +204,9 @@ target_fits text states blank word b c =
     (fits_at text InvalidStartState blank b))
 
 -- the part of a word that ends where the word does
-record EndsWord (text : List ℕ) (o : ℕ) (word part : List ℕ) : Type 0 where
-  short : length part ≤ length word
-  stands : IsPiece text (piece (o + length word - length part) part)
+pub record EndsWord (text : List ℕ) (o : ℕ) (word part : List ℕ) : Type 0 where
+  pub short : length part ≤ length word
+  pub stands : IsPiece text (piece (o + length word - length part) part)
 
 greater_low : (c : ℕ) → is_greater c ≡ true → c < 128
 greater_low c h = let is = eqb-true c 62 h in omega arith
@@ -225,12 +225,12 @@ behind_angles text o word p =
     let r : EndsWord text o word (after_angles word) = record { short = omega arith; stands = suffix text (piece o word) (length word) (o + length word - length (after_angles word)) (after_angles word) p (IsCharBoundary-end word) (omega arith) none } in
     r) (cases_lt k (length word))
 
-name_stands : (text : List ℕ) (o : ℕ) (word : List ℕ) → IsPiece text (piece o word) → EndsWord text o word (name_part word)
+pub name_stands : (text : List ℕ) (o : ℕ) (word : List ℕ) → IsPiece text (piece o word) → EndsWord text o word (name_part word)
 name_stands text o word p =
     let own : EndsWord text o word word = record { short = omega arith; stands = suffix text (piece o word) 0 (o + length word - length word) word p (IsCharBoundary-start word p.stands.own) (omega arith) refl } in
     either (EndsWord text o word) (begins_with (codes "<") word) (after_angles word) word (behind_angles text o word p) own
 
-either_quote : (a b : Bool) → (a || b) ≡ true → (A : Type 0) → (a ≡ true → A) → (b ≡ true → A) → A
+pub either_quote : (a b : Bool) → (a || b) ≡ true → (A : Type 0) → (a ≡ true → A) → (b ≡ true → A) → A
 either_quote true b e A h k = h refl
 either_quote false b e A h k = k e
 
@@ -354,7 +354,7 @@ behind_mark text mark u p h =
     let second : get_or mark.text 1 0 ≡ 37 = is.1 in
     inside text mark 2 (mark.at + 2) p (IsCharBoundary-after_ascii mark.text 1 p.stands.own long (omega arith)) refl
 
-section_fits : (text : List ℕ) (mark : Piece) → IsUtf8 text → IsPiece text mark → ends_section mark.text ≡ true → IsPiece text (rules_section text mark)
+pub section_fits : (text : List ℕ) (mark : Piece) → IsUtf8 text → IsPiece text mark → ends_section mark.text ≡ true → IsPiece text (rules_section text mark)
 section_fits text mark u p h =
     let o = mark.at + 2 in
     let b = behind_mark text mark u p h in
@@ -367,10 +367,10 @@ section_fits text mark u p h =
     let here : IsUtf8 (drop (o + n) text) = subst IsUtf8 (drop-drop n o text) (past_blanks rest ur) in
     suffix text (piece 0 text) (o + n) (o + n) (drop (o + n) text) (whole_text text u) (IsCharBoundary-from_drop text (o + n) (omega arith) here) (omega arith) refl
 
-abbrev MarkFits : List ℕ → Option Piece → Type 0
+abbrev pub MarkFits : List ℕ → Option Piece → Type 0
 MarkFits text o = IfSome o (λ mark. IsPiece text mark × (ends_section mark.text ≡ true))
 
-mark_fits : (text : List ℕ) (ls : List Piece) → All (IsPiece text) ls → MarkFits text (section_end ls)
+pub mark_fits : (text : List ℕ) (ls : List Piece) → All (IsPiece text) ls → MarkFits text (section_end ls)
 mark_fits text ls a = found (IsPiece text) (λ line. ends_section line.text) ls a
 
 end_fits : (text : List ℕ) (events : List Event) (o : Option Piece) → All (EventFits text) events → MarkFits text o → All (EventFits text) (end_events text events o)

@@ -8,6 +8,7 @@ pub mod Declaration
 pub mod RuleLine
 pub mod Escape
 pub mod Outcome
+pub mod Laws
 pub mod Patterns
 pub mod Active
 pub mod Tiling

@@ -21,6 +21,7 @@ pub trait LexerDef<L: LexerTypes>: Sized {
     ghost use Rattle.lrlex.specs.Definition.{Definition};
     ghost use Rattle.lrlex.specs.Answer.{IsAnswer, AreOwnRefusals};
     ghost use Rattle.lrlex.specs.Faults.{IsPlaced};
+    ghost use Rattle.lrlex.specs.Laws.{IsLawful};
 
     // What it says.
     ghost said: { Self → Definition };
@@ -43,7 +44,8 @@ pub trait LexerDef<L: LexerTypes>: Sized {
     fn from_str(alloc: Global, text: &str) -> Result<LexBuildResult<Self>, AllocError>
         ensures answer { IfOk result (IsAnswer said UNSPECIFIED_LEX_FLAGS L.StorageT.greatest text.now) }
         ensures refusals { IfOk result (AreOwnRefusals UNSPECIFIED_LEX_FLAGS L.StorageT.greatest text.now) }
-        ensures placed { IfOk result (λ built. IfErr built (λ faults. All (IsPlaced text.now) faults.items)) };
+        ensures placed { IfOk result (λ built. IfErr built (λ faults. All (IsPlaced text.now) faults.items)) }
+        ensures lawful { IfOk result (λ built. IfOk built (λ d. IsLawful text.now (said d))) };
 
     /// The rule at this place, counted from 0.
     fn get_rule(&self, idx: usize) -> Option<&Rule<L::StorageT>>
@@ -102,6 +104,7 @@ impl<L: LexerTypes> LexerDef<L> for LRNonStreamingLexerDef<L> {
 impl<L: LexerTypes> LRNonStreamingLexerDef<L> {
     ghost use Rattle.std.specs.Prelude.{true, IfErr, All};
     ghost use Rattle.lrlex.specs.Faults.{IsPlaced};
+    ghost use Rattle.lrlex.specs.Laws.{IsLawful};
     ghost use Rattle.lrlex.specs.Active.{is_state};
     ghost use Rattle.lrlex.specs.Views.{definition_of, definition_rules};
 
@@ -114,6 +117,7 @@ impl<L: LexerTypes> LRNonStreamingLexerDef<L> {
         ensures answer { IfOk result (IsAnswer (definition_of L.StorageT.number) flags L.StorageT.greatest text.now) }
         ensures refusals { IfOk result (AreOwnRefusals flags L.StorageT.greatest text.now) }
         ensures placed { IfOk result (λ built. IfErr built (λ faults. All (IsPlaced text.now) faults.items)) }
+        ensures lawful { IfOk result (λ built. IfOk built (λ d. IsLawful text.now (definition_of L.StorageT.number d))) }
         ensures initial { IfOk result (λ built. IfOk built (λ d. is_state (definition_of L.StorageT.number d) 0 ≡ true)) }
     {
         match read_rules::<L::StorageT>(alloc, text, flags)? {

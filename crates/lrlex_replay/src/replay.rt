@@ -1,0 +1,75 @@
+//! Does what a case says and compares what comes of it.
+use crate::building::{Built, Definition, build};
+use crate::findings::Findings;
+use crate::reading::{Trouble, text_in};
+use crate::showing::{faults_value, items_value, places_value, rules_value, states_value};
+use lrlex::LexerDef;
+use lrlex_base::Id;
+use serde_json::Value;
+use std::alloc::Global;
+
+/// Compares what lexing the case's input gives.
+fn compare_run<T: Id>(
+    alloc: Global,
+    case: &Value,
+    definition: &Definition<T>,
+    findings: &mut Findings,
+) -> Result<(), Trouble> {
+    let input = text_in(case, "input")?;
+    let run = definition.run(alloc, input)?;
+    findings.compare(alloc, case, "items", &items_value(alloc, &run)?)?;
+    findings.compare(alloc, case, "linecols", &places_value(alloc, input, &run)?)?;
+    findings.compare(alloc, case, "tiles", &Value::from(run.tiles()))?;
+    findings.compare(
+        alloc,
+        case,
+        "entries_peak",
+        &Value::from(run.entries_peak()),
+    )?;
+    findings.compare_most(alloc, case, "asked_max", run.asked())
+}
+
+/// Compares a definition, and what it does to the case's input. A case that sets ids is compared in what they don't
+/// decide.
+fn compare_definition<T: Id>(
+    alloc: Global,
+    case: &Value,
+    definition: &Definition<T>,
+    findings: &mut Findings,
+) -> Result<(), Trouble> {
+    let states = states_value(alloc, definition.iter_start_states().as_slice())?;
+    let rules = rules_value(alloc, definition.rules())?;
+    findings.compare(alloc, case, "states", &states)?;
+    if case.get("ids").is_some() {
+        findings.leave_ids();
+        return findings.compare_rules(alloc, case, &rules);
+    }
+    findings.compare(alloc, case, "rules", &rules)?;
+    compare_run(alloc, case, definition, findings)
+}
+
+fn replay_with<T: Id>(alloc: Global, case: &Value) -> Result<Findings, Trouble> {
+    let mut findings = Findings::new(alloc);
+    match build::<T>(alloc, case)? {
+        Built::Whole(definition) => {
+            compare_definition(alloc, case, &definition, &mut findings)?;
+        }
+        Built::Faulty(faults) => {
+            findings.compare(alloc, case, "faults", &faults_value(alloc, &faults)?)?;
+        }
+        Built::Refused(place) => {
+            findings.compare(alloc, case, "rule_refused", &Value::from(place))?;
+        }
+    }
+    Ok(findings)
+}
+
+/// Replays a case, with ids of the type that it names.
+pub fn replay(alloc: Global, case: &Value) -> Result<Findings, Trouble> {
+    match text_in(case, "storage")? {
+        "u8" => replay_with::<u8>(alloc, case),
+        "u16" => replay_with::<u16>(alloc, case),
+        "u32" => replay_with::<u32>(alloc, case),
+        _ => Err(Trouble::Malformed),
+    }
+}

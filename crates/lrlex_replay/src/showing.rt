@@ -1,0 +1,196 @@
+//! What came of a case, as the JSON in which cases tell it.
+ghost use Rattle.lrlex_base.specs.Places.{AreBreaksOf};
+
+use lrlex::{
+    DefaultLexeme, DefaultLexerTypes, LRLexError, LexBuildError, LexErrorKind, LexRun, Rule,
+    StartState, StartStateOperation,
+};
+use lrlex_base::{Id, LexError, Lexeme, NewlineCache, Span, Spanned};
+use serde_json::{Value, json};
+use std::alloc::{AllocError, Global};
+
+/// An item of a run.
+type Item<T> = Result<DefaultLexeme<T>, LRLexError>;
+
+fn kind_name(kind: &LexErrorKind) -> &'static str {
+    match kind {
+        LexErrorKind::PrematureEnd => "PrematureEnd",
+        LexErrorKind::RoutinesNotSupported => "RoutinesNotSupported",
+        LexErrorKind::UnknownDeclaration => "UnknownDeclaration",
+        LexErrorKind::MissingSpace => "MissingSpace",
+        LexErrorKind::InvalidName => "InvalidName",
+        LexErrorKind::UnknownStartState => "UnknownStartState",
+        LexErrorKind::DuplicateStartState => "DuplicateStartState",
+        LexErrorKind::InvalidStartState => "InvalidStartState",
+        LexErrorKind::InvalidStartStateName => "InvalidStartStateName",
+        LexErrorKind::DuplicateName => "DuplicateName",
+        LexErrorKind::RegexError(_) => "RegexError",
+        LexErrorKind::VerbatimNotSupported => "VerbatimNotSupported",
+        LexErrorKind::TooManyRules => "TooManyRules",
+    }
+}
+
+fn span_value(alloc: Global, span: Span) -> Result<Value, AllocError> {
+    let start = span.start();
+    let end = span.end();
+    json!(in alloc; [start, end])
+}
+
+fn id_value<T: Id>(id: T) -> Value {
+    match id.to_u64() {
+        Some(number) => Value::from(number),
+        None => Value::Null,
+    }
+}
+
+/// The faults, each by its kind and its spans.
+pub fn faults_value(alloc: Global, faults: &[LexBuildError]) -> Result<Value, AllocError> {
+    let mut list = Vec::new(alloc);
+    for fault in faults {
+        let mut spans = Vec::new(alloc);
+        for span in fault.spans() {
+            spans.push(span_value(alloc, *span)?)?;
+        }
+        let spans = Value::Array(spans);
+        let kind = kind_name(fault.kind());
+        list.push(json!(in alloc; {"kind": kind, "spans": spans})?)?;
+    }
+    Ok(Value::Array(list))
+}
+
+/// The start states, each as `[id, name, exclusive, span]`.
+pub fn states_value(alloc: Global, states: &[StartState]) -> Result<Value, AllocError> {
+    let mut list = Vec::new(alloc);
+    for state in states {
+        let id = state.id();
+        let name = state.name();
+        let exclusive = state.exclusive();
+        let span = span_value(alloc, state.name_span())?;
+        list.push(json!(in alloc; [id, name, exclusive, span])?)?;
+    }
+    Ok(Value::Array(list))
+}
+
+fn target_value(
+    alloc: Global,
+    target: Option<(usize, StartStateOperation)>,
+) -> Result<Value, AllocError> {
+    let Some((state, operation)) = target else {
+        return Ok(Value::Null);
+    };
+    let operation = match operation {
+        StartStateOperation::ReplaceStack => "ReplaceStack",
+        StartStateOperation::Push => "Push",
+        StartStateOperation::Pop => "Pop",
+    };
+    json!(in alloc; [state, operation])
+}
+
+fn rule_value<T: Id>(alloc: Global, rule: &Rule<T>) -> Result<Value, AllocError> {
+    let id = match rule.tok_id() {
+        Some(id) => id_value(id),
+        None => Value::Null,
+    };
+    let name = match rule.name() {
+        Some(name) => Value::String(String::from_str(alloc, name)?),
+        None => Value::Null,
+    };
+    let span = span_value(alloc, rule.name_span())?;
+    let pattern = rule.re_str();
+    let mut states = Vec::new(alloc);
+    for state in rule.start_states() {
+        states.push(Value::from(*state))?;
+    }
+    let states = Value::Array(states);
+    let target = target_value(alloc, rule.target_state())?;
+    json!(in alloc; {
+        "tok_id": id,
+        "name": name,
+        "name_span": span,
+        "re_str": pattern,
+        "start_states": states,
+        "target": target
+    })
+}
+
+/// The rules, each with all its fields.
+pub fn rules_value<T: Id>(alloc: Global, rules: &[Rule<T>]) -> Result<Value, AllocError> {
+    let mut list = Vec::new(alloc);
+    for rule in rules {
+        list.push(rule_value(alloc, rule)?)?;
+    }
+    Ok(Value::Array(list))
+}
+
+fn item_value<T: Id>(alloc: Global, item: &Item<T>) -> Result<Value, AllocError> {
+    match item {
+        Ok(lexeme) => {
+            let id = id_value(lexeme.tok_id());
+            let start = lexeme.span().start();
+            let len = lexeme.span().len();
+            json!(in alloc; ["lex", id, start, len])
+        }
+        Err(error) => {
+            let place = error.span().start();
+            let state = match error.lexing_state() {
+                Some(state) => Value::from(state.id()),
+                None => Value::Null,
+            };
+            json!(in alloc; ["err", place, state])
+        }
+    }
+}
+
+/// The items, as `["lex", id, start, length]` or `["err", place, state]`.
+pub fn items_value<T: Id>(
+    alloc: Global,
+    run: &LexRun<'_, '_, DefaultLexerTypes<T>>,
+) -> Result<Value, AllocError> {
+    let mut list = Vec::new(alloc);
+    for item in run.items() {
+        list.push(item_value(alloc, item)?)?;
+    }
+    Ok(Value::Array(list))
+}
+
+fn item_span<T: Id>(item: &Item<T>) -> Span {
+    match item {
+        Ok(lexeme) => lexeme.span(),
+        Err(error) => error.span(),
+    }
+}
+
+/// Line and column of a place of the input that the cache was fed, or null where no character begins there.
+fn place_value(
+    alloc: Global,
+    cache: &NewlineCache<Global>,
+    input: &str,
+    place: usize,
+) -> Result<Value, AllocError>
+    requires { AreBreaksOf input.now cache.now }
+{
+    if !input.is_char_boundary(place) {
+        return Ok(Value::Null);
+    }
+    match cache.byte_to_line_num_and_col_num(input, place) {
+        Some((line, column)) => json!(in alloc; [line, column]),
+        None => Ok(Value::Null),
+    }
+}
+
+/// Line and column of both ends of each item's span.
+pub fn places_value<T: Id>(
+    alloc: Global,
+    input: &str,
+    run: &LexRun<'_, '_, DefaultLexerTypes<T>>,
+) -> Result<Value, AllocError> {
+    let cache = NewlineCache::from_str(alloc, input)?;
+    let mut list = Vec::new(alloc);
+    for item in run.items() {
+        let span = item_span(item);
+        let start = place_value(alloc, &cache, input, span.start())?;
+        let end = place_value(alloc, &cache, input, span.end())?;
+        list.push(json!(in alloc; [start, end])?)?;
+    }
+    Ok(Value::Array(list))
+}
