@@ -1,6 +1,6 @@
 //! The items of an input: lexemes by name, place and length, and the error that stopped them.
-use crate::shown::{Definition, items_of, items_text};
-use lrlex::{LexFlags, LexerDef, UNSPECIFIED_LEX_FLAGS};
+use crate::shown::{counts_of, items_of};
+use lrlex::{LexFlags, UNSPECIFIED_LEX_FLAGS};
 use std::test::Fail;
 
 const NESTED: &str =
@@ -86,20 +86,16 @@ fn counts_of_a_run(rt: HostRuntime) -> Result<(), Fail> {
         ("%x c\n%%\na <c>'A'\nb 'B'", "ab", 1, 1, 2),
     ];
     for (rules, input, tiles, peak, asked) in rows {
-        let Ok(definition) = Definition::from_str(alloc, rules)? else {
+        let Some(counts) = counts_of(alloc, rules, input)? else {
             panic!(rt; "{rules:?} is refused");
         };
-        let run = definition.run(alloc, input)?;
-        assert_eq!(rt; run.tiles(), tiles, "{rules:?}");
-        assert_eq!(rt; run.entries_peak(), peak, "{rules:?}");
-        assert!(rt; run.asked() <= asked, "{rules:?}");
+        assert_eq!(rt; counts.tiles, tiles, "{rules:?}");
+        assert_eq!(rt; counts.peak, peak, "{rules:?}");
+        assert!(rt; counts.asked <= asked, "{rules:?}");
     }
-    let Ok(definition) = Definition::from_str(alloc, BRACKETS)? else {
-        panic!(rt; "refused");
-    };
-    let run = definition.run(alloc, "{[]}")?;
+    let got = items_of(alloc, BRACKETS, UNSPECIFIED_LEX_FLAGS, "{[]}")?;
     assert_eq!(rt;
-        items_text(alloc, &definition, &run)?.as_str(),
+        got.as_str(),
         "OPEN_BRACE 0+1, OPEN_BRACKET 1+1, CLOSE_BRACKET 2+1, CLOSE_BRACE 3+1"
     );
     Ok(())

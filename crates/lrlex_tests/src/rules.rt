@@ -124,7 +124,7 @@ fn escapes_are_rewritten_without_a_list(rt: HostRuntime) -> Result<(), Fail> {
     ];
     for (pattern, want) in rows {
         let rules = format!(in rt.alloc(); "%%\n{pattern} ;")?;
-        let at = pattern.len() + 4;
+        let at = pattern.len().saturating_add(4);
         let want = format!(in rt.alloc(); "- {at}..{at} {want}")?;
         let got = rules_of(rt.alloc(), rules.as_str(), UNSPECIFIED_LEX_FLAGS)?;
         assert_eq!(rt; got.as_str(), want.as_str());

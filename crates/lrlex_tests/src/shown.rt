@@ -1,9 +1,9 @@
 //! Answers as short texts, so that a row reads as a person would write it.
 use lrlex::{
-    DefaultLexerTypes, LRLexError, LRNonStreamingLexerDef, LexBuildError, LexErrorKind, LexFlags,
-    LexRun, LexerDef, Rule, StartStateOperation,
+    DefaultLexeme, DefaultLexerTypes, LRLexError, LRNonStreamingLexerDef, LexBuildError,
+    LexErrorKind, LexFlags, LexerDef, Rule, StartStateOperation,
 };
-use lrlex_base::{LexError, Lexeme, LexerTypes, Span, Spanned};
+use lrlex_base::{Id, LexError, Lexeme, Span, Spanned};
 use std::alloc::{AllocError, Global};
 use std::fmt::Write;
 
@@ -127,8 +127,11 @@ pub fn states_of(alloc: Global, rules: &str) -> Result<String, AllocError> {
     Ok(text)
 }
 
-fn name_of<'d>(definition: &'d Definition, id: u32) -> &'d str {
-    for rule in definition.iter_rules() {
+/// The same with ids of any type.
+type DefinitionOver<T> = LRNonStreamingLexerDef<DefaultLexerTypes<T>>;
+
+fn name_of<T: Id>(rules: &[Rule<T>], id: T) -> &str {
+    for rule in rules {
         if rule.tok_id() == Some(id) {
             return rule.name().unwrap_or("?");
         }
@@ -137,19 +140,19 @@ fn name_of<'d>(definition: &'d Definition, id: u32) -> &'d str {
 }
 
 /// The items of a run: `ID 0+3, error 3..3 in 0`.
-pub fn items_text(
+fn items_text<T: Id>(
     alloc: Global,
-    definition: &Definition,
-    run: &LexRun<'_, '_, DefaultLexerTypes<u32>>,
+    rules: &[Rule<T>],
+    items: &[Result<DefaultLexeme<T>, LRLexError>],
 ) -> Result<String, AllocError> {
     let mut text = String::new(alloc);
-    for item in run.items() {
+    for item in items {
         if !text.as_str().is_empty() {
             text.push_str(", ")?;
         }
         match item {
             Ok(lexeme) => {
-                let name = name_of(definition, lexeme.tok_id());
+                let name = name_of(rules, lexeme.tok_id());
                 let start = lexeme.span().start();
                 let len = lexeme.span().len();
                 write!(text, "{name} {start}+{len}")?;
@@ -168,20 +171,61 @@ pub fn items_text(
 }
 
 /// The items that a rule text gives for an input, or its faults behind `refused: `.
-pub fn items_of(
+fn items_over<T: Id>(
     alloc: Global,
     rules: &str,
     flags: LexFlags,
     input: &str,
 ) -> Result<String, AllocError> {
-    match Definition::new_with_options(alloc, rules, flags)? {
+    match DefinitionOver::<T>::new_with_options(alloc, rules, flags)? {
         Ok(definition) => {
             let run = definition.run(alloc, input)?;
-            items_text(alloc, &definition, &run)
+            items_text(alloc, definition.rules(), run.items())
         }
         Err(faults) => {
             let faults = faults_text(alloc, faults.as_slice())?;
             format!(in alloc; "refused: {faults}")
         }
     }
+}
+
+/// The same with ids of type `u32`.
+pub fn items_of(
+    alloc: Global,
+    rules: &str,
+    flags: LexFlags,
+    input: &str,
+) -> Result<String, AllocError> {
+    items_over::<u32>(alloc, rules, flags, input)
+}
+
+/// The counts of a run: tiles, entries of the stack at most, and searches.
+#[derive(Clone, Copy)]
+pub struct Counts {
+    pub tiles: usize,
+    pub peak: usize,
+    pub asked: u128,
+}
+
+fn counts_over<T: Id>(
+    alloc: Global,
+    rules: &str,
+    input: &str,
+) -> Result<Option<Counts>, AllocError> {
+    match DefinitionOver::<T>::from_str(alloc, rules)? {
+        Ok(definition) => {
+            let run = definition.run(alloc, input)?;
+            Ok(Some(Counts {
+                tiles: run.tiles(),
+                peak: run.entries_peak(),
+                asked: run.asked(),
+            }))
+        }
+        Err(_) => Ok(None),
+    }
+}
+
+/// The counts of lexing an input, or none where the rule text is refused.
+pub fn counts_of(alloc: Global, rules: &str, input: &str) -> Result<Option<Counts>, AllocError> {
+    counts_over::<u32>(alloc, rules, input)
 }
