@@ -2,7 +2,7 @@
 use Rattle.std.proofs.Common.{◌≡◌, ℕ, zero, suc, ◌+◌, ◌-◌, ◌≤◌, List, [], ◌∷◌, ◌++◌, length, take, drop, map, Some, refl, sym, ap, ap₂, ◌∙◌, arith, slice_get, append_assoc, length-append}
 use Rattle.std.proofs.lemmas.Option.{none-some, same_Some}
 use Rattle.std.proofs.lemmas.List.{drop-drop, drop_at, length-take-le}
-use Rattle.lrlex.specs.Definition.{Definition}
+use Rattle.lrlex_rules.specs.Definition.{Definition}
 use Rattle.lrlex.specs.Tiling.{Item, Lexeme, Error, End, stack_past, tile_items, items, boundaries, moved, rebased, lexemes}
 use Rattle.lrlex_base.specs.Spans.{span}
 use Rattle.lrlex_base.specs.Edits.{edited}

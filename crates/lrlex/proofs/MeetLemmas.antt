@@ -6,7 +6,7 @@ use Rattle.std.proofs.lemmas.List.{length-drop, length-map, get_or-drop, get_or-
 use Rattle.std.proofs.lemmas.List.Sums.{sum_by-append}
 use Rattle.std.proofs.lemmas.Option.{slice_get-get_or, get_or_from_slice_get, slice_get_within, same_Some}
 use Rattle.std.proofs.Math.Nat.{mul-le-mul_right}
-use Rattle.lrlex.specs.Definition.{Definition}
+use Rattle.lrlex_rules.specs.Definition.{Definition}
 use Rattle.lrlex.specs.Tiling.{Item, boundaries, counts, rebased, asked_at}
 use Rattle.lrlex.specs.Runs.{plain}
 use Rattle.lrlex.specs.Marks.{Mark, bound, no_mark, mark_at}

@@ -1,10 +1,20 @@
 -- A definition that is made of what was read of a rule text.
-use Rattle.std.proofs.Common.{◌≡◌, ℕ, refl}
-use Rattle.lrlex.specs.Reading.{as_definition}
+use Rattle.std.proofs.Common.{◌≡◌, ℕ, true, List, [], ◌∷◌, Some, refl, sym, subst, slice_get}
+use Rattle.std.specs.Prelude.{◌==◌}
+use Rattle.std.specs.List.{list_any}
+use Rattle.std.proofs.lemmas.Option.{same_Some}
+use Rattle.lrlex_rules.specs.Definition.{StartState}
+use Rattle.lrlex_rules.specs.Declaration.{initial}
+use Rattle.lrlex_rules.specs.Reading.{as_definition}
+use Rattle.lrlex_rules.specs.declared.parser.builder.RuleFile.{RuleFile}
 use Rattle.lrlex.specs.Views.{definition_of}
-use Rattle.lrlex.specs.declared.parser.builder.RuleFile.{RuleFile}
 use Rattle.lrlex.specs.declared.lexer.definition.LRNonStreamingLexerDef.{LRNonStreamingLexerDef}
 
 pub definition_of-parts : {L X S E P Q : Type 0} (number : S → ℕ) (d : LRNonStreamingLexerDef L X S E P Q) (file : RuleFile S) →
     d.table.rules ≡ file.rules → d.table.start_states ≡ file.states → d.flags ≡ file.flags → definition_of number d ≡ as_definition number file
 definition_of-parts number d file rules states flags = rw (rules, states, flags) refl
+
+-- where the state that each rule file begins with stands first, a state has the id 0
+pub has_initial : (states : List StartState) → slice_get states 0 ≡ Some initial → list_any (λ s. s.id == 0) states ≡ true
+has_initial [] h = cc
+has_initial (s ∷ more) h = subst (λ (x : StartState). list_any (λ y. y.id == 0) (x ∷ more) ≡ true) (sym (same_Some _ _ h)) refl

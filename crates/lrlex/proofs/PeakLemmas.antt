@@ -2,15 +2,15 @@
 use Rattle.std.proofs.Common.{◌≡◌, ℕ, zero, suc, ◌+◌, ◌-◌, ◌<◌, ◌≤◌, max, Bool, true, false, cond, ◌==◌, List, [], ◌∷◌, ◌++◌, length, map, take, Option, None, Some, refl, sym, ap, ap₂, ◌∙◌, subst, arith, All, length-append}
 use Rattle.std.proofs.lemmas.List.Elements.{All-head, All-tail}
 use Rattle.std.proofs.lemmas.List.{length-map}
-use Rattle.lrlex.specs.Definition.{Definition}
+use Rattle.lrlex_rules.specs.Definition.{Definition}
 use Rattle.lrlex.specs.Active.{rule_at}
 use Rattle.lrlex.specs.Tiling.{Item, top, or_initial, stack_after, stack_past, boundaries}
 use Rattle.lrlex.specs.Runs.{AreRuns, entries}
 use Rattle.lrlex.specs.Marks.{Mark, bound, most_runs, most_entries}
 use Rattle.lrlex.specs.Reach.{IsLexed}
 use Rattle.lrlex.specs.Peaks.{pushes_other, pushes}
-use Rattle.lrlex.specs.declared.states.StartStateOperation.{StartStateOperation}
-use Rattle.lrlex.specs.declared.states.StartStateOperation.TheVariants.{ReplaceStack, Push, Pop}
+use Rattle.lrlex_rules.specs.declared.states.StartStateOperation.{StartStateOperation}
+use Rattle.lrlex_rules.specs.declared.states.StartStateOperation.TheVariants.{ReplaceStack, Push, Pop}
 use Rattle.lrlex.specs.Tiling.{Tile}
 use Rattle.lrlex.proofs.RunsLemmas.{entries-plain, top-last}
 

@@ -3,10 +3,10 @@ use Rattle.std.proofs.Common.{◌≡◌, ℕ, zero, suc, ◌+◌, ◌<◌, Bool,
 use Rattle.std.proofs.lemmas.List.Recursion.{is_count_by}
 use Rattle.std.proofs.lemmas.List.{length-map, length-take-le, map_more}
 use Rattle.regex_hir.specs.Text.{is_some_and}
-use Rattle.lrlex.specs.Definition.{StartState, Rule}
+use Rattle.lrlex_rules.specs.Definition.{StartState, Rule}
 use Rattle.lrlex.specs.Active.{is_active, places_from, active_places}
-use Rattle.lrlex.specs.Parts.{as_rule}
-use Rattle.lrlex.specs.declared.rules.Rule as code
+use Rattle.lrlex_rules.specs.Parts.{as_rule}
+use Rattle.lrlex_rules.specs.declared.rules.Rule as code
 
 -- the first place that passes stands n rules on
 pub record IsNext (p : Rule → Bool) (k : ℕ) (rules : List Rule) (j : ℕ) (rest : List ℕ) : Type 0 where

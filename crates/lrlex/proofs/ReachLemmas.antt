@@ -7,15 +7,15 @@ use Rattle.std.proofs.lemmas.List.Elements.{All-push, All-pop, All-take, All-nil
 use Rattle.std.proofs.lemmas.List.Sums.{sum_by-append, sum_by-cons}
 use Rattle.std.proofs.lemmas.Bool.{cond-true, lt-ltb}
 use Rattle.std.proofs.Math.Nat.{mul-le-mul_right}
-use Rattle.lrlex.specs.Definition.{Definition}
+use Rattle.lrlex_rules.specs.Definition.{Definition}
 use Rattle.lrlex.specs.Active.{active_count, is_state, rule_at, lexeme_id}
 use Rattle.lrlex.specs.Tiling.{Item, Error, top, Wins, End, IsTaken, IsEnd, IsWinner, stack_past, stack_after, or_initial, IsTiling, lexeme_of, tile_items, end_items, items, boundaries, counts, given_by, asked_at}
 use Rattle.lrlex.specs.Runs.{plain, AreRuns}
 use Rattle.lrlex.specs.Marks.{Mark, bound, no_mark, mark_at, last_runs}
 use Rattle.lrlex.specs.Reach.{Reached, IsLexed, IsRun, searches}
 use Rattle.lrlex.specs.Tiling.{Tile}
-use Rattle.lrlex.specs.declared.states.StartStateOperation.{StartStateOperation}
-use Rattle.lrlex.specs.declared.states.StartStateOperation.TheVariants.{ReplaceStack, Push, Pop}
+use Rattle.lrlex_rules.specs.declared.states.StartStateOperation.{StartStateOperation}
+use Rattle.lrlex_rules.specs.declared.states.StartStateOperation.TheVariants.{ReplaceStack, Push, Pop}
 use Rattle.lrlex.proofs.RunsLemmas.{runs-one}
 use Rattle.lrlex.proofs.TilingLemmas.{only_one}
 use Rattle.lrlex.proofs.CountLemmas.{asked_at-le}

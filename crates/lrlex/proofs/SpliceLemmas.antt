@@ -3,7 +3,7 @@ use Rattle.std.proofs.Common.{◌≡◌, ℕ, zero, suc, ◌+◌, ◌-◌, ◌^�
 use Rattle.std.proofs.lemmas.Option.{none-some, same_Some, slice_get-map}
 use Rattle.std.proofs.lemmas.List.{drop-drop, length-drop, drop_at, map-append, drop-map}
 use Rattle.std.proofs.lemmas.List.Elements.{All-append, All-map, All-drop, All-cons, All-nil, All-weaker, All-push}
-use Rattle.lrlex.specs.Definition.{Definition}
+use Rattle.lrlex_rules.specs.Definition.{Definition}
 use Rattle.lrlex.specs.Active.{rule_at, lexeme_id}
 use Rattle.lrlex.specs.Tiling.{Item, Lexeme, Error, End, Done, NoMatch, NoId, NoTarget, stack_past, IsTiling, lexeme_of, tile_items, items, boundaries, counts, given_by, rebased, lexemes}
 use Rattle.lrlex.specs.Runs.{plain, AreRuns}

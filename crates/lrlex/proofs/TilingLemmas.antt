@@ -5,8 +5,8 @@ use Rattle.regex.specs.Patterns.{Re, Match, find_str, span}
 use Rattle.regex_hir.proofs.MatchesLemmas.{Matches-IsSpan}
 use Rattle.regex.proofs.ForCallers.{find_str_sound}
 use Rattle.regex.proofs.SearchLemmas.{leftmost_attempt}
-use Rattle.lrlex.specs.Definition.{Definition, Rule}
-use Rattle.lrlex.specs.Patterns.{end_from_zero, match_length, pattern_of}
+use Rattle.lrlex_rules.specs.Definition.{Definition, Rule}
+use Rattle.lrlex_rules.specs.Patterns.{end_from_zero, match_length, pattern_of}
 use Rattle.lrlex.specs.Active.{is_active, taken_by, taken_by_any, rule_at, lacks_id, lacks_target}
 use Rattle.lrlex.specs.Tiling.{Tile}
 use Rattle.lrlex.specs.Tiling.{Wins, IsStuck, top, End, Done, NoMatch, NoId, NoTarget, IsWinner, IsEnd, IsTaken, stack_past, IsTiling}

@@ -1,26 +1,26 @@
 -- Rules and states, seen through their views.
-use Rattle.std.proofs.Common.{◌≡◌, ◌≢◌, zero, suc, ne_eqb, ℕ, ◌<◌, Bool, true, false, cond, not, ◌||◌, ◌==◌, List, [], ◌∷◌, map, length, get_or, Option, Some, None, option_map, unwrap_or, slice_get, refl, sym, ap, ◌∙◌, arith, eq-eqb, ◌&&◌, true≢false, nat_lt, ◌≤◌, take, ◌++◌, IsCharBoundary}
+use Rattle.std.proofs.Common.{◌≡◌, ◌≢◌, zero, suc, ne_eqb, ℕ, ◌<◌, Bool, true, false, cond, not, ◌||◌, ◌==◌, List, [], ◌∷◌, map, length, get_or, Option, Some, None, option_map, unwrap_or, slice_get, refl, sym, ap, ◌∙◌, arith, eq-eqb, ◌&&◌, true≢false, nat_lt, ◌≤◌, take, ◌+◌, ◌++◌, subst, IsCharBoundary}
 use Rattle.std.proofs.Math.Seq.{take-append_seam}
 use Rattle.std.proofs.lemmas.Bool.{cond-true, cond-false, ltb-true, ltb-false}
 use Rattle.std.proofs.lemmas.List.Sums.{passes_at_first, fails_before_first}
 use Rattle.std.proofs.lemmas.List.Folds.{Any-from_list_any}
-use Rattle.std.proofs.lemmas.List.{length-map}
+use Rattle.std.proofs.lemmas.List.{length-map, map-append, map_more}
 use Rattle.std.proofs.lemmas.Option.{slice_get-map, slice_get_read, same_Some, none-some}
-use Rattle.regex.specs.Strings.{regex_pattern, matcher_pattern}
+use Rattle.regex.specs.Strings.{matcher_pattern}
 use Rattle.regex.specs.declared.string.matcher.Matcher.{Matcher}
-use Rattle.regex.specs.Patterns.{Re, find_str, span}
+use Rattle.regex.specs.Patterns.{Re, SameCaptures, find_str, span}
 use Rattle.regex_hir.specs.Text.{is_boundary}
 use Rattle.regex.proofs.Utf8Lemmas.{test_of_IsCharBoundary}
 use Rattle.std.specs.List.{list_any, find, position, position_or_len}
 use Rattle.regex_hir.specs.Text.{is_some_and}
-use Rattle.lrlex.specs.Definition.{Definition, Rule, StartState}
-use Rattle.lrlex.specs.Patterns.{end_from_zero, match_length, pattern_of}
+use Rattle.lrlex_rules.specs.Definition.{Definition, Rule, StartState}
+use Rattle.lrlex_rules.specs.Patterns.{end_from_zero, match_length, pattern_of}
 use Rattle.lrlex.specs.Active.{is_active, taken_by, taken_by_any, no_rule, rule_at}
-use Rattle.lrlex.specs.Parts.{as_state, as_rule, rule_regex}
-use Rattle.lrlex.specs.Views.{definition_of, ArePaired}
-use Rattle.lrlex.specs.declared.rules.Rule as code
+use Rattle.lrlex_rules.specs.Parts.{as_state, as_rule}
+use Rattle.lrlex.specs.Views.{definition_of, AreAlike, patterns_of, ArePaired}
+use Rattle.lrlex_rules.specs.declared.rules.Rule as code
 use Rattle.lrlex.specs.declared.lexer.definition.LRNonStreamingLexerDef.{LRNonStreamingLexerDef}
-use Rattle.lrlex.specs.declared.states.StartState as start
+use Rattle.lrlex_rules.specs.declared.states.StartState as start
 
 pub list_any-map : {A B : Type 0} (f : A → B) (p : B → Bool) (xs : List A) → list_any p (map f xs) ≡ list_any (λ x. p (f x)) xs
 list_any-map f p [] = refl
@@ -34,12 +34,12 @@ pub find-map : {A B : Type 0} (f : A → B) (p : B → Bool) (xs : List A) → f
 find-map f p [] = refl
 find-map f p (x ∷ xs) = cond_map f (p (f x)) x _ _ (find-map f p xs)
 
-test_viewed : (o : Option start.StartState) → is_some_and (option_map as_state o) (λ s. not s.exclusive) ≡ is_some_and o (λ s. not s.exclusive)
+test_viewed : (o : Option start.StartState) → is_some_and (option_map as_state o) (λ s. not s.exclusive) ≡ is_some_and o (λ s. not (as_state s).exclusive)
 test_viewed None = refl
 test_viewed (Some s) = refl
 
-pub inclusive_as : (states : List start.StartState) (id : ℕ) (o : Option start.StartState) → o ≡ find (λ s. s.id == id) states →
-    is_some_and o (λ s. not s.exclusive) ≡ is_some_and (find (λ s. s.id == id) (map as_state states)) (λ s. not s.exclusive)
+pub inclusive_as : (states : List start.StartState) (id : ℕ) (o : Option start.StartState) → o ≡ find (λ s. (as_state s).id == id) states →
+    is_some_and o (λ s. not (as_state s).exclusive) ≡ is_some_and (find (λ s. s.id == id) (map as_state states)) (λ s. not s.exclusive)
 inclusive_as states id o e =
     sym (test_viewed o) ∙ ap (λ (u : Option StartState). is_some_and u (λ s. not s.exclusive))
     (ap (option_map as_state) e ∙ sym (find-map as_state (λ s. s.id == id) states))
@@ -68,13 +68,53 @@ end_elsewhere text s e h =
 
 -- ---- rules and their matchers by place
 
+alike_len : (xs ys : List Re) → AreAlike xs ys → length xs ≡ length ys
+alike_len [] [] h = refl
+alike_len [] (y ∷ ys) h = absurd h
+alike_len (x ∷ xs) [] h = absurd h
+alike_len (x ∷ xs) (y ∷ ys) h = ap suc (alike_len xs ys h.1)
+
+alike_at : (xs ys : List Re) (i : ℕ) (a b : Re) → AreAlike xs ys → slice_get xs i ≡ Some a → slice_get ys i ≡ Some b → SameCaptures a b
+alike_at [] ys i a b h e f = absurd (none-some _ e)
+alike_at (x ∷ xs) [] i a b h e f = absurd h
+alike_at (x ∷ xs) (y ∷ ys) zero a b h e f = subst (λ p. SameCaptures p b) (same_Some _ _ e) (subst (SameCaptures x) (same_Some _ _ f) h.0)
+alike_at (x ∷ xs) (y ∷ ys) (suc i) a b h e f = alike_at xs ys i a b h.1 e f
+
+alike_more : (xs ys : List Re) (a b : Re) → AreAlike xs ys → SameCaptures a b → AreAlike (xs ++ a ∷ []) (ys ++ b ∷ [])
+alike_more [] [] a b h same = (same, tt)
+alike_more [] (y ∷ ys) a b h same = absurd h
+alike_more (x ∷ xs) [] a b h same = absurd h
+alike_more (x ∷ xs) (y ∷ ys) a b h same = (h.0, alike_more xs ys a b h.1 same)
+
 pub paired_len : {S : Type 0} (matchers : List Matcher) (rules : List (code.Rule S)) → ArePaired matchers rules → length matchers ≡ length rules
 paired_len matchers rules p =
-    sym (length-map matchers matcher_pattern) ∙ ap length p ∙ length-map rules (λ r. regex_pattern (rule_regex r))
+    sym (length-map matchers matcher_pattern) ∙ alike_len (map matcher_pattern matchers) (patterns_of rules) p ∙ length-map rules (λ r. pattern_of (as_rule (λ _. 0) r))
 
-module _ {S : Type 0} (rules : List (code.Rule S)) (i : ℕ) (r : code.Rule S) (within : i < length rules) (read : r ≡ get_or rules i r) where
-  view_at : {B : Type 0} (f : code.Rule S → B) → slice_get (map f rules) i ≡ Some (f r)
-  view_at f = slice_get-map f rules i ∙ ap (option_map f) (slice_get_read rules (length rules) i r refl within read)
+module _ {A : Type 0} (xs : List A) (i : ℕ) (x : A) (within : i < length xs) (read : x ≡ get_or xs i x) where
+  view_at : {B : Type 0} (f : A → B) → slice_get (map f xs) i ≡ Some (f x)
+  view_at f = slice_get-map f xs i ∙ ap (option_map f) (slice_get_read xs (length xs) i x refl within read)
+
+same_pattern : {S : Type 0} (number : S → ℕ) (r : code.Rule S) → pattern_of (as_rule (λ _. 0) r) ≡ pattern_of (as_rule number r)
+unfolding pattern_of
+same_pattern number r = refl
+
+pub paired_at : {S : Type 0} (number : S → ℕ) (matchers : List Matcher) (rules : List (code.Rule S)) (i : ℕ) (m : Matcher) (r : code.Rule S) → ArePaired matchers rules →
+    i < length rules → m ≡ get_or matchers i m → r ≡ get_or rules i r → SameCaptures (matcher_pattern m) (pattern_of (as_rule number r))
+paired_at number matchers rules i m r p within at bt =
+    subst (SameCaptures (matcher_pattern m)) (same_pattern number r)
+    (alike_at (map matcher_pattern matchers) (patterns_of rules) i (matcher_pattern m) (pattern_of (as_rule (λ _. 0) r)) p
+    (view_at matchers i m (omega (arith, paired_len matchers rules p)) at matcher_pattern)
+    (view_at rules i r within bt (λ x. pattern_of (as_rule (λ _. 0) x))))
+
+-- one more matcher, for the next rule
+pub paired_more : {S : Type 0} (number : S → ℕ) (matchers : List Matcher) (rules : List (code.Rule S)) (i : ℕ) (m : Matcher) (r : code.Rule S) → ArePaired matchers (take i rules) →
+    i < length rules → r ≡ get_or rules i r → SameCaptures (matcher_pattern m) (pattern_of (as_rule number r)) → ArePaired (matchers ++ m ∷ []) (take (i + 1) rules)
+paired_more number matchers rules i m r p within read same =
+    let pattern : code.Rule _ → Re = λ x. pattern_of (as_rule (λ _. 0) x) in
+    let more : patterns_of (take (i + 1) rules) ≡ patterns_of (take i rules) ++ pattern r ∷ [] = map_more pattern rules i r within ∙ ap (λ x. patterns_of (take i rules) ++ pattern x ∷ []) (sym read) in
+    subst (λ ps. AreAlike ps (patterns_of (take (i + 1) rules))) (sym (map-append matcher_pattern matchers (m ∷ [])))
+    (subst (AreAlike (map matcher_pattern matchers ++ matcher_pattern m ∷ [])) (sym more)
+    (alike_more (map matcher_pattern matchers) (patterns_of (take i rules)) (matcher_pattern m) (pattern r) p (subst (SameCaptures (matcher_pattern m)) (sym (same_pattern number r)) same)))
 
 pub rule_at_place : {S : Type 0} (number : S → ℕ) (rules : List (code.Rule S)) (i : ℕ) (r : code.Rule S) → i < length rules → r ≡ get_or rules i r →
     slice_get (map (as_rule number) rules) i ≡ Some (as_rule number r)

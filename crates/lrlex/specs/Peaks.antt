@@ -1,10 +1,10 @@
 -- How high a stack grows in runs.
 use Rattle.std.specs.Prelude.{ℕ, ◌+◌, ◌==◌, if◌then◌else◌, List, [], ◌∷◌, Option, None, Some}
-use Rattle.lrlex.specs.Definition.{Definition}
+use Rattle.lrlex_rules.specs.Definition.{Definition}
 use Rattle.lrlex.specs.Active.{rule_at}
 use Rattle.lrlex.specs.Tiling.{top, stack_past}
-use Rattle.lrlex.specs.declared.states.StartStateOperation.{StartStateOperation}
-use Rattle.lrlex.specs.declared.states.StartStateOperation.TheVariants.{ReplaceStack, Push, Pop}
+use Rattle.lrlex_rules.specs.declared.states.StartStateOperation.{StartStateOperation}
+use Rattle.lrlex_rules.specs.declared.states.StartStateOperation.TheVariants.{ReplaceStack, Push, Pop}
 use Rattle.lrlex.specs.Tiling.{Tile}
 
 -- 1 where the target pushes a state other than the top

@@ -1,7 +1,7 @@
 -- How far a run has come, and what it answers in the end.
 use Rattle.std.specs.Prelude.{◌≡◌, ℕ, ◌+◌, ◌<◌, ◌≤◌, true, false, None, List, All, [], ◌∷◌, ◌++◌, map, length, drop}
 use Rattle.std.specs.List.{sum_by}
-use Rattle.lrlex.specs.Definition.{Definition}
+use Rattle.lrlex_rules.specs.Definition.{Definition}
 use Rattle.lrlex.specs.Active.{is_state}
 use Rattle.lrlex.specs.Tiling.{Item, Error, End, IsTiling, items, boundaries, counts, asked_at}
 use Rattle.lrlex.specs.Runs.{plain, AreRuns}

@@ -1,13 +1,9 @@
 ghost use Rattle.std.specs.Prelude.{◌≡◌, IfOk};
-ghost use Rattle.lrlex.specs.Answer.{IsAnswer, AreOwnRefusals};
+ghost use Rattle.lrlex_rules.specs.Answer.{IsAnswer, AreOwnRefusals};
 
-use crate::faults::LexBuildResult;
-use crate::flags::{DEFAULT_LEX_FLAGS, LexFlags, UNSPECIFIED_LEX_FLAGS};
 use crate::lexer::LRNonStreamingLexerDef;
-use crate::parser::{RuleFile, read_rules};
-use crate::rules::Rule;
-use crate::states::StartState;
 use lrlex_base::{Id, LexerTypes};
+use lrlex_rules::{DEFAULT_LEX_FLAGS, LexBuildResult, LexFlags, Rule, RuleFile, StartState, UNSPECIFIED_LEX_FLAGS, read_rules};
 use std::alloc::{AllocError, Global};
 use std::slice::Iter;
 
@@ -16,12 +12,12 @@ pub trait LexerDef<L: LexerTypes>: Sized {
     ghost use Rattle.std.specs.Prelude.{◌≡◌, IfOk, IfErr, All, List, slice_get};
     ghost use Rattle.std.specs.Option.{option_copied};
     ghost use Rattle.std.specs.Slice.Iter.{iter_rest};
-    ghost use Rattle.lrlex.specs.declared.rules.Rule.{Rule};
-    ghost use Rattle.lrlex.specs.declared.states.StartState.{StartState};
-    ghost use Rattle.lrlex.specs.Definition.{Definition};
-    ghost use Rattle.lrlex.specs.Answer.{IsAnswer, AreOwnRefusals};
-    ghost use Rattle.lrlex.specs.Faults.{IsPlaced};
-    ghost use Rattle.lrlex.specs.Laws.{IsLawful};
+    ghost use Rattle.lrlex_rules.specs.declared.rules.Rule.{Rule};
+    ghost use Rattle.lrlex_rules.specs.declared.states.StartState.{StartState};
+    ghost use Rattle.lrlex_rules.specs.Definition.{Definition};
+    ghost use Rattle.lrlex_rules.specs.Answer.{IsAnswer, AreOwnRefusals};
+    ghost use Rattle.lrlex_rules.specs.Faults.{IsPlaced};
+    ghost use Rattle.lrlex_rules.specs.Laws.{IsLawful};
 
     // What it says.
     ghost said: { Self → Definition };
@@ -103,8 +99,8 @@ impl<L: LexerTypes> LexerDef<L> for LRNonStreamingLexerDef<L> {
 
 impl<L: LexerTypes> LRNonStreamingLexerDef<L> {
     ghost use Rattle.std.specs.Prelude.{true, IfErr, All};
-    ghost use Rattle.lrlex.specs.Faults.{IsPlaced};
-    ghost use Rattle.lrlex.specs.Laws.{IsLawful};
+    ghost use Rattle.lrlex_rules.specs.Faults.{IsPlaced};
+    ghost use Rattle.lrlex_rules.specs.Laws.{IsLawful};
     ghost use Rattle.lrlex.specs.Active.{is_state};
     ghost use Rattle.lrlex.specs.Views.{definition_of, definition_rules};
 

@@ -1,7 +1,7 @@
 ghost use Rattle.std.specs.Prelude.{◌≡◌, Some, None};
 
-use crate::states::StartStateId;
 use lrlex_base::{LexError, Span};
+use lrlex_rules::StartStateId;
 use std::error::Error;
 use std::fmt;
 

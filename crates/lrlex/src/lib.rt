@@ -3,21 +3,16 @@
 
 mod definitions;
 mod errors;
-mod faults;
-mod flags;
 mod lexer;
-mod parser;
-mod rules;
-mod states;
 
 pub use crate::definitions::LexerDef;
 pub use crate::errors::LRLexError;
-pub use crate::faults::{LexBuildError, LexBuildResult, LexErrorKind};
-pub use crate::flags::{DEFAULT_LEX_FLAGS, LexFlags, UNSPECIFIED_LEX_FLAGS};
 pub use crate::lexer::{LRNonStreamingLexerDef, LexRun};
-pub use crate::rules::Rule;
-pub use crate::states::{StartState, StartStateId, StartStateOperation};
 pub use lrlex_base::{CTTokenMapBuilder, DefaultLexeme, TokenMapFault, ct_token_map};
+pub use lrlex_rules::{
+    DEFAULT_LEX_FLAGS, LexBuildError, LexBuildResult, LexErrorKind, LexFlags, Rule, StartState,
+    StartStateId, StartStateOperation, UNSPECIFIED_LEX_FLAGS,
+};
 
 /// The usual types of a lexer, with this crate's error.
 pub type DefaultLexerTypes<T = u32> = lrlex_base::DefaultLexerTypes<T, LRLexError>;

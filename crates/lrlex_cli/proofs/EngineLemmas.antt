@@ -4,13 +4,13 @@ use Rattle.std.specs.List.{list_any}
 use Rattle.std.specs.declared.alloc.Global.{Global}
 use Rattle.std.proofs.lemmas.List.Folds.{list_any-append}
 use Rattle.lrlex.specs.declared.errors.LRLexError.{LRLexError}
-use Rattle.lrlex.specs.declared.faults.LexBuildError.{LexBuildError}
-use Rattle.lrlex.specs.Definition.{Definition}
+use Rattle.lrlex_rules.specs.declared.faults.LexBuildError.{LexBuildError}
+use Rattle.lrlex_rules.specs.Definition.{Definition}
 use Rattle.lrlex.specs.Active.{is_state}
 use Rattle.lrlex.specs.Marks.{Mark}
-use Rattle.lrlex.specs.Outcome.{outcome}
+use Rattle.lrlex_rules.specs.Outcome.{outcome}
 use Rattle.lrlex.specs.Reach.{IsRun}
-use Rattle.lrlex.specs.Answer.{seen, settings, refused_by, as_faults}
+use Rattle.lrlex_rules.specs.Answer.{seen, settings, refused_by, as_faults}
 use Rattle.lrlex.specs.Tiling.{Tile, Item, Lexeme, Error, End, Done, NoMatch, NoId, NoTarget, items, tile_items, lexeme_of}
 use Rattle.lrlex.specs.Views.{item_of}
 use Rattle.lrlex_cli.specs.Engine.{Request, Lexing, lines_in}

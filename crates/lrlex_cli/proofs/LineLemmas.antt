@@ -2,10 +2,10 @@
 use Rattle.std.proofs.Common.{◌≡◌, ◌∙◌, ap, sym, refl, ℕ, ◌+◌, ◌-◌, Bool, true, false, List, [], ◌∷◌, ◌++◌, take, drop, map, Option, Some, unwrap_or, arith, cond}
 use Rattle.std.specs.Option.{option_map, option_and_then}
 use Rattle.std.specs.List.{find}
-use Rattle.lrlex.specs.Definition.{Rule}
-use Rattle.lrlex.specs.Parts.{as_rule}
+use Rattle.lrlex_rules.specs.Definition.{Rule}
+use Rattle.lrlex_rules.specs.Parts.{as_rule}
 use Rattle.lrlex.specs.Tiling.{Lexeme}
-use Rattle.lrlex.specs.declared.rules.Rule as code
+use Rattle.lrlex_rules.specs.declared.rules.Rule as code
 use Rattle.lrlex_cli.specs.Lines.{gives, name_of, line}
 
 -- the first that passes, before and after a change of all

@@ -1,11 +1,11 @@
 -- What the engine answers, and what it leaves in its writer.
 use Rattle.std.specs.Prelude.{◌≡◌, ◌≢◌, ℕ, List, All, [], ◌∷◌, Option, None, Result, Ok, Err}
 use Rattle.std.specs.Io.KnownBytes.{Appends, Keeps}
-use Rattle.lrlex.specs.declared.flags.LexFlags.{LexFlags}
-use Rattle.lrlex.specs.Definition.{Definition}
-use Rattle.lrlex.specs.Faults.{IsPlaced}
-use Rattle.lrlex.specs.Outcome.{outcome}
-use Rattle.lrlex.specs.Answer.{settings, refused_in, as_faults}
+use Rattle.lrlex_rules.specs.declared.flags.LexFlags.{LexFlags}
+use Rattle.lrlex_rules.specs.Definition.{Definition}
+use Rattle.lrlex_rules.specs.Faults.{IsPlaced}
+use Rattle.lrlex_rules.specs.Outcome.{outcome}
+use Rattle.lrlex_rules.specs.Answer.{settings, refused_in, as_faults}
 use Rattle.lrlex.specs.Tiling.{Tile, End, Done, IsTiling, items}
 use Rattle.lrlex_cli.specs.Lines.{lines}
 use Rattle.lrlex_cli.specs.Writing.{AppendsFront}

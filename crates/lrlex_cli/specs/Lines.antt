@@ -2,7 +2,7 @@
 use Rattle.std.specs.Prelude.{ℕ, ◌==◌, ◌&&◌, Bool, false, List, [], ◌∷◌, ◌++◌, take, drop, is_some, unwrap_or, flat_map}
 use Rattle.std.specs.Option.{option_and_then, option_map_or}
 use Rattle.std.specs.List.{find}
-use Rattle.lrlex.specs.Definition.{Rule}
+use Rattle.lrlex_rules.specs.Definition.{Rule}
 use Rattle.lrlex.specs.Faults.{stop_text}
 use Rattle.lrlex.specs.Tiling.{Item, Lexeme, Error}
 

@@ -2,7 +2,7 @@
 use Rattle.std.specs.Prelude.{◌≡◌, Bool, List, Option, Some, codes, option_map, string_bytes}
 use Rattle.std.specs.Str.{bytes_eq}
 use Rattle.clap.specs.Words.{Row, Text, first_of}
-use Rattle.lrlex.specs.declared.flags.LexFlags.{LexFlags}
+use Rattle.lrlex_rules.specs.declared.flags.LexFlags.{LexFlags}
 use Rattle.lrlex_cli.specs.declared.words.Words.{Words}
 
 -- a value `true` is true, any other is false, and no value is none

@@ -2,7 +2,7 @@
 ghost use Rattle.std.specs.Prelude.{◌≡◌, All, is_err};
 ghost use Rattle.std.specs.List.{list_any};
 ghost use Rattle.lrlex_cli.specs.Engine.{IsEngineRun, IsReport};
-ghost use Rattle.lrlex.specs.Faults.{IsPlaced};
+ghost use Rattle.lrlex_rules.specs.Faults.{IsPlaced};
 ghost use Rattle.lrlex_cli.specs.Report.{fault_lines};
 
 use crate::lines::lines;

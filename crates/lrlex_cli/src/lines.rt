@@ -3,7 +3,7 @@ ghost use Rattle.std.specs.List.{find};
 ghost use Rattle.std.specs.Option.{option_copied};
 ghost use Rattle.lrlex_base.specs.Spans.{span_start, span_end};
 ghost use Rattle.lrlex.specs.Faults.{lex_error_span, stop_text};
-ghost use Rattle.lrlex.specs.Parts.{as_rule};
+ghost use Rattle.lrlex_rules.specs.Parts.{as_rule};
 ghost use Rattle.lrlex.specs.Views.{item_of};
 ghost use Rattle.lrlex_cli.specs.Lines.{gives, name_of, line, lines};
 

@@ -2,51 +2,48 @@ ghost use Rattle.std.specs.Prelude.{◌≡◌, ◌==◌, map, option_map, IfOk};
 ghost use Rattle.std.specs.List.{find, list_any, position};
 ghost use Rattle.std.specs.Option.{option_copied};
 ghost use Rattle.lrlex.specs.Active.{is_inclusive, is_active, active_places, lacks_id, lexeme_id};
-ghost use Rattle.lrlex.specs.Parts.{as_rule, as_state};
+ghost use Rattle.lrlex_rules.specs.Parts.{as_rule, as_state};
 
-use crate::rules::Rule;
-use crate::states::StartState;
 use lrlex_base::Id;
+use lrlex_rules::{Rule, StartState};
 use std::alloc::{AllocError, Global};
 
-impl<StorageT: Id> Rule<StorageT> {
-    /// Whether it has a name and no id.
-    pub(crate) fn lacks_id(&self) -> bool
-        ensures { result ≡ lacks_id (as_rule StorageT.number self.now) }
-    {
-        self.name.is_some() && self.tok_id.is_none()
-    }
+/// Whether the rule has a name and no id.
+pub(crate) fn lacks_id<S: Id>(rule: &Rule<S>) -> bool
+    ensures { result ≡ lacks_id (as_rule S.number rule.now) }
+{
+    rule.name().is_some() && rule.tok_id().is_none()
+}
 
-    /// The id of its lexemes. An unnamed rule gives none.
-    pub(crate) fn lexeme_id(&self) -> Option<StorageT>
-        ensures { option_map StorageT.number result ≡ lexeme_id (as_rule StorageT.number self.now) }
-    {
-        if self.name.is_some() {
-            self.tok_id
-        } else {
-            None
-        }
+/// The id of the rule's lexemes. An unnamed rule gives none.
+pub(crate) fn lexeme_id<S: Id>(rule: &Rule<S>) -> Option<S>
+    ensures { option_map S.number result ≡ lexeme_id (as_rule S.number rule.now) }
+{
+    if rule.name().is_some() {
+        rule.tok_id()
+    } else {
+        None
     }
 }
 
 /// Whether a state has the id.
 pub(crate) fn has_state(states: &[StartState], id: usize) -> bool
-    ensures { result ≡ list_any (λ s. s.id == id) states.now }
+    ensures { result ≡ list_any (λ s. (as_state s).id == id) states.now }
 {
-    states.iter().any(|s| s.id == id)
+    states.iter().any(|s| s.id() == id)
 }
 
 /// The place of the first state with the id.
 pub(crate) fn position_of(states: &[StartState], id: usize) -> Option<usize>
-    ensures { result ≡ position (λ s. s.id == id) states.now }
+    ensures { result ≡ position (λ s. (as_state s).id == id) states.now }
 {
-    states.iter().position(|s| s.id == id)
+    states.iter().position(|s| s.id() == id)
 }
 
 fn first_state(states: &[StartState], id: usize) -> Option<&StartState>
-    ensures { option_copied result ≡ find (λ s. s.id == id) states.now }
+    ensures { option_copied result ≡ find (λ s. (as_state s).id == id) states.now }
 {
-    states.iter().find(|s| s.id == id)
+    states.iter().find(|s| s.id() == id)
 }
 
 /// Whether the first state with the id takes rules that list no states.
@@ -54,7 +51,7 @@ fn is_inclusive(states: &[StartState], id: usize) -> bool
     ensures { result ≡ is_inclusive (map as_state states.now) id }
 {
     match first_state(states, id) {
-        Some(state) => !state.exclusive,
+        Some(state) => !state.exclusive(),
         None => false,
     }
 }
@@ -64,10 +61,10 @@ fn is_inclusive(states: &[StartState], id: usize) -> bool
 fn is_active<S: Id>(states: &[StartState], id: usize, rule: &Rule<S>) -> bool
     ensures { result ≡ is_active (map as_state states.now) id (as_rule (λ _. 0) rule.now) }
 {
-    if rule.start_states.is_empty() {
+    if rule.start_states().is_empty() {
         is_inclusive(states, id)
     } else {
-        rule.start_states.contains(&id)
+        rule.start_states().contains(&id)
     }
 }
 

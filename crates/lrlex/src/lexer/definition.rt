@@ -1,12 +1,10 @@
 ghost use Rattle.std.specs.Prelude.{◌≡◌, map, true};
 ghost use Rattle.lrlex.specs.Active.{active_places, is_state, lacks_target};
-ghost use Rattle.lrlex.specs.Parts.{as_rule, as_state};
+ghost use Rattle.lrlex_rules.specs.Parts.{as_rule, as_state};
 
-use crate::flags::LexFlags;
 use crate::lexer::active::{active_places, has_state, position_of};
-use crate::rules::Rule;
-use crate::states::StartState;
 use lrlex_base::LexerTypes;
+use lrlex_rules::{LexFlags, Rule, StartState};
 use std::alloc::{AllocError, Global};
 
 /// Rules and start states, with the places of the rules that are active in each state.
@@ -15,7 +13,7 @@ pub(crate) struct RuleTable<S> {
     pub(crate) rules: Vec<Rule<S>>,
     pub(crate) start_states: Vec<StartState>,
     active: Vec<Vec<usize>>,
-    ghost lists: { map (λ v. v.items) active.items ≡ map (λ s. active_places (map as_state start_states.items) (map (as_rule (λ _. 0)) rules.items) s.id) start_states.items },
+    ghost lists: { map (λ v. v.items) active.items ≡ map (λ s. active_places (map as_state start_states.items) (map (as_rule (λ _. 0)) rules.items) (as_state s).id) start_states.items },
 }
 
 /// The rules, start states and flags of a lexer.
@@ -42,7 +40,7 @@ impl<L: LexerTypes> LRNonStreamingLexerDef<L> {
     {
         let mut active = Vec::with_capacity(alloc, start_states.len())?;
         'states: for index in 0..start_states.len() {
-            let id = start_states[index].id;
+            let id = start_states[index].id();
             active.push(active_places(alloc, &start_states, &rules, id)?)?;
         }
         let table = RuleTable {
@@ -82,7 +80,7 @@ impl<L: LexerTypes> LRNonStreamingLexerDef<L> {
     pub(crate) fn lacks_target(&self, rule: &Rule<L::StorageT>) -> bool
         ensures { result ≡ lacks_target (definition_of L.StorageT.number self.now) (as_rule L.StorageT.number rule.now) }
     {
-        match rule.target_state {
+        match rule.target_state() {
             Some((id, _)) => !self.is_state(id),
             None => false,
         }

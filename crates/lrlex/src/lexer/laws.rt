@@ -1,5 +1,5 @@
 ghost use Rattle.std.specs.Prelude.{◌≡◌, ℕ, ◌+◌, ◌≤◌, List, [], ◌∷◌, length};
-ghost use Rattle.lrlex.specs.Definition.{Definition};
+ghost use Rattle.lrlex_rules.specs.Definition.{Definition};
 ghost use Rattle.lrlex.specs.Tiling.{Item, boundaries};
 ghost use Rattle.lrlex.specs.Marks.{Mark, most_runs, most_entries};
 ghost use Rattle.lrlex.specs.Peaks.{pushes};

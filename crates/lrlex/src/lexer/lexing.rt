@@ -1,6 +1,6 @@
 ghost use Rattle.std.specs.Prelude.{◌≡◌, ◌+◌, ◌^◌, ◌<◌, ◌≤◌, true, false, [], ◌∷◌, ◌++◌, length, map, IfOk, OnOk, IsCharBoundary};
 ghost use Rattle.lrlex.specs.Active.{is_state, lexeme_id};
-ghost use Rattle.lrlex.specs.Parts.{as_rule};
+ghost use Rattle.lrlex_rules.specs.Parts.{as_rule};
 ghost use Rattle.lrlex.specs.Tiling.{Error, stack_after, lexeme_of};
 ghost use Rattle.lrlex.specs.Runs.{plain, AreRuns};
 ghost use Rattle.lrlex.specs.Marks.{Mark, last_runs};
@@ -8,13 +8,13 @@ ghost use Rattle.lrlex.specs.Reach.{Reached, IsLexed, searches};
 ghost use Rattle.lrlex.specs.Views.{definition_of, ArePaired, item_of, items_by};
 
 use crate::errors::LRLexError;
+use crate::lexer::active::{lacks_id, lexeme_id};
 use crate::lexer::boundaries::Boundaries;
 use crate::lexer::definition::LRNonStreamingLexerDef;
 use crate::lexer::searching::winner;
 use crate::lexer::stack::{step, top_of};
-use crate::rules::Rule;
-use crate::states::{StartStateId, StartStateOperation};
 use lrlex_base::{Lexeme, LexerTypes, Span};
+use lrlex_rules::{Rule, StartStateId, StartStateOperation};
 use regex::Matcher;
 use std::alloc::{AllocError, Global};
 
@@ -64,7 +64,7 @@ fn give<L: LexerTypes>(
         ≡ map (item_of L.StorageT.number L.LexemeT.id_of L.LexemeT.start_of L.LexemeT.len_of L.LexemeT.is_faulty) items.old.items
         ++ lexeme_of (lexeme_id (as_rule L.StorageT.number rule.now)) place len) }
 {
-    if let Some(id) = rule.lexeme_id() {
+    if let Some(id) = lexeme_id(rule) {
         items.push(Ok(Lexeme::new(id, place, len)))?;
     }
     Ok(())
@@ -147,7 +147,7 @@ pub(crate) fn advance<L: LexerTypes>(
         return Ok(false);
     };
     let rule = &definition.table.rules[tile.rule];
-    if rule.lacks_id() {
+    if lacks_id(rule) {
         give_error::<L>(&mut progress.items, place, None)?;
         return Ok(false);
     }
@@ -156,6 +156,6 @@ pub(crate) fn advance<L: LexerTypes>(
         give_error::<L>(&mut progress.items, place, None)?;
         return Ok(false);
     }
-    enter(progress, rule.target_state, place + tile.len)?;
+    enter(progress, rule.target_state(), place + tile.len)?;
     Ok(true)
 }

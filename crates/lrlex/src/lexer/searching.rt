@@ -1,14 +1,15 @@
 ghost use Rattle.std.specs.Prelude.{◌≡◌, ◌+◌, ◌^◌, ◌<◌, ◌≤◌, true, vec_len, IfOk, IfSome, MatchOption, IsCharBoundary};
-ghost use Rattle.regex.specs.Strings.{matcher_pattern, regex_pattern};
-ghost use Rattle.lrlex.specs.Patterns.{match_length, pattern_of};
+ghost use Rattle.regex.specs.Patterns.{SameCaptures};
+ghost use Rattle.regex.specs.Strings.{matcher_pattern};
+ghost use Rattle.lrlex_rules.specs.Patterns.{match_length, pattern_of};
 ghost use Rattle.lrlex.specs.Active.{active_count, is_state};
 ghost use Rattle.lrlex.specs.Tiling.{Wins, IsStuck};
-ghost use Rattle.lrlex.specs.Parts.{as_rule, rule_regex};
+ghost use Rattle.lrlex_rules.specs.Parts.{as_rule};
 ghost use Rattle.lrlex.specs.Views.{definition_of, ArePaired};
 
 use crate::lexer::definition::LRNonStreamingLexerDef;
-use crate::rules::Rule;
 use lrlex_base::{Id, LexerTypes};
+use lrlex_rules::Rule;
 use regex::Matcher;
 use std::alloc::{AllocError, Global};
 
@@ -20,9 +21,9 @@ pub(crate) struct Tile {
 }
 
 /// How many bytes of the text the rule's pattern matches. No other function searches.
-#[tactic(auto, unfolding(crate::specs::Patterns::match_length))]
+#[tactic(auto, unfolding(lrlex_rules::specs::Patterns::match_length))]
 fn ask<S: Id>(matcher: &mut Matcher<'_>, rule: &Rule<S>, text: &str, asked: &mut u128) -> usize
-    requires rule { matcher_pattern matcher.old ≡ regex_pattern (rule_regex rule.now) }
+    requires rule { SameCaptures (matcher_pattern matcher.old) (pattern_of (as_rule S.number rule.now)) }
     requires room { asked.old + 1 < 2 ^ 128 }
     ensures length { result ≡ match_length (pattern_of (as_rule S.number rule.now)) text.now }
     ensures boundary { IsCharBoundary text.now result }
@@ -48,7 +49,7 @@ pub(crate) fn matchers_of<'d, S: Id>(
 {
     let mut matchers = Vec::with_capacity(alloc, rules.len())?;
     'rules: for index in 0..rules.len() {
-        matchers.push(rules[index].re.matcher(alloc)?)?;
+        matchers.push(rules[index].matcher(alloc)?)?;
     }
     Ok(matchers)
 }

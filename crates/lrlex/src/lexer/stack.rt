@@ -2,7 +2,7 @@ ghost use Rattle.std.specs.Prelude.{◌≡◌, ◌+◌, ◌-◌, ◌^◌, ◌<�
 ghost use Rattle.lrlex.specs.Tiling.{top, or_initial, stack_after};
 ghost use Rattle.lrlex.specs.Runs.{plain, AreRuns};
 
-use crate::states::StartStateOperation;
+use lrlex_rules::StartStateOperation;
 use std::alloc::AllocError;
 
 /// Puts the state on top of the stack.

@@ -1,6 +1,6 @@
 -- The lines of the items so far stand in `bytes`.
 use Rattle.std.proofs.Common.{◌≡◌, map, take}
-use Rattle.lrlex.specs.Parts.{as_rule}
+use Rattle.lrlex_rules.specs.Parts.{as_rule}
 use Rattle.lrlex.specs.Views.{item_of}
 use Rattle.lrlex_cli.specs.Lines.{lines}
 use Rattle.lrlex_cli.proofs.lines.lines.Given as goal

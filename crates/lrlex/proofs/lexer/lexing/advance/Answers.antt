@@ -1,10 +1,10 @@
 use Rattle.std.proofs.Common.{◌≡◌, ◌+◌, ◌<◌, ◌≤◌, List, [], ◌∷◌, ◌++◌, None, length, drop, sym, ap, ◌∙◌, subst, arith, append_assoc, IsCharBoundary}
 use Rattle.std.proofs.lemmas.List.{length-map}
 use Rattle.std.proofs.lemmas.Str.{IsCharBoundary-from_rest}
-use Rattle.lrlex.specs.Definition.{Rule}
+use Rattle.lrlex_rules.specs.Definition.{Rule}
 use Rattle.lrlex.specs.Active.{active_count, lacks_id, lacks_target, lexeme_id}
 use Rattle.lrlex.specs.Tiling.{Tile, Item, Error, top, IsStuck, IsTaken, stack_after, lexeme_of, tile_items, NoMatch, NoId, NoTarget}
-use Rattle.lrlex.specs.Parts.{as_rule}
+use Rattle.lrlex_rules.specs.Parts.{as_rule}
 use Rattle.lrlex.specs.Runs.{plain}
 use Rattle.lrlex.specs.Reach.{Reached}
 use Rattle.lrlex.specs.Views.{definition_of, items_by}
@@ -132,7 +132,7 @@ returns-clause-goes_on g c on =
     let count : length c.give.new.items.items ≡ length (items_by g.L.StorageT.Id.number g.L.LexemeT.Lexeme.id_of g.L.LexemeT.Lexeme.start_of g.L.LexemeT.Lexeme.len_of g.L.LexemeT.Lexeme.is_faulty n.items.items) = ap length (sym e.items) ∙ sym (length-map n.items.items _) in
     subst (λ i. Reached d text i n.stack.items (items_by g.L.StorageT.Id.number g.L.LexemeT.Lexeme.id_of g.L.LexemeT.Lexeme.start_of g.L.LexemeT.Lexeme.len_of g.L.LexemeT.Lexeme.is_faulty n.items.items) n.boundaries n.asked) (sym e.place)
     (Reached-more d text p.place p.stack.items found p.boundaries p.asked r n.stack.items (items_by g.L.StorageT.Id.number g.L.LexemeT.Lexeme.id_of g.L.LexemeT.Lexeme.start_of g.L.LexemeT.Lexeme.len_of g.L.LexemeT.Lexeme.is_faulty n.items.items) n.boundaries n.asked t c.requires.inside taken few
-    e.runs (e.moved ∙ sym (ap (λ (x : Rule). stack_after (plain p.stack.items) x.target) rule_is)) more
+    e.runs (e.moved ∙ ap (stack_after (plain p.stack.items)) c.target_state.ensures ∙ sym (ap (λ (x : Rule). stack_after (plain p.stack.items) x.target) rule_is)) more
     (e.kept ∙ ap (λ i. p.boundaries ++ record { place = p.place + t.len; given = i; runs = n.stack.items } ∷ []) count))
 
 pub returns-clause-boundary : goal.returns-clause-boundary

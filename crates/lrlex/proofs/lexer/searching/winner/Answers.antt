@@ -1,16 +1,18 @@
 use Rattle.std.proofs.Common.{◌≡◌, ◌+◌, ◌<◌, length, get_or, slice_get, slice_set, refl, sym, ap, ◌∙◌, subst, arith, IsCharBoundary}
 use Rattle.std.proofs.lemmas.Str.{IsCharBoundary-start}
 use Rattle.std.proofs.lemmas.List.{length-map}
-use Rattle.regex.specs.Strings.{regex_pattern, matcher_pattern}
+use Rattle.regex.specs.Patterns.{SameCaptures}
+use Rattle.regex.specs.Strings.{matcher_pattern}
 use Rattle.regex.proofs.SetLemmas.{patterns_stay}
 use Rattle.lrlex.specs.Active.{taken}
-use Rattle.lrlex.specs.Parts.{as_rule, rule_regex}
-use Rattle.lrlex.specs.Views.{definition_of, ArePaired}
+use Rattle.lrlex_rules.specs.Parts.{as_rule}
+use Rattle.lrlex_rules.specs.Patterns.{pattern_of}
+use Rattle.lrlex.specs.Views.{definition_of, AreAlike, patterns_of, ArePaired}
 use Rattle.lrlex.specs.declared.lexer.searching.Tile.{Tile}
 use Rattle.lrlex.proofs.BestLemmas.{Wins-of_IsBest, IsStuck-of_IsBest}
 use Rattle.lrlex.proofs.CountLemmas.{active_count-le}
 use Rattle.lrlex.proofs.ScanLemmas.{IsScanned, IsScanned-none, IsScanned-kept, IsScanned-taken, scanned_all, place_within, passes, length-places_of}
-use Rattle.lrlex.proofs.ViewLemmas.{paired_len, at_same_place, rule_at_place, taken_active}
+use Rattle.lrlex.proofs.ViewLemmas.{paired_len, paired_at, rule_at_place, taken_active}
 use Rattle.lrlex.proofs.lexer.searching.winner.Goals as goal
 use Rattle.lrlex.proofs.lexer.searching.winner.Goals.{then-better, else-better}
 
@@ -63,9 +65,9 @@ ask-len-requires g c =
     let inv = c.rules.invariant in
     let below = place_within d c.args.state c.args.text.now places c.rules.index c.rules.best.rule c.rules.best.len (get_or places c.rules.index 0) inv.scanned (omega arith) refl in
     record {
-      rule = ap matcher_pattern (sym read)
-          ∙ at_same_place matcher_pattern (λ r. regex_pattern (rule_regex r)) c.rules.matchers c.args.definition.now.table.rules.items (get_or places c.rules.index 0) m c.index-rule.result.now
-          inv.paired (omega (arith, rules_len)) read c.index-rule.ensures;
+      rule = subst (λ x. SameCaptures (matcher_pattern x) (pattern_of (as_rule g.L.StorageT.Id.number c.index-rule.result.now))) read
+          (paired_at g.L.StorageT.Id.number c.rules.matchers c.args.definition.now.table.rules.items (get_or places c.rules.index 0) m c.index-rule.result.now
+          inv.paired (omega (arith, rules_len)) read c.index-rule.ensures);
       room = omega (arith, c.args.definition.now.table.rules.ok.0, inv.counted, active_count-le d c.args.state);
     }
 
@@ -90,8 +92,9 @@ rules-preserved g c =
     taken_active d q text (slice_get d.rules place) (as_rule g.L.StorageT.Id.number r) (passes d q text places i c.rules.best.rule c.rules.best.len place inv.scanned within refl) rule
     ∙ sym c.ask-len.ensures.length in
     let paired : ArePaired (slice_set c.rules.matchers place c.ask-len.new.matcher) c.args.definition.now.table.rules.items =
-    patterns_stay matcher_pattern c.rules.matchers place m among read c.ask-len.new.matcher (c.ask-len.ensures.same ∙ ap matcher_pattern (sym read))
-    ∙ inv.paired in
+    subst (λ ps. AreAlike ps (patterns_of c.args.definition.now.table.rules.items))
+    (sym (patterns_stay matcher_pattern c.rules.matchers place m among read c.ask-len.new.matcher (c.ask-len.ensures.same ∙ ap matcher_pattern (sym read))))
+    inv.paired in
     elim c.if-better.branch [
       | then-better w ↦ record {
         paired = paired;

@@ -1,11 +1,12 @@
-use Rattle.std.proofs.Common.{Ok, None, ap, sym, subst, ◌∙◌}
-use Rattle.lrlex.specs.Answer.{IsAnswer, settings}
-use Rattle.lrlex.specs.Definition.{Definition}
-use Rattle.lrlex.specs.Reading.{as_definition}
+use Rattle.std.proofs.Common.{Ok, ap, sym, subst, ◌∙◌}
+use Rattle.std.specs.Prelude.{◌≡◌, IfOk, Some, slice_get}
+use Rattle.lrlex_rules.specs.Answer.{IsAnswer}
+use Rattle.lrlex_rules.specs.Declaration.{initial}
+use Rattle.lrlex_rules.specs.Definition.{Definition}
+use Rattle.lrlex_rules.specs.Laws.{IsLawful}
+use Rattle.lrlex_rules.specs.Reading.{as_definition}
 use Rattle.lrlex.specs.Views.{definition_of}
-use Rattle.lrlex.proofs.Initial.{outcome_initial}
-use Rattle.lrlex.proofs.Lawful.{outcome_lawful}
-use Rattle.lrlex.proofs.Parted.{definition_of-parts}
+use Rattle.lrlex.proofs.Parted.{definition_of-parts, has_initial}
 use Rattle.lrlex.proofs.lexer.definition.LRNonStreamingLexerDef.new_with_options.Goals as goal
 
 pub returns-in_ok-definition-in-Ok-clause-answer : goal.returns-in_ok-definition-in-Ok-clause-answer
@@ -16,12 +17,19 @@ returns-in_ok-definition-in-Ok-clause-answer g c =
     subst (IsAnswer (as_definition number) c.args.flags g.L.StorageT.Id.greatest c.args.text.now) c.in-Ok.is c.in_ok-file.ensures.answer in
     ap (λ (d : Definition). Ok d) (definition_of-parts number made.definition c.in-Ok.file made.ensures.rules made.ensures.states made.ensures.flags) ∙ said
 
-pub returns-in_ok-definition-in-Ok-clause-initial : goal.returns-in_ok-definition-in-Ok-clause-initial
-returns-in_ok-definition-in-Ok-clause-initial g c =
-    outcome_initial (settings c.args.flags g.L.StorageT.Id.greatest None) c.args.text.now (definition_of g.L.StorageT.Id.number c.in_ok-definition-in-Ok.definition)
-    (sym (returns-in_ok-definition-in-Ok-clause-answer g c))
-
 pub returns-in_ok-definition-in-Ok-clause-lawful : goal.returns-in_ok-definition-in-Ok-clause-lawful
 returns-in_ok-definition-in-Ok-clause-lawful g c =
-    outcome_lawful (settings c.args.flags g.L.StorageT.Id.greatest None) c.args.text.now (definition_of g.L.StorageT.Id.number c.in_ok-definition-in-Ok.definition) c.utf8.text
-    (sym (returns-in_ok-definition-in-Ok-clause-answer g c))
+    let number = g.L.StorageT.Id.number in
+    let made = c.in_ok-definition-in-Ok in
+    let said : IsLawful c.args.text.now (as_definition number c.in-Ok.file) =
+    subst (λ answer. IfOk answer (λ file. IsLawful c.args.text.now (as_definition number file))) c.in-Ok.is c.in_ok-file.ensures.lawful in
+    subst (IsLawful c.args.text.now) (sym (definition_of-parts number made.definition c.in-Ok.file made.ensures.rules made.ensures.states made.ensures.flags)) said
+
+pub returns-in_ok-definition-in-Ok-clause-initial : goal.returns-in_ok-definition-in-Ok-clause-initial
+returns-in_ok-definition-in-Ok-clause-initial g c =
+    let number = g.L.StorageT.Id.number in
+    let made = c.in_ok-definition-in-Ok in
+    let first : slice_get (as_definition number c.in-Ok.file).states 0 ≡ Some initial =
+    subst (λ answer. IfOk answer (λ file. slice_get (as_definition number file).states 0 ≡ Some initial)) c.in-Ok.is c.in_ok-file.ensures.first in
+    has_initial (definition_of number made.definition).states
+    (subst (λ (d : Definition). slice_get d.states 0 ≡ Some initial) (sym (definition_of-parts number made.definition c.in-Ok.file made.ensures.rules made.ensures.states made.ensures.flags)) first)

@@ -1,8 +1,0 @@
-mod builder;
-mod declaration;
-mod duplicates;
-mod fatal;
-mod rule_line;
-mod text;
-
-pub(crate) use crate::parser::builder::{RuleFile, read_rules};

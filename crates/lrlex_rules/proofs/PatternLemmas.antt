@@ -1,0 +1,42 @@
+-- A compiled rule gives what its text is read as.
+use Rattle.std.proofs.Common.{◌≡◌, ℕ, ◌≤◌, ◌<◌, true, List, length, get_or, Option, None, Some, IsSomeAnd, ap, subst}
+use Rattle.std.specs.Option.{option_map_or}
+use Rattle.std.specs.Str.{chars}
+use Rattle.std.proofs.Props.{props}
+use Rattle.std.proofs.Math.Logic.{∥∥₁_elim}
+use Rattle.regex_syntax.specs.Brackets.{Nested}
+use Rattle.regex_syntax.specs.Grammar.{Names, group_count, read}
+use Rattle.regex_syntax.specs.Verdict.{Reads}
+use Rattle.regex.specs.Patterns.{Re, SameCaptures, empty}
+use Rattle.regex.specs.Strings.{regex_pattern, regex_config, regex_source, IsReadFromSource}
+use Rattle.regex.specs.declared.string.regex.Regex.{Regex}
+use Rattle.regex.proofs.ForCallers.{span_alike}
+use Rattle.lrlex_rules.specs.Parts.{as_rule}
+use Rattle.lrlex_rules.specs.Patterns.{pattern_read, pattern_of, end_from_zero, match_length}
+use Rattle.lrlex_rules.specs.declared.rules.Rule as code
+
+read_value : (o : Option (Nested Re × Names)) (most : ℕ) (a : Re) (names : Names) →
+    IsSomeAnd o (λ (re, found). (re.depth ≤ most) × SameCaptures a re.value × (names ≡ found) × (group_count a ≤ length names)) →
+    SameCaptures a (option_map_or (λ found. found.0.value) o empty)
+read_value None most a names h = absurd h
+read_value (Some x) most a names h = h.1
+
+as_read : (r : Regex) → IsReadFromSource r → SameCaptures (regex_pattern r) (pattern_read (regex_config r) (regex_source r))
+unfolding Reads pattern_read
+as_read r h = read_value (read (regex_config r) (chars (regex_source r))) _ (regex_pattern r) _ h
+
+outcomes_prop : (a b : Option (ℕ × (ℕ → Option ℕ))) → IsProp (a ≡ b)
+outcomes_prop a b = Prim.hlevel props
+
+-- the compiled pattern of a rule gives the matches and captures of the rule's pattern
+pub rule_alike : {S : Type 0} (number : S → ℕ) (r : code.Rule S) → SameCaptures (regex_pattern r.re) (pattern_of (as_rule number r))
+unfolding pattern_of
+rule_alike number r =
+    let read : SameCaptures (regex_pattern r.re) (pattern_read (regex_config r.re) (regex_source r.re)) =
+    record { at = λ hay bytes k i. ∥∥₁_elim r.read (outcomes_prop _ _) (λ h. (as_read r.re h).at hay bytes k i) } in
+    subst (λ source. SameCaptures (regex_pattern r.re) (pattern_read (regex_config r.re) source)) r.source read
+
+-- and such patterns match equally much
+pub length_alike : (a b : Re) → SameCaptures a b → (text : List ℕ) → ((k : ℕ) → get_or text k 0 < 256) → match_length a text ≡ match_length b text
+unfolding match_length
+length_alike a b same text bytes = ap (end_from_zero text) (span_alike same text bytes true 0)

@@ -1,0 +1,12 @@
+use Rattle.std.proofs.Common.{sym, subst}
+use Rattle.regex.specs.Patterns.{SameCaptures}
+use Rattle.lrlex_rules.specs.Parts.{as_rule}
+use Rattle.lrlex_rules.specs.Patterns.{pattern_of}
+use Rattle.lrlex_rules.proofs.Lists.{if_ok}
+use Rattle.lrlex_rules.proofs.PatternLemmas.{rule_alike}
+use Rattle.lrlex_rules.proofs.rules.Rule.matcher.Goals as goal
+
+pub returns : goal.returns
+returns g c =
+    let rule = c.args.self.now in
+    if_ok c.matcher.result (λ m e. subst (λ re. SameCaptures re (pattern_of (as_rule g.StorageT.Id.number rule))) (sym e) (rule_alike g.StorageT.Id.number rule)) c.matcher.ensures.pattern

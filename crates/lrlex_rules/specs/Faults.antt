@@ -1,0 +1,42 @@
+-- What contracts see of faults.
+use Rattle.std.specs.Prelude.{ℕ, ◌<◌, List, All, codes, length, Option, Some, None}
+use Rattle.lrlex_base.specs.declared.spans.Span.{Span}
+use Rattle.lrlex_base.specs.declared.spans.SpansKind.{SpansKind}
+use Rattle.lrlex_base.specs.declared.spans.SpansKind.TheVariants as shown
+use Rattle.lrlex_base.specs.Spans.{Fits}
+use Rattle.lrlex_rules.specs.declared.faults.LexErrorKind.{LexErrorKind}
+use Rattle.lrlex_rules.specs.declared.faults.LexErrorKind.TheVariants.{PrematureEnd, RoutinesNotSupported, UnknownDeclaration, MissingSpace, InvalidName, UnknownStartState, DuplicateStartState, InvalidStartState, InvalidStartStateName, DuplicateName, RegexError, VerbatimNotSupported, TooManyRules}
+use Rattle.lrlex_rules.specs.declared.faults.LexBuildError.{LexBuildError}
+
+-- the text of a fault, where it has no words of `regex`
+abbrev pub kind_text : LexErrorKind → Option (List ℕ)
+kind_text PrematureEnd = Some (codes "File ends prematurely")
+kind_text RoutinesNotSupported = Some (codes "Routines not currently supported")
+kind_text UnknownDeclaration = Some (codes "Unknown declaration")
+kind_text MissingSpace = Some (codes "Rule is missing a space")
+kind_text InvalidName = Some (codes "Invalid rule name")
+kind_text UnknownStartState = Some (codes "Start state not known")
+kind_text DuplicateStartState = Some (codes "Start state already exists")
+kind_text InvalidStartState = Some (codes "Invalid start state")
+kind_text InvalidStartStateName = Some (codes "Invalid start state name")
+kind_text DuplicateName = Some (codes "Rule name already exists")
+kind_text (RegexError e) = None
+kind_text VerbatimNotSupported = Some (codes "Verbatim code not supported")
+kind_text TooManyRules = Some (codes "Too many rules for the token id type")
+
+-- what the spans of a fault stand for
+abbrev pub kind_of_spans : LexErrorKind → SpansKind
+kind_of_spans DuplicateStartState = shown.DuplicationError
+kind_of_spans DuplicateName = shown.DuplicationError
+kind_of_spans _ = shown.Error
+
+abbrev pub fault_kind : LexBuildError → LexErrorKind
+fault_kind e = e.kind
+
+abbrev pub fault_spans : LexBuildError → List Span
+fault_spans e = e.spans.items
+
+-- the fault names a place, and each of its places is in the rule text
+pub record IsPlaced (rules : List ℕ) (e : LexBuildError) : Type 0 where
+  pub some : 0 < length (fault_spans e)
+  pub fit : All (Fits rules) (fault_spans e)

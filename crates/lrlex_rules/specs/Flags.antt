@@ -1,0 +1,45 @@
+-- The settings of a rule file.
+use Rattle.std.specs.Prelude.{ℕ, ◌*◌, ◌^◌, Bool, true, false, Option, Some, unwrap_or}
+use Rattle.regex.specs.Patterns.{Config}
+use Rattle.lrlex_rules.specs.declared.flags.LexFlags.{LexFlags}
+
+-- what an unset flag means, and the flags with that filled in: the others are left to `regex` (lrlex's defaults)
+abbrev pub or_default : {X : Type 0} → Option X → X → Option X
+or_default flag default = Some (unwrap_or flag default)
+
+abbrev pub resolved : LexFlags → LexFlags
+resolved flags = record flags {
+  octal = or_default flags.octal true;
+  multi_line = or_default flags.multi_line true;
+  dot_matches_new_line = or_default flags.dot_matches_new_line true;
+  posix_escapes = or_default flags.posix_escapes false;
+  allow_wholeline_comments = or_default flags.allow_wholeline_comments false;
+}
+
+-- whether escapes are POSIX lex's, and whether a line may be a comment
+abbrev pub has_posix_escapes : LexFlags → Bool
+has_posix_escapes flags = unwrap_or flags.posix_escapes false
+
+abbrev pub allows_comments : LexFlags → Bool
+allows_comments flags = unwrap_or flags.allow_wholeline_comments false
+
+-- the options of `regex` for these flags; what is unset and has no default of lrlex's is as `regex` has it
+abbrev pub config_of : LexFlags → Config
+config_of f = record {
+  flags = record {
+    case_insensitive = unwrap_or f.case_insensitive false;
+    multi_line = unwrap_or f.multi_line true;
+    dot_matches_new_line = unwrap_or f.dot_matches_new_line true;
+    swap_greed = unwrap_or f.swap_greed false;
+    unicode = unwrap_or f.unicode true;
+    crlf = false;
+    ignore_whitespace = unwrap_or f.ignore_whitespace false;
+  };
+  octal = unwrap_or f.octal true;
+  utf8 = true;
+  nest_limit = unwrap_or f.nest_limit 250;
+}
+
+-- the limit on a compiled pattern's size, in bytes
+abbrev pub size_limit_of : LexFlags → ℕ
+size_limit_of f = unwrap_or f.size_limit (10 * 2 ^ 20)

@@ -1,0 +1,111 @@
+ghost use Rattle.std.specs.Prelude.{◌≡◌};
+
+use lrlex_base::{Span, Spanned, SpansKind};
+use std::error::Error;
+use std::fmt;
+
+/// What reading a rule text answers: the definition, or all that is wrong with the text.
+pub type LexBuildResult<T> = Result<T, Vec<LexBuildError>>;
+
+/// What is wrong with a rule text.
+#[derive(Debug, Drop)]
+pub enum LexErrorKind {
+    /// The text ends before a line `%%`.
+    PrematureEnd,
+    /// Text stands behind the second `%%`.
+    RoutinesNotSupported,
+    /// A line before `%%` declares no start states.
+    UnknownDeclaration,
+    /// No space or tab parts a rule's pattern from its name.
+    MissingSpace,
+    /// A rule's name is neither `;` nor in quotes.
+    InvalidName,
+    /// A rule names a start state that isn't declared.
+    UnknownStartState,
+    /// A start state is declared again.
+    DuplicateStartState,
+    /// A `<` has no `>`.
+    InvalidStartState,
+    /// A start state's name is no letter with letters, digits, `_` and `.` behind.
+    InvalidStartStateName,
+    /// A rule has the name of an earlier one.
+    DuplicateName,
+    /// `regex` refuses the pattern.
+    RegexError(regex::Error),
+    /// A line between the rules begins with white space.
+    VerbatimNotSupported,
+    /// The id type has no id for the rule.
+    TooManyRules,
+}
+
+/// A fault of a rule text, and the places that it names: for a duplicate the first of its name, then the others.
+#[derive(Debug, Drop)]
+pub struct LexBuildError {
+    pub(crate) kind: LexErrorKind,
+    pub(crate) spans: Vec<Span>,
+}
+
+impl LexBuildError {
+    ghost use Rattle.lrlex_rules.specs.Faults.{fault_kind, fault_spans};
+
+    pub(crate) fn new(kind: LexErrorKind, spans: Vec<Span>) -> LexBuildError
+        ensures kind { fault_kind result ≡ kind }
+        ensures spans { fault_spans result ≡ spans.items }
+    {
+        LexBuildError { kind, spans }
+    }
+
+    /// What is wrong.
+    pub fn kind(&self) -> &LexErrorKind
+        ensures { result.now ≡ fault_kind self.now }
+    {
+        &self.kind
+    }
+}
+
+impl Spanned for LexBuildError {
+    ghost use Rattle.lrlex_rules.specs.Faults.{fault_kind, fault_spans, kind_of_spans};
+
+    ghost spans_of = { fault_spans };
+
+    ghost kind_of = { λ e. kind_of_spans (fault_kind e) };
+
+    fn spans(&self) -> &[Span] {
+        self.spans.as_slice()
+    }
+
+    fn spanskind(&self) -> SpansKind {
+        match self.kind {
+            LexErrorKind::DuplicateStartState | LexErrorKind::DuplicateName => {
+                SpansKind::DuplicationError
+            }
+            _ => SpansKind::Error,
+        }
+    }
+}
+
+impl fmt::Display for LexBuildError {
+    ghost use Rattle.lrlex_rules.specs.Faults.{fault_kind, kind_text};
+
+    ghost output = { λ e. kind_text (fault_kind e) };
+
+    fn fmt<W: fmt::Write>(&self, f: &mut fmt::Formatter<W>) -> fmt::Result {
+        match &self.kind {
+            LexErrorKind::PrematureEnd => write!(f, "File ends prematurely"),
+            LexErrorKind::RoutinesNotSupported => write!(f, "Routines not currently supported"),
+            LexErrorKind::UnknownDeclaration => write!(f, "Unknown declaration"),
+            LexErrorKind::MissingSpace => write!(f, "Rule is missing a space"),
+            LexErrorKind::InvalidName => write!(f, "Invalid rule name"),
+            LexErrorKind::UnknownStartState => write!(f, "Start state not known"),
+            LexErrorKind::DuplicateStartState => write!(f, "Start state already exists"),
+            LexErrorKind::InvalidStartState => write!(f, "Invalid start state"),
+            LexErrorKind::InvalidStartStateName => write!(f, "Invalid start state name"),
+            LexErrorKind::DuplicateName => write!(f, "Rule name already exists"),
+            LexErrorKind::RegexError(error) => write!(f, "Invalid regular expression: {error}"),
+            LexErrorKind::VerbatimNotSupported => write!(f, "Verbatim code not supported"),
+            LexErrorKind::TooManyRules => write!(f, "Too many rules for the token id type"),
+        }
+    }
+}
+
+impl Error for LexBuildError {}

@@ -1,0 +1,14 @@
+//! Rule files: flags, faults, start states, rules, and the reading of a rule text.
+#![tactic(auto)]
+
+mod faults;
+mod flags;
+mod parser;
+mod rules;
+mod states;
+
+pub use crate::faults::{LexBuildError, LexBuildResult, LexErrorKind};
+pub use crate::flags::{DEFAULT_LEX_FLAGS, LexFlags, UNSPECIFIED_LEX_FLAGS};
+pub use crate::parser::{RuleFile, read_rules};
+pub use crate::rules::Rule;
+pub use crate::states::{StartState, StartStateId, StartStateOperation};

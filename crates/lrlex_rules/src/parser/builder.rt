@@ -1,0 +1,432 @@
+ghost use Rattle.std.specs.Prelude.{◌≡◌, ◌-◌, ◌^◌, ◌<◌, ◌∷◌, [], length, map, slice_get, false, OnOk, IfOk, All};
+ghost use Rattle.std.specs.Result.{IfErr};
+ghost use Rattle.std.specs.List.{find, flat_map};
+ghost use Rattle.std.specs.String.{string_bytes};
+ghost use Rattle.std.specs.Option.{option_copied, option_map};
+ghost use Rattle.lrlex_rules.specs.declared.flags.LexFlags.{LexFlags};
+ghost use Rattle.lrlex_rules.specs.Flags.{allows_comments};
+ghost use Rattle.lrlex_rules.specs.Parts.{as_rule};
+ghost use Rattle.lrlex_rules.specs.Event.{fault_at, span_of, rules_of};
+ghost use Rattle.lrlex_rules.specs.Event.Event.{Fatal, Verbatim, NewState};
+ghost use Rattle.lrlex_rules.specs.Declaration.{initial, declarations, trimmed_lines, section_end, state_event, declared_name, declared_by};
+ghost use Rattle.lrlex_rules.specs.Outcome.{then_fatal, rules_events, events_after, has_name, rule_named, rule_event, split_event, line_event};
+ghost use Rattle.lrlex_rules.specs.Kinds.{as_kind, is_regex_error};
+ghost use Rattle.lrlex_rules.specs.Faults.{IsPlaced};
+ghost use Rattle.lrlex_rules.specs.Laws.{IsLawful};
+ghost use Rattle.lrlex_rules.specs.Reading.{name_of, as_piece, as_parts, as_pattern, AddsLine, ReadsLines, AreApart, MarkAt, IsAnswer, AreOwnRefusals, as_definition, refused_of, Represents, Adds, AddsRefused, Reads, EndBy, line_end};
+
+use crate::faults::{LexBuildError, LexErrorKind};
+use crate::flags::LexFlags;
+use crate::parser::declaration::{declares_exclusive, is_state_name, state_named};
+use crate::parser::duplicates::{Named, add_duplicate};
+use crate::parser::rule_line::{Parts, Pattern, pattern_of, split};
+use crate::parser::text::{
+    Line, begins_with_white, behind, first_word, is_white, read_section, skip_blanks, split_names,
+    trim_head,
+};
+use crate::rules::Rule;
+use crate::states::StartState;
+use lrlex_base::{Id, Span};
+use std::alloc::{AllocError, Global};
+
+impl<StorageT: Id> Rule<StorageT> {
+    /// Whether the rule has this name.
+    fn has_name(&self, name: &str) -> bool
+        ensures { result ≡ has_name name.now (as_rule StorageT.number self.now) }
+    {
+        match &self.name {
+            Some(own) => own.as_str() == name,
+            None => false,
+        }
+    }
+}
+
+/// The first rule with this name.
+fn find_rule<'r, StorageT: Id>(
+    rules: &'r [Rule<StorageT>],
+    name: &str,
+) -> Option<&'r Rule<StorageT>>
+    ensures { option_map (as_rule StorageT.number) (option_copied result)
+        ≡ find (has_name name.now) (map (as_rule StorageT.number) rules.now) }
+{
+    for rule in rules {
+        if rule.has_name(name) {
+            return Some(rule);
+        }
+    }
+    None
+}
+
+/// The first rule with this name, if it is one.
+fn rule_named<'r, StorageT: Id>(
+    rules: &'r [Rule<StorageT>],
+    name: Option<&str>,
+) -> Option<&'r Rule<StorageT>>
+    ensures { option_map (as_rule StorageT.number) (option_copied result)
+        ≡ rule_named (map (as_rule StorageT.number) rules.now) (option_copied name.entry) }
+{
+    match name {
+        Some(name) => find_rule(rules, name),
+        None => None,
+    }
+}
+
+/// A name of its own, if there is one.
+fn owned(alloc: Global, name: Option<&str>) -> Result<Option<String>, AllocError>
+    ensures { IfOk result (λ copy. option_map string_bytes copy ≡ option_copied name.entry) }
+{
+    match name {
+        Some(name) => {
+            let copy = String::from_str(alloc, name)?;
+            Ok(Some(copy))
+        }
+        None => Ok(None),
+    }
+}
+
+/// What has been read so far.
+#[derive(Drop)]
+pub(crate) struct Builder<StorageT> {
+    states: Vec<StartState>,
+    rules: Vec<Rule<StorageT>>,
+    errors: Vec<LexBuildError>,
+    is_refused: bool,
+}
+
+impl<StorageT: Id> Builder<StorageT> {
+    /// A builder that has the state with which each rule file begins.
+    fn new(alloc: Global) -> Result<Builder<StorageT>, AllocError>
+        ensures { IfOk result (λ b. (flags : LexFlags) → Represents StorageT.number flags b (NewState initial ∷ [])) }
+    {
+        let first = StartState::new(alloc, 0, "INITIAL", false, Span::new(0, 0))?;
+        let states = vec![in alloc; first]?;
+        Ok(Builder {
+            states,
+            rules: Vec::new(alloc),
+            errors: Vec::new(alloc),
+            is_refused: false,
+        })
+    }
+
+    /// Ends the reading with a fault that is not `regex`'s.
+    fn refuse(&mut self, alloc: Global, kind: LexErrorKind, at: usize) -> Result<(), AllocError>
+        requires calm { self.old.is_refused ≡ false }
+        requires own { is_regex_error (as_kind kind) ≡ false }
+        ensures adds { OnOk result (Adds StorageT.number self.old self.new
+            (λ events. Fatal (fault_at (as_kind kind) at))) }
+        ensures keeps { OnOk result (refused_of self.new ≡ refused_of self.old) }
+    {
+        let spans = vec![in alloc; Span::new(at, at)]?;
+        self.errors.push(LexBuildError::new(kind, spans))?;
+        self.is_refused = true;
+        Ok(())
+    }
+
+    /// Ends the reading at a pattern that `regex` refuses.
+    fn refuse_pattern(
+        &mut self,
+        alloc: Global,
+        error: regex::Error,
+        at: usize,
+    ) -> Result<(), AllocError>
+        requires { self.old.is_refused ≡ false }
+        ensures { OnOk result (AddsRefused StorageT.number self.old self.new error at) }
+    {
+        let spans = vec![in alloc; Span::new(at, at)]?;
+        let kind = LexErrorKind::RegexError(error);
+        self.errors.push(LexBuildError::new(kind, spans))?;
+        self.is_refused = true;
+        Ok(())
+    }
+
+    /// Reads a state's name.
+    fn declare(&mut self, alloc: Global, name: Line, exclusive: bool) -> Result<(), AllocError>
+        requires fits { line_end name < 2 ^ 64 }
+        requires calm { self.old.is_refused ≡ false }
+        ensures { OnOk result (Adds StorageT.number self.old self.new
+            (λ events. state_event events (declared_name exclusive (as_piece name.entry)))) }
+    {
+        if !is_state_name(name.text) {
+            return self.refuse(alloc, LexErrorKind::InvalidStartStateName, name.at);
+        }
+        let span = Span::new(name.at, name.at + name.text.len());
+        if let Some(original) = state_named(self.states.as_slice(), name.text) {
+            let first = original.name_span;
+            return add_duplicate(alloc, &mut self.errors, Named::State, first, span);
+        }
+        let id = self.states.len();
+        let state = StartState::new(alloc, id, name.text, exclusive, span)?;
+        self.states.push(state)?;
+        Ok(())
+    }
+
+    /// Reads the names of a declaration.
+    fn declare_all(
+        &mut self,
+        alloc: Global,
+        names: &[Line],
+        exclusive: bool,
+    ) -> Result<(), AllocError>
+        requires { EndBy (2 ^ 64 - 1) names.now }
+        ensures { OnOk result (Reads StorageT.number self.old self.new
+            (λ events. events_after state_event events (map (name_of exclusive) names.now))) }
+    {
+        for name in names {
+            if self.is_refused {
+                break;
+            }
+            self.declare(alloc, *name, exclusive)?;
+        }
+        Ok(())
+    }
+
+    /// Reads a declaration.
+    fn declaration(&mut self, alloc: Global, line: Line) -> Result<(), AllocError>
+        requires fits { line_end line < 2 ^ 64 }
+        requires calm { self.old.is_refused ≡ false }
+        ensures { OnOk result (Reads StorageT.number self.old self.new
+            (λ events. events_after state_event events (declared_by (as_piece line.entry)))) }
+    {
+        let (word, rest) = first_word(line.text);
+        let rest = Line {
+            at: line.at + word.len(),
+            text: rest,
+        };
+        let parameters = rest.trim();
+        match declares_exclusive(word) {
+            Some(exclusive) if !parameters.text.is_empty() => {
+                let names = split_names(alloc, parameters)?;
+                self.declare_all(alloc, names.as_slice(), exclusive)
+            }
+            _ => self.refuse(alloc, LexErrorKind::UnknownDeclaration, line.at),
+        }
+    }
+
+    /// Reads the lines of the declarations.
+    fn declarations(&mut self, alloc: Global, lines: &[Line]) -> Result<(), AllocError>
+        requires { EndBy (2 ^ 64 - 1) lines.now }
+        ensures { OnOk result (Reads StorageT.number self.old self.new
+            (λ events. events_after state_event events (flat_map declared_by (map as_piece lines.now)))) }
+    {
+        for line in lines {
+            if self.is_refused {
+                break;
+            }
+            self.declaration(alloc, *line)?;
+        }
+        Ok(())
+    }
+
+    /// Reads a line that begins with white space.
+    fn verbatim(&mut self, alloc: Global, line: Line) -> Result<(), AllocError>
+        requires fits { line_end line < 2 ^ 64 }
+        requires calm { self.old.is_refused ≡ false }
+        ensures { OnOk result (Adds StorageT.number self.old self.new
+            (λ events. Verbatim (span_of (as_piece line.entry)))) }
+    {
+        let span = Span::new(line.at, line.at + line.text.len());
+        let spans = vec![in alloc; span]?;
+        let kind = LexErrorKind::VerbatimNotSupported;
+        self.errors.push(LexBuildError::new(kind, spans))?;
+        Ok(())
+    }
+
+    /// Adds a rule with these parts and this pattern.
+    fn add_rule(
+        &mut self,
+        alloc: Global,
+        at: usize,
+        parts: Parts,
+        pattern: Pattern,
+        flags: &LexFlags,
+    ) -> Result<(), AllocError>
+        requires { self.old.is_refused ≡ false }
+        ensures { OnOk result (AddsLine StorageT.number flags.now StorageT.greatest self.old self.new at
+            (λ s events. rule_event s (rules_of events) at (as_parts parts.entry) (as_pattern pattern))) }
+    {
+        let Some(id) = StorageT::from_count(self.rules.as_slice().len()) else {
+            return self.refuse(alloc, LexErrorKind::TooManyRules, at);
+        };
+        let name = owned(alloc, parts.label.name)?;
+        let Pattern { start_states, text } = pattern;
+        match Rule::new(
+            alloc,
+            Some(id),
+            name,
+            parts.label.span,
+            text,
+            start_states,
+            parts.target,
+            flags,
+        )? {
+            Ok(rule) => {
+                self.rules.push(rule)?;
+                Ok(())
+            }
+            Err(error) => self.refuse_pattern(alloc, error, at),
+        }
+    }
+
+    /// Reads a rule line that has these parts.
+    fn rule(
+        &mut self,
+        alloc: Global,
+        at: usize,
+        parts: Parts,
+        flags: &LexFlags,
+    ) -> Result<(), AllocError>
+        requires { self.old.is_refused ≡ false }
+        ensures { OnOk result (AddsLine StorageT.number flags.now StorageT.greatest self.old self.new at
+            (λ s events. split_event s events at (Ok (as_parts parts.entry)))) }
+    {
+        if let Some(original) = rule_named(self.rules.as_slice(), parts.label.name) {
+            let first = original.name_span;
+            return add_duplicate(
+                alloc,
+                &mut self.errors,
+                Named::Rule,
+                first,
+                parts.label.span,
+            );
+        }
+        let posix = flags.posix_escapes.unwrap_or(false);
+        let head = trim_head(parts.head);
+        match pattern_of(alloc, self.states.as_slice(), at, head, posix)? {
+            Ok(pattern) => self.add_rule(alloc, at, parts, pattern, flags),
+            Err(fatal) => self.refuse(alloc, fatal.kind, fatal.at),
+        }
+    }
+
+    /// Reads a line of the rules section.
+    fn line(&mut self, alloc: Global, line: Line, flags: &LexFlags) -> Result<(), AllocError>
+        requires fits { line_end line < 2 ^ 64 }
+        requires calm { self.old.is_refused ≡ false }
+        ensures { OnOk result (AddsLine StorageT.number flags.now StorageT.greatest self.old self.new line.entry.at
+            (λ s events. line_event s events (as_piece line.entry))) }
+    {
+        if begins_with_white(line.text) {
+            return self.verbatim(alloc, line);
+        }
+        match split(self.states.as_slice(), line) {
+            Ok(parts) => self.rule(alloc, line.at, parts, flags),
+            Err(fatal) => self.refuse(alloc, fatal.kind, fatal.at),
+        }
+    }
+
+    /// Reads the lines of the rules section.
+    fn lines(&mut self, alloc: Global, lines: &[Line], flags: &LexFlags) -> Result<(), AllocError>
+        requires fit { EndBy (2 ^ 64 - 1) lines.now }
+        requires apart { AreApart lines.now }
+        ensures { OnOk result (ReadsLines StorageT.number flags.now StorageT.greatest self.old self.new
+            (λ s events. events_after (line_event s) events (map as_piece lines.now))) }
+    {
+        for line in lines {
+            if self.is_refused {
+                break;
+            }
+            self.line(alloc, *line, flags)?;
+        }
+        Ok(())
+    }
+
+    /// The same, unless the reading has ended.
+    fn then_refuse(
+        &mut self,
+        alloc: Global,
+        kind: LexErrorKind,
+        at: usize,
+    ) -> Result<(), AllocError>
+        requires { is_regex_error (as_kind kind) ≡ false }
+        ensures reads { OnOk result (Reads StorageT.number self.old self.new
+            (λ events. then_fatal events (as_kind kind) at)) }
+        ensures keeps { OnOk result (refused_of self.new ≡ refused_of self.old) }
+    {
+        if self.is_refused {
+            return Ok(());
+        }
+        self.refuse(alloc, kind, at)
+    }
+
+    /// Reads the rules section behind this mark.
+    fn rules(
+        &mut self,
+        alloc: Global,
+        text: &str,
+        mark: Line,
+        flags: &LexFlags,
+    ) -> Result<(), AllocError>
+        requires fits { length text.now < 2 ^ 64 }
+        requires mark { MarkAt 0 text.now mark }
+        ensures { OnOk result (ReadsLines StorageT.number flags.now StorageT.greatest self.old self.new
+            (λ s events. rules_events s text.now events (Some (as_piece mark.entry)))) }
+    {
+        let section = skip_blanks(behind(text, 0, mark));
+        let at = text.len() - section.len();
+        let comments = flags.allow_wholeline_comments.unwrap_or(false);
+        let rules = read_section(alloc, section, at, comments, false)?;
+        self.lines(alloc, rules.lines.as_slice(), flags)?;
+        let Some(end) = rules.end else {
+            return Ok(());
+        };
+        let routines = behind(section, at, end);
+        if is_white(routines) {
+            return Ok(());
+        }
+        self.then_refuse(alloc, LexErrorKind::RoutinesNotSupported, end.at)
+    }
+
+    /// Reads a rule text.
+    fn read(&mut self, alloc: Global, text: &str, flags: &LexFlags) -> Result<(), AllocError>
+        requires { length text.now < 2 ^ 64 }
+        ensures { OnOk result (ReadsLines StorageT.number flags.now StorageT.greatest self.old self.new
+            (λ s events. rules_events s text.now (events_after state_event events (declarations (allows_comments flags.now) text.now))
+            (section_end (trimmed_lines text.now)))) }
+    {
+        let comments = flags.allow_wholeline_comments.unwrap_or(false);
+        let declared = read_section(alloc, text, 0, comments, true)?;
+        self.declarations(alloc, declared.lines.as_slice())?;
+        match declared.end {
+            Some(mark) => self.rules(alloc, text, mark, flags),
+            None => self.then_refuse(alloc, LexErrorKind::PrematureEnd, text.len()),
+        }
+    }
+}
+
+/// What a rule text says: start states, rules and flags, none of which is unset that has a default.
+#[derive(Drop)]
+pub struct RuleFile<StorageT> {
+    pub states: Vec<StartState>,
+    pub rules: Vec<Rule<StorageT>>,
+    pub flags: LexFlags,
+}
+
+/// Reads a rule text, and compiles its patterns under these flags.
+pub fn read_rules<StorageT: Id>(
+    alloc: Global,
+    text: &str,
+    flags: LexFlags,
+) -> Result<Result<RuleFile<StorageT>, Vec<LexBuildError>>, AllocError>
+    ensures answer { IfOk result (IsAnswer (as_definition StorageT.number) flags StorageT.greatest text.now) }
+    ensures refusals { IfOk result (AreOwnRefusals flags StorageT.greatest text.now) }
+    ensures placed { IfOk result (λ answer. IfErr answer (λ faults. All (IsPlaced text.now) faults.items)) }
+    ensures lawful { IfOk result (λ answer. IfOk answer (λ file. IsLawful text.now (as_definition StorageT.number file))) }
+    ensures first { IfOk result (λ answer. IfOk answer (λ file. slice_get (as_definition StorageT.number file).states 0 ≡ Some initial)) }
+{
+    let resolved = flags.resolved();
+    let mut builder = Builder::<StorageT>::new(alloc)?;
+    builder.read(alloc, text, &resolved)?;
+    let Builder {
+        states,
+        rules,
+        errors,
+        ..
+    } = builder;
+    if !errors.as_slice().is_empty() {
+        return Ok(Err(errors));
+    }
+    Ok(Ok(RuleFile {
+        states,
+        rules,
+        flags: resolved,
+    }))
+}

@@ -1,0 +1,12 @@
+ghost use Rattle.std.specs.Prelude.{◌≡◌, false};
+ghost use Rattle.lrlex_rules.specs.Kinds.{as_kind, is_regex_error};
+
+use crate::faults::LexErrorKind;
+
+/// A fault that ends the reading, and its place. Such a fault is never `regex`'s.
+#[derive(Debug, Drop)]
+pub(crate) struct Fatal {
+    pub(crate) kind: LexErrorKind,
+    pub(crate) at: usize,
+    ghost own: { is_regex_error (as_kind kind) ≡ false },
+}

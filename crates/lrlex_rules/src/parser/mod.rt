@@ -1,0 +1,8 @@
+mod builder;
+mod declaration;
+mod duplicates;
+mod fatal;
+mod rule_line;
+mod text;
+
+pub use crate::parser::builder::{RuleFile, read_rules};
