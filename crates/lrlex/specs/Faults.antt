@@ -14,4 +14,3 @@ lex_error_state e = e.lexing_state
 -- what is printed of an error that stopped lexing at a place
 abbrev pub stop_text : ℕ → List ℕ
 stop_text at = codes "Couldn't lex input starting at byte " ++ decimal at
-

@@ -3,7 +3,10 @@ ghost use Rattle.lrlex_rules.specs.Answer.{IsAnswer, AreOwnRefusals};
 
 use crate::lexer::LRNonStreamingLexerDef;
 use lrlex_base::{Id, LexerTypes};
-use lrlex_rules::{DEFAULT_LEX_FLAGS, LexBuildResult, LexFlags, Rule, RuleFile, StartState, UNSPECIFIED_LEX_FLAGS, read_rules};
+use lrlex_rules::{
+    DEFAULT_LEX_FLAGS, LexBuildResult, LexFlags, Rule, RuleFile, StartState, UNSPECIFIED_LEX_FLAGS,
+    read_rules,
+};
 use std::alloc::{AllocError, Global};
 use std::slice::Iter;
 
