@@ -1,7 +1,8 @@
 -- The text of a token module.
-use Rattle.std.proofs.Common.{◌≡◌, ◌⊎◌, inl, inr, cond, not, Result, Ok, Err, subst, append_assoc, ℕ, ◌+◌, ◌<◌, Bool, true, false, ◌&&◌, ◌||◌, ◌==◌, List, [], ◌∷◌, ◌++◌, length, map, get_or, take, refl, sym, ◌∙◌, ap, arith}
+use Rattle.std.proofs.Common.{◌≡◌, ◌⊎◌, inl, inr, cond, not, Some, None, subst, append_assoc, ℕ, zero, suc, ◌+◌, ◌<◌, Bool, true, false, ◌&&◌, ◌||◌, ◌==◌, List, [], ◌∷◌, ◌++◌, length, map, get_or, take, refl, sym, ◌∙◌, ap, arith}
 use lib.Utf8.{encode, encodes}
-use Rattle.std.specs.List.{Contains, IsDistinct, list_all, list_any, flat_map}
+use Rattle.std.specs.Option.{option_or}
+use Rattle.std.specs.List.{Contains, IsDistinct, list_all, list_any, flat_map, join_by}
 use Rattle.std.specs.Str.{IsUtf8, bytes_eq, chars}
 use Rattle.std.specs.Cmp.{IsEquivalence}
 use Rattle.std.proofs.lemmas.Cmp.{nat_list_eq_equiv}
@@ -12,7 +13,7 @@ use Rattle.std.specs.List.Sorted.{IsSortedBy}
 use Rattle.std.proofs.lemmas.Grind.{flat_map-append}
 use Rattle.std.proofs.lemmas.Str.{chars-nil, encodes-chars, chars_past_char}
 use Rattle.unicode_ident.specs.Ident.{is_xid_start, is_xid_continue}
-use Rattle.lrlex_base.specs.TokenModule.{Token, ModuleFault, BadTokenName, SameConstant, constant_of, constants_after, is_identifier, is_identifier_chars}
+use Rattle.lrlex_base.specs.TokenModule.{Token, BadTokenName, SameConstant, constant_of, first_fault, is_identifier, is_identifier_chars}
 
 -- one more element's text
 pub flat_map_more : {X Y : Type 0} (f : Y → List ℕ) (v : X → Y) (xs : List X) (i : ℕ) (x : X) → i < length xs → x ≡ get_or xs i x
@@ -20,6 +21,23 @@ pub flat_map_more : {X Y : Type 0} (f : Y → List ℕ) (v : X → Y) (xs : List
 flat_map_more f v xs i x h e =
     ap (flat_map f) (map_more v xs i x h) ∙ flat_map-append f (map v (take i xs)) (v (get_or xs i x) ∷ [])
     ∙ ap (λ l. flat_map f (map v (take i xs)) ++ l) (append-nil (f (v (get_or xs i x)))) ∙ ap (λ y. flat_map f (map v (take i xs)) ++ f (v y)) (sym e)
+
+-- the first piece, and one more piece behind those before it
+pub join_by_first : {X Y : Type 0} (f : Y → List ℕ) (between : List ℕ) (v : X → Y) (xs : List X) (x : X) → 0 < length xs → x ≡ get_or xs 0 x
+    → join_by f between (map v (take 1 xs)) ≡ f (v x)
+join_by_first f between v [] x h e = absurd (omega arith)
+join_by_first f between v (y ∷ ys) x h e = append-nil (f (v y)) ∙ ap (λ z. f (v z)) (sym e)
+
+pub join_by_more : {X Y : Type 0} (f : Y → List ℕ) (between : List ℕ) (v : X → Y) (xs : List X) (i : ℕ) (x : X) → 0 < i → i < length xs → x ≡ get_or xs i x
+    → join_by f between (map v (take (i + 1) xs)) ≡ join_by f between (map v (take i xs)) ++ (between ++ f (v x))
+join_by_more f between v xs zero x l h e = absurd (omega arith)
+join_by_more f between v [] (suc i) x l h e = absurd (omega arith)
+join_by_more {Y = Y} f between v (y ∷ ys) (suc i) x l h e =
+    let piece : Y → List ℕ = λ z. between ++ f z in
+    let next : suc i + 1 ≡ suc (i + 1) = omega arith in
+    ap (λ n. join_by f between (map v (take n (y ∷ ys)))) next
+    ∙ ap (λ r. f (v y) ++ r) (flat_map_more piece v ys i x (omega arith) e)
+    ∙ sym (append_assoc (f (v y)) (flat_map piece (map v (take i ys))) (piece (v x)))
 
 -- an identifier of more than one character
 more_chars : (c : ℕ) (cs rest : List ℕ) → chars rest ≡ cs → IsUtf8 rest → 0 < length rest
@@ -42,9 +60,6 @@ pub identifier_of : (name rest : List ℕ) (c : ℕ) → IsUtf8 name → name �
     → is_identifier name ≡ ((is_xid_start c || (c == 95)) && list_all is_xid_continue (chars rest))
 identifier_of name rest c u e v h = ap is_identifier_chars (chars_past_char name rest c u e) ∙ identifier_more c rest v h
 
-abbrev after_test : List (List ℕ) → Token → List Token → Result (List (List ℕ)) ModuleFault
-after_test earlier token tokens = cond (list_any (bytes_eq (constant_of token)) earlier) (Err (SameConstant token.name)) (constants_after (earlier ++ constant_of token ∷ []) tokens)
-
 bool_cases : (b : Bool) → (b ≡ true) ⊎ (b ≡ false)
 bool_cases true = inl refl
 bool_cases false = inr refl
@@ -52,23 +67,28 @@ bool_cases false = inr refl
 bytes_equiv : IsEquivalence bytes_eq
 bytes_equiv = nat_list_eq_equiv
 
--- constants that were accepted are distinct
-pub constants_distinct : (earlier : List (List ℕ)) (tokens : List Token) (cs : List (List ℕ)) → constants_after earlier tokens ≡ Ok cs → IsDistinct bytes_eq earlier
-    → IsDistinct bytes_eq (earlier ++ map constant_of tokens)
-constants_distinct earlier [] cs e h = subst (IsDistinct bytes_eq) (sym (append-nil earlier)) h
-constants_distinct earlier (token ∷ tokens) cs e h =
+-- the constants of tokens without a fault are distinct
+pub constants_distinct : (earlier tokens : List Token) → first_fault earlier tokens ≡ None → IsDistinct bytes_eq (map constant_of earlier)
+    → IsDistinct bytes_eq (map constant_of (earlier ++ tokens))
+constants_distinct earlier [] e h = subst (λ l. IsDistinct bytes_eq (map constant_of l)) (sym (append-nil earlier)) h
+constants_distinct earlier (token ∷ tokens) e h =
     let c = constant_of token in
-    elim (bool_cases (not (list_all is_xid_continue (chars token.shown)))) [
-      | inl bad ↦ let wrong : Err (BadTokenName token.name) ≡ Ok cs = sym (ap (λ b. cond b (Err (BadTokenName token.name)) (after_test earlier token tokens)) bad) ∙ e in cc
-      | inr good ↦
-          let next : after_test earlier token tokens ≡ Ok cs = sym (ap (λ b. cond b (Err (BadTokenName token.name)) (after_test earlier token tokens)) good) ∙ e in
-          elim (bool_cases (list_any (bytes_eq c) earlier)) [
-            | inl had ↦ let wrong : Err (SameConstant token.name) ≡ Ok cs = sym (ap (λ b. cond b (Err (SameConstant token.name)) (constants_after (earlier ++ c ∷ []) tokens)) had) ∙ next in cc
-            | inr new ↦
-                let rest : constants_after (earlier ++ c ∷ []) tokens ≡ Ok cs = sym (ap (λ b. cond b (Err (SameConstant token.name)) (constants_after (earlier ++ c ∷ []) tokens)) new) ∙ next in
-                subst (IsDistinct bytes_eq) (append_assoc earlier (c ∷ []) (map constant_of tokens))
-                (constants_distinct (earlier ++ c ∷ []) tokens cs rest (IsDistinct-push bytes_equiv earlier c h new))
-          ]
+    let had = map constant_of earlier in
+    let same = λ (b : Bool). cond b (Some (SameConstant token.name)) None in
+    let next = first_fault (earlier ++ token ∷ []) tokens in
+    let told = λ (bad again : Bool). option_or (cond bad (Some (BadTokenName token.name)) (same again)) next in
+    let bad = not (list_all is_xid_continue (chars token.shown)) in
+    let again = list_any (bytes_eq c) had in
+    elim (bool_cases bad) [
+      | inl y ↦ let wrong : Some (BadTokenName token.name) ≡ None = sym (ap (λ b. told b again) y) ∙ e in cc
+      | inr n ↦ elim (bool_cases again) [
+        | inl y ↦ let wrong : Some (SameConstant token.name) ≡ None = sym (ap (λ b. told b again) n ∙ ap (told false) y) ∙ e in cc
+        | inr m ↦
+            let rest : next ≡ None = sym (ap (λ b. told b again) n ∙ ap (told false) m) ∙ e in
+            let more : IsDistinct bytes_eq (map constant_of (earlier ++ token ∷ [])) =
+            subst (IsDistinct bytes_eq) (sym (map-append constant_of earlier (token ∷ []))) (IsDistinct-push bytes_equiv had c h m) in
+            subst (λ l. IsDistinct bytes_eq (map constant_of l)) (append_assoc earlier (token ∷ []) tokens) (constants_distinct (earlier ++ token ∷ []) tokens rest more)
+      ]
     ]
 
 -- a list of views is sorted where the list is, by what is viewed

@@ -1,7 +1,8 @@
 -- The Rust module that names token ids.
-use Rattle.std.specs.Prelude.{ℕ, Bool, false, not, ◌≡◌, ◌&&◌, ◌||◌, ◌==◌, if◌then◌else◌, List, [], ◌∷◌, ◌++◌, codes, map, All, Contains, IfSome, Option, Result, Ok, Err, IsPermutation, IsSortedByKey, unwrap_or}
+use Rattle.std.specs.Prelude.{ℕ, Bool, false, not, ◌≡◌, ◌&&◌, ◌||◌, ◌==◌, if◌then◌else◌, List, [], ◌∷◌, ◌++◌, codes, map, All, Contains, IfSome, Option, Some, None, Result, Ok, Err, IsPermutation, IsSortedByKey, unwrap_or}
 use Rattle.std.specs.Ordering.{nat_cmp}
 use Rattle.std.specs.Cmp.Lexicographic.{slice_cmp}
+use Rattle.std.specs.Option.{option_or, option_map_or}
 use Rattle.std.specs.List.{list_all, list_any, flat_map, join_by}
 use Rattle.std.specs.Char.{to_ascii_uppercase}
 use Rattle.std.specs.Str.{chars, bytes_eq}
@@ -27,11 +28,11 @@ pub record Module : Type 0 where
   pub tokens : List Token
   pub dead_code : Bool
 
--- an identifier: `_` or XID_Start, then XID_Continue, and not `_` alone (Unicode's default identifiers; the Rust reference)
+-- an identifier: `_` (0x5F) or XID_Start, then XID_Continue, and not `_` alone (Unicode's default identifiers; the Rust reference)
 abbrev pub is_identifier_chars : List ℕ → Bool
 is_identifier_chars [] = false
 is_identifier_chars (c ∷ []) = is_xid_start c
-is_identifier_chars (c ∷ d ∷ cs) = (is_xid_start c || (c == 95)) && list_all is_xid_continue (d ∷ cs)
+is_identifier_chars (c ∷ d ∷ cs) = (is_xid_start c || (c == 0x5F)) && list_all is_xid_continue (d ∷ cs)
 
 abbrev pub is_identifier : List ℕ → Bool
 is_identifier name = is_identifier_chars (chars name)
@@ -40,12 +41,22 @@ is_identifier name = is_identifier_chars (chars name)
 abbrev pub constant_of : Token → List ℕ
 constant_of token = codes "T_" ++ map to_ascii_uppercase token.shown
 
--- the constants of the tokens, or the first fault, where earlier are those of the tokens before
-abbrev pub constants_after : List (List ℕ) → List Token → Result (List (List ℕ)) ModuleFault
-constants_after earlier [] = Ok earlier
-constants_after earlier (token ∷ tokens) =
-    if not (list_all is_xid_continue (chars token.shown)) then Err (BadTokenName token.name)
-    else (if list_any (bytes_eq (constant_of token)) earlier then Err (SameConstant token.name) else constants_after (earlier ++ constant_of token ∷ []) tokens)
+-- what is wrong with a token behind the earlier ones: a character that no identifier goes on with, or an earlier one's constant
+abbrev pub token_fault : List Token → Token → Option ModuleFault
+token_fault earlier token =
+    if not (list_all is_xid_continue (chars token.shown)) then Some (BadTokenName token.name)
+    else (if list_any (bytes_eq (constant_of token)) (map constant_of earlier) then Some (SameConstant token.name) else None)
+
+-- the first fault of the tokens behind the earlier ones
+abbrev pub first_fault : List Token → List Token → Option ModuleFault
+first_fault earlier [] = None
+first_fault earlier (token ∷ tokens) = option_or (token_fault earlier token) (first_fault (earlier ++ token ∷ []) tokens)
+
+-- the first fault of a module: its name's, its type's, then the tokens'
+abbrev pub module_fault : Module → Option ModuleFault
+module_fault m =
+    if not (is_identifier m.mod_name) then Some BadModuleName
+    else (if not (is_identifier m.type_name) then Some BadTypeName else first_fault [] m.tokens)
 
 -- the module's lines
 abbrev pub constant_line : List ℕ → Token → List ℕ
@@ -57,15 +68,9 @@ module_lines m =
     ++ (codes "mod " ++ (m.mod_name ++ (codes " {\n" ++ (flat_map (constant_line m.type_name) m.tokens
     ++ (codes "    #[allow(dead_code)]\n    pub const TOK_IDS: &[" ++ (m.type_name ++ (codes "] = &[" ++ (join_by (λ (t : Token). t.id) (codes ", ") m.tokens ++ codes "];\n}\n"))))))))
 
-abbrev pub in_place : {A B E : Type 0} → Result A E → B → Result B E
-in_place (Ok _) text = Ok text
-in_place (Err e) text = Err e
-
--- the module's text, or the first fault
+-- the module's text, or its first fault
 abbrev pub module_text : Module → Result (List ℕ) ModuleFault
-module_text m =
-    if not (is_identifier m.mod_name) then Err BadModuleName
-    else (if not (is_identifier m.type_name) then Err BadTypeName else in_place (constants_after [] m.tokens) (module_lines m))
+module_text m = option_map_or Err (module_fault m) (Ok (module_lines m))
 
 -- the token of an entry of the map of tokens, named by its own name; a Display that states nothing leaves the id's text open
 abbrev pub IsTokenOf : {S : Type 0} → (S → Option (List ℕ)) → List (List ℕ × S) → Token → Type 0

@@ -10,12 +10,15 @@ use std::hash::Hash;
 /// A lexeme: the id of its token and the part of the input that it was found in.
 /// Each maker's numbers are given back by the other calls.
 pub trait Lexeme<StorageT>: Copy + Debug + Display + Eq + Hash + Error {
+    // The id of its token.
     ghost id_of: { Self → StorageT };
 
+    // The offset of its first byte, and how many bytes it has.
     ghost start_of: { Self → ℕ };
 
     ghost len_of: { Self → ℕ };
 
+    // Whether error recovery made it up.
     ghost is_faulty: { Self → Bool };
 
     /// A lexeme of `len` bytes from the byte at `start` on. The sum fits `usize`.
@@ -50,6 +53,7 @@ pub trait Lexeme<StorageT>: Copy + Debug + Display + Eq + Hash + Error {
 
 /// Why a lexer stopped, and where.
 pub trait LexError: Error {
+    // Where it stopped.
     ghost error_span: { Self → Span };
 
     /// Where it stopped.

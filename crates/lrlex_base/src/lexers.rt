@@ -54,6 +54,7 @@ pub trait Lexer<L: LexerTypes> {
     ghost use Rattle.std.specs.Prelude.{◌≡◌, List, Result};
     ghost use Rattle.lrlex_base.specs.Items.{items_left};
 
+    // What it found.
     ghost items: { Self → List (Result L.LexemeT L.LexErrorT) };
 
     /// Its items, each once and in order.
@@ -64,6 +65,7 @@ pub trait Lexer<L: LexerTypes> {
 /// A lexer that has its whole text. Its answers on a span ask that the span fits that text (`Span::fits`), and the texts that it
 /// hands out live as long as the input.
 pub trait NonStreamingLexer<'input, L: LexerTypes>: Lexer<L> {
+    // The input.
     ghost text: { Self → List ℕ };
 
     /// The text of the span.

@@ -5,6 +5,7 @@ mod classes;
 mod defaults;
 mod edits;
 mod ids;
+mod laws;
 mod lexemes;
 mod lexers;
 mod newlines;
@@ -13,6 +14,8 @@ mod spans;
 mod tests;
 mod token_map;
 mod token_map_fault;
+mod token_text;
+mod tokens;
 
 pub use crate::classes::{is_blank, is_line_sep, is_white_space};
 pub use crate::defaults::{DefaultLexeme, DefaultLexerTypes};

@@ -60,7 +60,7 @@ fn lines_begun(starts: &[usize], at: usize) -> usize
     )
 }
 
-// Where the line begins that comes after the first n that begin behind the text's beginning.
+// Where the line begins that n lines stand before.
 fn line_begin(starts: &[usize], n: usize) -> usize
     requires { n ≤ length starts.now }
     ensures { result ≡ slice_index (0 ∷ starts.now) n }
@@ -103,6 +103,7 @@ impl<A: Allocator> NewlineCache<A> {
         requires { self.old.fed + length piece.now < 2 ^ 64 }
         ensures fed { OnOk result (self.new.fed ≡ self.old.fed + length piece.now) }
         ensures newlines { OnOk result (self.new.newlines ≡ self.old.newlines ++ newlines_from self.old.fed piece.now) }
+        ensures pieces { (text : List ℕ) → AreBreaksOf text self.old → OnOk result (AreBreaksOf (text ++ piece.now) self.new) }
         ensures unchanged { OnErr result (self.new ≡ self.old) }
         ensures no_newline { newlines_from self.old.fed piece.now ≡ [] → IsOk result }
     {

@@ -1,4 +1,4 @@
-ghost use Rattle.std.specs.Prelude.{◌≡◌, ◌≤◌, ◌-◌, ◌↔◌, IsTrue, List, IsCharBoundary, length};
+ghost use Rattle.std.specs.Prelude.{◌≡◌, ◌≤◌, ◌-◌, ◌↔◌, IsTrue, List};
 
 /// A part of a text: from the byte at `start` up to the byte before `end`. Offsets count bytes.
 #[derive(Clone, Copy, PartialEq, Eq, Hash, Debug)]
@@ -63,8 +63,10 @@ pub trait Spanned {
     ghost use Rattle.lrlex_base.specs.declared.spans.Span.{Span};
     ghost use Rattle.lrlex_base.specs.declared.spans.SpansKind.{SpansKind};
 
+    // The places.
     ghost spans_of: { Self → List Span };
 
+    // What they stand for.
     ghost kind_of: { Self → SpansKind };
 
     /// The places, in the order in which they are told.

@@ -9,11 +9,11 @@ module_of m t ts = record { mod_name = m; type_name = t; tokens = ts; dead_code 
 
 pub returns : goal.returns
 returns g c =
-    let shown = c.in_ok-shown.shown in
-    let tokens = map (renamed (look_up c.args.rename_map)) c.in_ok-named.named.tokens in
+    let named = c.in_ok-named.named in
+    let tokens = map (renamed (look_up c.args.rename_map)) named.tokens in
     let is : c.allow_dead_code-whole.result ≡ module_of c.args.mod_name.now c.args.type_name.now tokens =
     c.allow_dead_code-whole.ensures
-    ∙ ap (λ m. module_of m shown.type_name shown.tokens) (c.in_ok-shown.ensures.mod_name ∙ c.in_ok-named.ensures.mod_name)
-    ∙ ap (λ t. module_of c.args.mod_name.now t shown.tokens) (c.in_ok-shown.ensures.type_name ∙ c.in_ok-named.ensures.type_name)
-    ∙ ap (module_of c.args.mod_name.now c.args.type_name.now) c.in_ok-shown.ensures.tokens in
-    IfOk-weaker c.build.result (λ r. written r ≡ module_text c.allow_dead_code-whole.result) _ (λ r e. (c.in_ok-named.named.tokens, c.in_ok-named.ensures.tokens, e ∙ ap module_text is)) c.build.ensures.module
+    ∙ ap (λ (m : Module). module_of m.mod_name m.type_name m.tokens) c.in_ok-shown.ensures
+    ∙ ap (λ m. module_of m named.type_name tokens) c.in_ok-named.ensures.mod_name
+    ∙ ap (λ t. module_of c.args.mod_name.now t tokens) c.in_ok-named.ensures.type_name in
+    IfOk-weaker c.build.result (λ r. written r ≡ module_text c.allow_dead_code-whole.result) _ (λ r e. (named.tokens, c.in_ok-named.ensures.tokens, e ∙ ap module_text is)) c.build.ensures.module

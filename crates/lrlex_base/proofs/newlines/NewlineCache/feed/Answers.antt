@@ -1,9 +1,9 @@
-use Rattle.std.proofs.Common.{◌≡◌, ◌<◌, ◌-◌, ◌++◌, ℕ, map, sym, ◌∙◌, ap, subst}
+use Rattle.std.proofs.Common.{◌≡◌, ◌<◌, ◌+◌, ◌-◌, ◌++◌, ℕ, length, map, sym, ◌∙◌, ap, subst, arith}
 use Rattle.std.specs.List.{All}
-use Rattle.std.proofs.lemmas.List.{map-append}
+use Rattle.std.proofs.lemmas.List.{map-append, length-append}
 use Rattle.std.proofs.lemmas.List.Elements.{All-append}
 use Rattle.lrlex_base.specs.Places.{newlines_from, starts_after}
-use Rattle.lrlex_base.proofs.NewlineLemmas.{newlines_back, starts_positive}
+use Rattle.lrlex_base.proofs.NewlineLemmas.{newlines_back, newlines_from-append, starts_positive}
 use Rattle.lrlex_base.proofs.newlines.NewlineCache.feed.Goals as goal
 
 pub invariant_of-self-2 : goal.invariant_of-self-2
@@ -22,3 +22,14 @@ returns-clause-newlines g c =
     ∙ ap (λ l. map back old ++ l) (newlines_back added)
     ∙ ap (λ l. l ++ added) had
     ∙ ap (λ n. c.args.self.now.newlines ++ newlines_from n c.args.piece.now) fed
+
+pub returns-clause-pieces : goal.returns-clause-pieces
+returns-clause-pieces g c text is =
+    let piece = c.args.piece.now in
+    let fed : c.self.inside.bytes ≡ c.args.self.now.fed = ap (λ v. v.fed) c.self.view_is in
+    let here : 0 + length text ≡ c.args.self.now.fed = omega (arith, is.0) in
+    let newlines : map (λ (s : ℕ). s - 1) c.add_starts.new.starts.items ≡ newlines_from 0 (text ++ piece) =
+    returns-clause-newlines g c ∙ ap (λ l. l ++ newlines_from c.args.self.now.fed piece) is.1
+    ∙ ap (λ n. newlines_from 0 text ++ newlines_from n piece) (sym here)
+    ∙ sym (newlines_from-append 0 text piece) in
+    (omega (arith, is.0, length-append text piece), newlines)

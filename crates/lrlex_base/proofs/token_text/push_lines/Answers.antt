@@ -4,10 +4,10 @@ use Rattle.std.specs.String.{string_bytes}
 use Rattle.lrlex_base.specs.TokenModule.{constant_line}
 use Rattle.lrlex_base.specs.TokenMap.{token_view}
 use Rattle.lrlex_base.proofs.TokenLemmas.{flat_map_more}
-use Rattle.lrlex_base.proofs.token_map.push_lines.Goals as goal
+use Rattle.lrlex_base.proofs.token_text.push_lines.Goals as goal
 
 pub loop-token-preserved : goal.loop-token-preserved
-loop-token-preserved c =
+loop-token-preserved g c =
     let line = constant_line c.args.type_name.now in
     let token = c.token-item.result in
     let before = flat_map line (map token_view (take c.loop-token.token-index c.args.tokens.now)) in

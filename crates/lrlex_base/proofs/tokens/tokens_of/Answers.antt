@@ -8,11 +8,11 @@ use Rattle.std.proofs.lemmas.List.Sorted.{All-permutation, IsPermutation-map}
 use Rattle.std.proofs.lemmas.Simd.{map-map}
 use Rattle.lrlex_base.specs.TokenModule.{Token, IsTokenOf}
 use Rattle.lrlex_base.specs.TokenMap.{entries_of, token_view}
-use Rattle.lrlex_base.specs.declared.token_map.Token.{Token as TheToken}
+use Rattle.lrlex_base.specs.declared.tokens.Token.{Token as TheToken}
 use Rattle.lrlex_base.proofs.TokenLemmas.{sorted_map}
-use Rattle.lrlex_base.proofs.token_map.tokens_of.Goals as goal
+use Rattle.lrlex_base.proofs.tokens.tokens_of.Goals as goal
 
-abbrev name_of : TheToken → List ℕ
+abbrev name_of : {Z : Type 0} → TheToken Z → List ℕ
 name_of t = string_bytes t.name
 
 pub returns : goal.returns

@@ -3,7 +3,7 @@ use Rattle.std.specs.List.{All}
 use Rattle.std.specs.String.{string_bytes}
 use Rattle.lrlex_base.specs.TokenModule.{IsTokenOf}
 use Rattle.lrlex_base.specs.TokenMap.{entries_of, token_view}
-use Rattle.lrlex_base.proofs.token_map.tokens_listed.Given as goal
+use Rattle.lrlex_base.proofs.tokens.tokens_listed.Given as goal
 
 abbrev pub invariant-loop-name : goal.invariant-loop-name
 invariant-loop-name g l =

@@ -2,7 +2,7 @@ use Rattle.std.proofs.Common.{◌≡◌, ◌<◌, ◌++◌, ◌==◌, ◌&&◌, 
 use Rattle.std.proofs.lemmas.Bool.{eqb-true, eqb-false}
 use Rattle.unicode_ident.specs.Ident.{is_xid_start}
 use Rattle.lrlex_base.proofs.TokenLemmas.{identifier_alone, identifier_of}
-use Rattle.lrlex_base.proofs.token_map.is_identifier.Goals as goal
+use Rattle.lrlex_base.proofs.token_text.is_identifier.Goals as goal
 use lib.Utf8.{encode}
 
 pub returns-then-is_empty : goal.returns-then-is_empty

@@ -8,11 +8,11 @@ use Rattle.std.proofs.lemmas.Map.Iter.{rest_so_far, rest_more, iter_end}
 use Rattle.std.proofs.lemmas.Simd.{map-map}
 use Rattle.lrlex_base.specs.TokenModule.{IsTokenOf}
 use Rattle.lrlex_base.specs.TokenMap.{entries_of, token_view}
-use Rattle.lrlex_base.specs.declared.token_map.Token.{Token as TheToken}
+use Rattle.lrlex_base.specs.declared.tokens.Token.{Token as TheToken}
 use Rattle.lrlex_base.proofs.TokenLemmas.{stands_in_view}
-use Rattle.lrlex_base.proofs.token_map.tokens_listed.Goals as goal
+use Rattle.lrlex_base.proofs.tokens.tokens_listed.Goals as goal
 
-abbrev name_of : TheToken → List ℕ
+abbrev name_of : {Z : Type 0} → TheToken Z → List ℕ
 name_of t = string_bytes t.name
 
 pub loop-name-preserved : goal.loop-name-preserved
@@ -21,7 +21,7 @@ loop-name-preserved g c =
     let token = c.in_ok-token.token in
     let entries = c.args.token_map.now.entries in
     let item : Bor (String Global) × Bor g.row.StorageT.Denot = (c.in-Some.name, c.in-Some.id) in
-    let of = λ (t : TheToken). IsTokenOf g.StorageT.Display.output (entries_of c.args.token_map.now) (token_view t) in
+    let of = λ (t : TheToken g.row.A.Denot). IsTokenOf g.StorageT.Display.output (entries_of c.args.token_map.now) (token_view t) in
     let pushed : c.push.new.self.items ≡ had ++ token ∷ [] = c.in_ok-push.ensures.items in
     let name : string_bytes token.name ≡ string_bytes c.in-Some.name.now = c.in_ok-token.ensures.name ∙ c.deref.ensures in
     let names : map name_of c.push.new.self.items ≡ map (λ e. string_bytes e.0.now) (c.loop-name.yielded ++ item ∷ []) =

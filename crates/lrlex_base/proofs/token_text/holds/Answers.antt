@@ -3,10 +3,10 @@ use Rattle.std.specs.Str.{bytes_eq}
 use Rattle.std.specs.String.{string_bytes}
 use Rattle.std.proofs.lemmas.List.{get_or-map, length-map}
 use Rattle.std.proofs.lemmas.List.Folds.{list_any_at}
-use Rattle.lrlex_base.proofs.token_map.holds.Goals as goal
+use Rattle.lrlex_base.proofs.token_text.holds.Goals as goal
 
 pub returns-then-eq : goal.returns-then-eq
-returns-then-eq c =
+returns-then-eq g c =
     let x = c.c-item.result in
     let all = c.args.constants.now in
     let at : get_or (map string_bytes all) c.loop-c.c-index (string_bytes x) ≡ c.as_str.result.now =
