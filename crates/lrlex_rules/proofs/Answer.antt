@@ -32,19 +32,19 @@ module _ {S : Type 0} (number : S → ℕ) (flags rr : LexFlags) (greatest : ℕ
       let P : List Declared → Type 0 = λ ds. Represents number rr b (rules_events (settings flags greatest refused) text (events_after state_event (NewState initial ∷ []) ds) (section_end (trimmed_lines text))) in
       subst P (ap (λ (f : LexFlags). declarations (allows_comments f) text) e) now
 
-  pub answers_faults : eqb (length b.errors.items) 0 ≡ false → Err (map as_fault b.errors.items) ≡ outcome (settings flags greatest refused) text
+  pub answers_faults : eqb (length b.errors.list.items) 0 ≡ false → Err (map as_fault b.errors.list.items) ≡ outcome (settings flags greatest refused) text
   answers_faults h =
-      let some : eqb (length (map as_fault b.errors.items)) 0 ≡ false = ap (λ (n : ℕ). eqb n 0) (length-map b.errors.items as_fault) ∙ h in
-      some_faults flags (events_of (settings flags greatest refused) text) (map as_fault b.errors.items) some
+      let some : eqb (length (map as_fault b.errors.list.items)) 0 ≡ false = ap (λ (n : ℕ). eqb n 0) (length-map b.errors.list.items as_fault) ∙ h in
+      some_faults flags (events_of (settings flags greatest refused) text) (map as_fault b.errors.list.items) some
       ∙ ap (definition_or_faults flags (events_of (settings flags greatest refused) text)) whole.errors
 
-  pub answers_definition : eqb (length b.errors.items) 0 ≡ true → Ok (record { states = map as_state b.states.items; rules = map (as_rule number) b.rules.items; flags = rr }) ≡ outcome (settings flags greatest refused) text
+  pub answers_definition : eqb (length b.errors.list.items) 0 ≡ true → Ok (record { states = map as_state b.states.list.items; rules = map (as_rule number) b.rules.list.items; flags = rr }) ≡ outcome (settings flags greatest refused) text
   answers_definition h =
-      let none : faults_after [] (events_of (settings flags greatest refused) text) ≡ [] = sym whole.errors ∙ ap (map as_fault) (no_errors b.errors.items h) in
+      let none : faults_after [] (events_of (settings flags greatest refused) text) ≡ [] = sym whole.errors ∙ ap (map as_fault) (no_errors b.errors.list.items h) in
       let made : (ss : List StartState) (rs : List Rule) (f : LexFlags) → Result Definition (List Fault) = λ ss rs f. Ok (record { states = ss; rules = rs; flags = f }) in
-      ap (λ (ss : List StartState). made ss (map (as_rule number) b.rules.items) rr) whole.states ∙ ap (λ (rs : List Rule). made (states_of (events_of (settings flags greatest refused) text)) rs rr) whole.rules
+      ap (λ (ss : List StartState). made ss (map (as_rule number) b.rules.list.items) rr) whole.states ∙ ap (λ (rs : List Rule). made (states_of (events_of (settings flags greatest refused) text)) rs rr) whole.rules
       ∙ ap (made (states_of (events_of (settings flags greatest refused) text)) (rules_of (events_of (settings flags greatest refused) text))) e
       ∙ ap (definition_or_faults flags (events_of (settings flags greatest refused) text)) (sym none)
 
-pub none_told : {S : Type 0} (b : Builder S) → eqb (length b.errors.items) 0 ≡ true → None ≡ refused_of b
-none_told b h = sym (ap (λ (es : List LexBuildError). refused_in (map as_fault es)) (no_errors b.errors.items h))
+pub none_told : {S : Type 0} (b : Builder S) → eqb (length b.errors.list.items) 0 ≡ true → None ≡ refused_of b
+none_told b h = sym (ap (λ (es : List LexBuildError). refused_in (map as_fault es)) (no_errors b.errors.list.items h))

@@ -50,91 +50,91 @@ module _ {S : Type 0} (number : S → ℕ) (flags : LexFlags) (old new : Builder
   quiet : is_refused events ≡ false
   quiet = sym was.refused ∙ calm
 
-  same_states : new.states ≡ old.states → (e : Event) → new_state e ≡ None → map as_state new.states.items ≡ states_of (events ++ e ∷ [])
-  same_states same e none = ap (λ v. map as_state v.items) same ∙ was.states ∙ sym (states-append events e ∙ ap (λ o. states_of events ++ cons_option o []) none ∙ append-nil (states_of events))
+  same_states : new.states ≡ old.states → (e : Event) → new_state e ≡ None → map as_state new.states.list.items ≡ states_of (events ++ e ∷ [])
+  same_states same e none = ap (λ v. map as_state v.list.items) same ∙ was.states ∙ sym (states-append events e ∙ ap (λ o. states_of events ++ cons_option o []) none ∙ append-nil (states_of events))
 
-  same_rules : new.rules ≡ old.rules → (e : Event) → new_rule e ≡ None → map (as_rule number) new.rules.items ≡ rules_of (events ++ e ∷ [])
-  same_rules same e none = ap (λ v. map (as_rule number) v.items) same ∙ was.rules ∙ sym (rules-append events e ∙ ap (λ o. rules_of events ++ cons_option o []) none ∙ append-nil (rules_of events))
+  same_rules : new.rules ≡ old.rules → (e : Event) → new_rule e ≡ None → map (as_rule number) new.rules.list.items ≡ rules_of (events ++ e ∷ [])
+  same_rules same e none = ap (λ v. map (as_rule number) v.list.items) same ∙ was.rules ∙ sym (rules-append events e ∙ ap (λ o. rules_of events ++ cons_option o []) none ∙ append-nil (rules_of events))
 
   still : new.is_refused ≡ old.is_refused → (e : Event) → is_fatal e ≡ false → new.is_refused ≡ is_refused (events ++ e ∷ [])
   still same e none = same ∙ calm ∙ sym (refused-push events e quiet ∙ none)
 
-  pub adds_state : (s : StartState) → new.rules ≡ old.rules → new.errors ≡ old.errors → new.is_refused ≡ old.is_refused → map as_state new.states.items ≡ map as_state old.states.items ++ s ∷ [] → Represents number flags new (events ++ NewState s ∷ [])
+  pub adds_state : (s : StartState) → new.rules ≡ old.rules → new.errors ≡ old.errors → new.is_refused ≡ old.is_refused → map as_state new.states.list.items ≡ map as_state old.states.list.items ++ s ∷ [] → Represents number flags new (events ++ NewState s ∷ [])
   adds_state s rs es re is = let e = NewState s in
-      let now : map as_fault new.errors.items ≡ faults_after [] (events ++ e ∷ []) = ap (λ v. map as_fault v.items) es ∙ was.errors ∙ sym (faults_other [] events e refl ∙ append-nil (faults_after [] events)) in
+      let now : map as_fault new.errors.list.items ≡ faults_after [] (events ++ e ∷ []) = ap (λ v. map as_fault v.list.items) es ∙ was.errors ∙ sym (faults_other [] events e refl ∙ append-nil (faults_after [] events)) in
       record {
         states = is ∙ ap (λ (ss : List StartState). ss ++ s ∷ []) was.states ∙ sym (states-append events e);
         rules = same_rules rs e refl;
         errors = now;
         refused = still re e refl;
-        refusals = calm_refusals (config_of flags) (events ++ e ∷ []) new.errors.items (refused-push events e quiet) now;
+        refusals = calm_refusals (config_of flags) (events ++ e ∷ []) new.errors.list.items (refused-push events e quiet) now;
       }
 
-  pub adds_rule : (r : Rule) → new.states ≡ old.states → new.errors ≡ old.errors → new.is_refused ≡ old.is_refused → map (as_rule number) new.rules.items ≡ map (as_rule number) old.rules.items ++ r ∷ [] → Represents number flags new (events ++ NewRule r ∷ [])
+  pub adds_rule : (r : Rule) → new.states ≡ old.states → new.errors ≡ old.errors → new.is_refused ≡ old.is_refused → map (as_rule number) new.rules.list.items ≡ map (as_rule number) old.rules.list.items ++ r ∷ [] → Represents number flags new (events ++ NewRule r ∷ [])
   adds_rule r ss es re is = let e = NewRule r in
-      let now : map as_fault new.errors.items ≡ faults_after [] (events ++ e ∷ []) = ap (λ v. map as_fault v.items) es ∙ was.errors ∙ sym (faults_other [] events e refl ∙ append-nil (faults_after [] events)) in
+      let now : map as_fault new.errors.list.items ≡ faults_after [] (events ++ e ∷ []) = ap (λ v. map as_fault v.list.items) es ∙ was.errors ∙ sym (faults_other [] events e refl ∙ append-nil (faults_after [] events)) in
       record {
         states = same_states ss e refl;
         rules = is ∙ ap (λ (rs : List Rule). rs ++ r ∷ []) was.rules ∙ sym (rules-append events e);
         errors = now;
         refused = still re e refl;
-        refusals = calm_refusals (config_of flags) (events ++ e ∷ []) new.errors.items (refused-push events e quiet) now;
+        refusals = calm_refusals (config_of flags) (events ++ e ∷ []) new.errors.list.items (refused-push events e quiet) now;
       }
 
   pub adds_duplicate : (s : Subject) (original found : Span) → new.states ≡ old.states → new.rules ≡ old.rules → new.is_refused ≡ old.is_refused
-      → map as_fault new.errors.items ≡ with_duplicate s original found (map as_fault old.errors.items) → Represents number flags new (events ++ Duplicate s original found ∷ [])
+      → map as_fault new.errors.list.items ≡ with_duplicate s original found (map as_fault old.errors.list.items) → Represents number flags new (events ++ Duplicate s original found ∷ [])
   adds_duplicate s original found ss rs re is = let e = Duplicate s original found in
-      let now : map as_fault new.errors.items ≡ faults_after [] (events ++ e ∷ []) = is ∙ ap (with_duplicate s original found) was.errors ∙ sym (with_duplicate_is events s original found quiet) in
+      let now : map as_fault new.errors.list.items ≡ faults_after [] (events ++ e ∷ []) = is ∙ ap (with_duplicate s original found) was.errors ∙ sym (with_duplicate_is events s original found quiet) in
       record {
         states = same_states ss e refl;
         rules = same_rules rs e refl;
         errors = now;
         refused = still re e refl;
-        refusals = calm_refusals (config_of flags) (events ++ e ∷ []) new.errors.items (refused-push events e quiet) now;
+        refusals = calm_refusals (config_of flags) (events ++ e ∷ []) new.errors.list.items (refused-push events e quiet) now;
       }
 
   pub adds_verbatim : (x : Span) → new.states ≡ old.states → new.rules ≡ old.rules → new.is_refused ≡ old.is_refused
-      → map as_fault new.errors.items ≡ map as_fault old.errors.items ++ fault VerbatimNotSupported (x ∷ []) ∷ [] → Represents number flags new (events ++ Verbatim x ∷ [])
+      → map as_fault new.errors.list.items ≡ map as_fault old.errors.list.items ++ fault VerbatimNotSupported (x ∷ []) ∷ [] → Represents number flags new (events ++ Verbatim x ∷ [])
   adds_verbatim x ss rs re is = let e = Verbatim x in
-      let now : map as_fault new.errors.items ≡ faults_after [] (events ++ e ∷ []) = is ∙ ap (λ (fs : List Fault). fs ++ fault VerbatimNotSupported (x ∷ []) ∷ []) was.errors ∙ sym (faults_other [] events e refl) in
+      let now : map as_fault new.errors.list.items ≡ faults_after [] (events ++ e ∷ []) = is ∙ ap (λ (fs : List Fault). fs ++ fault VerbatimNotSupported (x ∷ []) ∷ []) was.errors ∙ sym (faults_other [] events e refl) in
       record {
         states = same_states ss e refl;
         rules = same_rules rs e refl;
         errors = now;
         refused = still re e refl;
-        refusals = calm_refusals (config_of flags) (events ++ e ∷ []) new.errors.items (refused-push events e quiet) now;
+        refusals = calm_refusals (config_of flags) (events ++ e ∷ []) new.errors.list.items (refused-push events e quiet) now;
       }
 
   pub adds_fatal : (f : Fault) → is_regex_error f.kind ≡ false → new.states ≡ old.states → new.rules ≡ old.rules → new.is_refused ≡ true
-      → map as_fault new.errors.items ≡ map as_fault old.errors.items ++ f ∷ [] → Represents number flags new (events ++ Fatal f ∷ [])
+      → map as_fault new.errors.list.items ≡ map as_fault old.errors.list.items ++ f ∷ [] → Represents number flags new (events ++ Fatal f ∷ [])
   adds_fatal f own ss rs re is = let e = Fatal f in
-      let now : map as_fault new.errors.items ≡ faults_after [] (events ++ e ∷ []) = is ∙ ap (λ (fs : List Fault). fs ++ f ∷ []) was.errors ∙ sym (faults_other [] events e refl) in
+      let now : map as_fault new.errors.list.items ≡ faults_after [] (events ++ e ∷ []) = is ∙ ap (λ (fs : List Fault). fs ++ f ∷ []) was.errors ∙ sym (faults_other [] events e refl) in
       record {
         states = same_states ss e refl;
         rules = same_rules rs e refl;
         errors = now;
         refused = re ∙ sym (refused-push events e quiet);
-        refusals = fatal_refusals (config_of flags) events f new.errors.items quiet own now;
+        refusals = fatal_refusals (config_of flags) events f new.errors.list.items quiet own now;
       }
 
   pub adds_refused : (at : ℕ) (pattern : List ℕ) (error : Error) (x : LexBuildError) → new.states ≡ old.states → new.rules ≡ old.rules → new.is_refused ≡ true
-      → new.errors.items ≡ old.errors.items ++ x ∷ [] → as_fault x ≡ fault_at RegexError at → kind_error x ≡ Some error → IsRefused (config_of flags) pattern error → Represents number flags new (events ++ Refused at pattern ∷ [])
+      → new.errors.list.items ≡ old.errors.list.items ++ x ∷ [] → as_fault x ≡ fault_at RegexError at → kind_error x ≡ Some error → IsRefused (config_of flags) pattern error → Represents number flags new (events ++ Refused at pattern ∷ [])
   adds_refused at pattern error x ss rs re is fault_is kind_is why =
       let e = Refused at pattern in
       let P : List LexBuildError → Type 0 = λ es. AreRefusals (config_of flags) (refused_patterns (events ++ e ∷ [])) (regex_errors es) in
       record {
         states = same_states ss e refl;
         rules = same_rules rs e refl;
-        errors = ap (map as_fault) is ∙ map_push as_fault old.errors.items x ∙ ap (λ (f : Fault). map as_fault old.errors.items ++ f ∷ []) fault_is ∙ ap (λ (fs : List Fault). fs ++ fault_at RegexError at ∷ []) was.errors ∙ sym (faults_other [] events e refl);
+        errors = ap (map as_fault) is ∙ map_push as_fault old.errors.list.items x ∙ ap (λ (f : Fault). map as_fault old.errors.list.items ++ f ∷ []) fault_is ∙ ap (λ (fs : List Fault). fs ++ fault_at RegexError at ∷ []) was.errors ∙ sym (faults_other [] events e refl);
         refused = re ∙ sym (refused-push events e quiet);
-        refusals = subst P (sym is) (one_refusal (config_of flags) events at pattern old.errors.items x error quiet was.errors kind_is why);
+        refusals = subst P (sym is) (one_refusal (config_of flags) events at pattern old.errors.list.items x error quiet was.errors kind_is why);
       }
 
 -- ---- names of states
 -- a name that is there already
 pub declares_again : {S : Type 0} (number : S → ℕ) (old new : Builder S) (name : Piece) (exclusive : Bool) (original : StartState) → old.is_refused ≡ false → new.states ≡ old.states → new.rules ≡ old.rules → new.is_refused ≡ old.is_refused
-    → state_named name.text (map as_state old.states.items) ≡ Some original
-    → map as_fault new.errors.items ≡ with_duplicate StateName original.name_span (span_of name) (map as_fault old.errors.items)
+    → state_named name.text (map as_state old.states.list.items) ≡ Some original
+    → map as_fault new.errors.list.items ≡ with_duplicate StateName original.name_span (span_of name) (map as_fault old.errors.list.items)
     → Adds number old new (λ events. state_event events (Name exclusive name))
 declares_again number old new name exclusive original calm ss rs re found errors flags events was =
     let e = Duplicate StateName original.name_span (span_of name) in
@@ -145,17 +145,17 @@ declares_again number old new name exclusive original calm ss rs re found errors
 
 -- a new name
 pub declares_new : {S : Type 0} (number : S → ℕ) (old new : Builder S) (name : Piece) (exclusive : Bool) → old.is_refused ≡ false → new.rules ≡ old.rules → new.errors ≡ old.errors → new.is_refused ≡ old.is_refused
-    → state_named name.text (map as_state old.states.items) ≡ None
-    → map as_state new.states.items ≡ map as_state old.states.items ++ record { id = length old.states.items; name = name.text; name_span = span_of name; exclusive = exclusive } ∷ []
+    → state_named name.text (map as_state old.states.list.items) ≡ None
+    → map as_state new.states.list.items ≡ map as_state old.states.list.items ++ record { id = length old.states.list.items; name = name.text; name_span = span_of name; exclusive = exclusive } ∷ []
     → Adds number old new (λ events. state_event events (Name exclusive name))
 declares_new number old new name exclusive calm rs es re found states flags events was =
     let e = NewState (record { id = length (states_of events); name = name.text; name_span = span_of name; exclusive = exclusive }) in
     let says : e ≡ state_event events (Name exclusive name) =
     sym (ap (new_or_duplicate (states_of events) exclusive name) (ap (state_named name.text) (sym was.states) ∙ found)) in
-    let count : length old.states.items ≡ length (states_of events) = sym (length-map old.states.items as_state) ∙ ap (length {A = StartState}) was.states in
+    let count : length old.states.list.items ≡ length (states_of events) = sym (length-map old.states.list.items as_state) ∙ ap (length {A = StartState}) was.states in
     let P : Event → Type 0 = λ x. Represents number flags new (events ++ x ∷ []) in
     subst P says (adds_state number flags old new events was calm (record { id = length (states_of events); name = name.text; name_span = span_of name; exclusive = exclusive }) rs es re
-    (states ∙ ap (λ (n : ℕ). map as_state old.states.items ++ record { id = n; name = name.text; name_span = span_of name; exclusive = exclusive } ∷ []) count))
+    (states ∙ ap (λ (n : ℕ). map as_state old.states.list.items ++ record { id = n; name = name.text; name_span = span_of name; exclusive = exclusive } ∷ []) count))
 
 -- a name, as it is a state's name or not
 pub declares_right : {S : Type 0} (number : S → ℕ) (old new : Builder S) (exclusive : Bool) (name : Piece) → is_state_name name.text ≡ true → Adds number old new (λ events. state_event events (Name exclusive name)) → Adds number old new (λ events. state_event events (declared_name exclusive name))

@@ -105,7 +105,7 @@ faults_duplicate earlier (x ∷ es) s o f h =
 abbrev pub has_duplicate : Subject → Span → List Event → Bool
 has_duplicate s o es = list_any (λ e. is_some (duplicate_of s o e)) es
 
-same_spans : (a b : Span) → same_span a b ≡ true → a ≡ b
+pub same_spans : (a b : Span) → same_span a b ≡ true → a ≡ b
 same_spans a b h =
     let first : a.start ≡ b.start = eqb-true a.start b.start (first_so _ _ h) in
     let last : a.end ≡ b.end = eqb-true a.end b.end (second_so _ _ h) in
@@ -117,7 +117,7 @@ eqb-flip a b = grind (arith, nat_tests)
 same_span-flip : (a b : Span) → same_span a b ≡ same_span b a
 same_span-flip a b = rw (eqb-flip a.start b.start, eqb-flip a.end b.end) refl
 
-same_subjects : (s t : Subject) → same_subject s t ≡ true → s ≡ t
+pub same_subjects : (s t : Subject) → same_subject s t ≡ true → s ≡ t
 same_subjects StateName StateName h = refl
 same_subjects StateName RuleName h = cc
 same_subjects RuleName StateName h = cc
@@ -151,7 +151,7 @@ list_cond : (b : Bool) (s : Subject) (o : Span) (f : Fault) → list_any (is_fau
 list_cond true s o f = refl
 list_cond false s o f = refl
 
-fault_kind : (s s' : Subject) (o o' : Span) (more : List Span) → is_fault_of s o (fault (kind_of s') (o' ∷ more)) ≡ (same_subject s' s && same_span o' o)
+pub fault_kind : (s s' : Subject) (o o' : Span) (more : List Span) → is_fault_of s o (fault (kind_of s') (o' ∷ more)) ≡ (same_subject s' s && same_span o' o)
 fault_kind s s' o o' more = ap (λ (k : Bool). k && same_span o o') (kinds s s' ∙ same_subject-flip s s') ∙ ap (λ (k : Bool). same_subject s' s && k) (same_span-flip o o')
 
 cond_false : (b k : Bool) → k ≡ false → (if b then false else (k || false)) ≡ false

@@ -32,8 +32,8 @@ le_test a b h = grind (arith, nat_tests)
 eq_test : (a : ℕ) → eqb a a ≡ true
 eq_test a = grind (arith, nat_tests)
 
-pub count_of : {S : Type 0} (number : S → ℕ) (flags : LexFlags) (b : Builder S) (events : List Event) → Represents number flags b events → length b.rules.items ≡ length (rules_of events)
-count_of number flags b events was = sym (length-map b.rules.items (as_rule number)) ∙ ap (length {A = Rule}) was.rules
+pub count_of : {S : Type 0} (number : S → ℕ) (flags : LexFlags) (b : Builder S) (events : List Event) → Represents number flags b events → length b.rules.list.items ≡ length (rules_of events)
+count_of number flags b events was = sym (length-map b.rules.list.items (as_rule number)) ∙ ap (length {A = Rule}) was.rules
 
 -- ---- what an event comes from
 module _ {S : Type 0} (number : S → ℕ) (flags : LexFlags) (greatest : ℕ) (old new : Builder S) (o : ℕ) where
@@ -51,7 +51,7 @@ module _ {S : Type 0} (number : S → ℕ) (flags : LexFlags) (greatest : ℕ) (
     too_many : (s : Settings) (rules : List Rule) → s.greatest_id < length rules → Fatal (fault_at TooManyRules o) ≡ rule_event s rules o parts pattern
     too_many s rules h = sym (rw (lt_test s.greatest_id (length rules) h) refl)
 
-    pub line_too_many : greatest < length old.rules.items → Adds number old new (λ events. Fatal (fault_at TooManyRules o)) → AddsLine number flags greatest old new o (λ s events. rule_event s (rules_of events) o parts pattern)
+    pub line_too_many : greatest < length old.rules.list.items → Adds number old new (λ events. Fatal (fault_at TooManyRules o)) → AddsLine number flags greatest old new o (λ s events. rule_event s (rules_of events) o parts pattern)
     line_too_many h = line_from (λ s events. rule_event s (rules_of events) o parts pattern) (λ events. Fatal (fault_at TooManyRules o))
         (λ s suits events was. let n = count_of number flags old events was in let g = suits.greatest_is in too_many s (rules_of events) (omega arith))
 
@@ -59,7 +59,7 @@ module _ {S : Type 0} (number : S → ℕ) (flags : LexFlags) (greatest : ℕ) (
     regex_refused : (s : Settings) (rules : List Rule) → length rules ≤ s.greatest_id → hits s.refused o ≡ true → Refused o pattern.text ≡ rule_event s rules o parts pattern
     regex_refused s rules h k = sym (rw (le_test s.greatest_id (length rules) h, k) refl)
 
-    pub line_refused : (error : Error) → old.is_refused ≡ false → length old.rules.items ≤ greatest → IsRefused (config_of flags) pattern.text error → AddsRefused number old new error o → AddsLine number flags greatest old new o (λ s events. rule_event s (rules_of events) o parts pattern)
+    pub line_refused : (error : Error) → old.is_refused ≡ false → length old.rules.list.items ≤ greatest → IsRefused (config_of flags) pattern.text error → AddsRefused number old new error o → AddsLine number flags greatest old new o (λ s events. rule_event s (rules_of events) o parts pattern)
     line_refused error calm h why adds s suits events was hit =
         let n = count_of number flags old events was in
         let g = suits.greatest_is in
@@ -76,16 +76,16 @@ module _ {S : Type 0} (number : S → ℕ) (flags : LexFlags) (greatest : ℕ) (
     kept : (s : Settings) (rules : List Rule) → length rules ≤ s.greatest_id → hits s.refused o ≡ false → NewRule (with_id (length rules) s.flags) ≡ rule_event s rules o parts pattern
     kept s rules h k = sym (rw (le_test s.greatest_id (length rules) h, k) refl)
 
-    pub line_kept : old.is_refused ≡ false → length old.rules.items ≤ greatest → new.errors ≡ old.errors
-        → ((r : Rule) → r ≡ with_id (length old.rules.items) flags → (events : List Event) → Represents number flags old events → Represents number flags new (events ++ NewRule r ∷ []))
+    pub line_kept : old.is_refused ≡ false → length old.rules.list.items ≤ greatest → new.errors ≡ old.errors
+        → ((r : Rule) → r ≡ with_id (length old.rules.list.items) flags → (events : List Event) → Represents number flags old events → Represents number flags new (events ++ NewRule r ∷ []))
         → AddsLine number flags greatest old new o (λ s events. rule_event s (rules_of events) o parts pattern)
     line_kept calm h same adds s suits events was hit =
         let n = count_of number flags old events was in
         let g = suits.greatest_is in
-        let told : refused_of new ≡ None = ap (λ v. refused_in (map as_fault v.items)) same ∙ ap refused_in was.errors ∙ none_refused events (sym was.refused ∙ calm) in
+        let told : refused_of new ≡ None = ap (λ v. refused_in (map as_fault v.list.items)) same ∙ ap refused_in was.errors ∙ none_refused events (sym was.refused ∙ calm) in
         let no : hits s.refused o ≡ false = hit ∙ ap (λ (x : Option ℕ). hits x o) told in
         let P : Event → Type 0 = λ x. Represents number flags new (events ++ x ∷ []) in
-        let as_one : with_id (length (rules_of events)) s.flags ≡ with_id (length old.rules.items) flags = ap (λ (k : ℕ). with_id k s.flags) (sym n) ∙ ap (λ (f : LexFlags). with_id (length old.rules.items) f) suits.flags_are in
+        let as_one : with_id (length (rules_of events)) s.flags ≡ with_id (length old.rules.list.items) flags = ap (λ (k : ℕ). with_id k s.flags) (sym n) ∙ ap (λ (f : LexFlags). with_id (length old.rules.list.items) f) suits.flags_are in
         subst P (kept s (rules_of events) (omega arith) no) (adds (with_id (length (rules_of events)) s.flags) as_one events was)
 
 -- a rule of these parts
@@ -104,26 +104,26 @@ posix_is : (flags : LexFlags) (s : Settings) → resolved s.flags ≡ flags → 
 posix_is flags s h = ap (λ (f : LexFlags). unwrap_or f.posix_escapes false) h
 
 module _ {S : Type 0} (number : S → ℕ) (flags : LexFlags) (greatest : ℕ) (old : Builder S) (o : ℕ) (parts : RuleParts) where
-  pub duplicate_is : (original : Rule) → Some original ≡ rule_named (map (as_rule number) old.rules.items) parts.label.name
+  pub duplicate_is : (original : Rule) → Some original ≡ rule_named (map (as_rule number) old.rules.list.items) parts.label.name
       → (s : Settings) (events : List Event) → Represents number flags old events → Duplicate RuleName original.name_span parts.label.span ≡ split_event s events o (Ok parts)
   duplicate_is original found s events was = ap (parts_event s events o parts) (found ∙ ap (λ (rs : List Rule). rule_named rs parts.label.name) was.rules)
 
-  module _ (none : None ≡ rule_named (map (as_rule number) old.rules.items) parts.label.name) where
+  module _ (none : None ≡ rule_named (map (as_rule number) old.rules.list.items) parts.label.name) where
     unnamed : (s : Settings) (events : List Event) → Represents number flags old events → parts_event s events o parts None ≡ split_event s events o (Ok parts)
     unnamed s events was = ap (parts_event s events o parts) (none ∙ ap (λ (rs : List Rule). rule_named rs parts.label.name) was.rules)
 
-    pattern_here : (r : Result Pattern Fault) → r ≡ pattern_of (unwrap_or flags.posix_escapes false) (map as_state old.states.items) o (trim_head parts.head)
+    pattern_here : (r : Result Pattern Fault) → r ≡ pattern_of (unwrap_or flags.posix_escapes false) (map as_state old.states.list.items) o (trim_head parts.head)
         → (s : Settings) → Suits s flags greatest → (events : List Event) → Represents number flags old events → r ≡ pattern_of (has_posix_escapes s.flags) (states_of events) o (trim_head parts.head)
     pattern_here r e s suits events was =
-        e ∙ ap (λ (b : Bool). pattern_of b (map as_state old.states.items) o (trim_head parts.head)) (sym (posix_is flags s suits.flags_are))
+        e ∙ ap (λ (b : Bool). pattern_of b (map as_state old.states.list.items) o (trim_head parts.head)) (sym (posix_is flags s suits.flags_are))
         ∙ ap (λ (ss : List StartState). pattern_of (has_posix_escapes s.flags) ss o (trim_head parts.head)) was.states
 
-    pub offered_is : (pattern : Pattern) → Ok pattern ≡ pattern_of (unwrap_or flags.posix_escapes false) (map as_state old.states.items) o (trim_head parts.head)
+    pub offered_is : (pattern : Pattern) → Ok pattern ≡ pattern_of (unwrap_or flags.posix_escapes false) (map as_state old.states.list.items) o (trim_head parts.head)
         → (s : Settings) → Suits s flags greatest → (events : List Event) → Represents number flags old events → rule_event s (rules_of events) o parts pattern ≡ split_event s events o (Ok parts)
     offered_is pattern e s suits events was =
         ap (λ (r : Result Pattern Fault). pattern_event s (rules_of events) o parts r) (pattern_here (Ok pattern) e s suits events was) ∙ unnamed s events was
 
-    pub unread_is : (f : Fault) → Err f ≡ pattern_of (unwrap_or flags.posix_escapes false) (map as_state old.states.items) o (trim_head parts.head)
+    pub unread_is : (f : Fault) → Err f ≡ pattern_of (unwrap_or flags.posix_escapes false) (map as_state old.states.list.items) o (trim_head parts.head)
         → (s : Settings) → Suits s flags greatest → (events : List Event) → Represents number flags old events → Fatal f ≡ split_event s events o (Ok parts)
     unread_is f e s suits events was =
         ap (λ (r : Result Pattern Fault). pattern_event s (rules_of events) o parts r) (pattern_here (Err f) e s suits events was) ∙ unnamed s events was
@@ -132,13 +132,13 @@ module _ {S : Type 0} (number : S → ℕ) (flags : LexFlags) (greatest : ℕ) (
 pub verbatim_is : (s : Settings) (events : List Event) (line : Piece) → is_verbatim line ≡ true → Verbatim (span_of line) ≡ line_event s events line
 verbatim_is s events line h = sym (rw h refl)
 
-pub split_is : {S : Type 0} (number : S → ℕ) (flags : LexFlags) (old : Builder S) (s : Settings) (events : List Event) (line : Piece) (r : Result RuleParts Fault) → Represents number flags old events → is_verbatim line ≡ false → r ≡ split (map as_state old.states.items) line → split_event s events line.at r ≡ line_event s events line
+pub split_is : {S : Type 0} (number : S → ℕ) (flags : LexFlags) (old : Builder S) (s : Settings) (events : List Event) (line : Piece) (r : Result RuleParts Fault) → Represents number flags old events → is_verbatim line ≡ false → r ≡ split (map as_state old.states.list.items) line → split_event s events line.at r ≡ line_event s events line
 split_is number flags old s events line r was h e =
     let there : r ≡ split (states_of events) line = e ∙ ap (λ (ss : List StartState). split ss line) was.states in
     ap (split_event s events line.at) there ∙ sym (rw h refl)
 
-pub line_duplicate : {S : Type 0} (number : S → ℕ) (flags : LexFlags) (greatest : ℕ) (old new : Builder S) (o : ℕ) (parts : RuleParts) (original : Rule) → old.is_refused ≡ false → Some original ≡ rule_named (map (as_rule number) old.rules.items) parts.label.name
-    → new.states ≡ old.states → new.rules ≡ old.rules → new.is_refused ≡ old.is_refused → map as_fault new.errors.items ≡ with_duplicate RuleName original.name_span parts.label.span (map as_fault old.errors.items)
+pub line_duplicate : {S : Type 0} (number : S → ℕ) (flags : LexFlags) (greatest : ℕ) (old new : Builder S) (o : ℕ) (parts : RuleParts) (original : Rule) → old.is_refused ≡ false → Some original ≡ rule_named (map (as_rule number) old.rules.list.items) parts.label.name
+    → new.states ≡ old.states → new.rules ≡ old.rules → new.is_refused ≡ old.is_refused → map as_fault new.errors.list.items ≡ with_duplicate RuleName original.name_span parts.label.span (map as_fault old.errors.list.items)
     → AddsLine number flags greatest old new o (λ s events. split_event s events o (Ok parts))
 line_duplicate number flags greatest old new o parts original calm found ss rs re errors s suits events was hit =
     let P : Event → Type 0 = λ x. Represents number flags new (events ++ x ∷ []) in

@@ -72,3 +72,6 @@ said_after_stop f g v events ys i h =
 
 pub events_after_one : {X : Type 0} (f : List Event → X → Event) (events : List Event) (x : X) → is_refused events ≡ false → events ++ f events x ∷ [] ≡ events_after f events (x ∷ [])
 events_after_one f events x h = sym (rw h refl)
+
+pub events_after_next : {X : Type 0} (f : List Event → X → Event) (events : List Event) (x : X) (xs : List X) → is_refused events ≡ false → events_after f events (x ∷ xs) ≡ events_after f (events ++ f events x ∷ []) xs
+events_after_next f events x xs h = rw h refl

@@ -2,7 +2,9 @@
 use Rattle.std.specs.Prelude.{Bool, true, false}
 use Rattle.lrlex_rules.specs.declared.faults.LexErrorKind.{LexErrorKind}
 use Rattle.lrlex_rules.specs.declared.faults.LexErrorKind.TheVariants as kinds
-use Rattle.lrlex_rules.specs.Event.{FaultKind}
+use Rattle.lrlex_rules.specs.declared.parser.duplicates.Named.{Named}
+use Rattle.lrlex_rules.specs.declared.parser.duplicates.Named.TheVariants as names
+use Rattle.lrlex_rules.specs.Event.{FaultKind, Subject}
 
 abbrev pub as_kind : LexErrorKind → FaultKind
 as_kind kinds.PrematureEnd = FaultKind.PrematureEnd
@@ -22,3 +24,8 @@ as_kind kinds.TooManyRules = FaultKind.TooManyRules
 abbrev pub is_regex_error : FaultKind → Bool
 is_regex_error FaultKind.RegexError = true
 is_regex_error _ = false
+
+-- what was declared twice, as the program has it
+abbrev pub as_subject : Named → Subject
+as_subject names.State = Subject.StateName
+as_subject names.Rule = Subject.RuleName

@@ -9,25 +9,25 @@ use Rattle.lrlex_base.specs.Spans.{as_span}
 use Rattle.lrlex_rules.specs.declared.flags.LexFlags.{LexFlags}
 use Rattle.lrlex_rules.specs.declared.parser.text.Line.{Line}
 use Rattle.lrlex_rules.specs.declared.parser.fatal.Fatal.{Fatal}
+use Rattle.lrlex_rules.specs.declared.parser.names.States.{States}
 use Rattle.lrlex_rules.specs.declared.parser.rule_line.Label.{Label}
 use Rattle.lrlex_rules.specs.declared.parser.rule_line.Parts.{Parts}
 use Rattle.lrlex_rules.specs.declared.parser.rule_line.Pattern.{Pattern as ThePattern}
 use Rattle.lrlex_rules.specs.declared.parser.rule_line.Angles.{Angles}
 use Rattle.lrlex_rules.specs.declared.parser.rule_line.Angles.TheVariants as angles
-use Rattle.lrlex_rules.specs.declared.parser.duplicates.Named.{Named}
-use Rattle.lrlex_rules.specs.declared.parser.duplicates.Named.TheVariants as names
 use Rattle.lrlex_rules.specs.declared.parser.builder.Builder.{Builder}
 use Rattle.lrlex_rules.specs.declared.parser.builder.RuleFile.{RuleFile}
-use Rattle.lrlex_rules.specs.Definition.{Definition}
+use Rattle.lrlex_rules.specs.Definition.{StartState, Definition}
 use Rattle.lrlex_rules.specs.Parts.{as_rule, as_state}
 use Rattle.lrlex_rules.specs.Flags.{resolved, config_of}
 use Rattle.lrlex_rules.specs.Text.{Piece, piece, begins_with}
-use Rattle.lrlex_rules.specs.Event.{Fault, fault_at, Subject, Event, states_of, rules_of, is_refused, refused_patterns}
+use Rattle.lrlex_rules.specs.Event.{Fault, fault_at, Event, states_of, rules_of, is_refused, refused_patterns}
 use Rattle.lrlex_rules.specs.Event.Event.{Refused}
-use Rattle.lrlex_rules.specs.Declaration.{Declared, declared_name, declared_by}
+use Rattle.lrlex_rules.specs.Declaration.{Declared, declared_by}
 use Rattle.lrlex_rules.specs.RuleLine.{RuleLabel, RuleParts, Pattern, is_greater, in_angles, after_angles}
 use Rattle.lrlex_rules.specs.Outcome.{Settings, faults_after}
 use Rattle.lrlex_rules.specs.Kinds.{as_kind}
+pub use Rattle.lrlex_rules.specs.Kinds.{as_subject}
 pub use Rattle.lrlex_rules.specs.Answer.{seen, as_fault, as_faults, first_start, refused_in, regex_error, kind_error, regex_errors, IsRefused, AreRefusals, settings, refused_by, IsAnswer, AreOwnRefusals}
 
 -- ---- lines
@@ -61,11 +61,9 @@ pub record MarkAt (at : ℕ) (text : List ℕ) (mark : Line) : Type 0 where
 abbrev pub declared_line : Line → List Declared
 declared_line line = declared_by (as_piece line)
 
--- a line as a state's name
-abbrev pub name_of : Bool → Line → Declared
-name_of exclusive line = declared_name exclusive (as_piece line)
-
 -- ---- the parts of a rule line
+abbrev pub as_states : States → List StartState
+as_states s = map as_state s.list.items
 
 abbrev pub as_fatal : Fatal → Fault
 as_fatal f = fault_at (as_kind f.kind) f.at
@@ -89,10 +87,6 @@ abbrev pub items_of : Vec ℕ Global → List ℕ
 items_of v = v.items
 
 -- ---- faults
-abbrev pub as_subject : Named → Subject
-as_subject names.State = Subject.StateName
-as_subject names.Rule = Subject.RuleName
-
 -- whether that is this place
 abbrev pub hits : Option ℕ → ℕ → Bool
 hits refused o = option_map_or (λ (x : ℕ). x == o) refused false
@@ -103,15 +97,15 @@ HitAlike r r' lines i = (j : ℕ) (d : Line) → j < i → hits r (slice_index_o
 
 -- ---- what was read so far
 abbrev pub refused_of : {S : Type 0} → Builder S → Option ℕ
-refused_of b = refused_in (map as_fault b.errors.items)
+refused_of b = refused_in (map as_fault b.errors.list.items)
 
 -- the builder has what these events say, where `number` gives the number that an id stands for
 pub record Represents {S : Type 0} (number : S → ℕ) (flags : LexFlags) (b : Builder S) (events : List Event) : Type 0 where
-  pub states : map as_state b.states.items ≡ states_of events
-  pub rules : map (as_rule number) b.rules.items ≡ rules_of events
-  pub errors : map as_fault b.errors.items ≡ faults_after [] events
+  pub states : as_states b.states ≡ states_of events
+  pub rules : map (as_rule number) b.rules.list.items ≡ rules_of events
+  pub errors : map as_fault b.errors.list.items ≡ faults_after [] events
   pub refused : b.is_refused ≡ is_refused events
-  pub refusals : AreRefusals (config_of flags) (refused_patterns events) (regex_errors b.errors.items)
+  pub refusals : AreRefusals (config_of flags) (refused_patterns events) (regex_errors b.errors.list.items)
 
 -- from one builder to the next, one event more
 abbrev pub Adds : {S : Type 0} → (S → ℕ) → Builder S → Builder S → (List Event → Event) → Type 0

@@ -11,65 +11,27 @@ ghost use Rattle.lrlex_rules.specs.Event.Event.{Fatal, Verbatim, NewState};
 ghost use Rattle.lrlex_rules.specs.Declaration.{initial, declarations, trimmed_lines, section_end, state_event, declared_name, declared_by};
 ghost use Rattle.lrlex_rules.specs.Outcome.{then_fatal, rules_events, events_after, has_name, rule_named, rule_event, split_event, line_event};
 ghost use Rattle.lrlex_rules.specs.Kinds.{as_kind, is_regex_error};
+ghost use Rattle.lrlex_rules.specs.Merge.{tells_duplicates};
 ghost use Rattle.lrlex_rules.specs.Faults.{IsPlaced};
 ghost use Rattle.lrlex_rules.specs.Laws.{IsLawful};
-ghost use Rattle.lrlex_rules.specs.Reading.{name_of, as_piece, as_parts, as_pattern, AddsLine, ReadsLines, AreApart, MarkAt, IsAnswer, AreOwnRefusals, as_definition, refused_of, Represents, Adds, AddsRefused, Reads, EndBy, line_end};
+ghost use Rattle.lrlex_base.specs.Classes.{is_white_space};
+ghost use Rattle.lrlex_rules.specs.Text.{cut};
+ghost use Rattle.lrlex_rules.specs.Reading.{as_piece, as_parts, as_pattern, AddsLine, ReadsLines, AreApart, MarkAt, IsAnswer, AreOwnRefusals, as_definition, refused_of, Represents, Adds, AddsRefused, Reads, EndBy, line_end};
 
 use crate::faults::{LexBuildError, LexErrorKind};
 use crate::flags::LexFlags;
-use crate::parser::declaration::{declares_exclusive, is_state_name, state_named};
-use crate::parser::duplicates::{Named, add_duplicate};
+use crate::parser::declaration::{declares_exclusive, is_state_name};
+use crate::parser::duplicates::{Faults, Named};
+use crate::parser::names::{Rules, States};
 use crate::parser::rule_line::{Parts, Pattern, pattern_of, split};
 use crate::parser::text::{
-    Line, begins_with_white, behind, first_word, is_white, read_section, skip_blanks, split_names,
+    Line, begins_with_white, behind, first_word, is_white, next_name, read_section, skip_blanks,
     trim_head,
 };
 use crate::rules::Rule;
 use crate::states::StartState;
 use lrlex_base::{Id, Span};
 use std::alloc::{AllocError, Global};
-
-impl<StorageT: Id> Rule<StorageT> {
-    /// Whether the rule has this name.
-    fn has_name(&self, name: &str) -> bool
-        ensures { result ≡ has_name name.now (as_rule StorageT.number self.now) }
-    {
-        match &self.name {
-            Some(own) => own.as_str() == name,
-            None => false,
-        }
-    }
-}
-
-/// The first rule with this name.
-fn find_rule<'r, StorageT: Id>(
-    rules: &'r [Rule<StorageT>],
-    name: &str,
-) -> Option<&'r Rule<StorageT>>
-    ensures { option_map (as_rule StorageT.number) (option_copied result)
-        ≡ find (has_name name.now) (map (as_rule StorageT.number) rules.now) }
-{
-    for rule in rules {
-        if rule.has_name(name) {
-            return Some(rule);
-        }
-    }
-    None
-}
-
-/// The first rule with this name, if it is one.
-fn rule_named<'r, StorageT: Id>(
-    rules: &'r [Rule<StorageT>],
-    name: Option<&str>,
-) -> Option<&'r Rule<StorageT>>
-    ensures { option_map (as_rule StorageT.number) (option_copied result)
-        ≡ rule_named (map (as_rule StorageT.number) rules.now) (option_copied name.entry) }
-{
-    match name {
-        Some(name) => find_rule(rules, name),
-        None => None,
-    }
-}
 
 /// A name of its own, if there is one.
 fn owned(alloc: Global, name: Option<&str>) -> Result<Option<String>, AllocError>
@@ -86,32 +48,34 @@ fn owned(alloc: Global, name: Option<&str>) -> Result<Option<String>, AllocError
 
 /// What has been read so far.
 #[derive(Drop)]
-pub(crate) struct Builder<StorageT> {
-    states: Vec<StartState>,
-    rules: Vec<Rule<StorageT>>,
-    errors: Vec<LexBuildError>,
+pub(crate) struct Builder<'t, StorageT> {
+    states: States<'t>,
+    rules: Rules<'t, StorageT>,
+    errors: Faults,
     is_refused: bool,
 }
 
-impl<StorageT: Id> Builder<StorageT> {
+impl<'t, StorageT: Id> Builder<'t, StorageT> {
     /// A builder that has the state with which each rule file begins.
-    fn new(alloc: Global) -> Result<Builder<StorageT>, AllocError>
+    fn new(alloc: Global) -> Result<Builder<'t, StorageT>, AllocError>
         ensures { IfOk result (λ b. (flags : LexFlags) → Represents StorageT.number flags b (NewState initial ∷ [])) }
     {
         let first = StartState::new(alloc, 0, "INITIAL", false, Span::new(0, 0))?;
-        let states = vec![in alloc; first]?;
+        let mut states = States::new(alloc);
+        states.push("INITIAL", first)?;
         Ok(Builder {
             states,
-            rules: Vec::new(alloc),
-            errors: Vec::new(alloc),
+            rules: Rules::new(alloc),
+            errors: Faults::new(alloc),
             is_refused: false,
         })
     }
 
-    /// Ends the reading with a fault that is not `regex`'s.
+    /// Ends the reading with a fault that is neither `regex`'s nor that of duplicates.
     fn refuse(&mut self, alloc: Global, kind: LexErrorKind, at: usize) -> Result<(), AllocError>
         requires calm { self.old.is_refused ≡ false }
         requires own { is_regex_error (as_kind kind) ≡ false }
+        requires lone { tells_duplicates (as_kind kind) ≡ false }
         ensures adds { OnOk result (Adds StorageT.number self.old self.new
             (λ events. Fatal (fault_at (as_kind kind) at))) }
         ensures keeps { OnOk result (refused_of self.new ≡ refused_of self.old) }
@@ -140,7 +104,7 @@ impl<StorageT: Id> Builder<StorageT> {
     }
 
     /// Reads a state's name.
-    fn declare(&mut self, alloc: Global, name: Line, exclusive: bool) -> Result<(), AllocError>
+    fn declare(&mut self, alloc: Global, name: Line<'t>, exclusive: bool) -> Result<(), AllocError>
         requires fits { line_end name < 2 ^ 64 }
         requires calm { self.old.is_refused ≡ false }
         ensures { OnOk result (Adds StorageT.number self.old self.new
@@ -150,38 +114,46 @@ impl<StorageT: Id> Builder<StorageT> {
             return self.refuse(alloc, LexErrorKind::InvalidStartStateName, name.at);
         }
         let span = Span::new(name.at, name.at + name.text.len());
-        if let Some(original) = state_named(self.states.as_slice(), name.text) {
+        if let Some(original) = self.states.named(name.text) {
             let first = original.name_span;
-            return add_duplicate(alloc, &mut self.errors, Named::State, first, span);
+            return self.errors.add_duplicate(alloc, Named::State, first, span);
         }
-        let id = self.states.len();
+        let id = self.states.list.as_slice().len();
         let state = StartState::new(alloc, id, name.text, exclusive, span)?;
-        self.states.push(state)?;
+        self.states.push(name.text, state)?;
         Ok(())
     }
 
-    /// Reads the names of a declaration.
+    /// Reads the names of a declaration, which each single white space character parts.
     fn declare_all(
         &mut self,
         alloc: Global,
-        names: &[Line],
+        names: Line<'t>,
         exclusive: bool,
     ) -> Result<(), AllocError>
-        requires { EndBy (2 ^ 64 - 1) names.now }
+        requires { line_end names < 2 ^ 64 }
         ensures { OnOk result (Reads StorageT.number self.old self.new
-            (λ events. events_after state_event events (map (name_of exclusive) names.now))) }
+            (λ events. events_after state_event events (map (declared_name exclusive) (cut is_white_space (as_piece names.entry))))) }
     {
-        for name in names {
+        let end = names.at + names.text.len();
+        let mut left = Some(names.text);
+        while let Some(rest) = left {
             if self.is_refused {
                 break;
             }
-            self.declare(alloc, *name, exclusive)?;
+            let (first, more) = next_name(rest);
+            let name = Line {
+                at: end - rest.len(),
+                text: first,
+            };
+            self.declare(alloc, name, exclusive)?;
+            left = more;
         }
         Ok(())
     }
 
     /// Reads a declaration.
-    fn declaration(&mut self, alloc: Global, line: Line) -> Result<(), AllocError>
+    fn declaration(&mut self, alloc: Global, line: Line<'t>) -> Result<(), AllocError>
         requires fits { line_end line < 2 ^ 64 }
         requires calm { self.old.is_refused ≡ false }
         ensures { OnOk result (Reads StorageT.number self.old self.new
@@ -195,15 +167,14 @@ impl<StorageT: Id> Builder<StorageT> {
         let parameters = rest.trim();
         match declares_exclusive(word) {
             Some(exclusive) if !parameters.text.is_empty() => {
-                let names = split_names(alloc, parameters)?;
-                self.declare_all(alloc, names.as_slice(), exclusive)
+                self.declare_all(alloc, parameters, exclusive)
             }
             _ => self.refuse(alloc, LexErrorKind::UnknownDeclaration, line.at),
         }
     }
 
     /// Reads the lines of the declarations.
-    fn declarations(&mut self, alloc: Global, lines: &[Line]) -> Result<(), AllocError>
+    fn declarations(&mut self, alloc: Global, lines: &[Line<'t>]) -> Result<(), AllocError>
         requires { EndBy (2 ^ 64 - 1) lines.now }
         ensures { OnOk result (Reads StorageT.number self.old self.new
             (λ events. events_after state_event events (flat_map declared_by (map as_piece lines.now)))) }
@@ -236,7 +207,7 @@ impl<StorageT: Id> Builder<StorageT> {
         &mut self,
         alloc: Global,
         at: usize,
-        parts: Parts,
+        parts: Parts<'t>,
         pattern: Pattern,
         flags: &LexFlags,
     ) -> Result<(), AllocError>
@@ -244,7 +215,7 @@ impl<StorageT: Id> Builder<StorageT> {
         ensures { OnOk result (AddsLine StorageT.number flags.now StorageT.greatest self.old self.new at
             (λ s events. rule_event s (rules_of events) at (as_parts parts.entry) (as_pattern pattern))) }
     {
-        let Some(id) = StorageT::from_count(self.rules.as_slice().len()) else {
+        let Some(id) = StorageT::from_count(self.rules.list.as_slice().len()) else {
             return self.refuse(alloc, LexErrorKind::TooManyRules, at);
         };
         let name = owned(alloc, parts.label.name)?;
@@ -260,7 +231,7 @@ impl<StorageT: Id> Builder<StorageT> {
             flags,
         )? {
             Ok(rule) => {
-                self.rules.push(rule)?;
+                self.rules.push(parts.label.name, rule)?;
                 Ok(())
             }
             Err(error) => self.refuse_pattern(alloc, error, at),
@@ -272,33 +243,28 @@ impl<StorageT: Id> Builder<StorageT> {
         &mut self,
         alloc: Global,
         at: usize,
-        parts: Parts,
+        parts: Parts<'t>,
         flags: &LexFlags,
     ) -> Result<(), AllocError>
         requires { self.old.is_refused ≡ false }
         ensures { OnOk result (AddsLine StorageT.number flags.now StorageT.greatest self.old self.new at
             (λ s events. split_event s events at (Ok (as_parts parts.entry)))) }
     {
-        if let Some(original) = rule_named(self.rules.as_slice(), parts.label.name) {
+        if let Some(original) = self.rules.named(parts.label.name) {
             let first = original.name_span;
-            return add_duplicate(
-                alloc,
-                &mut self.errors,
-                Named::Rule,
-                first,
-                parts.label.span,
-            );
+            let found = parts.label.span;
+            return self.errors.add_duplicate(alloc, Named::Rule, first, found);
         }
         let posix = flags.posix_escapes.unwrap_or(false);
         let head = trim_head(parts.head);
-        match pattern_of(alloc, self.states.as_slice(), at, head, posix)? {
+        match pattern_of(alloc, &self.states, at, head, posix)? {
             Ok(pattern) => self.add_rule(alloc, at, parts, pattern, flags),
             Err(fatal) => self.refuse(alloc, fatal.kind, fatal.at),
         }
     }
 
     /// Reads a line of the rules section.
-    fn line(&mut self, alloc: Global, line: Line, flags: &LexFlags) -> Result<(), AllocError>
+    fn line(&mut self, alloc: Global, line: Line<'t>, flags: &LexFlags) -> Result<(), AllocError>
         requires fits { line_end line < 2 ^ 64 }
         requires calm { self.old.is_refused ≡ false }
         ensures { OnOk result (AddsLine StorageT.number flags.now StorageT.greatest self.old self.new line.entry.at
@@ -307,14 +273,19 @@ impl<StorageT: Id> Builder<StorageT> {
         if begins_with_white(line.text) {
             return self.verbatim(alloc, line);
         }
-        match split(self.states.as_slice(), line) {
+        match split(&self.states, line) {
             Ok(parts) => self.rule(alloc, line.at, parts, flags),
             Err(fatal) => self.refuse(alloc, fatal.kind, fatal.at),
         }
     }
 
     /// Reads the lines of the rules section.
-    fn lines(&mut self, alloc: Global, lines: &[Line], flags: &LexFlags) -> Result<(), AllocError>
+    fn lines(
+        &mut self,
+        alloc: Global,
+        lines: &[Line<'t>],
+        flags: &LexFlags,
+    ) -> Result<(), AllocError>
         requires fit { EndBy (2 ^ 64 - 1) lines.now }
         requires apart { AreApart lines.now }
         ensures { OnOk result (ReadsLines StorageT.number flags.now StorageT.greatest self.old self.new
@@ -336,7 +307,8 @@ impl<StorageT: Id> Builder<StorageT> {
         kind: LexErrorKind,
         at: usize,
     ) -> Result<(), AllocError>
-        requires { is_regex_error (as_kind kind) ≡ false }
+        requires own { is_regex_error (as_kind kind) ≡ false }
+        requires lone { tells_duplicates (as_kind kind) ≡ false }
         ensures reads { OnOk result (Reads StorageT.number self.old self.new
             (λ events. then_fatal events (as_kind kind) at)) }
         ensures keeps { OnOk result (refused_of self.new ≡ refused_of self.old) }
@@ -351,7 +323,7 @@ impl<StorageT: Id> Builder<StorageT> {
     fn rules(
         &mut self,
         alloc: Global,
-        text: &str,
+        text: &'t str,
         mark: Line,
         flags: &LexFlags,
     ) -> Result<(), AllocError>
@@ -376,7 +348,7 @@ impl<StorageT: Id> Builder<StorageT> {
     }
 
     /// Reads a rule text.
-    fn read(&mut self, alloc: Global, text: &str, flags: &LexFlags) -> Result<(), AllocError>
+    fn read(&mut self, alloc: Global, text: &'t str, flags: &LexFlags) -> Result<(), AllocError>
         requires { length text.now < 2 ^ 64 }
         ensures { OnOk result (ReadsLines StorageT.number flags.now StorageT.greatest self.old self.new
             (λ s events. rules_events s text.now (events_after state_event events (declarations (allows_comments flags.now) text.now))
@@ -421,9 +393,12 @@ pub fn read_rules<StorageT: Id>(
         errors,
         ..
     } = builder;
-    if !errors.as_slice().is_empty() {
-        return Ok(Err(errors));
+    let Faults { list: faults, .. } = errors;
+    if !faults.as_slice().is_empty() {
+        return Ok(Err(faults));
     }
+    let States { list: states, .. } = states;
+    let Rules { list: rules, .. } = rules;
     Ok(Ok(RuleFile {
         states,
         rules,

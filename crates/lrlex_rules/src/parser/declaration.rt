@@ -1,11 +1,7 @@
-ghost use Rattle.std.specs.Prelude.{◌≡◌, map};
+ghost use Rattle.std.specs.Prelude.{◌≡◌};
 ghost use Rattle.std.specs.List.{list_all};
 ghost use Rattle.std.specs.Char.{is_ascii_alphanumeric};
-ghost use Rattle.std.specs.Option.{option_copied, option_map};
-ghost use Rattle.lrlex_rules.specs.Parts.{as_state};
-ghost use Rattle.lrlex_rules.specs.Declaration.{declares_exclusive, is_state_name, is_state_name_char, state_named};
-
-use crate::states::StartState;
+ghost use Rattle.lrlex_rules.specs.Declaration.{declares_exclusive, is_state_name, is_state_name_char};
 
 /// Whether these are ASCII letters and digits.
 fn are_alphanumeric(bytes: &[u8]) -> bool
@@ -55,16 +51,4 @@ pub(crate) fn is_state_name(name: &str) -> bool
         return false;
     };
     first.is_ascii_alphabetic() && are_state_name_bytes(bytes)
-}
-
-/// The first state with this name.
-pub(crate) fn state_named<'s>(states: &'s [StartState], name: &str) -> Option<&'s StartState>
-    ensures { option_map as_state (option_copied result) ≡ state_named name.now (map as_state states.now) }
-{
-    for state in states {
-        if state.name.as_str() == name {
-            return Some(state);
-        }
-    }
-    None
 }

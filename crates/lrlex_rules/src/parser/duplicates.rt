@@ -1,17 +1,17 @@
-ghost use Rattle.std.specs.Prelude.{◌≡◌, map, OnOk, IfOk};
-ghost use Rattle.std.specs.List.{list_any};
+ghost use Rattle.std.specs.Prelude.{◌≡◌, ◌++◌, ◌∷◌, [], map, false, OnOk, OnErr};
+ghost use Rattle.std.proofs.Props.{props};
 ghost use Rattle.lrlex_base.specs.Spans.{as_span};
 ghost use Rattle.lrlex_rules.specs.Outcome.{kind_of};
-ghost use Rattle.lrlex_rules.specs.Merge.{with_duplicate, with_place, is_fault_of, is_kind_of};
-ghost use Rattle.lrlex_rules.specs.Kinds.{as_kind};
-ghost use Rattle.lrlex_rules.specs.Reading.{as_subject, as_fault};
+ghost use Rattle.lrlex_rules.specs.Kinds.{as_kind, as_subject};
+ghost use Rattle.lrlex_rules.specs.Merge.{AreFaultPlaces, NotesFault, KeepsFaults, fault_place};
 
 use crate::faults::{LexBuildError, LexErrorKind};
 use lrlex_base::Span;
 use std::alloc::{AllocError, Global};
+use std::collections::BTreeMap;
 
 /// What can be declared twice.
-#[derive(Clone, Copy)]
+#[derive(Clone, Copy, PartialEq, Eq, PartialOrd, Ord)]
 pub(crate) enum Named {
     State,
     Rule,
@@ -27,69 +27,93 @@ impl Named {
             Named::Rule => LexErrorKind::DuplicateName,
         }
     }
-
-    /// Whether this is that kind.
-    fn has_kind(self, kind: &LexErrorKind) -> bool
-        ensures { result ≡ is_kind_of (as_subject self) (as_kind kind.now) }
-    {
-        match self {
-            Named::State => matches!(kind, LexErrorKind::DuplicateStartState),
-            Named::Rule => matches!(kind, LexErrorKind::DuplicateName),
-        }
-    }
 }
 
-impl LexBuildError {
-    /// Whether the fault is that of the duplicates of this original.
-    fn is_of(&self, named: Named, original: Span) -> bool
-        ensures { result ≡ is_fault_of (as_subject named) (as_span original) (as_fault self.now) }
-    {
-        if !named.has_kind(&self.kind) {
-            return false;
-        }
-        match self.spans.first() {
-            Some(first) => *first == original,
-            None => false,
-        }
-    }
-}
+// What was declared first: a state or a rule, and where its name stands.
+type Original = (Named, usize, usize);
 
-/// Adds a place to each fault of this original, and says whether there is one.
-fn extend_faults(
-    errors: &mut [LexBuildError],
-    named: Named,
-    original: Span,
-    found: Span,
-) -> Result<bool, AllocError>
-    ensures faults { OnOk result (map as_fault errors.new
-        ≡ map (with_place (as_subject named) (as_span original) (as_span found)) (map as_fault errors.old)) }
-    ensures known { IfOk result (λ known. known
-        ≡ list_any (is_fault_of (as_subject named) (as_span original)) (map as_fault errors.old)) }
+/// The place of the fault of an original, if it has one.
+fn place_of(places: &BTreeMap<Original, usize>, named: Named, original: Span) -> Option<usize>
+    ensures { result ≡ fault_place places.now (as_subject named) (as_span original) }
 {
-    let mut known = false;
-    for error in errors.iter_mut() {
-        if error.is_of(named, original) {
-            error.spans.push(found)?;
-            known = true;
-        }
+    match places.get(&(named, original.start(), original.end())) {
+        Some(place) => Some(*place),
+        None => None,
     }
-    Ok(known)
 }
 
-/// Adds a duplicate of an original to the faults.
-pub(crate) fn add_duplicate(
-    alloc: Global,
-    errors: &mut Vec<LexBuildError>,
+/// Notes the place of the fault of an original.
+fn note(
+    places: &mut BTreeMap<Original, usize>,
     named: Named,
     original: Span,
-    found: Span,
+    place: usize,
 ) -> Result<(), AllocError>
-    ensures { OnOk result (map as_fault errors.new.items
-        ≡ with_duplicate (as_subject named) (as_span original) (as_span found) (map as_fault errors.old.items)) }
+    ensures noted { OnOk result (NotesFault places.old places.new (as_subject named) (as_span original) place) }
+    ensures same { OnErr result (KeepsFaults places.old places.new) }
 {
-    if !extend_faults(errors.as_mut_slice(), named, original, found)? {
-        let spans = vec![in alloc; original, found]?;
-        errors.push(LexBuildError::new(named.kind(), spans))?;
-    }
+    places.insert((named, original.start(), original.end()), place)?;
     Ok(())
+}
+
+/// The faults so far, with the place of the one that tells of each original's duplicates.
+#[derive(Drop)]
+pub(crate) struct Faults {
+    pub(crate) list: Vec<LexBuildError>,
+    places: BTreeMap<Original, usize>,
+    ghost placed: { AreFaultPlaces places list.items } by { Prim.hlevel props },
+}
+
+impl Faults {
+    ghost use Rattle.lrlex_rules.specs.Merge.{tells_duplicates, with_duplicate};
+    ghost use Rattle.lrlex_rules.specs.Faults.{fault_kind};
+    ghost use Rattle.lrlex_rules.specs.Reading.{as_fault};
+
+    /// No faults.
+    pub(crate) fn new(alloc: Global) -> Faults
+        ensures { result.list.items ≡ [] }
+    {
+        Faults {
+            list: Vec::new(alloc),
+            places: BTreeMap::new(alloc),
+        }
+    }
+
+    /// Adds a fault that tells of no duplicates.
+    pub(crate) fn push(&mut self, fault: LexBuildError) -> Result<(), AllocError>
+        requires { tells_duplicates (as_kind (fault_kind fault)) ≡ false }
+        ensures { OnOk result (self.new.list.items ≡ self.old.list.items ++ fault ∷ []) }
+    {
+        self.list.push(fault)?;
+        Ok(())
+    }
+
+    /// Adds a duplicate to the fault of its original, which is a new one at the first duplicate.
+    pub(crate) fn add_duplicate(
+        &mut self,
+        alloc: Global,
+        named: Named,
+        original: Span,
+        found: Span,
+    ) -> Result<(), AllocError>
+        ensures { OnOk result (map as_fault self.new.list.items
+            ≡ with_duplicate (as_subject named) (as_span original) (as_span found) (map as_fault self.old.list.items)) }
+    {
+        if let Some(place) = place_of(&self.places, named, original) {
+            let fault = &mut self.list[place];
+            fault.spans.push(found)?;
+            return Ok(());
+        }
+        let spans = vec![in alloc; original, found]?;
+        let fault = LexBuildError::new(named.kind(), spans);
+        self.list.reserve(1)?;
+        note(
+            &mut self.places,
+            named,
+            original,
+            self.list.as_slice().len(),
+        )?;
+        self.list.push(fault)?;
+        Ok(())
+    }
 }

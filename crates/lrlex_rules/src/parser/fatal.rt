@@ -1,12 +1,14 @@
 ghost use Rattle.std.specs.Prelude.{◌≡◌, false};
 ghost use Rattle.lrlex_rules.specs.Kinds.{as_kind, is_regex_error};
+ghost use Rattle.lrlex_rules.specs.Merge.{tells_duplicates};
 
 use crate::faults::LexErrorKind;
 
-/// A fault that ends the reading, and its place. Such a fault is never `regex`'s.
+/// A fault that ends the reading, and its place. Such a fault is never `regex`'s, nor that of duplicates.
 #[derive(Debug, Drop)]
 pub(crate) struct Fatal {
     pub(crate) kind: LexErrorKind,
     pub(crate) at: usize,
     ghost own: { is_regex_error (as_kind kind) ≡ false },
+    ghost lone: { tells_duplicates (as_kind kind) ≡ false },
 }

@@ -2,6 +2,7 @@ mod builder;
 mod declaration;
 mod duplicates;
 mod fatal;
+mod names;
 mod rule_line;
 mod text;
 

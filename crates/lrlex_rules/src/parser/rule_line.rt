@@ -1,14 +1,13 @@
 ghost use Rattle.std.specs.Prelude.{◌≡◌, ◌+◌, ◌^◌, ◌<◌, ◌≤◌, ◌∷◌, length, map, IfOk, IfSome};
 ghost use Rattle.std.specs.Option.{option_map, option_copied};
-ghost use Rattle.lrlex_rules.specs.Parts.{as_state};
 ghost use Rattle.lrlex_rules.specs.RuleLine.{operation_of, target_name, state_id, target, is_unnamed, is_quoted_by, label_in, parts_of_word, split, listed_names, names_left, listed_ids, ids_of, state_ids, pattern_of};
-ghost use Rattle.lrlex_rules.specs.Reading.{as_fatal, as_label, as_parts, as_pattern, as_piece, seen, HasAngles, line_end, items_of};
+ghost use Rattle.lrlex_rules.specs.Reading.{as_states, as_fatal, as_label, as_parts, as_pattern, as_piece, seen, HasAngles, line_end, items_of};
 
 use crate::faults::LexErrorKind;
-use crate::parser::declaration::state_named;
 use crate::parser::fatal::Fatal;
+use crate::parser::names::States;
 use crate::parser::text::{Line, split_last_blank, trim_end, trim_text, unescape};
-use crate::states::{StartState, StartStateOperation};
+use crate::states::StartStateOperation;
 use lrlex_base::Span;
 use std::alloc::{AllocError, Global};
 
@@ -51,23 +50,19 @@ fn operation_of(text: &str) -> (StartStateOperation, &str)
 }
 
 /// The id of the state with this name.
-fn state_id(states: &[StartState], name: &str) -> Option<usize>
-    ensures { result ≡ state_id (map as_state states.now) name.now }
+fn state_id(states: &States, name: &str) -> Option<usize>
+    ensures { result ≡ state_id (as_states states.now) name.now }
 {
-    match state_named(states, name) {
+    match states.named(name) {
         Some(state) => Some(state.id),
         None => None,
     }
 }
 
 /// The target between the angles, in a word that stands behind the blank at this place.
-fn target(
-    states: &[StartState],
-    blank: usize,
-    text: &str,
-) -> Result<(usize, StartStateOperation), Fatal>
+fn target(states: &States, blank: usize, text: &str) -> Result<(usize, StartStateOperation), Fatal>
     requires { blank + 1 < 2 ^ 64 }
-    ensures { seen (λ t. t) as_fatal result ≡ target (map as_state states.now) blank text.now }
+    ensures { seen (λ t. t) as_fatal result ≡ target (as_states states.now) blank text.now }
 {
     let (operation, name) = operation_of(text);
     match state_id(states, name) {
@@ -135,13 +130,13 @@ pub(crate) struct Parts<'a> {
 
 /// A rule line's parts, where the word stands behind the blank at this place.
 fn parts_of_word<'a>(
-    states: &[StartState],
+    states: &States,
     head: &'a str,
     blank: usize,
     word: &'a str,
 ) -> Result<Parts<'a>, Fatal>
     requires { blank + 1 + length word.now < 2 ^ 64 }
-    ensures { seen as_parts as_fatal result ≡ parts_of_word (map as_state states.now) head.now blank word.now }
+    ensures { seen as_parts as_fatal result ≡ parts_of_word (as_states states.now) head.now blank word.now }
 {
     let end = blank + 1 + word.len();
     match in_angles(word) {
@@ -170,9 +165,9 @@ fn parts_of_word<'a>(
 }
 
 /// A rule line's parts round its last blank, or its first fault.
-pub(crate) fn split<'a>(states: &[StartState], line: Line<'a>) -> Result<Parts<'a>, Fatal>
+pub(crate) fn split<'a>(states: &States, line: Line<'a>) -> Result<Parts<'a>, Fatal>
     requires { line_end line < 2 ^ 64 }
-    ensures { seen as_parts as_fatal result ≡ split (map as_state states.now) (as_piece line.entry) }
+    ensures { seen as_parts as_fatal result ≡ split (as_states states.now) (as_piece line.entry) }
 {
     match split_last_blank(trim_end(line.text)) {
         Some((head, word)) => parts_of_word(states, head, line.at + head.len(), word),
@@ -195,13 +190,9 @@ fn next_listed(names: &str) -> (&str, Option<&str>)
 }
 
 /// The ids of all these names, or none where one is not declared.
-fn state_ids(
-    alloc: Global,
-    states: &[StartState],
-    names: &str,
-) -> Result<Option<Vec<usize>>, AllocError>
+fn state_ids(alloc: Global, states: &States, names: &str) -> Result<Option<Vec<usize>>, AllocError>
     ensures { IfOk result (λ found. option_map items_of found
-        ≡ state_ids (map as_state states.now) (listed_names names.now)) }
+        ≡ state_ids (as_states states.now) (listed_names names.now)) }
 {
     let mut ids = Vec::new(alloc);
     let mut left = Some(names);
@@ -217,24 +208,20 @@ fn state_ids(
 }
 
 /// The ids of all states.
-fn all_ids(alloc: Global, states: &[StartState]) -> Result<Vec<usize>, AllocError>
-    ensures { IfOk result (λ ids. ids.items ≡ ids_of (map as_state states.now)) }
+fn all_ids(alloc: Global, states: &States) -> Result<Vec<usize>, AllocError>
+    ensures { IfOk result (λ ids. ids.items ≡ ids_of (as_states states.now)) }
 {
     let mut ids = Vec::new(alloc);
-    for state in states {
+    for state in states.list.as_slice() {
         ids.push(state.id)?;
     }
     Ok(ids)
 }
 
 /// The ids that a list of names stands for: `*` alone stands for all states.
-fn listed_ids(
-    alloc: Global,
-    states: &[StartState],
-    names: &str,
-) -> Result<Option<Vec<usize>>, AllocError>
+fn listed_ids(alloc: Global, states: &States, names: &str) -> Result<Option<Vec<usize>>, AllocError>
     ensures { IfOk result (λ found. option_map items_of found
-        ≡ listed_ids (map as_state states.now) (listed_names names.now)) }
+        ≡ listed_ids (as_states states.now) (listed_names names.now)) }
 {
     let (name, more) = next_listed(names);
     if more.is_some() || trim_text(name) != "*" {
@@ -254,13 +241,13 @@ pub(crate) struct Pattern {
 /// The start states and the pattern of a rule line. Behind a start-state list the escapes are not rewritten.
 pub(crate) fn pattern_of(
     alloc: Global,
-    states: &[StartState],
+    states: &States,
     at: usize,
     head: &str,
     posix: bool,
 ) -> Result<Result<Pattern, Fatal>, AllocError>
     ensures { IfOk result (λ found. seen as_pattern as_fatal found
-        ≡ pattern_of posix (map as_state states.now) at head.now) }
+        ≡ pattern_of posix (as_states states.now) at head.now) }
 {
     match in_angles(head) {
         Angles::Absent => {

@@ -308,23 +308,3 @@ pub(crate) fn skip_blanks(text: &str) -> &str
 {
     text.trim_start_matches(|c: char| is_blank(c))
 }
-
-/// The names of a piece of text, which each single white space character parts.
-pub(crate) fn split_names<'a>(alloc: Global, names: Line<'a>) -> Result<Vec<Line<'a>>, AllocError>
-    requires { names.at + length names.text.now < 2 ^ 64 }
-    ensures names { IfOk result (λ v. map as_piece v.items ≡ cut is_white_space (as_piece names.entry)) }
-    ensures fit { IfOk result (λ v. EndBy (line_end names.entry) v.items) }
-{
-    let end = names.at + names.text.len();
-    let mut found = Vec::new(alloc);
-    let mut left = Some(names.text);
-    while let Some(rest) = left {
-        let (first, more) = next_name(rest);
-        found.push(Line {
-            at: end - rest.len(),
-            text: first,
-        })?;
-        left = more;
-    }
-    Ok(found)
-}

@@ -12,24 +12,24 @@ use Rattle.lrlex_rules.proofs.parser.builder.Builder.add_rule.Goals as goal
 
 pub returns-in_default : goal.returns-in_default
 returns-in_default g c =
-    let more : g.StorageT.Id.greatest < length c.args.self.now.rules.items = subst (λ (n : ℕ). g.StorageT.Id.greatest < n) (ap (length {A = _}) c.as_slice.ensures.value) (c.in_default.ensures.none.0 refl) in
+    let more : g.StorageT.Id.greatest < length c.args.self.now.rules.list.items = subst (λ (n : ℕ). g.StorageT.Id.greatest < n) (ap (length {A = _}) c.as_slice.ensures.value) (c.in_default.ensures.none.0 refl) in
     on_ok c.refuse.result (line_too_many g.StorageT.Id.number c.args.flags.now g.StorageT.Id.greatest c.args.self.now c.refuse.new.self c.args.at (as_parts c.args.parts) (as_pattern c.args.pattern) more) c.refuse.ensures.adds
 
 pub returns-in_ok-push-in-Ok : goal.returns-in_ok-push-in-Ok
 returns-in_ok-push-in-Ok g c =
-    let count : length c.as_slice.result.now ≡ length c.args.self.now.rules.items = ap (length {A = _}) c.as_slice.ensures.value in
-    let room : length c.args.self.now.rules.items ≤ g.StorageT.Id.greatest = subst (λ (n : ℕ). n ≤ g.StorageT.Id.greatest) count (at_most g.StorageT.Id.greatest (length c.as_slice.result.now) (λ lt. let e : true ≡ false = c.in-Some.ensures.none.1 lt in cc)) in
+    let count : length c.as_slice.result.now ≡ length c.args.self.now.rules.list.items = ap (length {A = _}) c.as_slice.ensures.value in
+    let room : length c.args.self.now.rules.list.items ≤ g.StorageT.Id.greatest = subst (λ (n : ℕ). n ≤ g.StorageT.Id.greatest) count (at_most g.StorageT.Id.greatest (length c.as_slice.result.now) (λ lt. let e : true ≡ false = c.in-Some.ensures.none.1 lt in cc)) in
     let made = rw c.in-Ok.is at c.in_ok-rule.ensures.made in
-    let is : as_rule g.StorageT.Id.number c.in-Ok.rule ≡ _ = rule_made (as_parts c.args.parts) (as_pattern c.args.pattern) c.args.flags.now (as_rule g.StorageT.Id.number c.in-Ok.rule) (g.StorageT.Id.number c.in-Some.id) (length c.args.self.now.rules.items) (option_map string_bytes c.in_ok-name.name) made (c.in-Some.ensures.value ∙ count) c.in_ok-name.ensures in
+    let is : as_rule g.StorageT.Id.number c.in-Ok.rule ≡ _ = rule_made (as_parts c.args.parts) (as_pattern c.args.pattern) c.args.flags.now (as_rule g.StorageT.Id.number c.in-Ok.rule) (g.StorageT.Id.number c.in-Some.id) (length c.args.self.now.rules.list.items) (option_map string_bytes c.in_ok-name.name) made (c.in-Some.ensures.value ∙ count) c.in_ok-name.ensures in
     line_kept g.StorageT.Id.number c.args.flags.now g.StorageT.Id.greatest c.args.self.now _ c.args.at (as_parts c.args.parts) (as_pattern c.args.pattern) c.requires room refl
     (λ r same events was. adds_rule g.StorageT.Id.number c.args.flags.now c.args.self.now _ events was c.requires r refl refl refl
-    (ap (map (as_rule g.StorageT.Id.number)) c.in_ok-push-in-Ok.ensures.items ∙ map_push (as_rule g.StorageT.Id.number) c.args.self.now.rules.items _
-    ∙ ap (λ (x : Rule). map (as_rule g.StorageT.Id.number) c.args.self.now.rules.items ++ x ∷ []) (is ∙ sym same)))
+    (ap (map (as_rule g.StorageT.Id.number)) c.in_ok-push-in-Ok.ensures ∙ map_push (as_rule g.StorageT.Id.number) c.args.self.now.rules.list.items _
+    ∙ ap (λ (x : Rule). map (as_rule g.StorageT.Id.number) c.args.self.now.rules.list.items ++ x ∷ []) (is ∙ sym same)))
 
 pub returns-in-Err : goal.returns-in-Err
 returns-in-Err g c =
-    let count : length c.as_slice.result.now ≡ length c.args.self.now.rules.items = ap (length {A = _}) c.as_slice.ensures.value in
-    let room : length c.args.self.now.rules.items ≤ g.StorageT.Id.greatest = subst (λ (n : ℕ). n ≤ g.StorageT.Id.greatest) count (at_most g.StorageT.Id.greatest (length c.as_slice.result.now) (λ lt. let e : true ≡ false = c.in-Some.ensures.none.1 lt in cc)) in
+    let count : length c.as_slice.result.now ≡ length c.args.self.now.rules.list.items = ap (length {A = _}) c.as_slice.ensures.value in
+    let room : length c.args.self.now.rules.list.items ≤ g.StorageT.Id.greatest = subst (λ (n : ℕ). n ≤ g.StorageT.Id.greatest) count (at_most g.StorageT.Id.greatest (length c.as_slice.result.now) (λ lt. let e : true ≡ false = c.in-Some.ensures.none.1 lt in cc)) in
     let refused = rw c.in-Err.is at c.in_ok-rule.ensures.refused in
     let kind = rw c.in-Err.is at c.in_ok-rule.ensures.kind in
     let not_memory = rw c.in-Err.is at c.in_ok-rule.ensures.not_memory in

@@ -1,4 +1,4 @@
-use Rattle.std.proofs.Common.{◌≡◌, ◌∙◌, [], ◌∷◌, List, None, true, inl, inr, ap, sym, subst, map}
+use Rattle.std.proofs.Common.{◌≡◌, ◌∙◌, [], ◌∷◌, List, None, true, inl, inr, sym, subst, map}
 use Rattle.lrlex_rules.specs.Event.{Event}
 use Rattle.lrlex_rules.specs.Outcome.{events_after}
 use Rattle.lrlex_rules.specs.Declaration.{state_event, declared_name, Declared, declared_by, declares_exclusive}
@@ -6,20 +6,19 @@ use Rattle.std.specs.Prelude.{◌⊎◌}
 use Rattle.lrlex_rules.specs.Declaration.Declared.{Wrong}
 use Rattle.lrlex_rules.specs.Event.{fault_at}
 use Rattle.lrlex_rules.specs.Event.FaultKind.{UnknownDeclaration}
-use Rattle.lrlex_rules.specs.Text.{is_empty}
+use Rattle.lrlex_base.specs.Classes.{is_white_space}
+use Rattle.lrlex_rules.specs.Text.{cut, is_empty}
 use Rattle.lrlex_rules.proofs.Runs.{events_after_one}
-use Rattle.lrlex_rules.specs.Reading.{Represents, as_piece, name_of}
+use Rattle.lrlex_rules.specs.Reading.{Represents, as_piece}
 use Rattle.lrlex_rules.proofs.Builders.{on_ok}
-use Rattle.lrlex_rules.proofs.Declares.{map-map, declared_is, undeclared_is}
+use Rattle.lrlex_rules.proofs.Declares.{declared_is, undeclared_is}
 use Rattle.lrlex_rules.proofs.parser.builder.Builder.declaration.Goals as goal
 use Rattle.lrlex_rules.proofs.parser.builder.Builder.declaration.Goals.{in_default-via-in-Some+else-not-is_empty, in_default-via-in_default}
 
-pub returns-in_ok-names-in-Some : goal.returns-in_ok-names-in-Some
-returns-in_ok-names-in-Some g c =
-    let says : map (name_of c.in-Some.exclusive) c.as_slice.result.now ≡ declared_by (as_piece c.args.line) =
-    ap (map (name_of c.in-Some.exclusive)) c.as_slice.ensures.value ∙ sym (map-map (declared_name c.in-Some.exclusive) as_piece c.in_ok-names-in-Some.names.items)
-    ∙ ap (map (declared_name c.in-Some.exclusive)) c.in_ok-names-in-Some.ensures.names
-    ∙ declared_is (as_piece c.args.line) _ _ c.in-Some.exclusive (as_piece c.trim-parameters.result) c.first_word.ensures.word c.first_word.ensures.rest c.in-Some.ensures c.trim-parameters.ensures.value (sym c.is_empty.ensures ∙ c.if-not-is_empty.true) in
+pub returns-in-Some : goal.returns-in-Some
+returns-in-Some g c =
+    let says : map (declared_name c.in-Some.exclusive) (cut is_white_space (as_piece c.trim-parameters.result)) ≡ declared_by (as_piece c.args.line) =
+    declared_is (as_piece c.args.line) _ _ c.in-Some.exclusive (as_piece c.trim-parameters.result) c.first_word.ensures.word c.first_word.ensures.rest c.in-Some.ensures c.trim-parameters.ensures.value (sym c.is_empty.ensures ∙ c.if-not-is_empty.true) in
     on_ok c.declare_all.result (λ reads flags events was.
     let P : List Declared → Type 0 = λ ds. Represents g.StorageT.Id.number flags c.declare_all.new.self (events_after state_event events ds) in
     subst P says (reads flags events was)) c.declare_all.ensures

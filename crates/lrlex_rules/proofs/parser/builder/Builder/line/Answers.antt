@@ -1,8 +1,6 @@
-use Rattle.std.proofs.Common.{◌∙◌, ap, sym, map, Err}
+use Rattle.std.proofs.Common.{◌∙◌, sym, Err}
 use Rattle.lrlex_rules.specs.Reading.{as_piece, as_fatal}
-use Rattle.lrlex_rules.specs.Parts.{as_state}
 use Rattle.lrlex_rules.specs.Outcome.{line_event}
-use Rattle.lrlex_rules.specs.RuleLine.{split}
 use Rattle.lrlex_rules.specs.Event.{span_of}
 use Rattle.lrlex_rules.specs.Event.Event.{Verbatim, Fatal}
 use Rattle.lrlex_rules.proofs.Builders.{on_ok}
@@ -18,4 +16,4 @@ pub returns-in-Err : goal.returns-in-Err
 returns-in-Err g c =
     on_ok c.refuse.result (line_from g.StorageT.Id.number c.args.flags.now g.StorageT.Id.greatest c.args.self.now c.refuse.new.self c.args.line.at (λ s events. line_event s events (as_piece c.args.line)) (λ events. Fatal (as_fatal c.in-Err.fatal))
     (λ s suits events was. split_is g.StorageT.Id.number c.args.flags.now c.args.self.now s events (as_piece c.args.line) (Err (as_fatal c.in-Err.fatal)) was (sym c.begins_with_white.ensures ∙ c.if-begins_with_white.false)
-    (c.in-Err.ensures ∙ ap (λ xs. split (map as_state xs) (as_piece c.args.line)) c.as_slice.ensures.value))) c.refuse.ensures.adds
+    c.in-Err.ensures)) c.refuse.ensures.adds

@@ -12,10 +12,10 @@ use Rattle.lrlex_rules.proofs.parser.builder.Builder.refuse.Goals as goal
 pub returns-clause-adds : goal.returns-clause-adds
 returns-clause-adds g c flags events was =
     adds_fatal g.StorageT.Id.number flags c.args.self.now _ events was c.requires.calm (fault_at (as_kind c.args.kind) c.args.at) c.requires.own refl refl refl
-    (ap (map as_fault) c.in_ok-push.ensures.items ∙ map_push as_fault c.args.self.now.errors.items _
-    ∙ ap (λ (f : Fault). map as_fault c.args.self.now.errors.items ++ f ∷ []) (one_fault c.new-2.result c.args.kind _ _ _ _ c.new-2.ensures.kind c.new-2.ensures.spans c.in_ok-spans.ensures.items c.new.ensures.start c.new.ensures.end))
+    (ap (map as_fault) c.in_ok-push.ensures ∙ map_push as_fault c.args.self.now.errors.list.items _
+    ∙ ap (λ (f : Fault). map as_fault c.args.self.now.errors.list.items ++ f ∷ []) (one_fault c.new-2.result c.args.kind _ _ _ _ c.new-2.ensures.kind c.new-2.ensures.spans c.in_ok-spans.ensures.items c.new.ensures.start c.new.ensures.end))
 
 pub returns-clause-keeps : goal.returns-clause-keeps
 returns-clause-keeps g c =
-    ap refused_in (ap (map as_fault) c.in_ok-push.ensures.items ∙ map_push as_fault c.args.self.now.errors.items _)
-    ∙ refused_in-push (map as_fault c.args.self.now.errors.items) (as_fault c.new-2.result) (ap (λ (k : LexErrorKind). is_regex_error (as_kind k)) c.new-2.ensures.kind ∙ c.requires.own)
+    ap refused_in (ap (map as_fault) c.in_ok-push.ensures ∙ map_push as_fault c.args.self.now.errors.list.items _)
+    ∙ refused_in-push (map as_fault c.args.self.now.errors.list.items) (as_fault c.new-2.result) (ap (λ (k : LexErrorKind). is_regex_error (as_kind k)) c.new-2.ensures.kind ∙ c.requires.own)

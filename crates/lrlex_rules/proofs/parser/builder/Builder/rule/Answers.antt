@@ -1,39 +1,33 @@
-use Rattle.std.proofs.Common.{◌≡◌, ◌∙◌, Bool, ap, sym, refl, map, Ok, Err, false}
+use Rattle.std.proofs.Common.{◌≡◌, ◌∙◌, Bool, ap, sym, refl, Ok, Err, false}
 use Rattle.std.specs.Prelude.{unwrap_or}
-use Rattle.std.specs.Option.{option_copied}
 use Rattle.lrlex_rules.specs.Event.Event.{Fatal}
 use Rattle.lrlex_rules.specs.Escape.{trim_head}
 use Rattle.lrlex_rules.specs.RuleLine.{pattern_of}
-use Rattle.lrlex_rules.specs.Reading.{as_parts, as_pattern, as_fatal, seen}
-use Rattle.lrlex_rules.specs.Parts.{as_rule, as_state}
+use Rattle.lrlex_rules.specs.Reading.{as_states, as_parts, as_pattern, as_fatal, seen}
+use Rattle.lrlex_rules.specs.Parts.{as_rule}
 use Rattle.lrlex_rules.specs.Event.{rules_of}
-use Rattle.lrlex_rules.specs.Outcome.{rule_named, split_event, rule_event}
+use Rattle.lrlex_rules.specs.Outcome.{split_event, rule_event}
 use Rattle.lrlex_rules.proofs.Builders.{on_ok}
 use Rattle.lrlex_rules.proofs.RuleEvents.{line_from, line_same, line_duplicate, offered_is, unread_is}
 use Rattle.lrlex_rules.proofs.parser.builder.Builder.rule.Goals as goal
 
 pub returns-in-Some : goal.returns-in-Some
 returns-in-Some g c =
-    let found = c.in-Some.ensures ∙ ap (λ xs. rule_named (map (as_rule g.StorageT.Id.number) xs) (option_copied c.args.parts.label.name)) c.as_slice.ensures.value in
-    on_ok c.add_duplicate.result (line_duplicate g.StorageT.Id.number c.args.flags.now g.StorageT.Id.greatest c.args.self.now _ c.args.at (as_parts c.args.parts) (as_rule g.StorageT.Id.number c.in-Some.original.now) c.requires found refl refl refl) c.add_duplicate.ensures
+    on_ok c.add_duplicate.result (line_duplicate g.StorageT.Id.number c.args.flags.now g.StorageT.Id.greatest c.args.self.now _ c.args.at (as_parts c.args.parts) (as_rule g.StorageT.Id.number c.in-Some.original.now) c.requires c.in-Some.ensures refl refl refl) c.add_duplicate.ensures
 
 pub returns-in-Ok : goal.returns-in-Ok
 returns-in-Ok g c =
-    let none = c.in_default.ensures ∙ ap (λ xs. rule_named (map (as_rule g.StorageT.Id.number) xs) (option_copied c.args.parts.label.name)) c.as_slice.ensures.value in
-    let read : Ok (as_pattern c.in-Ok.pattern) ≡ pattern_of (unwrap_or c.args.flags.now.posix_escapes false) (map as_state c.args.self.now.states.items) c.args.at (trim_head c.args.parts.head.now) =
-    sym (ap (seen as_pattern as_fatal) c.in-Ok.is) ∙ c.in_ok-pattern.ensures ∙ ap (λ (b : Bool). pattern_of b (map as_state c.as_slice-2.result.now) c.args.at c.trim_head-head.result.now) c.unwrap_or-posix.ensures
-    ∙ ap (λ xs. pattern_of (unwrap_or c.args.flags.now.posix_escapes false) (map as_state xs) c.args.at c.trim_head-head.result.now) c.as_slice-2.ensures.value
-    ∙ ap (pattern_of (unwrap_or c.args.flags.now.posix_escapes false) (map as_state c.args.self.now.states.items) c.args.at) c.trim_head-head.ensures in
+    let read : Ok (as_pattern c.in-Ok.pattern) ≡ pattern_of (unwrap_or c.args.flags.now.posix_escapes false) (as_states c.args.self.now.states) c.args.at (trim_head c.args.parts.head.now) =
+    sym (ap (seen as_pattern as_fatal) c.in-Ok.is) ∙ c.in_ok-pattern.ensures ∙ ap (λ (b : Bool). pattern_of b (as_states c.args.self.now.states) c.args.at c.trim_head-head.result.now) c.unwrap_or-posix.ensures
+    ∙ ap (pattern_of (unwrap_or c.args.flags.now.posix_escapes false) (as_states c.args.self.now.states) c.args.at) c.trim_head-head.ensures in
     on_ok c.add_rule.result (line_same g.StorageT.Id.number c.args.flags.now g.StorageT.Id.greatest c.args.self.now c.add_rule.new.self c.args.at (λ s events. rule_event s (rules_of events) c.args.at (as_parts c.args.parts) (as_pattern c.in-Ok.pattern))
     (λ s events. split_event s events c.args.at (Ok (as_parts c.args.parts)))
-    (offered_is g.StorageT.Id.number c.args.flags.now g.StorageT.Id.greatest c.args.self.now c.args.at (as_parts c.args.parts) none (as_pattern c.in-Ok.pattern) read)) c.add_rule.ensures
+    (offered_is g.StorageT.Id.number c.args.flags.now g.StorageT.Id.greatest c.args.self.now c.args.at (as_parts c.args.parts) c.in_default.ensures (as_pattern c.in-Ok.pattern) read)) c.add_rule.ensures
 
 pub returns-in-Err : goal.returns-in-Err
 returns-in-Err g c =
-    let none = c.in_default.ensures ∙ ap (λ xs. rule_named (map (as_rule g.StorageT.Id.number) xs) (option_copied c.args.parts.label.name)) c.as_slice.ensures.value in
-    let read : Err (as_fatal c.in-Err.fatal) ≡ pattern_of (unwrap_or c.args.flags.now.posix_escapes false) (map as_state c.args.self.now.states.items) c.args.at (trim_head c.args.parts.head.now) =
-    sym (ap (seen as_pattern as_fatal) c.in-Err.is) ∙ c.in_ok-pattern.ensures ∙ ap (λ (b : Bool). pattern_of b (map as_state c.as_slice-2.result.now) c.args.at c.trim_head-head.result.now) c.unwrap_or-posix.ensures
-    ∙ ap (λ xs. pattern_of (unwrap_or c.args.flags.now.posix_escapes false) (map as_state xs) c.args.at c.trim_head-head.result.now) c.as_slice-2.ensures.value
-    ∙ ap (pattern_of (unwrap_or c.args.flags.now.posix_escapes false) (map as_state c.args.self.now.states.items) c.args.at) c.trim_head-head.ensures in
+    let read : Err (as_fatal c.in-Err.fatal) ≡ pattern_of (unwrap_or c.args.flags.now.posix_escapes false) (as_states c.args.self.now.states) c.args.at (trim_head c.args.parts.head.now) =
+    sym (ap (seen as_pattern as_fatal) c.in-Err.is) ∙ c.in_ok-pattern.ensures ∙ ap (λ (b : Bool). pattern_of b (as_states c.args.self.now.states) c.args.at c.trim_head-head.result.now) c.unwrap_or-posix.ensures
+    ∙ ap (pattern_of (unwrap_or c.args.flags.now.posix_escapes false) (as_states c.args.self.now.states) c.args.at) c.trim_head-head.ensures in
     on_ok c.refuse.result (line_from g.StorageT.Id.number c.args.flags.now g.StorageT.Id.greatest c.args.self.now c.refuse.new.self c.args.at (λ s events. split_event s events c.args.at (Ok (as_parts c.args.parts))) (λ events. Fatal (as_fatal c.in-Err.fatal))
-    (unread_is g.StorageT.Id.number c.args.flags.now g.StorageT.Id.greatest c.args.self.now c.args.at (as_parts c.args.parts) none (as_fatal c.in-Err.fatal) read)) c.refuse.ensures.adds
+    (unread_is g.StorageT.Id.number c.args.flags.now g.StorageT.Id.greatest c.args.self.now c.args.at (as_parts c.args.parts) c.in_default.ensures (as_fatal c.in-Err.fatal) read)) c.refuse.ensures.adds
