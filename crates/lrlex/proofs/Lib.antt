@@ -2,6 +2,8 @@ pub mod ArenaLemmas
 pub mod BestLemmas
 pub mod CountLemmas
 pub mod EditLemmas
+pub mod IdLemmas
+pub mod ItemLemmas
 pub mod KnownLemmas
 pub mod MeetLemmas
 pub mod Parted

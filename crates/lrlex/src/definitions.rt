@@ -1,18 +1,21 @@
 ghost use Rattle.std.specs.Prelude.{◌≡◌, IfOk};
 ghost use Rattle.lrlex_rules.specs.Answer.{IsAnswer, AreOwnRefusals};
 
+use crate::ids::{names_without_id, names_without_rule, places_without_id};
 use crate::lexer::LRNonStreamingLexerDef;
-use lrlex_base::{Id, LexerTypes};
+use crate::lookups::{first_named, first_with_id};
+use lrlex_base::{Id, LexerTypes, Span};
 use lrlex_rules::{
     DEFAULT_LEX_FLAGS, LexBuildResult, LexFlags, Rule, RuleFile, StartState, UNSPECIFIED_LEX_FLAGS,
     read_rules,
 };
 use std::alloc::{AllocError, Global};
+use std::collections::{HashMap, HashSet};
 use std::slice::Iter;
 
 /// The definition of a lexer: start states and rules, read from a rule text or put together from parts.
 pub trait LexerDef<L: LexerTypes>: Sized {
-    ghost use Rattle.std.specs.Prelude.{◌≡◌, IfOk, IfErr, All, List, slice_get};
+    ghost use Rattle.std.specs.Prelude.{◌≡◌, Some, IsSome, IfOk, IfErr, OnOk, OnErr, All, List, map, slice_get};
     ghost use Rattle.std.specs.Option.{option_copied};
     ghost use Rattle.std.specs.Slice.Iter.{iter_rest};
     ghost use Rattle.lrlex_rules.specs.declared.rules.Rule.{Rule};
@@ -21,6 +24,8 @@ pub trait LexerDef<L: LexerTypes>: Sized {
     ghost use Rattle.lrlex_rules.specs.Answer.{IsAnswer, AreOwnRefusals};
     ghost use Rattle.lrlex_rules.specs.Faults.{IsPlaced};
     ghost use Rattle.lrlex_rules.specs.Laws.{IsLawful};
+    ghost use Rattle.lrlex_rules.specs.Parts.{as_rule};
+    ghost use Rattle.lrlex.specs.Ids.{rule_with_id, rule_named, ids_of, with_own_id, with_ids, is_lacking, is_unused, is_unused_at, HoldsNames, HoldsTexts, HoldsPlaces};
 
     // What it says.
     ghost said: { Self → Definition };
@@ -49,6 +54,50 @@ pub trait LexerDef<L: LexerTypes>: Sized {
     /// The rule at this place, counted from 0.
     fn get_rule(&self, idx: usize) -> Option<&Rule<L::StorageT>>
         ensures { option_copied result ≡ slice_get (rules_of self.now) idx };
+
+    /// The first rule with this id, where there is one. `find_rule_by_id` tells.
+    fn get_rule_by_id(&self, tok_id: L::StorageT) -> &Rule<L::StorageT>
+        requires { IsSome (rule_with_id L.StorageT.number (rules_of self.now) (L.StorageT.number tok_id)) }
+        ensures { rule_with_id L.StorageT.number (rules_of self.now) (L.StorageT.number tok_id) ≡ Some result.now };
+
+    /// The first rule with this id, if there is one.
+    fn find_rule_by_id(&self, tok_id: L::StorageT) -> Option<&Rule<L::StorageT>>
+        ensures { option_copied result ≡ rule_with_id L.StorageT.number (rules_of self.now) (L.StorageT.number tok_id) };
+
+    /// The first rule with this name, if there is one.
+    fn get_rule_by_name(&self, name: &str) -> Option<&Rule<L::StorageT>>
+        ensures { option_copied result ≡ rule_named L.StorageT.number (rules_of self.now) name.now };
+
+    /// Gives each named rule the map's id for its name, or none. Unnamed rules keep theirs.
+    ///
+    /// The first set has the map's names that no rule has, the second the names of rules that the map lacks. None
+    /// stands for an empty set. Nothing changes where memory is refused.
+    fn set_rule_ids<'a>(
+        &mut self,
+        alloc: Global,
+        ids: &HashMap<&'a str, L::StorageT>,
+    ) -> Result<(Option<HashSet<&'a str>>, Option<HashSet<String>>), AllocError>
+        ensures rules { OnOk result (map (as_rule L.StorageT.number) (rules_of self.new)
+            ≡ map (with_own_id (ids_of L.StorageT.number ids.now)) (map (as_rule L.StorageT.number) (rules_of self.old))) }
+        ensures states { states_of self.new ≡ states_of self.old }
+        ensures says { OnOk result (said self.new ≡ with_ids (ids_of L.StorageT.number ids.now) (said self.old)) }
+        ensures lacking { IfOk result (λ sets. HoldsNames (is_lacking (ids_of L.StorageT.number ids.now) (map (as_rule L.StorageT.number) (rules_of self.old))) sets.0) }
+        ensures unused { IfOk result (λ sets. HoldsTexts (is_unused (ids_of L.StorageT.number ids.now) (map (as_rule L.StorageT.number) (rules_of self.old))) sets.1) }
+        ensures unchanged { OnErr result (self.new ≡ self.old) };
+
+    /// The same, where the second set has each name with its place in the rule text.
+    fn set_rule_ids_spanned<'a>(
+        &mut self,
+        alloc: Global,
+        ids: &HashMap<&'a str, L::StorageT>,
+    ) -> Result<(Option<HashSet<&'a str>>, Option<HashSet<(String, Span)>>), AllocError>
+        ensures rules { OnOk result (map (as_rule L.StorageT.number) (rules_of self.new)
+            ≡ map (with_own_id (ids_of L.StorageT.number ids.now)) (map (as_rule L.StorageT.number) (rules_of self.old))) }
+        ensures states { states_of self.new ≡ states_of self.old }
+        ensures says { OnOk result (said self.new ≡ with_ids (ids_of L.StorageT.number ids.now) (said self.old)) }
+        ensures lacking { IfOk result (λ sets. HoldsNames (is_lacking (ids_of L.StorageT.number ids.now) (map (as_rule L.StorageT.number) (rules_of self.old))) sets.0) }
+        ensures unused { IfOk result (λ sets. HoldsPlaces (is_unused_at (ids_of L.StorageT.number ids.now) (map (as_rule L.StorageT.number) (rules_of self.old))) sets.1) }
+        ensures unchanged { OnErr result (self.new ≡ self.old) };
 
     /// The rules, in order.
     fn iter_rules(&self) -> Iter<'_, Rule<L::StorageT>>
@@ -89,6 +138,43 @@ impl<L: LexerTypes> LexerDef<L> for LRNonStreamingLexerDef<L> {
 
     fn get_rule(&self, idx: usize) -> Option<&Rule<L::StorageT>> {
         self.table.rules.get(idx)
+    }
+
+    fn get_rule_by_id(&self, tok_id: L::StorageT) -> &Rule<L::StorageT> {
+        match self.find_rule_by_id(tok_id) {
+            Some(rule) => rule,
+            None => unreachable!(),
+        }
+    }
+
+    fn find_rule_by_id(&self, tok_id: L::StorageT) -> Option<&Rule<L::StorageT>> {
+        first_with_id(self.table.rules.as_slice(), tok_id)
+    }
+
+    fn get_rule_by_name(&self, name: &str) -> Option<&Rule<L::StorageT>> {
+        first_named(self.table.rules.as_slice(), name)
+    }
+
+    fn set_rule_ids<'a>(
+        &mut self,
+        alloc: Global,
+        ids: &HashMap<&'a str, L::StorageT>,
+    ) -> Result<(Option<HashSet<&'a str>>, Option<HashSet<String>>), AllocError> {
+        let lacking = names_without_rule(alloc, self.table.rules.as_slice(), ids)?;
+        let unused = names_without_id(alloc, self.table.rules.as_slice(), ids)?;
+        self.table.take_ids(ids);
+        Ok((lacking, unused))
+    }
+
+    fn set_rule_ids_spanned<'a>(
+        &mut self,
+        alloc: Global,
+        ids: &HashMap<&'a str, L::StorageT>,
+    ) -> Result<(Option<HashSet<&'a str>>, Option<HashSet<(String, Span)>>), AllocError> {
+        let lacking = names_without_rule(alloc, self.table.rules.as_slice(), ids)?;
+        let unused = places_without_id(alloc, self.table.rules.as_slice(), ids)?;
+        self.table.take_ids(ids);
+        Ok((lacking, unused))
     }
 
     fn iter_rules(&self) -> Iter<'_, Rule<L::StorageT>> {

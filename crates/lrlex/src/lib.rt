@@ -3,11 +3,13 @@
 
 mod definitions;
 mod errors;
+mod ids;
 mod lexer;
+mod lookups;
 
 pub use crate::definitions::LexerDef;
 pub use crate::errors::LRLexError;
-pub use crate::lexer::{LRNonStreamingLexerDef, LexRun};
+pub use crate::lexer::{LRNonStreamingLexer, LRNonStreamingLexerDef, LexRun};
 pub use lrlex_base::{CTTokenMapBuilder, DefaultLexeme, TokenMapFault, ct_token_map};
 pub use lrlex_rules::{
     DEFAULT_LEX_FLAGS, LexBuildError, LexBuildResult, LexErrorKind, LexFlags, Rule, StartState,

@@ -1,0 +1,21 @@
+use Rattle.std.proofs.Common.{map, length, drop, sym, ap, ◌∙◌, arith}
+use Rattle.lrlex.specs.Active.{active_places}
+use Rattle.lrlex.specs.Ids.{ids_of}
+use Rattle.lrlex_rules.specs.Parts.{as_rule, as_state}
+use Rattle.lrlex.proofs.IdLemmas.{lists_after}
+use Rattle.lrlex.proofs.ViewLemmas.{taken_back}
+use Rattle.lrlex.proofs.lexer.definition.RuleTable.take_ids.Goals as goal
+
+pub invariant_of-self : goal.invariant_of-self
+invariant_of-self g c =
+    let table = c.args.self.now in
+    let states = map as_state table.start_states.items in
+    let new = c.take_ids.new.rules in
+    let back = taken_back new (drop (length new) table.rules.items) table.rules.len
+    (omega (arith, c.take_ids.auto.rules, c.as_mut_slice.ensures.len)) in
+    record {
+      lists = table.lists
+          ∙ lists_after g.S.Id.number (ids_of g.S.Id.number c.args.ids.now) states table.rules.items new
+          (rw c.as_mut_slice.ensures.value at c.take_ids.ensures) table.start_states.items
+          ∙ ap (λ rules. map (λ s. active_places states (map (as_rule (λ x. 0)) rules) s.id) table.start_states.items) (sym back);
+    }

@@ -1,0 +1,40 @@
+//! The first rule with an id or a name.
+ghost use Rattle.std.specs.Prelude.{◌≡◌};
+ghost use Rattle.std.specs.Option.{option_copied};
+ghost use Rattle.lrlex_rules.specs.Parts.{as_rule};
+ghost use Rattle.lrlex.specs.Ids.{has_id, is_named, rule_with_id, rule_named};
+
+use lrlex_base::Id;
+use lrlex_rules::Rule;
+
+fn has_id<S: Id>(rule: &Rule<S>, id: S) -> bool
+    ensures { result ≡ has_id (S.number id) (as_rule S.number rule.now) }
+{
+    match rule.tok_id() {
+        Some(own) => own == id,
+        None => false,
+    }
+}
+
+fn is_named<S: Id>(rule: &Rule<S>, name: &str) -> bool
+    ensures { result ≡ is_named name.now (as_rule S.number rule.now) }
+{
+    match rule.name() {
+        Some(own) => name == own,
+        None => false,
+    }
+}
+
+/// The first of the rules with the id.
+pub(crate) fn first_with_id<S: Id>(rules: &[Rule<S>], id: S) -> Option<&Rule<S>>
+    ensures { option_copied result ≡ rule_with_id S.number rules.now (S.number id) }
+{
+    rules.iter().find(|rule| has_id(*rule, id))
+}
+
+/// The first of the rules with the name.
+pub(crate) fn first_named<'r, S: Id>(rules: &'r [Rule<S>], name: &str) -> Option<&'r Rule<S>>
+    ensures { option_copied result ≡ rule_named S.number rules.now name.now }
+{
+    rules.iter().find(|rule| is_named(*rule, name))
+}
