@@ -1,20 +1,27 @@
 -- What a run of a definition that a rule text says has found.
 use Rattle.std.proofs.Common.{◌≡◌, ◌≢◌, ◌∙◌, ap, sym, refl, subst, ℕ, ◌+◌, Bool, true, false, List, [], ◌∷◌, ◌++◌, ◌||◌, map, Option, Some, None, Result, Ok, Err, IfOk, is_err, Vec}
 use Rattle.std.specs.List.{list_any}
+use Rattle.std.specs.Io.KnownBytes.{Appends, Keeps}
+use Rattle.std.specs.Result.{IsErrAnd}
 use Rattle.std.specs.declared.alloc.Global.{Global}
 use Rattle.std.proofs.lemmas.List.Folds.{list_any-append}
 use Rattle.lrlex.specs.declared.errors.LRLexError.{LRLexError}
 use Rattle.lrlex_rules.specs.declared.faults.LexBuildError.{LexBuildError}
-use Rattle.lrlex_rules.specs.Definition.{Definition}
+use Rattle.lrlex_rules.specs.Definition.{Definition, Rule}
 use Rattle.lrlex.specs.Active.{is_state}
 use Rattle.lrlex.specs.Marks.{Mark}
 use Rattle.lrlex_rules.specs.Outcome.{outcome}
 use Rattle.lrlex.specs.Reach.{IsRun}
 use Rattle.lrlex_rules.specs.Answer.{seen, settings, refused_by, as_faults}
 use Rattle.lrlex.specs.Tiling.{Tile, Item, Lexeme, Error, End, Done, NoMatch, NoId, NoTarget, items, tile_items, lexeme_of}
-use Rattle.lrlex.specs.Views.{item_of}
-use Rattle.lrlex_cli.specs.Engine.{Request, Lexing, lines_in}
+use Rattle.lrlex.specs.Views.{item_of, items_by}
+use Rattle.lrlex_cli.specs.Engine.{Request, Lexing, lines_in, IsEngineRun, EndsWriting}
 use Rattle.lrlex_cli.specs.Lines.{lines}
+use Rattle.lrlex_cli.specs.Writing.{AppendsFront}
+use Rattle.lrlex_cli.specs.declared.engine.Ended.{Ended}
+use Rattle.lrlex_cli.specs.declared.engine.Ended.TheVariants.{Lexed, Stopped, Refused}
+use Rattle.lrlex_cli.specs.declared.engine.EngineFault.{EngineFault}
+use Rattle.lrlex_cli.specs.declared.engine.EngineFault.TheVariants.{Memory, Write}
 
 abbrev pub is_error : Item → Bool
 is_error (Lexeme id start len faulty) = false
@@ -35,7 +42,7 @@ behind : (d : Definition) (place : ℕ) (t : Tile) (rest : List Item) → list_a
 behind d place t rest = list_any-append is_error (tile_items d place t) rest ∙ ap (λ (b : Bool). b || list_any is_error rest) (no_error _ place t.len)
 
 -- an error is among the items where lexing doesn't reach the end
-pub error_at_end : (d : Definition) (place : ℕ) (ts : List Tile) (e : End) → list_any is_error (items d place ts e) ≡ stops e
+error_at_end : (d : Definition) (place : ℕ) (ts : List Tile) (e : End) → list_any is_error (items d place ts e) ≡ stops e
 error_at_end d place [] Done = refl
 error_at_end d place [] (NoMatch q) = refl
 error_at_end d place [] NoId = refl
@@ -43,33 +50,53 @@ error_at_end d place [] (NoTarget t) = behind d place t (Error place place None 
 error_at_end d place (t ∷ ts) e = behind d place t (items d (place + t.len) ts e) ∙ error_at_end d (place + t.len) ts e
 
 -- the same of the items of the program
-pub errors_seen : {S X : Type 0} (number : S → ℕ) (id : X → S) (start len : X → ℕ) (faulty : X → Bool) (xs : List (Result X LRLexError))
+errors_seen : {S X : Type 0} (number : S → ℕ) (id : X → S) (start len : X → ℕ) (faulty : X → Bool) (xs : List (Result X LRLexError))
     → list_any (λ x. is_err x) xs ≡ list_any is_error (map (item_of number id start len faulty) xs)
 errors_seen number id start len faulty [] = refl
 errors_seen number id start len faulty (Ok x ∷ xs) = errors_seen number id start len faulty xs
 errors_seen number id start len faulty (Err e ∷ xs) = refl
 
-pub done : (e : End) → stops e ≡ false → e ≡ Done
+done : (e : End) → stops e ≡ false → e ≡ Done
 done Done h = refl
 done (NoMatch q) h = cc
 done NoId h = cc
 done (NoTarget t) h = cc
 
-pub not_done : (e : End) → stops e ≡ true → e ≢ Done
+not_done : (e : End) → stops e ≡ true → e ≢ Done
 not_done e h same = cc
 
--- the lexing that a run has done, with its lines and whether it stopped
-pub lexed : {D : Type 0} (q : Request) (view : D → Definition) (built : Result D (Vec LexBuildError Global)) (def : D) (found : List Item) (marks : List Mark)
+kept : (bytes : Option (List ℕ)) → Keeps bytes bytes
+kept None = tt
+kept (Some xs) = refl
+
+-- for want of memory nothing was written
+pub without_memory : (q : Request) (bytes : Option (List ℕ)) (r : Result Ended EngineFault) → IsErrAnd r (λ e. e ≡ Memory) → IsEngineRun q bytes bytes r
+without_memory q bytes (Ok x) h = absurd h
+without_memory q bytes (Err Memory) h = kept bytes
+without_memory q bytes (Err (Write e)) h = cc
+
+-- writing the lines of a lexing ends as a run does
+ended : (q : Request) (x : Lexing q) (old new : Option (List ℕ)) (r : Result Ended EngineFault) (text : List ℕ) (stopped : Bool)
+    → text ≡ lines_in q x → stopped ≡ stops x.end → EndsWriting old new r text stopped → IsEngineRun q old new r
+ended q x old new (Ok Lexed) text stopped same ends h = (x, done x.end (sym ends ∙ h.0), subst (Appends old new) same h.1)
+ended q x old new (Ok Stopped) text stopped same ends h = (x, not_done x.end (sym ends ∙ h.0), subst (Appends old new) same h.1)
+ended q x old new (Ok (Refused faults)) text stopped same ends h = absurd h
+ended q x old new (Err Memory) text stopped same ends h = h
+ended q x old new (Err (Write e)) text stopped same ends h = (x, subst (AppendsFront old new) same h)
+
+-- A run of the definition that the rule text says has found these items, and their lines were written.
+pub ran : {D S X : Type 0} (number : S → ℕ) (id : X → S) (start len : X → ℕ) (faulty : X → Bool) (view : D → Definition)
+    (q : Request) (built : Result D (Vec LexBuildError Global)) (def : D) (xs : List (Result X LRLexError)) (marks : List Mark)
+    (rules : List Rule) (old new : Option (List ℕ)) (r : Result Ended EngineFault)
     → built ≡ Ok def → seen view as_faults built ≡ outcome (settings q.flags q.greatest (refused_by built)) q.rules
-    → IfOk built (λ d. is_state (view d) 0 ≡ true) → IsRun (view def) q.input found marks
-    → (x : Lexing q) × (lines (view def).rules q.input found ≡ lines_in q x) × (list_any is_error found ≡ stops x.end)
-lexed q view built def found marks is says initial run =
+    → IfOk built (λ d. is_state (view d) 0 ≡ true) → IsRun (view def) q.input (items_by number id start len faulty xs) marks
+    → rules ≡ (view def).rules → EndsWriting old new r (lines rules q.input (items_by number id start len faulty xs)) (list_any (λ x. is_err x) xs)
+    → IsEngineRun q old new r
+ran number id start len faulty view q built def xs marks rules old new r is says initial run same wrote =
     let P : Result _ (Vec LexBuildError Global) → Type 0 = λ b. seen view as_faults b ≡ outcome (settings q.flags q.greatest (refused_by b)) q.rules in
     let I : Result _ (Vec LexBuildError Global) → Type 0 = λ b. IfOk b (λ d. is_state (view d) 0 ≡ true) in
-    let says = subst P is says in
-    let initial = subst I is initial in
-    let l = run.lexed initial in (
-      record { definition = view def; says = sym says; cut = l.cut; end = l.end; tiling = l.tiling; only = l.only },
-      ap (λ (xs : List Item). lines (view def).rules q.input xs) l.items_are,
-      ap (λ (xs : List Item). list_any is_error xs) l.items_are ∙ error_at_end (view def) 0 l.cut l.end,
-    )
+    let l = run.lexed (subst I is initial) in
+    let x : Lexing q = record { definition = view def; says = sym (subst P is says); cut = l.cut; end = l.end; tiling = l.tiling; only = l.only } in
+    let text = ap (λ (rs : List Rule). lines rs q.input (items_by number id start len faulty xs)) same ∙ ap (λ (is : List Item). lines (view def).rules q.input is) l.items_are in
+    let ends = errors_seen number id start len faulty xs ∙ ap (λ (is : List Item). list_any is_error is) l.items_are ∙ error_at_end (view def) 0 l.cut l.end in
+    ended q x old new r _ _ text ends wrote

@@ -1,5 +1,5 @@
 -- What the engine answers, and what it leaves in its writer.
-use Rattle.std.specs.Prelude.{◌≡◌, ◌≢◌, ℕ, List, All, [], ◌∷◌, Option, None, Result, Ok, Err}
+use Rattle.std.specs.Prelude.{◌≡◌, ◌≢◌, ℕ, Bool, true, false, List, All, [], ◌∷◌, Option, None, Result, Ok, Err}
 use Rattle.std.specs.Io.KnownBytes.{Appends, Keeps}
 use Rattle.lrlex_rules.specs.declared.flags.LexFlags.{LexFlags}
 use Rattle.lrlex_rules.specs.Definition.{Definition}
@@ -45,6 +45,19 @@ IsEngineRun q old new (Ok (Refused faults)) =
     × Keeps old new
 IsEngineRun q old new (Err Memory) = Keeps old new
 IsEngineRun q old new (Err (Write e)) = (x : Lexing q) × AppendsFront old new (lines_in q x)
+
+-- where the rule text is refused, each fault has its places in it
+abbrev pub HasPlacedFaults : List ℕ → Result Ended EngineFault → Type 0
+HasPlacedFaults rules (Ok (Refused faults)) = All (IsPlaced rules) faults.items
+HasPlacedFaults rules _ = Unit {0}
+
+-- how the writing of a run's lines ends, where `stopped` says whether an error is among its items
+abbrev pub EndsWriting : Option (List ℕ) → Option (List ℕ) → Result Ended EngineFault → List ℕ → Bool → Type 0
+EndsWriting old new (Ok Lexed) text stopped = (stopped ≡ false) × Appends old new text
+EndsWriting old new (Ok Stopped) text stopped = (stopped ≡ true) × Appends old new text
+EndsWriting old new (Ok (Refused faults)) text stopped = ⊥
+EndsWriting old new (Err Memory) text stopped = Keeps old new
+EndsWriting old new (Err (Write e)) text stopped = AppendsFront old new text
 
 -- all of the text at `Ok`, nothing for want of memory, and a beginning of it where a write failed
 abbrev pub IsReport : {X : Type 0} → Option (List ℕ) → Option (List ℕ) → Result X EngineFault → List ℕ → Type 0

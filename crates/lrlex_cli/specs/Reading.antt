@@ -1,6 +1,7 @@
 -- What is read from the matches of the command.
-use Rattle.std.specs.Prelude.{◌≡◌, Bool, List, Option, Some, codes, option_map, string_bytes}
+use Rattle.std.specs.Prelude.{◌≡◌, ℕ, Bool, List, Option, Some, None, String, codes, option_map, string_bytes}
 use Rattle.std.specs.Str.{bytes_eq}
+use Rattle.std.specs.Str.Parse.{IsNumeral, digits_value, without_leading_plus}
 use Rattle.clap.specs.Words.{Row, Text, first_of}
 use Rattle.lrlex_rules.specs.declared.flags.LexFlags.{LexFlags}
 use Rattle.lrlex_cli.specs.declared.words.Words.{Words}
@@ -25,8 +26,20 @@ pub record ReadsTruths (rows : List Row) (flags : LexFlags) : Type 0 where
   pub ignore_whitespace : IsTruth rows (codes "ignore-whitespace") flags.ignore_whitespace
   pub unicode : IsTruth rows (codes "unicode") flags.unicode
 
--- the paths are the values of the two positionals, and the flags those of their options
+-- the value is this number in decimal digits, before which a plus may stand
+abbrev pub IsNumber : Option Text → ℕ → Type 0
+IsNumber None n = ⊥
+IsNumber (Some text) n = IsNumeral 10 (without_leading_plus text) × (digits_value 10 (without_leading_plus text) ≡ n)
+
+-- from, to and text of an edit are the values of these three options, or none of the three has a value
+abbrev pub IsEdit : {Z : Type 0} → (from to put : Option Text) → Option (ℕ × ℕ × String Z) → Type 0
+IsEdit from to put (Some edit) = IsNumber from edit.0 × IsNumber to edit.1 × (put ≡ Some (string_bytes edit.2))
+IsEdit from to put None = (from ≡ None) × (to ≡ None) × (put ≡ None)
+
+-- the paths are the values of the two positionals, the flags those of their options, and the edit is what its three
+-- options hold
 pub record IsReadFrom (rows : List Row) (words : Words) : Type 0 where
   pub rules : first_of (codes "rules") rows ≡ Some (string_bytes words.rules)
   pub input : first_of (codes "input") rows ≡ Some (string_bytes words.input)
   pub flags : ReadsTruths rows words.flags
+  pub edit : IsEdit (first_of (codes "from") rows) (first_of (codes "to") rows) (first_of (codes "put") rows) words.edit

@@ -1,7 +1,7 @@
 //! The command, as `clap` has it.
 ghost use Rattle.std.specs.Prelude.{◌≡◌, IfOk};
 ghost use Rattle.clap.specs.Words.{app_of, new_app, with_rule};
-ghost use Rattle.lrlex_cli.specs.Command.{command, truth_rule, size_rule, nest_rule, path_rule, with_truths, with_numbers};
+ghost use Rattle.lrlex_cli.specs.Command.{command, truth_rule, size_rule, nest_rule, text_rule, path_rule, with_truths, with_numbers, with_edit};
 
 use clap::{Arg, ArgAction, Command, value_parser};
 use std::alloc::{AllocError, Global};
@@ -51,6 +51,18 @@ fn with_nest<'a>(
     command.arg(arg)
 }
 
+/// An option of one text.
+fn with_text<'a>(
+    alloc: Global,
+    command: Command<'a>,
+    name: &'a str,
+) -> Result<Command<'a>, AllocError>
+    ensures { IfOk result (λ c. app_of c ≡ with_rule (app_of command.entry) (text_rule name.entry.now)) }
+{
+    let arg = Arg::new(alloc, name).long(name).action(ArgAction::Set);
+    command.arg(arg)
+}
+
 /// A path, which has to be there.
 fn with_path<'a>(
     alloc: Global,
@@ -87,12 +99,22 @@ fn with_numbers<'a>(alloc: Global, command: Command<'a>) -> Result<Command<'a>, 
     with_nest(alloc, command, "nest-limit")
 }
 
+/// The three options of an edit.
+fn with_edit<'a>(alloc: Global, command: Command<'a>) -> Result<Command<'a>, AllocError>
+    ensures { IfOk result (λ c. app_of c ≡ with_edit (app_of command.entry)) }
+{
+    let command = with_size(alloc, command, "from")?;
+    let command = with_size(alloc, command, "to")?;
+    with_text(alloc, command, "put")
+}
+
 /// The whole command.
 pub fn lrlex_command<'a>(alloc: Global) -> Result<Command<'a>, AllocError>
     ensures { IfOk result (λ c. app_of c ≡ command) }
 {
     let command = with_truths(alloc, Command::new(alloc, "lrlex"))?;
     let command = with_numbers(alloc, command)?;
+    let command = with_edit(alloc, command)?;
     let command = with_path(alloc, command, "rules")?;
     with_path(alloc, command, "input")
 }

@@ -1,16 +1,22 @@
 //! Builds a lexer of a rule text, lexes a text and writes what it finds.
-ghost use Rattle.std.specs.Prelude.{◌≡◌, All, is_err};
+ghost use Rattle.std.specs.Prelude.{◌≡◌, All, is_err, map};
 ghost use Rattle.std.specs.List.{list_any};
-ghost use Rattle.lrlex_cli.specs.Engine.{IsEngineRun, IsReport};
+ghost use Rattle.lrlex_base.specs.Spans.{Fits, as_span};
+ghost use Rattle.lrlex_base.specs.Edits.{edited};
+ghost use Rattle.lrlex_cli.specs.Engine.{IsEngineRun, EndsWriting, IsReport};
+ghost use Rattle.lrlex_cli.specs.Lines.{lines};
+ghost use Rattle.lrlex_cli.specs.declared.engine.EngineFault.TheVariants.{Memory};
 ghost use Rattle.lrlex_rules.specs.Faults.{IsPlaced};
+ghost use Rattle.lrlex_rules.specs.Parts.{as_rule};
+ghost use Rattle.lrlex.specs.Views.{items_by};
 ghost use Rattle.lrlex_cli.specs.Report.{fault_lines};
 
 use crate::lines::lines;
 use crate::report::fault_lines;
 use crate::writing::write_bytes;
-use lrlex::{LRLexError, LRNonStreamingLexerDef, LexBuildError, LexFlags};
-use lrlex_base::LexerTypes;
-use std::alloc::Global;
+use lrlex::{LRLexError, LRNonStreamingLexerDef, LexBuildError, LexFlags, Rule};
+use lrlex_base::{Edit, LexerTypes};
+use std::alloc::{AllocError, Global};
 use std::io;
 use std::io::Write;
 
@@ -34,11 +40,43 @@ pub enum EngineFault {
     Write(io::Error),
 }
 
+impl From<AllocError> for EngineFault {
+    ghost from_gives = { λ _ e. e ≡ Memory };
+
+    fn from(_fault: AllocError) -> EngineFault {
+        EngineFault::Memory
+    }
+}
+
 /// Whether one of the items is an error.
 fn has_error<X>(items: &[Result<X, LRLexError>]) -> bool
     ensures { result ≡ list_any (λ item. is_err item) items.now }
 {
     items.iter().any(|item| item.is_err())
+}
+
+/// Writes the lines of a run's items, and says whether it was stopped by an error.
+fn write_items<L: LexerTypes<LexErrorT = LRLexError>, W: Write>(
+    alloc: Global,
+    rules: &[Rule<L::StorageT>],
+    input: &str,
+    items: &[Result<L::LexemeT, LRLexError>],
+    out: &mut W,
+) -> Result<Ended, EngineFault>
+    ensures { EndsWriting (W.contents out.old) (W.contents out.new) result
+        (lines (map (as_rule L.StorageT.number) rules.now) input.now (items_by L.StorageT.number L.LexemeT.id_of L.LexemeT.start_of L.LexemeT.len_of L.LexemeT.is_faulty items.now))
+        (list_any (λ item. is_err item) items.now) }
+{
+    let text = lines::<L>(alloc, rules, input.as_bytes(), items)?;
+    let stopped = has_error(items);
+    if let Err(fault) = write_bytes(out, text.as_slice()) {
+        return Err(EngineFault::Write(fault));
+    }
+    if stopped {
+        Ok(Ended::Stopped)
+    } else {
+        Ok(Ended::Lexed)
+    }
 }
 
 /// Builds a lexer of the rule text, lexes the input and writes a line an item, which ends by U+000A.
@@ -55,28 +93,40 @@ pub fn run<L: LexerTypes<LexErrorT = LRLexError>, W: Write>(
     ensures { IsEngineRun (record { greatest = L.StorageT.greatest; flags = flags; rules = rules.now; input = input.now })
         (W.contents out.old) (W.contents out.new) result }
 {
-    let Ok(built) = LRNonStreamingLexerDef::<L>::new_with_options(alloc, rules, flags) else {
-        return Err(EngineFault::Memory);
-    };
+    let built = LRNonStreamingLexerDef::<L>::new_with_options(alloc, rules, flags)?;
     let definition = match built {
         Ok(definition) => definition,
         Err(faults) => return Ok(Ended::Refused(faults)),
     };
-    let Ok(lexed) = definition.run(alloc, input) else {
-        return Err(EngineFault::Memory);
-    };
-    let items = lexed.items();
-    let Ok(text) = lines::<L>(alloc, definition.rules(), input.as_bytes(), items) else {
-        return Err(EngineFault::Memory);
-    };
-    let stopped = has_error(items);
-    if let Err(fault) = write_bytes(out, text.as_slice()) {
-        return Err(EngineFault::Write(fault));
-    }
-    if stopped {
-        Ok(Ended::Stopped)
-    } else {
-        Ok(Ended::Lexed)
+    let lexed = definition.run(alloc, input)?;
+    write_items::<L, W>(alloc, definition.rules(), input, lexed.items(), out)
+}
+
+/// Answers and writes what `run` does for the new text, by lexing the old text and then again after the edit.
+/// Of the old text nothing is written.
+///
+/// The edit fits the old text and gives the new one.
+pub fn run_edited<L: LexerTypes<LexErrorT = LRLexError>, W: Write>(
+    alloc: Global,
+    rules: &str,
+    flags: LexFlags,
+    old: &str,
+    edit: &Edit<'_>,
+    new: &str,
+    out: &mut W,
+) -> Result<Ended, EngineFault>
+    requires fits { Fits old.now edit.now.removed }
+    requires gives { new.now ≡ edited old.now (as_span edit.now.removed) edit.now.put.now }
+    ensures { IsEngineRun (record { greatest = L.StorageT.greatest; flags = flags; rules = rules.now; input = new.now })
+        (W.contents out.old) (W.contents out.new) result }
+{
+    match LRNonStreamingLexerDef::<L>::new_with_options(alloc, rules, flags)? {
+        Ok(definition) => {
+            let before = definition.run(alloc, old)?;
+            let lexed = before.relex(alloc, edit, new)?;
+            write_items::<L, W>(alloc, definition.rules(), new, lexed.items(), out)
+        }
+        Err(faults) => Ok(Ended::Refused(faults)),
     }
 }
 

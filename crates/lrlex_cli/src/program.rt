@@ -1,10 +1,13 @@
 //! The program: its words, its files, its standard streams and its status.
+ghost use Rattle.lrlex_cli.specs.Engine.{HasPlacedFaults};
+
 use crate::engine::{Ended, EngineFault};
 use crate::texts::{TextFault, read_text, split, text_at};
 use crate::words::WordsFault;
 use crate::writing::write_bytes;
 use crate::{engine, words};
 use lrlex::{DefaultLexerTypes, LexFlags, UNSPECIFIED_LEX_FLAGS};
+use lrlex_base::{Edit, Span};
 use std::alloc::Global;
 use std::io::{Read, Write};
 use std::rt::Files;
@@ -22,6 +25,8 @@ pub enum Fault<'a> {
     Memory,
     /// Writing or flushing standard output failed.
     CannotWrite,
+    /// The edit doesn't fit the input.
+    BadEdit,
 }
 
 impl<'a> Fault<'a> {
@@ -58,6 +63,7 @@ pub fn refuse<E: Write>(fault: Fault<'_>, err: &mut E) -> u8 {
         Fault::NotText(path) => say(err, &["File ", path, " is not UTF-8\n"]),
         Fault::Memory => say(err, &["Out of memory\n"]),
         Fault::CannotWrite => say(err, &["Can't write\n"]),
+        Fault::BadEdit => say(err, &["Bad edit\n"]),
     }
     1
 }
@@ -70,6 +76,27 @@ fn flushed<W: Write>(out: &mut W, status: u8) -> Result<u8, Fault<'static>> {
     }
 }
 
+/// Flushes what was written, or reports the faults of the rule text, and answers the status.
+fn conclude<W: Write, E: Write>(
+    alloc: Global,
+    rules: &str,
+    ended: Result<Ended, EngineFault>,
+    out: &mut W,
+    err: &mut E,
+) -> Result<u8, Fault<'static>>
+    requires { HasPlacedFaults rules.now ended }
+{
+    match ended {
+        Ok(Ended::Lexed) => flushed(out, 0),
+        Ok(Ended::Stopped) => flushed(out, 1),
+        Ok(Ended::Refused(faults)) => match engine::report(alloc, faults.as_slice(), rules, err) {
+            Err(EngineFault::Memory) => Err(Fault::Memory),
+            _ => Ok(1),
+        },
+        Err(fault) => Err(Fault::of_engine(&fault)),
+    }
+}
+
 /// Lexes the input by the rules, and answers the status.
 fn lex<W: Write, E: Write>(
     alloc: Global,
@@ -79,15 +106,44 @@ fn lex<W: Write, E: Write>(
     out: &mut W,
     err: &mut E,
 ) -> Result<u8, Fault<'static>> {
-    match engine::run::<DefaultLexerTypes<u32>, W>(alloc, rules, flags, input, out) {
-        Ok(Ended::Lexed) => flushed(out, 0),
-        Ok(Ended::Stopped) => flushed(out, 1),
-        Ok(Ended::Refused(faults)) => match engine::report(alloc, faults.as_slice(), rules, err) {
-            Err(EngineFault::Memory) => Err(Fault::Memory),
-            _ => Ok(1),
-        },
-        Err(fault) => Err(Fault::of_engine(&fault)),
+    let ended = engine::run::<DefaultLexerTypes<u32>, W>(alloc, rules, flags, input, out);
+    conclude(alloc, rules, ended, out, err)
+}
+
+/// Lexes the input by the rules and then again after the edit, and answers the status.
+fn lex_edited<W: Write, E: Write>(
+    alloc: Global,
+    rules: &str,
+    flags: LexFlags,
+    input: &str,
+    edit: &(usize, usize, String),
+    out: &mut W,
+    err: &mut E,
+) -> Result<u8, Fault<'static>> {
+    let (from, to, put) = edit;
+    if from > to {
+        return Err(Fault::BadEdit);
     }
+    let edit = Edit {
+        removed: Span::new(*from, *to),
+        put: put.as_str(),
+    };
+    if !edit.fits(input) {
+        return Err(Fault::BadEdit);
+    }
+    let Ok(edited) = edit.apply(alloc, input) else {
+        return Err(Fault::Memory);
+    };
+    let ended = engine::run_edited::<DefaultLexerTypes<u32>, W>(
+        alloc,
+        rules,
+        flags,
+        input,
+        &edit,
+        edited.as_str(),
+        out,
+    );
+    conclude(alloc, rules, ended, out, err)
 }
 
 /// Lexes by both texts of standard input.
@@ -105,8 +161,9 @@ fn serve_input<R: AllocGlobal, I: Read, W: Write, E: Write>(
 /// Does all that the program does, and answers the status: 0 where the whole text was lexed and what was written is
 /// flushed, and otherwise 1. `words` are the program's, its own name first.
 ///
-/// The rule text is read first, then the input, both before the build; the first fault decides. Lines go to `out`;
-/// a rule text's faults, and a line for any other fault, go to `err`, whose own faults are passed over.
+/// The rule text is read first, then the input, both before the build; the first fault decides. An edit has to fit the
+/// input, and the text that it makes is lexed. Lines go to `out`; a rule text's faults, and a line for any other fault,
+/// go to `err`, whose own faults are passed over.
 /// With no word, or one, `stdin` holds both texts: the rule text stands before the first line `----`, the input after
 /// it. Nothing that fails is tried again.
 pub fn serve<R: Files + AllocGlobal, I: Read, W: Write, E: Write>(
@@ -137,14 +194,12 @@ pub fn serve<R: Files + AllocGlobal, I: Read, W: Write, E: Write>(
         Ok(input) => input,
         Err(fault) => return refuse(Fault::of_text(input_path, fault), err),
     };
-    match lex(
-        rt.alloc(),
-        rules.as_str(),
-        read.flags,
-        input.as_str(),
-        out,
-        err,
-    ) {
+    let (rules, input) = (rules.as_str(), input.as_str());
+    let status = match &read.edit {
+        Some(edit) => lex_edited(rt.alloc(), rules, read.flags, input, edit, out, err),
+        None => lex(rt.alloc(), rules, read.flags, input, out, err),
+    };
+    match status {
         Ok(status) => status,
         Err(fault) => refuse(fault, err),
     }

@@ -1,9 +1,9 @@
 //! The words of the command line.
-ghost use Rattle.std.specs.Prelude.{◌≡◌, IfOk, map, option_map};
+ghost use Rattle.std.specs.Prelude.{◌≡◌, IfOk, codes, map, option_map};
 ghost use Rattle.clap.specs.Words.{first_of, found_of, rows_of};
 ghost use Rattle.lrlex_cli.specs.declared.words.WordsFault.TheVariants.{Memory};
 ghost use Rattle.lrlex_cli.specs.Command.{given};
-ghost use Rattle.lrlex_cli.specs.Reading.{IsReadFrom, ReadsTruths, truth_in};
+ghost use Rattle.lrlex_cli.specs.Reading.{IsEdit, IsNumber, IsReadFrom, ReadsTruths, truth_in};
 
 use crate::command::lrlex_command;
 use clap::ArgMatches;
@@ -17,6 +17,8 @@ pub struct Words {
     pub rules: String,
     pub input: String,
     pub flags: LexFlags,
+    /// The bytes from the first number to the second give way to the text.
+    pub edit: Option<(usize, usize, String)>,
 }
 
 /// Why there are no words.
@@ -71,7 +73,36 @@ fn flags_of(matches: &ArgMatches<'_>) -> LexFlags
     }
 }
 
-/// The words of the matches: both paths have to be there.
+/// The number that a value is.
+fn number(text: &str) -> Result<usize, WordsFault>
+    ensures { IfOk result (IsNumber (Some text.now)) }
+{
+    text.parse().map_err(|_| WordsFault::Refused)
+}
+
+/// The edit that the matches give: all of its three options have to be there, or none.
+fn edit_of(
+    alloc: Global,
+    matches: &ArgMatches<'_>,
+) -> Result<Option<(usize, usize, String)>, WordsFault>
+    ensures { let rows = rows_of (found_of matches.now) in
+        IfOk result (IsEdit (first_of (codes "from") rows) (first_of (codes "to") rows) (first_of (codes "put") rows)) }
+{
+    let from = value(matches, "from");
+    let to = value(matches, "to");
+    let put = value(matches, "put");
+    match (from, to, put) {
+        (None, None, None) => Ok(None),
+        (Some(from), Some(to), Some(put)) => Ok(Some((
+            number(from)?,
+            number(to)?,
+            String::from_str(alloc, put)?,
+        ))),
+        _ => Err(WordsFault::Refused),
+    }
+}
+
+/// The words of the matches: both paths have to be there, and an edit whole or not at all.
 fn words_of(alloc: Global, matches: &ArgMatches<'_>) -> Result<Words, WordsFault>
     ensures { IfOk result (IsReadFrom (rows_of (found_of matches.now))) }
 {
@@ -85,6 +116,7 @@ fn words_of(alloc: Global, matches: &ArgMatches<'_>) -> Result<Words, WordsFault
         rules: String::from_str(alloc, rules)?,
         input: String::from_str(alloc, input)?,
         flags: flags_of(matches),
+        edit: edit_of(alloc, matches)?,
     })
 }
 

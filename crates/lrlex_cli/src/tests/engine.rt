@@ -1,13 +1,16 @@
 //! Rows on the engine and its report.
-use crate::engine::{Ended, EngineFault, report, run};
+use crate::engine::{Ended, EngineFault, report, run, run_edited};
 use crate::tests::writers::{TestWriter, Trouble};
 use lrlex::{DefaultLexerTypes, UNSPECIFIED_LEX_FLAGS};
+use lrlex_base::{Edit, Span};
 use std::io;
 use std::io::{ErrorKind, Write};
 use std::process::Abort;
 use std::test::Fail;
 
 const ROW_1: &str = "%%\n[0-9]+ 'INT'\n[a-z]+ 'ID'\n[ ] ;";
+
+const WORDS: &str = "%%\n[a-z]+ 'ID'\n[ ] ;";
 
 /// Runs with ids of `u32` and no flag set.
 fn ran<W: Write>(
@@ -17,6 +20,72 @@ fn ran<W: Write>(
     out: &mut W,
 ) -> Result<Ended, EngineFault> {
     run::<DefaultLexerTypes<u32>, W>(rt.alloc(), rules, UNSPECIFIED_LEX_FLAGS, input, out)
+}
+
+/// Runs on the new text, which this edit makes of the old one: from where, to where, and what is put there.
+fn ran_edited<W: Write>(
+    rt: &(impl AllocGlobal + Abort),
+    rules: &str,
+    old: &str,
+    edit: (usize, usize, &str),
+    new: &str,
+    out: &mut W,
+) -> Result<Ended, EngineFault> {
+    let (from, to, put) = edit;
+    assert!(rt; from <= to);
+    let edit = Edit {
+        removed: Span::new(from, to),
+        put,
+    };
+    assert!(rt; edit.gives(old, new));
+    run_edited::<DefaultLexerTypes<u32>, W>(
+        rt.alloc(),
+        rules,
+        UNSPECIFIED_LEX_FLAGS,
+        old,
+        &edit,
+        new,
+        out,
+    )
+}
+
+#[test]
+fn lines_after_an_edit(rt: HostRuntime) -> Result<(), Fail> {
+    let rows = [
+        (
+            WORDS,
+            "ab cd ef",
+            (0, 2, "xyz"),
+            "xyz cd ef",
+            "ID xyz\nID cd\nID ef\n",
+        ),
+        (WORDS, "ab cd ef", (2, 3, ""), "abcd ef", "ID abcd\nID ef\n"),
+        (WORDS, "ab", (2, 2, "c"), "abc", "ID abc\n"),
+        (WORDS, "ab", (0, 0, ""), "ab", "ID ab\n"),
+        (WORDS, "ab !", (3, 4, "c"), "ab c", "ID ab\nID c\n"),
+        ("%%\na+b|a 'X'", "aac", (2, 3, "b"), "aab", "X aab\n"),
+    ];
+    for (rules, old, edit, new, want) in rows {
+        let mut out = TestWriter::new(rt.alloc(), 100, Trouble::Never);
+        let ended = ran_edited(&rt, rules, old, edit, new, &mut out);
+        assert!(rt; matches!(ended, Ok(Ended::Lexed)), "{old:?} to {new:?}");
+        assert_eq!(rt; out.held(), want.as_bytes(), "{old:?} to {new:?}");
+    }
+    let mut out = TestWriter::new(rt.alloc(), 100, Trouble::Never);
+    let ended = ran_edited(&rt, WORDS, "ab !", (0, 2, "xyz"), "xyz !", &mut out);
+    assert!(rt; matches!(ended, Ok(Ended::Stopped)));
+    assert_eq!(rt;
+        out.held(),
+        b"ID xyz\nCouldn't lex input starting at byte 4\n".as_slice()
+    );
+    let mut out = TestWriter::new(rt.alloc(), 100, Trouble::Never);
+    let ended = ran_edited(&rt, "%%\n( 'A'", "ab", (0, 1, "x"), "xb", &mut out);
+    match ended {
+        Ok(Ended::Refused(faults)) => assert_eq!(rt; faults.len(), 1),
+        other => panic!(rt; "{other:?}"),
+    }
+    assert!(rt; out.held().is_empty());
+    Ok(())
 }
 
 #[test]
@@ -106,6 +175,28 @@ fn writers_that_fail(rt: HostRuntime) -> Result<(), Fail> {
     Ok(())
 }
 
+#[test]
+fn writers_that_fail_after_an_edit(rt: HostRuntime) -> Result<(), Fail> {
+    let edit = (0, 2, "xyz");
+    for k in 1..=19u64 {
+        for kind in [ErrorKind::Other, ErrorKind::Interrupted] {
+            let mut out = TestWriter::new(rt.alloc(), 1, Trouble::Fails(k, kind));
+            let result = ran_edited(&rt, WORDS, "ab cd ef", edit, "xyz cd ef", &mut out);
+            assert_eq!(rt; out.held().len() as u64, k - 1);
+            assert!(rt; matches!(result, Err(EngineFault::Write(e)) if e.kind() == kind));
+        }
+    }
+    let mut out = TestWriter::new(rt.alloc(), 1, Trouble::Fails(20, ErrorKind::Other));
+    let result = ran_edited(&rt, WORDS, "ab cd ef", edit, "xyz cd ef", &mut out);
+    assert!(rt; matches!(result, Ok(Ended::Lexed)));
+    assert_eq!(rt; out.held(), b"ID xyz\nID cd\nID ef\n".as_slice());
+    let mut out = TestWriter::new(rt.alloc(), 1, Trouble::TakesNone(6));
+    let result = ran_edited(&rt, WORDS, "ab cd ef", edit, "xyz cd ef", &mut out);
+    assert_eq!(rt; out.held(), b"ID xy".as_slice());
+    assert!(rt; matches!(result, Err(EngineFault::Write(e)) if e.kind() == ErrorKind::WriteZero));
+    Ok(())
+}
+
 /// Holds what it takes in itself, so it asks for no memory.
 struct Small {
     held: [u8; 32],
@@ -139,6 +230,21 @@ fn memory_before_the_first_byte(rt: HostRuntime) {
     };
     match ran(&rt, ROW_1, "abc 123", &mut out) {
         Ok(Ended::Lexed) => assert!(rt; out.len == 15),
+        Err(EngineFault::Memory) => assert!(rt; out.len == 0),
+        other => panic!(rt; "{other:?}"),
+    }
+    let Small { held: _, len: _ } = out;
+}
+
+// The same of a run after an edit.
+#[test]
+fn memory_before_the_first_byte_after_an_edit(rt: HostRuntime) {
+    let mut out = Small {
+        held: [0; 32],
+        len: 0,
+    };
+    match ran_edited(&rt, WORDS, "ab cd ef", (0, 2, "xyz"), "xyz cd ef", &mut out) {
+        Ok(Ended::Lexed) => assert!(rt; out.len == 19),
         Err(EngineFault::Memory) => assert!(rt; out.len == 0),
         other => panic!(rt; "{other:?}"),
     }

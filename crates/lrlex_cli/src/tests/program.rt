@@ -31,9 +31,22 @@ fn expects<R: Files + AllocGlobal + Abort>(
     assert_eq!(rt; status, want.2, "{words:?}");
 }
 
+/// What an edit that fits no input comes to, with these two paths.
+fn expects_of_bad_edit<'w, R: Files + AllocGlobal + Abort>(
+    rt: &R,
+    rules: &'w str,
+    input: &'w str,
+    want: &str,
+) {
+    let words = [
+        "lrlex", "--from", "2", "--to", "1", "--put", "x", rules, input,
+    ];
+    expects(rt, &words, "", ("", want, 1));
+}
+
 #[test]
 fn words_refused(rt: HostRuntime) {
-    let rows: [&[&str]; 8] = [
+    let rows: [&[&str]; 12] = [
         &["lrlex", "-"],
         &["lrlex", "--help"],
         &["lrlex", "-", "-", "-"],
@@ -42,6 +55,10 @@ fn words_refused(rt: HostRuntime) {
         &["lrlex", "--nest-limit", "4294967296", "-", "-"],
         &["lrlex", "--bad", "-", "-"],
         &["lrlex", "--octal", "true", "--octal", "true", "-", "-"],
+        &["lrlex", "--from", "0", "-", "-"],
+        &["lrlex", "--from", "0", "--to", "0", "-", "-"],
+        &["lrlex", "--put", "x", "-", "-"],
+        &["lrlex", "--from", "0", "--to", "x", "--put", "x", "-", "-"],
     ];
     for words in rows {
         expects(&rt, words, BOTH, ("", USAGE, 1));
@@ -135,6 +152,53 @@ fn texts_in_files(rt: HostRuntime) -> Result<(), Fail> {
         &["lrlex", folder.as_str(), input],
         "",
         ("", is_folder.as_str(), 1),
+    );
+    fs::remove_dir_all(&rt, folder.as_str())?;
+    Ok(())
+}
+
+#[test]
+fn edits(rt: HostRuntime) -> Result<(), Fail> {
+    let alloc = rt.alloc();
+    let id = process::id(rt.process());
+    let folder = format!(in alloc; "{}/lrlex_edits_{id}", env::temp_dir(&rt)?.as_str())?;
+    fs::create_dir(&rt, folder.as_str())?;
+    let rules = format!(in alloc; "{folder}/rules")?;
+    let faulty = format!(in alloc; "{folder}/faulty")?;
+    let none = format!(in alloc; "{folder}/none")?;
+    fs::write(&rt, rules.as_str(), "%%\n[a-z]+ 'ID'\n[ ] ;")?;
+    fs::write(&rt, faulty.as_str(), "%%\n( 'A'")?;
+    let (rules, faulty, none) = (rules.as_str(), faulty.as_str(), none.as_str());
+    for (from, to, put, input, out) in [
+        ("0", "2", "xyz", "ab cd ef", "ID xyz\nID cd\nID ef\n"),
+        ("2", "3", "", "ab cd ef", "ID abcd\nID ef\n"),
+        ("2", "2", "c", "ab", "ID abc\n"),
+    ] {
+        let words = [
+            "lrlex", "--from", from, "--to", to, "--put", put, rules, "-",
+        ];
+        expects(&rt, &words, input, (out, "", 0));
+    }
+    for (from, to) in [("2", "1"), ("0", "4"), ("1", "2")] {
+        let words = [
+            "lrlex", "--from", from, "--to", to, "--put", "x", rules, "-",
+        ];
+        expects(&rt, &words, "❤", ("", "Bad edit\n", 1));
+    }
+    // The files are read before the edit is looked at, and the rules are built after it.
+    let cannot = format!(in alloc; "Can't open file {none}\n")?;
+    let cannot = cannot.as_str();
+    expects_of_bad_edit(&rt, rules, none, cannot);
+    expects_of_bad_edit(&rt, none, rules, cannot);
+    expects_of_bad_edit(&rt, faulty, "-", "Bad edit\n");
+    let words = [
+        "lrlex", "--from", "0", "--to", "1", "--put", "x", faulty, "-",
+    ];
+    expects(
+        &rt,
+        &words,
+        "a",
+        ("", "2:1: Invalid regular expression\n", 1),
     );
     fs::remove_dir_all(&rt, folder.as_str())?;
     Ok(())

@@ -9,6 +9,7 @@ fn expects(rt: &impl Abort, got: Result<Words, WordsFault>, flags: LexFlags) {
         Ok(words) => {
             assert!(rt; words.rules.as_str() == "r" && words.input.as_str() == "-");
             assert!(rt; words.flags == flags, "{:?}", words.flags);
+            assert!(rt; words.edit.is_none());
         }
         Err(fault) => panic!(rt; "{fault:?}"),
     }
@@ -165,10 +166,83 @@ fn each_option(rt: HostRuntime) {
     );
 }
 
+/// The edit of these words.
+fn edited(rt: &impl Abort, got: &Result<Words, WordsFault>, want: (usize, usize, &str)) {
+    match got {
+        Ok(words) => {
+            assert!(rt; words.rules.as_str() == "r" && words.input.as_str() == "-");
+            assert!(rt; words.flags == UNSPECIFIED_LEX_FLAGS);
+            match &words.edit {
+                Some((from, to, put)) => {
+                    assert_eq!(rt; *from, want.0);
+                    assert_eq!(rt; *to, want.1);
+                    assert_eq!(rt; put.as_str(), want.2);
+                }
+                None => panic!(rt; "no edit"),
+            }
+        }
+        Err(fault) => panic!(rt; "{fault:?}"),
+    }
+}
+
+#[test]
+fn the_options_of_an_edit(rt: HostRuntime) {
+    let rows: [(&[&str], (usize, usize, &str)); 6] = [
+        (
+            &[
+                "lrlex", "--from", "0", "--to", "2", "--put", "xyz", "r", "-",
+            ],
+            (0, 2, "xyz"),
+        ),
+        (
+            &["lrlex", "r", "--put", "❤ b", "-", "--to=1", "--from=7"],
+            (7, 1, "❤ b"),
+        ),
+        (
+            &["lrlex", "r", "-", "--from", "3", "--to", "4", "--put", ""],
+            (3, 4, ""),
+        ),
+        (
+            &["lrlex", "r", "-", "--from", "3", "--to", "4", "--put="],
+            (3, 4, ""),
+        ),
+        (
+            &[
+                "lrlex",
+                "r",
+                "-",
+                "--from=+3",
+                "--to",
+                "0004",
+                "--put=--from",
+            ],
+            (3, 4, "--from"),
+        ),
+        (
+            &[
+                "lrlex",
+                "--from",
+                "18446744073709551615",
+                "--to",
+                "18446744073709551615",
+                "--put",
+                "true",
+                "--",
+                "r",
+                "-",
+            ],
+            (usize::MAX, usize::MAX, "true"),
+        ),
+    ];
+    for (words, want) in rows {
+        edited(&rt, &read(rt.alloc(), words), want);
+    }
+}
+
 #[test]
 fn refused(rt: HostRuntime) -> Result<(), Fail> {
     let alloc = rt.alloc();
-    let rows: [&[&str]; 18] = [
+    let rows: [&[&str]; 30] = [
         &[],
         &["lrlex"],
         &["lrlex", "r"],
@@ -187,6 +261,40 @@ fn refused(rt: HostRuntime) -> Result<(), Fail> {
         &["lrlex", "--octal", "true", "--octal", "true", "r", "i"],
         &["lrlex", "--oct", "true", "r", "i"],
         &["lrlex", "-r", "i"],
+        &["lrlex", "--from", "0", "r", "i"],
+        &["lrlex", "--to", "0", "r", "i"],
+        &["lrlex", "--put", "x", "r", "i"],
+        &["lrlex", "--put", "", "r", "i"],
+        &["lrlex", "--from", "0", "--to", "0", "r", "i"],
+        &["lrlex", "--from", "0", "--put", "x", "r", "i"],
+        &["lrlex", "--to", "0", "--put", "x", "r", "i"],
+        &[
+            "lrlex",
+            "--from",
+            "18446744073709551616",
+            "--to",
+            "0",
+            "--put",
+            "x",
+            "r",
+            "i",
+        ],
+        &[
+            "lrlex",
+            "--from",
+            "0",
+            "--to",
+            "18446744073709551616",
+            "--put",
+            "x",
+            "r",
+            "i",
+        ],
+        &["lrlex", "--from", "0", "--to", "-1", "--put", "x", "r", "i"],
+        &[
+            "lrlex", "--from", "0x0", "--to", "1", "--put", "x", "r", "i",
+        ],
+        &["lrlex", "--from", "0", "--to", "1", "--put", "-x", "r", "i"],
     ];
     for words in rows {
         match read(alloc, words) {
@@ -203,5 +311,16 @@ fn memory_is_told(rt: HostRuntime) {
     match read(rt.alloc(), &["lrlex", "--octal", "true", "r", "i"]) {
         Ok(words) => assert!(rt; words.rules.as_str() == "r" && words.input.as_str() == "i"),
         Err(fault) => assert!(rt; fault == WordsFault::Memory),
+    }
+}
+
+// The same with an edit.
+#[test]
+fn memory_for_an_edit_is_told(rt: HostRuntime) {
+    let words = ["lrlex", "--from", "1", "--to", "2", "--put", "x", "r", "-"];
+    let got = read(rt.alloc(), &words);
+    match &got {
+        Ok(_) => edited(&rt, &got, (1, 2, "x")),
+        Err(fault) => assert!(rt; *fault == WordsFault::Memory),
     }
 }

@@ -1,0 +1,20 @@
+-- Lexing again has found the items of the new text, and the lines are theirs.
+use Rattle.std.proofs.Common.{ap, map}
+use Rattle.lrlex_rules.specs.Parts.{as_rule}
+use Rattle.lrlex_cli.specs.Engine.{Request}
+use Rattle.lrlex_cli.proofs.EngineLemmas.{ran, without_memory}
+use Rattle.lrlex_cli.proofs.engine.run_edited.Goals as goal
+
+pub returns-in_err-lexed-in-Ok : goal.returns-in_err-lexed-in-Ok
+returns-in_err-lexed-in-Ok g c = without_memory _ _ _ c.from_residual-in_err-lexed-in-Ok.ensures.1
+
+pub returns-in_ok-lexed-in-Ok : goal.returns-in_ok-lexed-in-Ok
+returns-in_ok-lexed-in-Ok g c =
+    let q : Request = record { greatest = g.L.StorageT.Id.greatest; flags = c.args.flags; rules = c.args.rules.now; input = c.args.new.now } in
+    let same = c.in_ok-before-in-Ok.ensures.definition in
+    let wrote = rw c.items.ensures at c.write_items.ensures in
+    let run = rw same at c.in_ok-lexed-in-Ok.ensures.run in
+    ran g.L.StorageT.Id.number g.L.LexemeT.Lexeme.id_of g.L.LexemeT.Lexeme.start_of g.L.LexemeT.Lexeme.len_of g.L.LexemeT.Lexeme.is_faulty _
+    q c.in_ok-definition.field-0 c.in-Ok.definition c.in_ok-lexed-in-Ok.lexed.items.items c.in_ok-lexed-in-Ok.lexed.boundaries _ _ _ _
+    c.in-Ok.is c.in_ok-definition.ensures.answer c.in_ok-definition.ensures.initial run
+    (ap (map (as_rule g.L.StorageT.Id.number)) c.rules.ensures) wrote
