@@ -8,6 +8,7 @@ use lrlex::{
 use lrlex_base::Id;
 use serde_json::Value;
 use std::alloc::Global;
+use std::collections::HashMap;
 
 /// The definition that cases build, with ids of this type.
 pub type Definition<T> = LRNonStreamingLexerDef<DefaultLexerTypes<T>>;
@@ -19,6 +20,23 @@ pub enum Built<T: Id> {
     Faulty(Vec<LexBuildError>),
     /// The rule at this place was refused.
     Refused(usize),
+}
+
+/// The token ids that the case sets, by the names that they are for; none where it sets none.
+pub fn ids_of<'v, T: Id>(
+    alloc: Global,
+    case: &'v Value,
+) -> Result<Option<HashMap<&'v str, T>>, Trouble> {
+    let Some(members) = case.get("ids").and_then(Value::as_object) else {
+        return Ok(None);
+    };
+    let mut ids = HashMap::new(alloc);
+    for (name, value) in members {
+        let number = value.as_u64().ok_or(Trouble::Malformed)?;
+        let id = T::from_count(number as usize).ok_or(Trouble::Malformed)?;
+        ids.insert(name.as_str(), id)?;
+    }
+    Ok(Some(ids))
 }
 
 /// The id of a rule, if it has one.

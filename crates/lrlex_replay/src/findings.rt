@@ -7,31 +7,6 @@ use std::alloc::{AllocError, Global};
 #[derive(Drop)]
 pub struct Findings {
     differences: Vec<String>,
-    lacks_ids: bool,
-}
-
-/// The members of a rule that its id has no part in.
-const RULE_MEMBERS: [&str; 5] = ["name", "name_span", "re_str", "start_states", "target"];
-
-/// Whether two rules are the same but for their ids.
-fn is_same_rule(got: &Value, expected: &Value) -> bool {
-    RULE_MEMBERS
-        .iter()
-        .all(|member| got.get(*member) == expected.get(*member))
-}
-
-/// Whether two lists of rules are the same but for the ids.
-fn are_same_rules(got: &Value, expected: &Value) -> bool {
-    match (got.as_array(), expected.as_array()) {
-        (Some(got), Some(expected)) => {
-            got.len() == expected.len()
-                && got
-                    .iter()
-                    .zip(expected.iter())
-                    .all(|(one, other)| is_same_rule(one, other))
-        }
-        _ => false,
-    }
 }
 
 /// The value as a text, or `nothing`.
@@ -47,23 +22,12 @@ impl Findings {
     pub fn new(alloc: Global) -> Findings {
         Findings {
             differences: Vec::new(alloc),
-            lacks_ids: false,
         }
     }
 
     /// The differences, in the order in which they were found.
     pub fn differences(&self) -> &[String] {
         self.differences.as_slice()
-    }
-
-    /// Whether what hangs on set ids was left out.
-    pub fn lacks_ids(&self) -> bool {
-        self.lacks_ids
-    }
-
-    /// Marks that what hangs on set ids is left out.
-    pub fn leave_ids(&mut self) {
-        self.lacks_ids = true;
     }
 
     /// Adds the field of the case as one that differs.
@@ -95,19 +59,6 @@ impl Findings {
         match case.get("expected").and_then(|all| all.get(field)) {
             Some(expected) if expected == got => Ok(()),
             _ => self.add(alloc, case, field, got),
-        }
-    }
-
-    /// Compares rules as `compare` does, but for their ids.
-    pub fn compare_rules(
-        &mut self,
-        alloc: Global,
-        case: &Value,
-        got: &Value,
-    ) -> Result<(), Trouble> {
-        match case.get("expected").and_then(|all| all.get("rules")) {
-            Some(expected) if are_same_rules(got, expected) => Ok(()),
-            _ => self.add(alloc, case, "rules", got),
         }
     }
 

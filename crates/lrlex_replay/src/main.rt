@@ -21,7 +21,6 @@ use std::io::{BufRead, BufReader};
 struct Tally {
     cases: u64,
     compared: u64,
-    without_ids: u64,
     differ: u64,
 }
 
@@ -49,9 +48,6 @@ fn count_line(rt: &HostRuntime, tally: Tally, line: &str) -> io::Result<Tally> {
         return Ok(next);
     };
     next.compared = tally.compared.saturating_add(1);
-    if findings.lacks_ids() {
-        next.without_ids = tally.without_ids.saturating_add(1);
-    }
     if !findings.differences().is_empty() {
         next.differ = tally.differ.saturating_add(1);
     }
@@ -66,7 +62,6 @@ fn main(rt: HostRuntime) -> io::Result<()> {
     let mut tally = Tally {
         cases: 0,
         compared: 0,
-        without_ids: 0,
         differ: 0,
     };
     for line in BufReader::new(alloc, rt.reader())?.lines(alloc) {
@@ -76,10 +71,7 @@ fn main(rt: HostRuntime) -> io::Result<()> {
     let Tally {
         cases,
         compared,
-        without_ids,
         differ,
     } = tally;
-    println!(rt;
-        "{cases} cases: {compared} compared, {without_ids} of them not in what set ids decide, {differ} differ"
-    )
+    println!(rt; "{cases} cases: {compared} compared, {differ} differ")
 }

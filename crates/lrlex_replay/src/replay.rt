@@ -1,8 +1,10 @@
 //! Does what a case says and compares what comes of it.
-use crate::building::{Built, Definition, build};
+use crate::building::{Built, Definition, build, ids_of};
 use crate::findings::Findings;
 use crate::reading::{Trouble, text_in};
-use crate::showing::{faults_value, items_value, places_value, rules_value, states_value};
+use crate::showing::{
+    faults_value, items_value, places_value, rules_value, sets_value, states_value,
+};
 use lrlex::LexerDef;
 use lrlex_base::Id;
 use serde_json::Value;
@@ -29,21 +31,21 @@ fn compare_run<T: Id>(
     findings.compare_most(alloc, case, "asked_max", run.asked())
 }
 
-/// Compares a definition, and what it does to the case's input. A case that sets ids is compared in what they don't
-/// decide.
+/// Compares a definition, what setting the case's token ids gives, and what lexing its input gives then.
 fn compare_definition<T: Id>(
     alloc: Global,
     case: &Value,
-    definition: &Definition<T>,
+    definition: &mut Definition<T>,
     findings: &mut Findings,
 ) -> Result<(), Trouble> {
-    let states = states_value(alloc, definition.iter_start_states().as_slice())?;
-    let rules = rules_value(alloc, definition.rules())?;
-    findings.compare(alloc, case, "states", &states)?;
-    if case.get("ids").is_some() {
-        findings.leave_ids();
-        return findings.compare_rules(alloc, case, &rules);
+    if let Some(ids) = ids_of::<T>(alloc, case)? {
+        let (lacking, unused) = definition.set_rule_ids_spanned(alloc, &ids)?;
+        let sets = sets_value(alloc, lacking.as_ref(), unused.as_ref())?;
+        findings.compare(alloc, case, "set_ids", &sets)?;
     }
+    let states = states_value(alloc, definition.iter_start_states().as_slice())?;
+    findings.compare(alloc, case, "states", &states)?;
+    let rules = rules_value(alloc, definition.rules())?;
     findings.compare(alloc, case, "rules", &rules)?;
     compare_run(alloc, case, definition, findings)
 }
@@ -51,8 +53,8 @@ fn compare_definition<T: Id>(
 fn replay_with<T: Id>(alloc: Global, case: &Value) -> Result<Findings, Trouble> {
     let mut findings = Findings::new(alloc);
     match build::<T>(alloc, case)? {
-        Built::Whole(definition) => {
-            compare_definition(alloc, case, &definition, &mut findings)?;
+        Built::Whole(mut definition) => {
+            compare_definition(alloc, case, &mut definition, &mut findings)?;
         }
         Built::Faulty(faults) => {
             findings.compare(alloc, case, "faults", &faults_value(alloc, &faults)?)?;

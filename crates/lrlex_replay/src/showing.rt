@@ -8,6 +8,7 @@ use lrlex::{
 use lrlex_base::{Id, LexError, Lexeme, NewlineCache, Span, Spanned};
 use serde_json::{Value, json};
 use std::alloc::{AllocError, Global};
+use std::collections::HashSet;
 
 /// An item of a run.
 type Item<T> = Result<DefaultLexeme<T>, LRLexError>;
@@ -193,4 +194,53 @@ pub fn places_value<T: Id>(
         list.push(json!(in alloc; [start, end])?)?;
     }
     Ok(Value::Array(list))
+}
+
+/// The names in their order, or null for none.
+fn names_value(alloc: Global, names: Option<&HashSet<&str>>) -> Result<Value, AllocError> {
+    let Some(names) = names else {
+        return Ok(Value::Null);
+    };
+    let mut sorted = Vec::new(alloc);
+    for name in names {
+        sorted.push(*name)?;
+    }
+    sorted.sort_unstable();
+    let mut list = Vec::new(alloc);
+    for name in sorted.as_slice() {
+        list.push(Value::String(String::from_str(alloc, name)?))?;
+    }
+    Ok(Value::Array(list))
+}
+
+/// The names with their places, in the order of these, as `[name, span]`, or null for none.
+fn spanned_value(
+    alloc: Global,
+    names: Option<&HashSet<(String, Span)>>,
+) -> Result<Value, AllocError> {
+    let Some(names) = names else {
+        return Ok(Value::Null);
+    };
+    let mut sorted = Vec::new(alloc);
+    for (name, span) in names {
+        sorted.push((span.start(), span.end(), name.as_str()))?;
+    }
+    sorted.sort_unstable();
+    let mut list = Vec::new(alloc);
+    for key in sorted.as_slice() {
+        let (start, end, name) = *key;
+        list.push(json!(in alloc; [name, [start, end]])?)?;
+    }
+    Ok(Value::Array(list))
+}
+
+/// What setting token ids gave: the names without a rule, and the rules' names without an id.
+pub fn sets_value(
+    alloc: Global,
+    lacking: Option<&HashSet<&str>>,
+    unused: Option<&HashSet<(String, Span)>>,
+) -> Result<Value, AllocError> {
+    let lacking = names_value(alloc, lacking)?;
+    let unused = spanned_value(alloc, unused)?;
+    json!(in alloc; [lacking, unused])
 }

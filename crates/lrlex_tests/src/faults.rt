@@ -62,6 +62,8 @@ fn texts_that_the_original_refuses(rt: HostRuntime) -> Result<(), Fail> {
         ("%%\na ' '", "InvalidName 7..7"),
         ("%%\na ' \"'", "InvalidName 7..7"),
         ("%%\na \" Name", "InvalidName 7..7"),
+        ("%%\na \" Name\"", "InvalidName 7..7"),
+        ("%%\na ' Name", "InvalidName 7..7"),
         ("%%\na ' Name'", "InvalidName 7..7"),
         ("%%\na \" '\"", "InvalidName 7..7"),
         (
@@ -84,6 +86,8 @@ fn texts_that_the_original_refuses(rt: HostRuntime) -> Result<(), Fail> {
         ("%%\n<UNKNOWN>. 'unknown'", "UnknownStartState 3..3"),
         ("%%\n. <1>'known'", "UnknownStartState 5..5"),
         ("%%\n. <UNKNOWN>'unknown'", "UnknownStartState 5..5"),
+        ("%%\n<1test>. 'TEST'", "UnknownStartState 3..3"),
+        ("%%\n. <1test>'TEST'", "UnknownStartState 5..5"),
         ("%%\n<test. 'TEST'", "InvalidStartState 3..3"),
         ("%%\n. <test'TEST'", "InvalidStartState 4..4"),
         (

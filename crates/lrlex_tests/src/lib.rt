@@ -2,12 +2,24 @@
 #![tactic(auto)]
 
 #[cfg(test)]
+mod callers;
+#[cfg(test)]
+mod edits;
+#[cfg(test)]
 mod faults;
 #[cfg(test)]
+mod hostile;
+#[cfg(test)]
 mod lexing;
+#[cfg(test)]
+mod parts;
 #[cfg(test)]
 mod rules;
 #[cfg(test)]
 mod shown;
+#[cfg(test)]
+mod texts;
+#[cfg(test)]
+mod white;
 #[cfg(test)]
 mod written;

@@ -23,6 +23,10 @@ fn names_places_and_patterns(rt: HostRuntime) -> Result<(), Fail> {
         ("%s KNOWN\n%%\n<KNOWN>. 'known'", "known 22..27 . in 1"),
         ("%%\n< * >a 'A'", "A 11..12 a in 0"),
         (
+            "%x bracket brace\n%%\n<*>\\{ <+brace>'OPEN_BRACE'",
+            "OPEN_BRACE 35..45 \\{ in 0 in 1 in 2 push 2",
+        ),
+        (
             "%%\na 'A'\nb 'B'\n[ \\n] ;",
             "A 6..7 a | B 12..13 b | - 21..21 [ \\n]",
         ),

@@ -128,7 +128,7 @@ pub fn states_of(alloc: Global, rules: &str) -> Result<String, AllocError> {
 }
 
 /// The same with ids of any type.
-type DefinitionOver<T> = LRNonStreamingLexerDef<DefaultLexerTypes<T>>;
+pub type DefinitionOver<T> = LRNonStreamingLexerDef<DefaultLexerTypes<T>>;
 
 fn name_of<T: Id>(rules: &[Rule<T>], id: T) -> &str {
     for rule in rules {
@@ -140,7 +140,7 @@ fn name_of<T: Id>(rules: &[Rule<T>], id: T) -> &str {
 }
 
 /// The items of a run: `ID 0+3, error 3..3 in 0`.
-fn items_text<T: Id>(
+pub fn items_text<T: Id>(
     alloc: Global,
     rules: &[Rule<T>],
     items: &[Result<DefaultLexeme<T>, LRLexError>],

@@ -96,6 +96,10 @@ fn reports_tell_lines_and_columns(rt: HostRuntime) -> Result<(), Fail> {
         ("%%\n( 'A'", "2:1: Invalid regular expression\n"),
         ("%S X\u{2028}", "1:6: File ends prematurely\n"),
         ("%%\n❤❤ x", "2:4: Invalid rule name\n"),
+        (
+            "%s a b a b\n%%\n x\n❤ 'É'\nc 'É'\n❤❤❤ d",
+            "1:4: Start state already exists, again at 1:8\n1:6: Start state already exists, again at 1:10\n3:1: Verbatim code not supported\n4:4: Rule name already exists, again at 5:4\n6:5: Invalid rule name\n",
+        ),
     ];
     for (rules, want) in rows {
         let got = report_of(rt.alloc(), rules, UNSPECIFIED_LEX_FLAGS)?;

@@ -1,0 +1,15 @@
+use Rattle.std.proofs.Common.{◌≡◌, ◌↔◌, IsUtf8, map, take, drop}
+use Rattle.lrlex.specs.Reach.{IsRun}
+use Rattle.lrlex.specs.Views.{definition_of, items_by}
+use Rattle.lrlex_callers.specs.Lexing.{AreSteps, text_after}
+use Rattle.lrlex_callers.proofs.lexing.lexer_after.Given as goal
+
+abbrev pub invariant-loop-edit : goal.invariant-loop-edit
+invariant-loop-edit g l = record {
+  definition : l.run.definition.now ≡ l.definition;
+  text : l.run.text.now ≡ l.now;
+  utf8 : IsUtf8 l.now;
+  now : l.now ≡ text_after l.text (map (λ s. s.0) (take l.edit-index l.steps));
+  steps : AreSteps l.text l.steps ↔ AreSteps l.now (drop l.edit-index l.steps);
+  run : IsRun (definition_of g.L.StorageT.Id.number l.definition) l.now (items_by g.L.StorageT.Id.number g.L.LexemeT.Lexeme.id_of g.L.LexemeT.Lexeme.start_of g.L.LexemeT.Lexeme.len_of g.L.LexemeT.Lexeme.is_faulty l.run.items.items) l.run.boundaries;
+}

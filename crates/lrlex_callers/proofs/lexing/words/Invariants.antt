@@ -1,0 +1,15 @@
+use Rattle.std.proofs.Common.{◌≡◌, ◌++◌, map}
+use Rattle.std.specs.List.{filter_map}
+use Rattle.lrlex_base.specs.Items.{items_left}
+use Rattle.lrlex.specs.Views.{definition_of, items_by}
+use Rattle.lrlex_callers.specs.Lexing.{word_of, shown}
+use Rattle.lrlex_callers.proofs.lexing.words.Given as goal
+
+abbrev pub invariant-loop-item : goal.invariant-loop-item
+invariant-loop-item g l = record {
+  can_next : (goal.iterator-loop-item g).can_next l.item-iterator;
+  finite : (goal.iterator-loop-item g).is_finite l.item-iterator;
+  items : items_left l.initial.item-iterator ≡ l.yielded ++ items_left l.item-iterator;
+  words : map shown l.words.items ≡ filter_map (word_of (definition_of g.L.StorageT.Id.number l.definition).rules l.text)
+      (items_by g.L.StorageT.Id.number g.L.LexemeT.Lexeme.id_of g.L.LexemeT.Lexeme.start_of g.L.LexemeT.Lexeme.len_of g.L.LexemeT.Lexeme.is_faulty l.yielded);
+}

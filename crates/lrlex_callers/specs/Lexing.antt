@@ -1,0 +1,47 @@
+-- What callers say of a text that is lexed.
+use Rattle.std.specs.Prelude.{◌≡◌, ℕ, ◌+◌, ◌==◌, ◌&&◌, Bool, false, List, [], ◌∷◌, Option, Some, None, is_some, unwrap_or, slice_range}
+use Rattle.std.specs.Borrow.{Bor}
+use Rattle.std.specs.Option.{option_and_then, option_map_or}
+use Rattle.std.specs.List.{find, filter_map}
+use Rattle.lrlex_base.specs.Spans.{Fits, as_span}
+use Rattle.lrlex_base.specs.Edits.{edited}
+use Rattle.lrlex_base.specs.declared.edits.Edit.{Edit}
+use Rattle.lrlex_rules.specs.Definition.{Definition, Rule}
+use Rattle.lrlex.specs.Tiling.{Item, Lexeme, Error}
+use Rattle.lrlex.specs.Marks.{Mark}
+use Rattle.lrlex.specs.Reach.{IsRun}
+
+-- the rule has a name and this id
+abbrev pub gives : ℕ → Rule → Bool
+gives id r = option_map_or (λ (own : ℕ). own == id) r.id false && is_some r.name
+
+-- the name of the first such rule
+abbrev pub name_of : List Rule → ℕ → List ℕ
+name_of rules id = unwrap_or (option_and_then (λ (r : Rule). r.name) (find (gives id) rules)) []
+
+-- a lexeme's name and its text; an error has none
+abbrev pub word_of : List Rule → List ℕ → Item → Option (List ℕ × List ℕ)
+word_of rules text (Lexeme id start len faulty) = Some (name_of rules id, slice_range text start (start + len))
+word_of rules text (Error start end state) = None
+
+-- the names and the texts of the lexemes that the definition gives for the text, in order
+pub record AreWords (d : Definition) (text : List ℕ) (words : List (List ℕ × List ℕ)) : Type 0 where
+  pub found : List Item
+  pub marks : List Mark
+  pub run : IsRun d text found marks
+  pub are : words ≡ filter_map (word_of d.rules text) found
+
+-- a name and a text of the program
+abbrev pub shown : Bor (List ℕ) × Bor (List ℕ) → List ℕ × List ℕ
+shown word = (word.0.now, word.1.now)
+
+-- each edit fits the text before it, and makes the text beside it
+abbrev pub AreSteps : List ℕ → List (Edit × Bor (List ℕ)) → Type 0
+AreSteps text [] = Unit {0}
+AreSteps text (step ∷ steps) =
+    Fits text step.0.removed × (step.1.now ≡ edited text (as_span step.0.removed) step.0.put.now) × AreSteps step.1.now steps
+
+-- the text after all of these edits, the first of them first
+abbrev pub text_after : List ℕ → List Edit → List ℕ
+text_after text [] = text
+text_after text (e ∷ es) = text_after (edited text (as_span e.removed) e.put.now) es

@@ -1,0 +1,6 @@
+//! The callers that the CALLING.md files show, word for word, so that the check proves what they show.
+#![tactic(auto)]
+
+pub mod base;
+pub mod lending;
+pub mod lexing;

@@ -1,0 +1,519 @@
+//! Definitions put together from parts, look-ups by id and name, and token ids from a map of names.
+use lrlex::{
+    DEFAULT_LEX_FLAGS, DefaultLexeme, DefaultLexerTypes, LRLexError, LRNonStreamingLexerDef,
+    LexFlags, LexerDef, Rule, StartState, StartStateOperation, UNSPECIFIED_LEX_FLAGS,
+};
+use lrlex_base::{Id, LexError, Lexeme, LexerTypes, Span};
+use std::alloc::{AllocError, Global};
+use std::collections::{HashMap, HashSet};
+use std::fmt::Write;
+use std::test::Fail;
+
+type Definition<T> = LRNonStreamingLexerDef<DefaultLexerTypes<T>>;
+
+/// A rule's name and id: `ID 0`, `- none`.
+fn rule_text<T: Id>(alloc: Global, rule: &Rule<T>) -> Result<String, AllocError> {
+    let name = rule.name().unwrap_or("-");
+    match rule.tok_id() {
+        Some(id) => format!(in alloc; "{name} {id}"),
+        None => format!(in alloc; "{name} none"),
+    }
+}
+
+/// All of them: `ID none, - 1`.
+fn rules_text<T: Id>(alloc: Global, rules: &[Rule<T>]) -> Result<String, AllocError> {
+    let mut text = String::new(alloc);
+    for rule in rules {
+        if !text.as_str().is_empty() {
+            text.push_str(", ")?;
+        }
+        text.push_str(rule_text(alloc, rule)?.as_str())?;
+    }
+    Ok(text)
+}
+
+/// The items of a run by id, place and length: `1 0+3, error 3..3 in 0`; and the number of tiles.
+fn items_text<T: Id>(
+    alloc: Global,
+    items: &[Result<DefaultLexeme<T>, LRLexError>],
+    tiles: usize,
+) -> Result<String, AllocError> {
+    let mut text = String::new(alloc);
+    for item in items {
+        match item {
+            Ok(lexeme) => {
+                let id = lexeme.tok_id();
+                let start = lexeme.span().start();
+                let len = lexeme.span().len();
+                write!(text, "{id} {start}+{len}, ")?;
+            }
+            Err(error) => {
+                let start = error.span().start();
+                let end = error.span().end();
+                match error.lexing_state() {
+                    Some(state) => {
+                        let state = state.id();
+                        write!(text, "error {start}..{end} in {state}, ")?;
+                    }
+                    None => write!(text, "error {start}..{end}, ")?,
+                }
+            }
+        }
+    }
+    write!(text, "tiles {tiles}")?;
+    Ok(text)
+}
+
+/// What an input gives.
+fn lexed<T: Id>(
+    alloc: Global,
+    definition: &Definition<T>,
+    input: &str,
+) -> Result<String, AllocError> {
+    let run = definition.run(alloc, input)?;
+    items_text(alloc, run.items(), run.tiles())
+}
+
+/// The words in order, or `none` where there is no set.
+fn in_order(alloc: Global, words: Option<Vec<String>>) -> Result<String, AllocError> {
+    let Some(mut words) = words else {
+        return String::from_str(alloc, "none");
+    };
+    words.sort()?;
+    let mut text = String::new(alloc);
+    for word in words.as_slice() {
+        if !text.as_str().is_empty() {
+            text.push_str(", ")?;
+        }
+        text.push_str(word.as_str())?;
+    }
+    Ok(text)
+}
+
+fn names_text(alloc: Global, names: Option<HashSet<&str>>) -> Result<String, AllocError> {
+    let Some(names) = names else {
+        return in_order(alloc, None);
+    };
+    let mut words = Vec::new(alloc);
+    for name in names.iter() {
+        words.push(String::from_str(alloc, *name)?)?;
+    }
+    in_order(alloc, Some(words))
+}
+
+fn own_names_text(alloc: Global, names: Option<HashSet<String>>) -> Result<String, AllocError> {
+    let Some(names) = names else {
+        return in_order(alloc, None);
+    };
+    let mut words = Vec::new(alloc);
+    for name in names.iter() {
+        words.push(String::from_str(alloc, name.as_str())?)?;
+    }
+    in_order(alloc, Some(words))
+}
+
+fn places_text(
+    alloc: Global,
+    names: Option<HashSet<(String, Span)>>,
+) -> Result<String, AllocError> {
+    let Some(names) = names else {
+        return in_order(alloc, None);
+    };
+    let mut words = Vec::new(alloc);
+    for key in names.iter() {
+        let name = key.0.as_str();
+        let start = key.1.start();
+        let end = key.1.end();
+        words.push(format!(in alloc; "{name} {start}..{end}")?)?;
+    }
+    in_order(alloc, Some(words))
+}
+
+fn map_of<'a, T: Id>(
+    alloc: Global,
+    ids: &[(&'a str, T)],
+) -> Result<HashMap<&'a str, T>, AllocError> {
+    let mut map = HashMap::new(alloc);
+    for (name, id) in ids {
+        map.insert(*name, *id)?;
+    }
+    Ok(map)
+}
+
+/// Sets ids, and tells both sets and then the rules: `INT | ID | ID none, - 1`.
+fn ids_set<T: Id>(
+    alloc: Global,
+    definition: &mut Definition<T>,
+    ids: &[(&str, T)],
+) -> Result<String, AllocError> {
+    let map = map_of(alloc, ids)?;
+    let (lacking, unused) = definition.set_rule_ids(alloc, &map)?;
+    let lacking = names_text(alloc, lacking)?;
+    let unused = own_names_text(alloc, unused)?;
+    let rules = rules_text(alloc, definition.rules())?;
+    format!(in alloc; "{lacking} | {unused} | {rules}")
+}
+
+/// The same with places.
+fn ids_set_spanned<T: Id>(
+    alloc: Global,
+    definition: &mut Definition<T>,
+    ids: &[(&str, T)],
+) -> Result<String, AllocError> {
+    let map = map_of(alloc, ids)?;
+    let (lacking, unused) = definition.set_rule_ids_spanned(alloc, &map)?;
+    let lacking = names_text(alloc, lacking)?;
+    let unused = places_text(alloc, unused)?;
+    let rules = rules_text(alloc, definition.rules())?;
+    format!(in alloc; "{lacking} | {unused} | {rules}")
+}
+
+/// What setting ids on a rule text's definition tells by both calls, and what an input gives then.
+fn ids_told<T: Id>(
+    alloc: Global,
+    rules: &str,
+    ids: &[(&str, T)],
+    input: &str,
+) -> Result<Option<(String, String, String)>, AllocError> {
+    let Ok(mut definition) = Definition::<T>::from_str(alloc, rules)? else {
+        return Ok(None);
+    };
+    let told = ids_set(alloc, &mut definition, ids)?;
+    let items = lexed(alloc, &definition, input)?;
+    let Ok(mut definition) = Definition::<T>::from_str(alloc, rules)? else {
+        return Ok(None);
+    };
+    let spanned = ids_set_spanned(alloc, &mut definition, ids)?;
+    Ok(Some((told, spanned, items)))
+}
+
+#[test]
+fn ids_from_a_map_of_names(rt: HostRuntime) -> Result<(), Fail> {
+    let alloc = rt.alloc();
+    let rows: [(&str, &[(&str, u32)], &str, &str, &str, &str); 6] = [
+        (
+            "%%\n[a-z]+ 'ID'\n[ \\n] ;",
+            &[("INT", 0)],
+            "INT | ID | ID none, - 1",
+            "INT | ID 11..13 | ID none, - 1",
+            " a ",
+            "error 1..1, tiles 1",
+        ),
+        (
+            "%%\na ;\nb 'B'",
+            &[("B", 0)],
+            "none | none | - 0, B 0",
+            "none | none | - 0, B 0",
+            "ab",
+            "0 1+1, tiles 2",
+        ),
+        (
+            "\n%%\n[0-9]+ 'int'\n[a-zA-Z]+ 'id'\n[ \\t] ;",
+            &[("int", 0), ("id", 1)],
+            "none | none | int 0, id 1, - 2",
+            "none | none | int 0, id 1, - 2",
+            "abc 123",
+            "1 0+3, 0 4+3, tiles 3",
+        ),
+        (
+            "%%\nif 'IF'\n[a-z]+ 'ID'\n[ ] ;",
+            &[("IF", 0), ("ID", 1)],
+            "none | none | IF 0, ID 1, - 2",
+            "none | none | IF 0, ID 1, - 2",
+            "iff if",
+            "1 0+3, 0 4+2, tiles 3",
+        ),
+        (
+            "%%\na 'A'\nb 'B'\nc 'C'",
+            &[("B", 7), ("Y", 8), ("X", 9)],
+            "X, Y | A, C | A none, B 7, C none",
+            "X, Y | A 6..7, C 18..19 | A none, B 7, C none",
+            "ba",
+            "7 0+1, error 1..1, tiles 1",
+        ),
+        ("%%", &[], "none | none | ", "none | none | ", "", "tiles 0"),
+    ];
+    for (rules, ids, want, want_spanned, input, want_items) in rows {
+        let Some((told, spanned, items)) = ids_told::<u32>(alloc, rules, ids, input)? else {
+            panic!(rt; "{rules:?} is refused");
+        };
+        assert_eq!(rt; told.as_str(), want, "{rules:?}");
+        assert_eq!(rt; spanned.as_str(), want_spanned, "{rules:?}");
+        assert_eq!(rt; items.as_str(), want_items, "{rules:?} on {input:?}");
+    }
+    Ok(())
+}
+
+/// The rule that a look-up by id finds, by both calls: `B 0`, `none`.
+fn found_by_id<L: LexerTypes, D: LexerDef<L>>(
+    alloc: Global,
+    definition: &D,
+    id: L::StorageT,
+) -> Result<String, AllocError> {
+    match definition.find_rule_by_id(id) {
+        Some(found) => {
+            let found = rule_text(alloc, found)?;
+            let first = rule_text(alloc, definition.get_rule_by_id(id))?;
+            format!(in alloc; "{found} {first}")
+        }
+        None => String::from_str(alloc, "none"),
+    }
+}
+
+fn found_by_name<L: LexerTypes, D: LexerDef<L>>(
+    alloc: Global,
+    definition: &D,
+    name: &str,
+) -> Result<String, AllocError> {
+    match definition.get_rule_by_name(name) {
+        Some(rule) => String::from_str(alloc, rule.re_str()),
+        None => String::from_str(alloc, "none"),
+    }
+}
+
+/// A rule text's definition whose rules have these ids.
+fn with_ids<T: Id>(
+    alloc: Global,
+    rules: &str,
+    ids: &[(&str, T)],
+) -> Result<Option<Definition<T>>, AllocError> {
+    let Ok(mut definition) = Definition::<T>::from_str(alloc, rules)? else {
+        return Ok(None);
+    };
+    let map = map_of(alloc, ids)?;
+    let _ = definition.set_rule_ids(alloc, &map)?;
+    Ok(Some(definition))
+}
+
+#[test]
+fn look_ups_give_the_first(rt: HostRuntime) -> Result<(), Fail> {
+    let alloc = rt.alloc();
+    let Ok(definition) = Definition::<u32>::from_str(alloc, "%%\na 'A'\nb 'B'\n[ ] ;")? else {
+        panic!(rt; "refused");
+    };
+    let by_id = [(0, "A 0 A 0"), (1, "B 1 B 1"), (2, "- 2 - 2"), (3, "none")];
+    for (id, want) in by_id {
+        let got = found_by_id(alloc, &definition, id)?;
+        assert_eq!(rt; got.as_str(), want, "id {id}");
+    }
+    let by_name = [
+        ("A", "a"),
+        ("B", "b"),
+        ("C", "none"),
+        ("", "none"),
+        ("a", "none"),
+    ];
+    for (name, want) in by_name {
+        let got = found_by_name(alloc, &definition, name)?;
+        assert_eq!(rt; got.as_str(), want, "name {name:?}");
+    }
+    let rows: [(&str, &[(&str, u32)], u32, &str); 4] = [
+        ("%%\na ;\nb 'B'", &[("B", 0)], 0, "- 0 - 0"),
+        ("%%\na ;\nb 'B'", &[("B", 0)], 1, "none"),
+        ("%%\na 'A'\nb 'B'", &[("A", 5), ("B", 5)], 5, "A 5 A 5"),
+        ("%%\na 'A'\nb 'B'", &[("B", 5)], 0, "none"),
+    ];
+    for (rules, ids, id, want) in rows {
+        let Some(definition) = with_ids(alloc, rules, ids)? else {
+            panic!(rt; "{rules:?} is refused");
+        };
+        let got = found_by_id(alloc, &definition, id)?;
+        assert_eq!(rt; got.as_str(), want, "{rules:?}, id {id}");
+    }
+    Ok(())
+}
+
+/// A rule of these parts that lists no start states, or none where its pattern is refused.
+fn part<T: Id>(
+    alloc: Global,
+    tok_id: Option<T>,
+    name: Option<(&str, Span)>,
+    re_str: &str,
+    target: Option<(usize, StartStateOperation)>,
+    flags: &LexFlags,
+) -> Result<Option<Rule<T>>, AllocError> {
+    let (name, name_span) = match name {
+        Some((name, span)) => (Some(String::from_str(alloc, name)?), span),
+        None => (None, Span::new(0, 0)),
+    };
+    let re_str = String::from_str(alloc, re_str)?;
+    let made = Rule::new(
+        alloc,
+        tok_id,
+        name,
+        name_span,
+        re_str,
+        Vec::new(alloc),
+        target,
+        flags,
+    )?;
+    Ok(made.ok())
+}
+
+/// State 0, inclusive.
+fn initial(alloc: Global) -> Result<Vec<StartState>, AllocError> {
+    let mut states = Vec::new(alloc);
+    states.push(StartState::new(alloc, 0, "INITIAL", false, Span::new(0, 0))?)?;
+    Ok(states)
+}
+
+/// What a definition of state 0 and one rule gives.
+fn lexed_by_part<T: Id>(
+    alloc: Global,
+    rule: Option<Rule<T>>,
+    input: &str,
+) -> Result<String, AllocError> {
+    let Some(rule) = rule else {
+        return String::from_str(alloc, "refused");
+    };
+    let mut rules = Vec::new(alloc);
+    rules.push(rule)?;
+    let definition = Definition::<T>::from_rules(alloc, initial(alloc)?, rules)?;
+    lexed(alloc, &definition, input)
+}
+
+#[test]
+fn rules_put_together_from_parts(rt: HostRuntime) -> Result<(), Fail> {
+    let alloc = rt.alloc();
+    let named = Some(("A", Span::new(0, 1)));
+    let either_case = LexFlags {
+        case_insensitive: Some(true),
+        ..UNSPECIFIED_LEX_FLAGS
+    };
+    let unset = UNSPECIFIED_LEX_FLAGS;
+    let push = Some((7, StartStateOperation::Push));
+    let pop = Some((7, StartStateOperation::Pop));
+    let rows = [
+        (
+            Some(0),
+            named,
+            "a",
+            None,
+            either_case,
+            "A",
+            "0 0+1, tiles 1",
+        ),
+        (
+            Some(0),
+            named,
+            "a",
+            None,
+            unset,
+            "A",
+            "error 0..0 in 0, tiles 0",
+        ),
+        (None, named, "a", None, unset, "a", "error 0..0, tiles 0"),
+        (
+            Some(0),
+            named,
+            "a",
+            push,
+            unset,
+            "aa",
+            "0 0+1, error 0..0, tiles 0",
+        ),
+        (
+            Some(0),
+            named,
+            "a",
+            pop,
+            unset,
+            "aa",
+            "0 0+1, error 0..0, tiles 0",
+        ),
+        (None, None, "a", pop, unset, "aa", "error 0..0, tiles 0"),
+        (Some(0), named, "(", None, unset, "a", "refused"),
+        (Some(0), named, "a)|(b", None, unset, "b", "0 0+1, tiles 1"),
+    ];
+    for (id, name, re_str, target, flags, input, want) in rows {
+        let rule = part::<u32>(alloc, id, name, re_str, target, &flags)?;
+        let got = lexed_by_part::<u32>(alloc, rule, input)?;
+        assert_eq!(rt; got.as_str(), want, "{re_str:?} on {input:?}");
+    }
+    Ok(())
+}
+
+#[test]
+fn parts_are_kept_as_handed_in(rt: HostRuntime) -> Result<(), Fail> {
+    let alloc = rt.alloc();
+    let name = Some(("A", Span::new(2, 3)));
+    let target = Some((1, StartStateOperation::Pop));
+    let Some(rule) = part::<u32>(
+        alloc,
+        Some(4),
+        name,
+        "a)|(b",
+        target,
+        &UNSPECIFIED_LEX_FLAGS,
+    )?
+    else {
+        panic!(rt; "refused");
+    };
+    assert_eq!(rt; rule.tok_id(), Some(4));
+    assert_eq!(rt; rule.name(), Some("A"));
+    assert_eq!(rt; rule.name_span(), Span::new(2, 3));
+    assert_eq!(rt; rule.re_str(), "a)|(b");
+    assert!(rt; rule.start_states().is_empty());
+    assert_eq!(rt; rule.target_state(), target);
+    let mut rules = Vec::new(alloc);
+    rules.push(rule)?;
+    let definition = Definition::<u32>::from_rules(alloc, initial(alloc)?, rules)?;
+    let Some(rule) = definition.get_rule(0) else {
+        panic!(rt; "no rule");
+    };
+    assert_eq!(rt; rule.re_str(), "a)|(b");
+    assert!(rt; definition.get_rule(1).is_none());
+    assert_eq!(rt; definition.iter_start_states().count(), 1);
+    let Some(flags) = definition.lex_flags() else {
+        panic!(rt; "no flags");
+    };
+    assert_eq!(rt; *flags, DEFAULT_LEX_FLAGS);
+    Ok(())
+}
+
+/// Two rules named A, of which the second stands at 2..3.
+fn twins<T: Id>(alloc: Global) -> Result<Option<Definition<T>>, AllocError> {
+    let mut rules = Vec::new(alloc);
+    for span in [Span::new(0, 1), Span::new(2, 3)] {
+        let name = Some(("A", span));
+        match part::<T>(alloc, None, name, "a", None, &UNSPECIFIED_LEX_FLAGS)? {
+            Some(rule) => rules.push(rule)?,
+            None => return Ok(None),
+        }
+    }
+    Ok(Some(Definition::<T>::from_rules(alloc, initial(alloc)?, rules)?))
+}
+
+#[test]
+fn two_rules_of_one_name(rt: HostRuntime) -> Result<(), Fail> {
+    let alloc = rt.alloc();
+    let Some(mut definition) = twins::<u32>(alloc)? else {
+        panic!(rt; "refused");
+    };
+    let five = [("A", 5)];
+    let got = ids_set(alloc, &mut definition, &five)?;
+    assert_eq!(rt; got.as_str(), "none | none | A 5, A 5");
+    let got = ids_set(alloc, &mut definition, &[])?;
+    assert_eq!(rt; got.as_str(), "none | A | A none, A none");
+    let got = ids_set_spanned(alloc, &mut definition, &five)?;
+    assert_eq!(rt; got.as_str(), "none | none | A 5, A 5");
+    let got = ids_set_spanned(alloc, &mut definition, &[])?;
+    assert_eq!(rt; got.as_str(), "none | A 0..1, A 2..3 | A none, A none");
+    let got = ids_set_spanned(alloc, &mut definition, &[("A", 5), ("B", 6)])?;
+    assert_eq!(rt; got.as_str(), "B | none | A 5, A 5");
+    Ok(())
+}
+
+fn lexed_without_a_state<T: Id>(alloc: Global, input: &str) -> Result<String, AllocError> {
+    let definition = Definition::<T>::from_rules(alloc, Vec::new(alloc), Vec::new(alloc))?;
+    lexed(alloc, &definition, input)
+}
+
+#[test]
+fn no_state_stops_at_once(rt: HostRuntime) -> Result<(), Fail> {
+    for input in ["", "a"] {
+        let got = lexed_without_a_state::<u32>(rt.alloc(), input)?;
+        assert_eq!(rt; got.as_str(), "error 0..0, tiles 0", "{input:?}");
+    }
+    Ok(())
+}

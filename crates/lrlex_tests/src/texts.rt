@@ -1,0 +1,347 @@
+//! The input's own text at the spans of lexemes: the matched text, its place and its whole lines.
+ghost use Rattle.std.specs.Prelude.{◌≡◌, IfOk};
+ghost use Rattle.lrlex.specs.Lexers.{lexer_text};
+
+use lrlex::{
+    DefaultLexerTypes, LRNonStreamingLexer, LRNonStreamingLexerDef, LexFlags, LexerDef,
+    UNSPECIFIED_LEX_FLAGS,
+};
+use lrlex_base::{Id, LexError, Lexeme, Lexer, NonStreamingLexer, Span};
+use std::alloc::{AllocError, Global};
+use std::fmt::Write;
+use std::test::Fail;
+
+type DefinitionOver<T> = LRNonStreamingLexerDef<DefaultLexerTypes<T>>;
+
+type LexerOver<'lexer, 'input, T> = LRNonStreamingLexer<'lexer, 'input, DefaultLexerTypes<T>>;
+
+/// How a lexer is made of a definition and an input.
+#[derive(Clone, Copy, Debug)]
+enum Made {
+    /// By `lexer`.
+    AtOnce,
+    /// By `into_lexer` of a run.
+    OfItsRun,
+}
+
+fn lexer_over<'lexer, 'input, T: Id>(
+    alloc: Global,
+    definition: &'lexer DefinitionOver<T>,
+    input: &'input str,
+    made: Made,
+) -> Result<LexerOver<'lexer, 'input, T>, AllocError>
+    ensures { IfOk result (λ lexer. lexer_text lexer ≡ input.now) }
+{
+    match made {
+        Made::AtOnce => definition.lexer(alloc, input),
+        Made::OfItsRun => definition.run(alloc, input)?.into_lexer(alloc),
+    }
+}
+
+/// Adds what the lexer of this input says of a span: `a at 1:2-1:3 in [ a]`.
+fn push_place<T: Id>(
+    text: &mut String,
+    lexer: &LexerOver<'_, '_, T>,
+    input: &str,
+    span: Span,
+) -> Result<(), AllocError>
+    requires { lexer_text lexer.now ≡ input.now }
+{
+    if !span.fits(input) {
+        return text.push_str("past the input");
+    }
+    let matched = lexer.span_str(span);
+    let ((line, column), (end_line, end_column)) = lexer.line_col(span);
+    let lines = lexer.span_lines_str(span);
+    write!(
+        text,
+        "{matched} at {line}:{column}-{end_line}:{end_column} in [{lines}]"
+    )
+}
+
+/// The lexemes of an input, each by its text, its place and its whole lines.
+fn places_over<T: Id>(
+    alloc: Global,
+    rules: &str,
+    input: &str,
+    made: Made,
+) -> Result<String, AllocError> {
+    let mut text = String::new(alloc);
+    let Ok(definition) = DefinitionOver::<T>::from_str(alloc, rules)? else {
+        return String::from_str(alloc, "refused");
+    };
+    let lexer = lexer_over::<T>(alloc, &definition, input, made)?;
+    for item in lexer.iter() {
+        if !text.as_str().is_empty() {
+            text.push_str(", ")?;
+        }
+        match item {
+            Ok(lexeme) => push_place::<T>(&mut text, &lexer, input, lexeme.span())?,
+            Err(_) => text.push_str("error")?,
+        }
+    }
+    Ok(text)
+}
+
+#[test]
+fn lines_and_columns_of_lexemes(rt: HostRuntime) -> Result<(), Fail> {
+    let words = "%%\n[a-z❤]+ 'ID'\n[ \\n] ;";
+    let rows = [
+        (
+            words,
+            " a\n❤ b",
+            "a at 1:2-1:3 in [ a], ❤ at 2:1-2:2 in [❤ b], b at 2:3-2:4 in [❤ b]",
+        ),
+        (
+            words,
+            "a b c",
+            "a at 1:1-1:2 in [a b c], b at 1:3-1:4 in [a b c], c at 1:5-1:6 in [a b c]",
+        ),
+        (
+            words,
+            "a b c\n",
+            "a at 1:1-1:2 in [a b c], b at 1:3-1:4 in [a b c], c at 1:5-1:6 in [a b c]",
+        ),
+        (
+            words,
+            " a\nb\n  c d",
+            "a at 1:2-1:3 in [ a], b at 2:1-2:2 in [b], c at 3:3-3:4 in [  c d], d at 3:5-3:6 in [  c d]",
+        ),
+        (
+            "%%\n'.*' 'STR'\n[ \\n] ;",
+            "'a\nb'\n",
+            "'a\nb' at 1:1-2:3 in ['a\nb']",
+        ),
+        (
+            "%%\n[a❤]+ 'ID'\n[ ] ;",
+            "a ❤ a",
+            "a at 1:1-1:2 in [a ❤ a], ❤ at 1:3-1:4 in [a ❤ a], a at 1:5-1:6 in [a ❤ a]",
+        ),
+        ("%%\n[0-9]+ 'int'", "abc", "error"),
+        ("%%", "", ""),
+    ];
+    for (rules, input, want) in rows {
+        for made in [Made::AtOnce, Made::OfItsRun] {
+            let got = places_over::<u32>(rt.alloc(), rules, input, made)?;
+            assert_eq!(rt; got.as_str(), want, "{rules:?} on {input:?}, {made:?}");
+        }
+    }
+    Ok(())
+}
+
+/// The items of an input, each by id, place and length, or as an error with its place.
+fn ids_over<T: Id>(
+    alloc: Global,
+    rules: &str,
+    flags: LexFlags,
+    input: &str,
+    made: Made,
+) -> Result<String, AllocError> {
+    let mut text = String::new(alloc);
+    let Ok(definition) = DefinitionOver::<T>::new_with_options(alloc, rules, flags)? else {
+        return String::from_str(alloc, "refused");
+    };
+    let lexer = lexer_over::<T>(alloc, &definition, input, made)?;
+    for item in lexer.iter() {
+        if !text.as_str().is_empty() {
+            text.push_str(", ")?;
+        }
+        match item {
+            Ok(lexeme) => {
+                let id = lexeme.tok_id();
+                let start = lexeme.span().start();
+                let len = lexeme.span().len();
+                write!(text, "{id} {start}+{len}")?;
+            }
+            Err(error) => {
+                let start = error.span().start();
+                let end = error.span().end();
+                write!(text, "error {start}..{end}")?;
+            }
+        }
+    }
+    Ok(text)
+}
+
+#[test]
+fn ids_of_lexemes(rt: HostRuntime) -> Result<(), Fail> {
+    let posix = LexFlags {
+        posix_escapes: Some(true),
+        ..UNSPECIFIED_LEX_FLAGS
+    };
+    let other = LexFlags {
+        posix_escapes: Some(false),
+        ..UNSPECIFIED_LEX_FLAGS
+    };
+    let rows = [
+        (
+            "\n%%\n[0-9]+ 'int'\n[a-zA-Z]+ 'id'\n[ \\t] ;",
+            UNSPECIFIED_LEX_FLAGS,
+            "abc 123",
+            "1 0+3, 0 4+3",
+        ),
+        (
+            "%%\nif 'IF'\n[a-z]+ 'ID'\n[ ] ;",
+            UNSPECIFIED_LEX_FLAGS,
+            "iff if",
+            "1 0+3, 0 4+2",
+        ),
+        (
+            "\n%%\n[0-9]+ 'int'",
+            UNSPECIFIED_LEX_FLAGS,
+            "abc",
+            "error 0..0",
+        ),
+        (
+            "%%\n\\\\ 'slash'\n\\a 'alert'\n\\b 'backspace'\n\\f 'feed'\n\\n 'newline'\n\\r 'return'\n\\t 'tab'\n\\v 'vtab'\n\\q 'normal_char'",
+            posix,
+            "\\\u{7}\u{8}\u{c}\n\r\t\u{b}q",
+            "0 0+1, 1 1+1, 2 2+1, 3 3+1, 4 4+1, 5 5+1, 6 6+1, 7 7+1, 8 8+1",
+        ),
+        (
+            "%%\n\\\\ 'slash'\n\\a 'alert'\na\\b a 'work_break'\n\\f 'feed'\n\\n 'newline'\n\\r 'return'\n\\t 'tab'\n\\v 'vtab'\n\\q 'normal_char'",
+            other,
+            "\\\u{7}a a\u{c}\n\r\t\u{b}q",
+            "0 0+1, 1 1+1, 2 2+3, 3 5+1, 4 6+1, 5 7+1, 6 8+1, 7 9+1, 8 10+1",
+        ),
+    ];
+    for (rules, flags, input, want) in rows {
+        for made in [Made::AtOnce, Made::OfItsRun] {
+            let got = ids_over::<u32>(rt.alloc(), rules, flags, input, made)?;
+            assert_eq!(rt; got.as_str(), want, "{rules:?} on {input:?}, {made:?}");
+        }
+    }
+    Ok(())
+}
+
+/// So many letters `a`, with blanks between them.
+fn letters(alloc: Global, count: usize) -> Result<String, AllocError> {
+    let mut text = String::new(alloc);
+    for k in 0..count {
+        if k > 0 {
+            text.push_str(" ")?;
+        }
+        text.push_str("a")?;
+    }
+    Ok(text)
+}
+
+/// So many lines, the one with number i, from 0, of i letters.
+fn staircase(alloc: Global, count: usize) -> Result<String, AllocError> {
+    let mut text = String::new(alloc);
+    for i in 0..count {
+        if i > 0 {
+            text.push_str("\n")?;
+        }
+        text.push_str(letters(alloc, i)?.as_str())?;
+    }
+    Ok(text)
+}
+
+/// How many lexemes the staircase has, and whether each first one of a line has that line as its whole lines.
+fn steps_over<T: Id>(
+    alloc: Global,
+    input: &str,
+    made: Made,
+) -> Result<Option<(usize, bool)>, AllocError> {
+    let Ok(definition) = DefinitionOver::<T>::from_str(alloc, "%%\n[a-z]+ 'ID'\n[ \\n] ;")? else {
+        return Ok(None);
+    };
+    let lexer = lexer_over::<T>(alloc, &definition, input, made)?;
+    let mut count = 0usize;
+    let mut whole = true;
+    for item in lexer.iter() {
+        if let Ok(lexeme) = item {
+            count = count.saturating_add(1);
+            let span = lexeme.span();
+            if !span.fits(input) {
+                return Ok(None);
+            }
+            let ((line, column), _) = lexer.line_col(span);
+            if column == 1 {
+                let want = letters(alloc, line.saturating_sub(1))?;
+                whole = whole && lexer.span_lines_str(span) == want.as_str();
+            }
+        }
+    }
+    Ok(Some((count, whole)))
+}
+
+/// The whole lines of a span of the input, or none where it doesn't fit.
+fn lines_over<T: Id>(
+    alloc: Global,
+    input: &str,
+    start: usize,
+    len: usize,
+) -> Result<Option<String>, AllocError> {
+    let Ok(definition) = DefinitionOver::<T>::from_str(alloc, "%%\n[a-z]+ 'ID'\n[ \\n] ;")? else {
+        return Ok(None);
+    };
+    let lexer = definition.lexer(alloc, input)?;
+    let span = Span::new(start, start.saturating_add(len));
+    if span.fits(input) {
+        Ok(Some(String::from_str(alloc, lexer.span_lines_str(span))?))
+    } else {
+        Ok(None)
+    }
+}
+
+#[test]
+fn whole_lines_of_many(rt: HostRuntime) -> Result<(), Fail> {
+    let alloc = rt.alloc();
+    let input = staircase(alloc, 71)?;
+    for made in [Made::AtOnce, Made::OfItsRun] {
+        let got = steps_over::<u32>(alloc, input.as_str(), made)?;
+        assert_eq!(rt; got, Some((2485, true)), "{made:?}");
+    }
+    let rows = [
+        (0, 0, ""),
+        (0, 2, "\na"),
+        (0, 4, "\na\na a"),
+        (0, 7, "\na\na a\na a a"),
+        (4, 3, "a a\na a a"),
+    ];
+    for (start, len, want) in rows {
+        let got = lines_over::<u32>(alloc, input.as_str(), start, len)?;
+        let got = got.as_deref();
+        assert_eq!(rt; got, Some(want), "{start}+{len}");
+    }
+    Ok(())
+}
+
+#[test]
+fn a_span_past_the_text_fits_nothing(rt: HostRuntime) -> Result<(), Fail> {
+    assert!(rt; !Span::new(100, 100).fits("a b c"));
+    assert!(rt; lines_over::<u32>(rt.alloc(), "a b c", 100, 0)?.is_none());
+    Ok(())
+}
+
+/// The text of the first lexeme, which outlives the lexer that gave it.
+fn first_over<'input, T: Id>(
+    alloc: Global,
+    definition: &DefinitionOver<T>,
+    input: &'input str,
+) -> Result<Option<&'input str>, AllocError> {
+    let lexer = definition.lexer(alloc, input)?;
+    let mut first = None;
+    if let Some(Ok(lexeme)) = lexer.iter().next() {
+        let span = lexeme.span();
+        if span.fits(input) {
+            first = Some(lexer.span_str(span));
+        }
+    }
+    drop(lexer);
+    Ok(first)
+}
+
+#[test]
+fn a_text_outlives_its_lexer(rt: HostRuntime) -> Result<(), Fail> {
+    let alloc = rt.alloc();
+    let input = String::from_str(alloc, "❤ b")?;
+    let Ok(definition) = DefinitionOver::<u32>::from_str(alloc, "%%\n[a-z❤]+ 'ID'\n[ ] ;")? else {
+        panic!(rt; "the rules build");
+    };
+    let first = first_over::<u32>(alloc, &definition, input.as_str())?;
+    assert_eq!(rt; first, Some("❤"));
+    Ok(())
+}
