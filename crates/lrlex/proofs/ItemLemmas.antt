@@ -1,5 +1,5 @@
 -- What holds of the items of a tiling.
-use Rattle.std.proofs.Common.{◌≡◌, ℕ, zero, suc, option_map, ◌+◌, ◌-◌, ◌<◌, ◌≤◌, Bool, true, false, cond, ◌&&◌, ◌||◌, ◌==◌, List, [], ◌∷◌, ◌++◌, All, length, take, drop, Option, Some, None, IsSome, IsNone, IfSome, is_some, is_none, unwrap_or, slice_get, get_or, refl, sym, ap, ◌∙◌, subst, inl, inr, arith, true≢false, add-one, append_assoc, append-nil, IsCharBoundary, IsUtf8, Any}
+use Rattle.std.proofs.Common.{◌≡◌, ℕ, zero, suc, option_map, ◌+◌, ◌<◌, ◌≤◌, Bool, true, false, cond, ◌&&◌, ◌==◌, List, [], ◌∷◌, ◌++◌, All, length, take, drop, Option, Some, None, IsSome, IsNone, IfSome, is_some, is_none, unwrap_or, slice_get, get_or, refl, sym, ap, ◌∙◌, subst, inl, inr, arith, true≢false, add-one, append_assoc, IsCharBoundary, IsUtf8, Any}
 use Rattle.std.proofs.Props.{props}
 use Rattle.std.proofs.Math.Logic.{∥∥₁_elim}
 use Rattle.std.specs.List.{list_any, concat, AllPairs, AllAdjacentBelow}
@@ -7,9 +7,8 @@ use Rattle.std.proofs.lemmas.Bool.{cond_both, and_parts, cases_Bool}
 use Rattle.std.proofs.lemmas.List.{drop-drop, length-drop, take-append-drop}
 use Rattle.std.proofs.lemmas.List.Elements.{All-nil, All-cons, All-append, All-push, All-weaker}
 use Rattle.std.proofs.lemmas.List.Kept.{AllPairs-cons}
-use Rattle.std.proofs.lemmas.List.Folds.{list_any-append}
 use Rattle.std.proofs.lemmas.List.Sums.{sum_by-append, sum_by-cons}
-use Rattle.std.proofs.lemmas.Option.{slice_get_within, get_or_from_slice_get, none-some, same_Some}
+use Rattle.std.proofs.lemmas.Option.{slice_get_within, get_or_from_slice_get, none-some}
 use Rattle.std.proofs.lemmas.Str.{IsCharBoundary-start, IsCharBoundary-from_rest}
 use Rattle.regex.specs.Patterns.{Re, find_str, span}
 use Rattle.regex_hir.specs.Text.{is_boundary}
@@ -17,12 +16,12 @@ use Rattle.regex.proofs.Utf8Lemmas.{IsCharBoundary-of_test}
 use Rattle.lrlex_rules.specs.Definition.{Definition, Rule}
 use Rattle.lrlex_rules.specs.Patterns.{end_from_zero, match_length, pattern_of}
 use Rattle.lrlex.specs.Active.{is_active, is_state, taken_by, taken_by_any, no_rule, rule_at, lexeme_id, lacks_id}
-use Rattle.lrlex.specs.Tiling.{Tile, Item, Item-set, Lexeme, Error, Wins, IsWinner, top, End, Done, NoMatch, NoId, NoTarget, IsEnd, IsTaken, stack_past, IsTiling, lexeme_of, tile_items, end_items, items}
+use Rattle.lrlex.specs.Tiling.{Tile, Item, Item-set, Lexeme, Error, Wins, IsWinner, top, End, Done, NoMatch, NoId, NoTarget, IsEnd, stack_past, IsTiling, lexeme_of, tile_items, end_items, items}
 use Rattle.lrlex.specs.Marks.{Mark}
-use Rattle.lrlex.specs.Reach.{IsLexed, IsStateless, IsRun}
+use Rattle.lrlex.specs.Reach.{IsLexed, IsRun}
 use Rattle.lrlex.specs.ItemLaws.{is_error, HasItsLength, FitsText, HasNamedRule, EndsBefore, GoesOn, last_end, tile_texts, total_len, IsUnnamed, IsUnnamedBetween, IsUnnamedBefore}
 use Rattle.lrlex.proofs.KnownLemmas.{known}
-use Rattle.lrlex.proofs.TilingLemmas.{match_length-le, Wins-le}
+use Rattle.lrlex.proofs.TilingLemmas.{Wins-le}
 
 -- ---- a winner ends between characters
 

@@ -4,7 +4,7 @@ use Rattle.std.proofs.lemmas.List.Recursion.{is_count_by}
 use Rattle.std.proofs.lemmas.List.{length-map, length-take-le, map_more}
 use Rattle.regex_hir.specs.Text.{is_some_and}
 use Rattle.lrlex_rules.specs.Definition.{StartState, Rule}
-use Rattle.lrlex.specs.Active.{is_active, places_from, active_places}
+use Rattle.lrlex.specs.Active.{is_active, is_active_where, is_inclusive, places_from, active_places}
 use Rattle.lrlex_rules.specs.Parts.{as_rule}
 use Rattle.lrlex_rules.specs.declared.rules.Rule as code
 
@@ -101,6 +101,12 @@ places_by value states q k (r ∷ rules) =
 pub active_places-by : {S : Type 0} (value : S → ℕ) (states : List StartState) (rules : List (code.Rule S)) (q : ℕ) →
     active_places states (map (as_rule (λ s. 0)) rules) q ≡ active_places states (map (as_rule value) rules) q
 active_places-by value states rules q = places_by value states q 0 rules
+
+-- whether a rule is active rests on the state's inclusiveness
+pub active_where : (states : List StartState) (q : ℕ) (inclusive : Bool) (r : Rule) → inclusive ≡ is_inclusive states q →
+    is_active_where inclusive q r ≡ is_active states q r
+unfolding is_active
+active_where states q inclusive r same = ap (λ b. is_active_where b q r) same
 
 -- one more rule of the program
 pub places_more : {A : Type 0} (p : Rule → Bool) (view : A → Rule) (rules : List A) (i : ℕ) (r : A) → i < length rules → r ≡ get_or rules i r →

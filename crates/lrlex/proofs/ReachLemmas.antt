@@ -1,5 +1,5 @@
 -- One more tile, and the end of a run.
-use Rattle.std.proofs.Common.{◌≡◌, ◌≢◌, ℕ, ◌+◌, ◌-◌, ◌*◌, ◌^◌, ◌<◌, ◌≤◌, Bool, true, false, not, List, [], ◌∷◌, ◌++◌, length, map, drop, Option, Some, None, refl, sym, ap, ap₂, ◌∙◌, subst, arith, true≢false, is_some, take, All, append_assoc, length-append}
+use Rattle.std.proofs.Common.{◌≡◌, ◌≢◌, ℕ, ◌+◌, ◌-◌, ◌*◌, ◌^◌, ◌<◌, ◌≤◌, Bool, true, false, not, List, [], ◌∷◌, ◌++◌, length, map, drop, Option, Some, None, refl, sym, ap, ap₂, ◌∙◌, subst, arith, true≢false, take, All, append_assoc, length-append}
 use Rattle.std.specs.List.{sum_by}
 use Rattle.regex_hir.specs.Text.{is_some_and}
 use Rattle.std.proofs.lemmas.List.{drop-drop, length-drop, length-take, length-map, nil_from_length, map_push, get_or_at}
@@ -205,11 +205,6 @@ nothing_left text place h = nil_from_length (drop place text) (omega (arith, len
 
 pub something_left : (text : List ℕ) (place : ℕ) → place < length text → drop place text ≢ []
 something_left text place h e = let none : length (drop place text) ≡ 0 = ap length e in absurd (omega (arith, length-drop place text))
-
-pub stays : (s : List ℕ) (target : Option (ℕ × StartStateOperation)) → is_some target ≡ false → stack_after s target ≡ s
-unfolding stack_after
-stays s None e = refl
-stays s (Some t) e = absurd (true≢false e)
 
 pub run_of : (d : Definition) (text : List ℕ) (found : List Item) (marks : List Mark) → is_state d 0 ≡ true → IsLexed d text found marks → IsRun d text found marks
 run_of d text found marks z h = record { lexed = λ e. h; refused = λ e. absurd (true≢false (sym z ∙ e)) }

@@ -15,10 +15,14 @@ is_state d q = list_any (λ s. s.id == q) d.states
 abbrev pub is_inclusive : List StartState → ℕ → Bool
 is_inclusive states q = is_some_and (find (λ s. s.id == q) states) (λ s. not s.exclusive)
 
+-- whether the rule is active in a state with the id that takes rules that list no states, or doesn't
+abbrev pub is_active_where : Bool → ℕ → Rule → Bool
+is_active_where inclusive q r =
+    if is_none (slice_get r.start_states 0) then inclusive else list_any (λ s. s == q) r.start_states
+
 -- whether the rule is active in the state
 unfoldable pub is_active : List StartState → ℕ → Rule → Bool
-is_active states q r =
-    if is_none (slice_get r.start_states 0) then is_inclusive states q else list_any (λ s. s == q) r.start_states
+is_active states q r = is_active_where (is_inclusive states q) q r
 
 -- how many rules are active in the state
 unfoldable pub active_count : Definition → ℕ → ℕ

@@ -1,7 +1,7 @@
 ghost use Rattle.std.specs.Prelude.{◌≡◌, ◌==◌, map, option_map, IfOk};
 ghost use Rattle.std.specs.List.{find, list_any, position};
 ghost use Rattle.std.specs.Option.{option_copied};
-ghost use Rattle.lrlex.specs.Active.{is_inclusive, is_active, active_places, lacks_id, lexeme_id};
+ghost use Rattle.lrlex.specs.Active.{is_inclusive, is_active_where, active_places, lacks_id, lexeme_id};
 ghost use Rattle.lrlex_rules.specs.Parts.{as_rule, as_state};
 
 use lrlex_base::Id;
@@ -56,13 +56,12 @@ fn is_inclusive(states: &[StartState], id: usize) -> bool
     }
 }
 
-/// Whether the rule is active in the state.
-#[tactic(auto, unfolding(crate::specs::Active::is_active))]
-fn is_active<S: Id>(states: &[StartState], id: usize, rule: &Rule<S>) -> bool
-    ensures { result ≡ is_active (map as_state states.now) id (as_rule (λ _. 0) rule.now) }
+/// Whether the rule is active in a state with the id that is inclusive, or isn't.
+fn is_active_where<S: Id>(inclusive: bool, id: usize, rule: &Rule<S>) -> bool
+    ensures { result ≡ is_active_where inclusive id (as_rule (λ _. 0) rule.now) }
 {
     if rule.start_states().is_empty() {
-        is_inclusive(states, id)
+        inclusive
     } else {
         rule.start_states().contains(&id)
     }
@@ -77,10 +76,11 @@ pub(crate) fn active_places<S: Id>(
 ) -> Result<Vec<usize>, AllocError>
     ensures { IfOk result (λ places. places.items ≡ active_places (map as_state states.now) (map (as_rule (λ _. 0)) rules.now) id) }
 {
+    let inclusive = is_inclusive(states, id);
     let mut places = Vec::new(alloc);
     'rules: for index in 0..rules.len() {
         let rule = &rules[index];
-        if is_active(states, id, rule) {
+        if is_active_where(inclusive, id, rule) {
             places.push(index)?;
         }
     }

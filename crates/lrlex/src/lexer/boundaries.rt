@@ -1,12 +1,13 @@
 ghost use Rattle.std.specs.Prelude.{◌≡◌, ◌+◌, ◌-◌, ◌<◌, true, All, [], ◌∷◌, ◌++◌, length, map, drop, OnOk};
 ghost use Rattle.lrlex.specs.Marks.{mark_at, last_runs, most_runs};
 ghost use Rattle.lrlex.specs.Edits.{moved_mark, IsMovableMark};
+ghost use Rattle.lrlex.specs.Runs.{Stay};
 
-use crate::lexer::boundary::{Boundary, last_range};
+use crate::lexer::boundary::{Boundary, last_range, stored};
 use std::alloc::{AllocError, Global};
 use std::marker::Model;
 
-/// Boundaries with their stacks. A stack that stays is kept once.
+/// Boundaries with their stacks. Runs that stay from one stack to the next are kept once, where the list of runs has room.
 #[derive(Drop)]
 pub(crate) struct Boundaries {
     all: Vec<Boundary>,
@@ -69,15 +70,19 @@ impl Boundaries {
         &self.runs[boundary.first..boundary.end]
     }
 
-    /// Whether the boundary is known to have the stack of the one before.
-    fn shares(&self, index: usize) -> bool
+    /// How many runs from the bottom the boundary is known to share with the one before.
+    fn kept(&self, index: usize) -> usize
         requires first { 0 < index }
         requires within { index < length self.now }
-        ensures { result ≡ true → (mark_at self.now index).runs ≡ (mark_at self.now (index - 1)).runs }
+        ensures { Stay result (mark_at self.now (index - 1)).runs (mark_at self.now index).runs }
     {
         let boundary = self.all[index];
         let before = self.all[index - 1];
-        boundary.first == before.first && boundary.end == before.end
+        if boundary.first == before.first {
+            boundary.end.min(before.end) - boundary.first
+        } else {
+            0
+        }
     }
 
     /// The greatest number of runs of a stack.
@@ -87,18 +92,19 @@ impl Boundaries {
         self.peak
     }
 
-    /// Adds a boundary with a stack of its own.
+    /// Adds a boundary, whose first `kept` runs are those of the last one.
     pub(crate) fn push(
         &mut self,
         place: usize,
         given: usize,
         stack: &[(usize, usize)],
+        kept: usize,
     ) -> Result<(), AllocError>
+        requires { Stay kept (last_runs self.old) stack.now }
         ensures { OnOk result (self.new ≡ self.old ++ record { place = place; given = given; runs = stack.now } ∷ []) }
     {
-        let first = self.runs.len();
-        self.runs.extend_from_slice(stack)?;
-        let end = self.runs.len();
+        let (first, _) = last_range(&self.all);
+        let (first, end) = stored(&mut self.runs, first, kept, stack)?;
         self.all.push(Boundary {
             place,
             given,
@@ -106,20 +112,6 @@ impl Boundaries {
             end,
         })?;
         self.peak = self.peak.max(stack.len());
-        Ok(())
-    }
-
-    /// Adds a boundary with the stack of the last one.
-    pub(crate) fn push_same(&mut self, place: usize, given: usize) -> Result<(), AllocError>
-        ensures { OnOk result (self.new ≡ self.old ++ record { place = place; given = given; runs = last_runs self.old } ∷ []) }
-    {
-        let (first, end) = last_range(&self.all);
-        self.all.push(Boundary {
-            place,
-            given,
-            first,
-            end,
-        })?;
         Ok(())
     }
 
@@ -143,11 +135,7 @@ impl Boundaries {
         'tail: for next in index + 1..len {
             let place = old.place(next) - from + to;
             let given = old.given(next) - before + after;
-            if old.shares(next) {
-                self.push_same(place, given)?;
-            } else {
-                self.push(place, given, old.stack(next))?;
-            }
+            self.push(place, given, old.stack(next), old.kept(next))?;
         }
         Ok(())
     }

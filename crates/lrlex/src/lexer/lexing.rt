@@ -42,7 +42,7 @@ pub(crate) fn begin<L: LexerTypes>(
     let mut stack = Vec::new(alloc);
     stack.push((1, 0))?;
     let mut boundaries = Boundaries::new(alloc);
-    boundaries.push(0, 0, &stack)?;
+    boundaries.push(0, 0, &stack, 0)?;
     Ok(Progress {
         place: 0,
         stack,
@@ -107,12 +107,10 @@ fn enter<L: LexerTypes>(
 {
     let given = progress.items.len();
     progress.place = place;
-    step(&mut progress.stack, target)?;
-    if target.is_some() {
-        progress.boundaries.push(place, given, &progress.stack)?;
-    } else {
-        progress.boundaries.push_same(place, given)?;
-    }
+    let kept = step(&mut progress.stack, target)?;
+    progress
+        .boundaries
+        .push(place, given, &progress.stack, kept)?;
     Ok(())
 }
 

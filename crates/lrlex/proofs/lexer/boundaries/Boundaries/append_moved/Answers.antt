@@ -3,7 +3,6 @@ use Rattle.lrlex.specs.Marks.{Mark, mark_at, last_runs}
 use Rattle.lrlex.specs.Edits.{moved_mark}
 use Rattle.lrlex.proofs.RelexLemmas.{movable_at, tail_more, last_runs-push}
 use Rattle.lrlex.proofs.lexer.boundaries.Boundaries.append_moved.Goals as goal
-use Rattle.lrlex.proofs.lexer.boundaries.Boundaries.append_moved.Goals.{then-shares+in_ok-push_same, else-shares+in_ok-push}
 
 pub overflow_sub-place : goal.overflow_sub-place
 overflow_sub-place c =
@@ -36,24 +35,11 @@ tail-preserved c =
     let place_is : c.place.result - c.place-from.result + c.args.to ≡ (m.place + c.args.to) - p = omega (arith, h.place_from, c.place-from.ensures, c.place.ensures) in
     let given_is : c.given.result - c.given-before.result + c.args.after ≡ (m.given + c.args.after) - n = omega (arith, h.given_from, c.given-before.ensures, c.given.ensures) in
     let here : next + 1 - 1 ≡ next = omega arith in
-    elim c.if-shares.branch [
-      | then-shares+in_ok-push_same w ↦
-          let runs : last_runs c.tail.self ≡ m.runs = c.tail.invariant.last ∙ sym (c.shares.ensures w.if-shares.true) in
-          let is : c.if-shares.self ≡ c.tail.self ++ moved_mark p c.args.to n c.args.after m ∷ [] =
-          w.self-is ∙ w.in_ok-push_same.ensures
-          ∙ ap (λ (x : Mark). c.tail.self ++ x ∷ []) (ap₂ (λ i k. record { place = i; given = k; runs = last_runs c.tail.self }) place_is given_is ∙ ap (λ r. record { place = (m.place + c.args.to) - p; given = (m.given + c.args.after) - n; runs = r }) runs) in
-          record {
-            from = omega arith;
-            added = tail_more c.args.self.now c.tail.self c.if-shares.self old (moved_mark p c.args.to n c.args.after) c.args.index next c.tail.invariant.from (omega arith) c.tail.invariant.added is;
-            last = ap last_runs is ∙ last_runs-push c.tail.self (moved_mark p c.args.to n c.args.after m) ∙ ap (λ i. (mark_at old i).runs) (sym here);
-          }
-      | else-shares+in_ok-push w ↦
-          let is : c.if-shares.self ≡ c.tail.self ++ moved_mark p c.args.to n c.args.after m ∷ [] =
-          w.self-is ∙ w.in_ok-push.ensures
-          ∙ ap (λ (x : Mark). c.tail.self ++ x ∷ []) (ap₂ (λ i k. record { place = i; given = k; runs = w.stack.result.now }) place_is given_is ∙ ap (λ r. record { place = (m.place + c.args.to) - p; given = (m.given + c.args.after) - n; runs = r }) w.stack.ensures) in
-          record {
-            from = omega arith;
-            added = tail_more c.args.self.now c.tail.self c.if-shares.self old (moved_mark p c.args.to n c.args.after) c.args.index next c.tail.invariant.from (omega arith) c.tail.invariant.added is;
-            last = ap last_runs is ∙ last_runs-push c.tail.self (moved_mark p c.args.to n c.args.after m) ∙ ap (λ i. (mark_at old i).runs) (sym here);
-          }
-    ]
+    let is : c.push.new.self ≡ c.tail.self ++ moved_mark p c.args.to n c.args.after m ∷ [] =
+    c.in_ok-push.ensures
+    ∙ ap (λ (x : Mark). c.tail.self ++ x ∷ []) (ap₂ (λ i k. record { place = i; given = k; runs = c.stack.result.now }) place_is given_is ∙ ap (λ r. record { place = (m.place + c.args.to) - p; given = (m.given + c.args.after) - n; runs = r }) c.stack.ensures) in
+    record {
+      from = omega arith;
+      added = tail_more c.args.self.now c.tail.self c.push.new.self old (moved_mark p c.args.to n c.args.after) c.args.index next c.tail.invariant.from (omega arith) c.tail.invariant.added is;
+      last = ap last_runs is ∙ last_runs-push c.tail.self (moved_mark p c.args.to n c.args.after m) ∙ ap (λ i. (mark_at old i).runs) (sym here);
+    }
