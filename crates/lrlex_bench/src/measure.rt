@@ -1,0 +1,201 @@
+//! Times building a definition and lexing a text.
+use crate::faults::Fault;
+use crate::figures::Hundredths;
+use crate::memory::peak;
+use crate::spread::{Spread, spread_of};
+use lrlex::{DefaultLexerTypes, LRNonStreamingLexerDef, LexRun, LexerDef};
+use lrlex_base::Id;
+use std::time::{Duration, Instant};
+
+/// A definition with ids of this type.
+pub type Definition<T> = LRNonStreamingLexerDef<DefaultLexerTypes<T>>;
+
+/// What a run counts.
+#[derive(Clone, Copy)]
+struct Counts {
+    /// The place, in bytes, up to which the text was lexed.
+    end: usize,
+    lexemes: usize,
+    tiles: usize,
+    /// Matches asked for.
+    asked: u128,
+    /// The most runs of equal neighbours in a stack of states.
+    peak: usize,
+}
+
+impl Counts {
+    /// Of no run.
+    const NONE: Counts = Counts {
+        end: 0,
+        lexemes: 0,
+        tiles: 0,
+        asked: 0,
+        peak: 0,
+    };
+}
+
+/// Reads a rule text, and times that.
+pub fn build<T: Id>(rt: &HostRuntime, rules: &str) -> Result<(Definition<T>, Duration), Fault> {
+    let begin = Instant::now(rt)?;
+    let built = Definition::<T>::from_str(rt.alloc(), rules)?;
+    let took = begin.elapsed(rt)?;
+    match built {
+        Ok(definition) => Ok((definition, took)),
+        Err(_) => Err(Fault::Refused),
+    }
+}
+
+/// The place, in bytes, up to which the text was lexed.
+fn end_of<T: Id>(run: &LexRun<'_, '_, DefaultLexerTypes<T>>) -> usize {
+    if run.boundaries() > 0 {
+        run.place(run.tiles())
+    } else {
+        0
+    }
+}
+
+/// What the run counts.
+fn counts_of<T: Id>(run: &LexRun<'_, '_, DefaultLexerTypes<T>>) -> Counts {
+    Counts {
+        end: end_of(run),
+        lexemes: run.items().iter().filter(|item| item.is_ok()).count(),
+        tiles: run.tiles(),
+        asked: run.asked(),
+        peak: run.entries_peak(),
+    }
+}
+
+/// Lexes the text once by `run`. The time, in nanoseconds, and what the run counts.
+fn time_run<T: Id>(
+    rt: &HostRuntime,
+    definition: &Definition<T>,
+    text: &str,
+) -> Result<(u128, Counts), Fault> {
+    let begin = Instant::now(rt)?;
+    let run = definition.run(rt.alloc(), text)?;
+    let took = begin.elapsed(rt)?;
+    Ok((took.as_nanos(), counts_of(&run)))
+}
+
+/// Lexes the text once by `lexer`, which finds its lines too. The time, in nanoseconds.
+fn time_lexer<T: Id>(
+    rt: &HostRuntime,
+    definition: &Definition<T>,
+    text: &str,
+) -> Result<u128, Fault> {
+    let begin = Instant::now(rt)?;
+    let _lexer = definition.lexer(rt.alloc(), text)?;
+    let took = begin.elapsed(rt)?;
+    Ok(took.as_nanos())
+}
+
+/// So many times `run`: the times, and what the last run counts.
+fn time_runs<T: Id>(
+    rt: &HostRuntime,
+    definition: &Definition<T>,
+    text: &str,
+    times: u32,
+) -> Result<(Spread, Counts), Fault> {
+    let mut spent = Vec::new(rt.alloc());
+    let mut counts = Counts::NONE;
+    for _ in 0..times {
+        let (took, found) = time_run(rt, definition, text)?;
+        spent.push(took)?;
+        counts = found;
+    }
+    Ok((spread_of(&mut spent), counts))
+}
+
+/// So many times `run`, without the counts.
+pub fn run_times<T: Id>(
+    rt: &HostRuntime,
+    definition: &Definition<T>,
+    text: &str,
+    times: u32,
+) -> Result<Spread, Fault> {
+    let (spread, _) = time_runs(rt, definition, text, times)?;
+    Ok(spread)
+}
+
+/// So many times `lexer`.
+fn lexer_times<T: Id>(
+    rt: &HostRuntime,
+    definition: &Definition<T>,
+    text: &str,
+    times: u32,
+) -> Result<Spread, Fault> {
+    let mut spent = Vec::new(rt.alloc());
+    for _ in 0..times {
+        spent.push(time_lexer(rt, definition, text)?)?;
+    }
+    Ok(spread_of(&mut spent))
+}
+
+/// Prints the sizes of the text and of the definition.
+fn tell_sizes<T: Id>(
+    rt: &HostRuntime,
+    definition: &Definition<T>,
+    built: Duration,
+    text: &str,
+) -> Result<(), Fault> {
+    let bytes = text.len();
+    let rules = definition.rules().len();
+    let states = definition.iter_start_states().count();
+    let ms = built.as_millis();
+    println!(rt; "bytes: {bytes}")?;
+    println!(rt; "rules: {rules}")?;
+    println!(rt; "states: {states}")?;
+    println!(rt; "build ms: {ms}")?;
+    Ok(())
+}
+
+/// Prints what a run counts.
+fn tell_counts(rt: &HostRuntime, counts: &Counts) -> Result<(), Fault> {
+    let Counts {
+        end,
+        lexemes,
+        tiles,
+        asked,
+        peak,
+    } = *counts;
+    println!(rt; "bytes lexed: {end}")?;
+    println!(rt; "lexemes: {lexemes}")?;
+    println!(rt; "tiles: {tiles}")?;
+    println!(rt; "matches asked: {asked}")?;
+    println!(rt; "peak entries: {peak}")?;
+    Ok(())
+}
+
+/// Prints nanoseconds for each byte: the median, the best and the worst.
+fn tell_bytes(rt: &HostRuntime, name: &str, spread: Spread, bytes: usize) -> Result<(), Fault> {
+    let median = Hundredths::of(spread.median, bytes as u128);
+    let best = Hundredths::of(spread.best, bytes as u128);
+    let worst = Hundredths::of(spread.worst, bytes as u128);
+    println!(rt; "{name} median ns per byte: {median}")?;
+    println!(rt; "{name} best ns per byte: {best}")?;
+    println!(rt; "{name} worst ns per byte: {worst}")?;
+    Ok(())
+}
+
+/// Lexes the text so many times by `run` and by `lexer`, and prints what that took.
+pub fn tell_run<T: Id>(
+    rt: &HostRuntime,
+    definition: &Definition<T>,
+    built: Duration,
+    text: &str,
+    times: u32,
+) -> Result<(), Fault> {
+    let before = peak(rt);
+    let (runs, counts) = time_runs(rt, definition, text, times)?;
+    let lexers = lexer_times(rt, definition, text, times)?;
+    let after = peak(rt);
+    let ask = Hundredths::of(runs.median, counts.asked);
+    tell_sizes(rt, definition, built, text)?;
+    tell_counts(rt, &counts)?;
+    println!(rt; "ns per match asked: {ask}")?;
+    tell_bytes(rt, "run", runs, text.len())?;
+    tell_bytes(rt, "lexer", lexers, text.len())?;
+    println!(rt; "peak kB before lexing: {before}")?;
+    println!(rt; "peak kB: {after}")?;
+    Ok(())
+}

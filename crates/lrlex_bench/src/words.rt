@@ -1,0 +1,65 @@
+//! The words of the command line.
+use crate::faults::Fault;
+use clap::error::ErrorKind;
+use clap::{Arg, ArgAction, ArgMatches, Command, value_parser};
+use std::alloc::{AllocError, Global};
+
+/// How the program is called.
+pub const USAGE: &str = "Usage: lrlex_bench RULES INPUT K [--edits]";
+
+/// What the words say.
+#[derive(Debug, Drop)]
+pub struct Words {
+    /// The path of the rule file.
+    pub rules: String,
+    /// The path of the text to lex.
+    pub input: String,
+    /// How many times each thing is timed; not 0.
+    pub times: u32,
+    /// Whether lexing again after an edit is measured.
+    pub edits: bool,
+}
+
+/// The command, as `clap` has it.
+fn command<'a>(alloc: Global) -> Result<Command<'a>, AllocError> {
+    let times = Arg::new(alloc, "times")
+        .required(true)
+        .action(ArgAction::Set)
+        .value_parser(value_parser!(u32));
+    let edits = Arg::new(alloc, "edits")
+        .long("edits")
+        .action(ArgAction::SetTrue);
+    Command::new(alloc, "lrlex_bench")
+        .arg(Arg::new(alloc, "rules").required(true))?
+        .arg(Arg::new(alloc, "input").required(true))?
+        .arg(times)?
+        .arg(edits)
+}
+
+/// The words of the matches.
+fn words_of(alloc: Global, matches: &ArgMatches<'_>) -> Result<Words, Fault> {
+    let Some(rules) = matches.get_str("rules") else {
+        return Err(Fault::Usage);
+    };
+    let Some(input) = matches.get_str("input") else {
+        return Err(Fault::Usage);
+    };
+    match matches.get_one::<u32>("times") {
+        None | Some(0) => Err(Fault::Usage),
+        Some(times) => Ok(Words {
+            rules: String::from_str(alloc, rules)?,
+            input: String::from_str(alloc, input)?,
+            times,
+            edits: matches.get_flag("edits"),
+        }),
+    }
+}
+
+/// Reads the words, the program's own name first.
+pub fn read(alloc: Global, words: &[&str]) -> Result<Words, Fault> {
+    match command(alloc)?.try_get_matches_from(words) {
+        Ok(matches) => words_of(alloc, &matches),
+        Err(error) if error.kind() == ErrorKind::OutOfMemory => Err(Fault::Memory),
+        Err(_) => Err(Fault::Usage),
+    }
+}
