@@ -10,8 +10,6 @@ mod lexemes;
 mod lexers;
 mod newlines;
 mod spans;
-#[cfg(test)]
-mod tests;
 mod token_map;
 mod token_map_fault;
 mod token_text;

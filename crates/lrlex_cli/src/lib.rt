@@ -6,8 +6,6 @@ pub mod engine;
 mod lines;
 pub mod program;
 mod report;
-#[cfg(test)]
-mod tests;
 mod texts;
 pub mod words;
 mod writing;

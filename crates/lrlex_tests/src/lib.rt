@@ -4,6 +4,8 @@
 #[cfg(test)]
 mod callers;
 #[cfg(test)]
+mod cli;
+#[cfg(test)]
 mod edits;
 #[cfg(test)]
 mod faults;

@@ -3,8 +3,8 @@ use Rattle.std.specs.Str.{IsCharBoundary}
 use Rattle.std.proofs.lemmas.List.{drop-take, take-append-drop, take-take}
 use Rattle.std.proofs.lemmas.Str.{IsCharBoundary-start}
 use Rattle.lrlex_base.specs.Places.{Breaks, AreBreaksOf}
-use Rattle.lrlex_base.proofs.tests.places.fed_by_characters.Goals as goal
-use Rattle.lrlex_base.proofs.tests.places.fed_by_characters.Goals.{then-is_char_boundary+in_ok-feed, else-is_char_boundary}
+use Rattle.lrlex_base_tests.proofs.places.fed_by_characters.Goals as goal
+use Rattle.lrlex_base_tests.proofs.places.fed_by_characters.Goals.{then-is_char_boundary+in_ok-feed, else-is_char_boundary}
 
 -- a front and what stands behind it are a longer front
 joined : (text : List ℕ) (from next : ℕ) → from ≤ next → take from text ++ take (next - from) (drop from text) ≡ take next text

@@ -1,8 +1,8 @@
 //! Rows on the engine and its report.
-use crate::engine::{Ended, EngineFault, report, run, run_edited};
-use crate::tests::writers::{TestWriter, Trouble};
+use crate::cli::writers::{TestWriter, Trouble};
 use lrlex::{DefaultLexerTypes, UNSPECIFIED_LEX_FLAGS};
 use lrlex_base::{Edit, Span};
+use lrlex_cli::engine::{Ended, EngineFault, report, run, run_edited};
 use std::io;
 use std::io::{ErrorKind, Write};
 use std::process::Abort;
@@ -168,6 +168,10 @@ fn writers_that_fail(rt: HostRuntime) -> Result<(), Fail> {
             assert!(rt; matches!(result, Err(EngineFault::Write(e)) if e.kind() == kind));
         }
     }
+    let mut out = TestWriter::new(rt.alloc(), 1, Trouble::Fails(16, ErrorKind::Other));
+    let result = ran(&rt, ROW_1, "abc 123", &mut out);
+    assert!(rt; matches!(result, Ok(Ended::Lexed)));
+    assert_eq!(rt; out.held(), b"ID abc\nINT 123\n".as_slice());
     let mut out = TestWriter::new(rt.alloc(), 1, Trouble::TakesNone(6));
     let result = ran(&rt, ROW_1, "abc 123", &mut out);
     assert_eq!(rt; out.held(), b"ID ab".as_slice());

@@ -2,7 +2,7 @@
 ghost use Rattle.std.specs.Prelude.{◌<◌, ◌+◌, ◌^◌, ◌++◌, IfOk, length};
 ghost use Rattle.lrlex_base.specs.Places.{AreBreaksOf};
 
-use crate::{NewlineCache, Span};
+use lrlex_base::{NewlineCache, Span};
 use std::alloc::{AllocError, Global};
 use std::process::Abort;
 use std::test::Fail;
@@ -124,7 +124,7 @@ fn pieces_answer_as_the_whole(rt: HostRuntime) -> Result<(), Fail> {
 }
 
 // Line number i (from 0) of the triangle: i letters `a` with a blank between each two.
-pub(super) fn triangle_line(alloc: Global, i: usize) -> Result<String, AllocError> {
+pub(crate) fn triangle_line(alloc: Global, i: usize) -> Result<String, AllocError> {
     let mut line = String::new(alloc);
     for j in 0..i {
         line.push_str(if j > 0 { " a" } else { "a" })?;
@@ -133,7 +133,7 @@ pub(super) fn triangle_line(alloc: Global, i: usize) -> Result<String, AllocErro
 }
 
 // The triangle: its 71 lines, with a newline between each two.
-pub(super) fn triangle(alloc: Global) -> Result<String, AllocError> {
+pub(crate) fn triangle(alloc: Global) -> Result<String, AllocError> {
     let mut text = String::new(alloc);
     for i in 0..71usize {
         if i > 0 {

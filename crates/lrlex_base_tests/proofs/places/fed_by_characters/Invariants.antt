@@ -1,7 +1,7 @@
 use Rattle.std.proofs.Common.{◌≡◌, ◌≤◌, take}
 use Rattle.std.specs.Str.{IsCharBoundary}
 use Rattle.lrlex_base.specs.Places.{AreBreaksOf}
-use Rattle.lrlex_base.proofs.tests.places.fed_by_characters.Given as goal
+use Rattle.lrlex_base_tests.proofs.places.fed_by_characters.Given as goal
 
 -- the cache means the front that was fed, which reaches the place between each two characters
 abbrev pub invariant-loop-at : goal.invariant-loop-at

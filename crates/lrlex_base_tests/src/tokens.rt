@@ -1,5 +1,5 @@
 //! The text of a token module, and its faults.
-use crate::{CTTokenMapBuilder, TokenMapFault, ct_token_map};
+use lrlex_base::{CTTokenMapBuilder, TokenMapFault, ct_token_map};
 use std::alloc::{AllocError, Global};
 use std::collections::HashMap;
 use std::test::Fail;

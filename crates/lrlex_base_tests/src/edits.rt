@@ -1,5 +1,5 @@
 //! Edits: which ones fit, what they make, and what they are recognized by.
-use crate::{Edit, Span};
+use lrlex_base::{Edit, Span};
 use std::test::Fail;
 
 #[test]

@@ -1,5 +1,5 @@
 //! Classes of characters, spans, lexemes and ids.
-use crate::{DefaultLexeme, Id, Lexeme, Span, is_blank, is_line_sep, is_white_space};
+use lrlex_base::{DefaultLexeme, Id, Lexeme, Span, is_blank, is_line_sep, is_white_space};
 use std::test::Fail;
 
 #[test]

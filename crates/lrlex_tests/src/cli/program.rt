@@ -1,6 +1,6 @@
 //! Rows on the program, over files of the test's own and texts in memory.
-use crate::program::serve;
-use crate::tests::writers::{FailingReader, TestWriter, Trouble};
+use crate::cli::writers::{FailingReader, TestWriter, Trouble};
+use lrlex_cli::program::serve;
 use std::io::ErrorKind;
 use std::process::Abort;
 use std::rt::Files;

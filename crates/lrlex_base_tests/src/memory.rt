@@ -1,6 +1,6 @@
 //! Want of memory: in heaps of rising sizes, each of which refuses a later request than the ones before.
-use crate::{CTTokenMapBuilder, Edit, NewlineCache, Span};
 use linked_list_allocator::LocalHeap;
+use lrlex_base::{CTTokenMapBuilder, Edit, NewlineCache, Span};
 use std::collections::HashMap;
 use std::test::Fail;
 

@@ -1,6 +1,6 @@
 //! Words that are read, and words that are refused.
-use crate::words::{Words, WordsFault, read};
 use lrlex::{LexFlags, UNSPECIFIED_LEX_FLAGS};
+use lrlex_cli::words::{Words, WordsFault, read};
 use std::process::Abort;
 use std::test::Fail;
 

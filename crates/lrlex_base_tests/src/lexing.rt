@@ -1,8 +1,8 @@
 //! Lexers that have their text, shown by one over items that are handed in.
 ghost use Rattle.lrlex_base.specs.Places.{AreBreaksOf};
 
-use crate::tests::places::{triangle, triangle_line};
-use crate::{
+use crate::places::{triangle, triangle_line};
+use lrlex_base::{
     DefaultLexeme, DefaultLexerTypes, Items, LexError, Lexeme, Lexer, NewlineCache,
     NonStreamingLexer, Span,
 };

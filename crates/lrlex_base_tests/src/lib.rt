@@ -1,0 +1,16 @@
+//! Rows on `lrlex_base`, through its public calls: classes, ids, places, lexemes, edits, the text of a token module, and
+//! want of memory. Nothing here but tests.
+#![tactic(auto)]
+
+#[cfg(test)]
+mod edits;
+#[cfg(test)]
+mod lexing;
+#[cfg(test)]
+mod memory;
+#[cfg(test)]
+mod places;
+#[cfg(test)]
+mod tokens;
+#[cfg(test)]
+mod values;

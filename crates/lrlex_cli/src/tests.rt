@@ -1,5 +1,0 @@
-mod engine;
-mod program;
-mod words;
-mod writers;
-mod writing;
