@@ -669,10 +669,10 @@ fn many_edits<T: Id>(alloc: Global, seed: u64, times: u32) -> Result<Option<Tall
 
 #[test]
 fn edits_made_by_chance(rt: HostRuntime) -> Result<(), Fail> {
-    let Some(tally) = many_edits::<u32>(rt.alloc(), 2024, 25)? else {
+    let Some(tally) = many_edits::<u32>(rt.alloc(), 2024, 2_500)? else {
         panic!(rt; "the rules are refused, or an edit doesn't fit");
     };
-    assert_eq!(rt; tally.edits, 100);
+    assert_eq!(rt; tally.edits, 10_000);
     assert_eq!(rt; tally.differ, 0);
     assert_eq!(rt; tally.asked_more, 0);
     Ok(())

@@ -7,7 +7,7 @@ use std::fmt::Write;
 use std::test::Fail;
 
 /// A text that repeats a part so many times between a head and a tail.
-fn repeated(
+pub(crate) fn repeated(
     alloc: Global,
     head: &str,
     part: &str,

@@ -14,6 +14,8 @@ mod hostile;
 #[cfg(test)]
 mod lexing;
 #[cfg(test)]
+mod long_inputs;
+#[cfg(test)]
 mod parts;
 #[cfg(test)]
 mod rules;
