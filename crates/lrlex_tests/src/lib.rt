@@ -1,10 +1,9 @@
-//! Rows with answers from outside, through the public calls of all crates: nothing here but tests.
+//! Rows with answers from outside, through the public calls of `lrlex` and of the callers that its page shows: nothing here
+//! but tests.
 #![tactic(auto)]
 
 #[cfg(test)]
 mod callers;
-#[cfg(test)]
-mod cli;
 #[cfg(test)]
 mod edits;
 #[cfg(test)]
@@ -25,5 +24,3 @@ mod shown;
 mod texts;
 #[cfg(test)]
 mod white;
-#[cfg(test)]
-mod written;

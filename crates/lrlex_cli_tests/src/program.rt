@@ -1,5 +1,5 @@
 //! Rows on the program, over files of the test's own and texts in memory.
-use crate::cli::writers::{FailingReader, TestWriter, Trouble};
+use crate::writers::{FailingReader, TestWriter, Trouble};
 use lrlex_cli::program::serve;
 use std::io::ErrorKind;
 use std::process::Abort;

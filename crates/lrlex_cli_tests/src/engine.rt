@@ -1,5 +1,5 @@
 //! Rows on the engine and its report.
-use crate::cli::writers::{TestWriter, Trouble};
+use crate::writers::{TestWriter, Trouble};
 use lrlex::{DefaultLexerTypes, UNSPECIFIED_LEX_FLAGS};
 use lrlex_base::{Edit, Span};
 use lrlex_cli::engine::{Ended, EngineFault, report, run, run_edited};

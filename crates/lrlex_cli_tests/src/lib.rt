@@ -1,0 +1,14 @@
+//! Rows on the engine and on the program's parts: what is written, words, files, messages, and writers and readers that fail.
+//! Nothing here but tests.
+#![tactic(auto)]
+
+#[cfg(test)]
+mod engine;
+#[cfg(test)]
+mod program;
+#[cfg(test)]
+mod words;
+#[cfg(test)]
+mod writers;
+#[cfg(test)]
+mod written;
