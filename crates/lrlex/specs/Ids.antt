@@ -1,6 +1,6 @@
 -- Token ids by name: the first rule with an id or a name, and what a map of names to ids does to rules.
-use Rattle.std.specs.Prelude.{◌≡◌, ◌≢◌, ℕ, ◌==◌, Bool, false, not, ◌&&◌, List, [], map, Option, Some, None, is_some, option_map, string_bytes}
-use Rattle.std.specs.Option.{option_map_or}
+use Rattle.std.specs.Prelude.{◌≡◌, ◌≢◌, ℕ, ◌==◌, Bool, false, not, ◌&&◌, List, [], map, Option, Some, None, is_some, unwrap_or, option_map, string_bytes}
+use Rattle.std.specs.Option.{option_and_then, option_map_or}
 use Rattle.std.specs.List.{find, list_any}
 use Rattle.std.specs.Str.{bytes_eq}
 use Rattle.std.specs.Borrow.{Bor}
@@ -24,6 +24,14 @@ is_named name r = option_map_or (λ own. bytes_eq name own) r.name false
 -- the rule has the name, and it stands at the place
 abbrev pub is_named_at : List ℕ → Span → Rule → Bool
 is_named_at name place r = is_named name r && same_span r.name_span place
+
+-- the rule has the id and a name
+abbrev pub gives : ℕ → Rule → Bool
+gives id r = has_id id r && is_some r.name
+
+-- the name of the first such rule
+abbrev pub name_of : List Rule → ℕ → List ℕ
+name_of rules id = unwrap_or (option_and_then (λ (r : Rule). r.name) (find (gives id) rules)) []
 
 -- the first of the program's rules with the id, and the first with the name
 abbrev pub rule_with_id : {S : Type 0} → (S → ℕ) → List (code.Rule S) → ℕ → Option (code.Rule S)

@@ -10,7 +10,8 @@ use Rattle.lrlex_rules.specs.Parts.{as_rule}
 use Rattle.lrlex.specs.Tiling.{Lexeme}
 use Rattle.lrlex_rules.specs.declared.rules.Rule as code
 use Rattle.lrlex.proofs.ViewLemmas.{find-map}
-use Rattle.lrlex_callers.specs.Lexing.{gives, name_of, word_of}
+use Rattle.lrlex.specs.Ids.{gives, name_of}
+use Rattle.lrlex_callers.specs.Lexing.{word_of}
 
 -- ---- names
 

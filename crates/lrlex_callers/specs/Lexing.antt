@@ -1,23 +1,15 @@
 -- What callers say of a text that is lexed.
-use Rattle.std.specs.Prelude.{◌≡◌, ℕ, ◌+◌, ◌==◌, ◌&&◌, Bool, false, List, [], ◌∷◌, Option, Some, None, is_some, unwrap_or, slice_range}
+use Rattle.std.specs.Prelude.{◌≡◌, ℕ, ◌+◌, List, [], ◌∷◌, Option, Some, None, slice_range}
 use Rattle.std.specs.Borrow.{Bor}
-use Rattle.std.specs.Option.{option_and_then, option_map_or}
-use Rattle.std.specs.List.{find, filter_map}
+use Rattle.std.specs.List.{filter_map}
 use Rattle.lrlex_base.specs.Spans.{Fits, as_span}
 use Rattle.lrlex_base.specs.Edits.{edited}
 use Rattle.lrlex_base.specs.declared.edits.Edit.{Edit}
 use Rattle.lrlex_rules.specs.Definition.{Definition, Rule}
+use Rattle.lrlex.specs.Ids.{name_of}
 use Rattle.lrlex.specs.Tiling.{Item, Lexeme, Error}
 use Rattle.lrlex.specs.Marks.{Mark}
 use Rattle.lrlex.specs.Reach.{IsRun}
-
--- the rule has a name and this id
-abbrev pub gives : ℕ → Rule → Bool
-gives id r = option_map_or (λ (own : ℕ). own == id) r.id false && is_some r.name
-
--- the name of the first such rule
-abbrev pub name_of : List Rule → ℕ → List ℕ
-name_of rules id = unwrap_or (option_and_then (λ (r : Rule). r.name) (find (gives id) rules)) []
 
 -- a lexeme's name and its text; an error has none
 abbrev pub word_of : List Rule → List ℕ → Item → Option (List ℕ × List ℕ)

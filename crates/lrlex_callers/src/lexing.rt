@@ -7,7 +7,8 @@ ghost use Rattle.lrlex.specs.Marks.{Mark};
 ghost use Rattle.lrlex_rules.specs.Parts.{as_rule};
 ghost use Rattle.lrlex.specs.Reach.{IsRun};
 ghost use Rattle.lrlex.specs.Views.{definition_of, items_by};
-ghost use Rattle.lrlex_callers.specs.Lexing.{gives, name_of, AreWords, shown, AreSteps, text_after};
+ghost use Rattle.lrlex.specs.Ids.{gives, name_of};
+ghost use Rattle.lrlex_callers.specs.Lexing.{AreWords, shown, AreSteps, text_after};
 
 use lrlex::{LRLexError, LRNonStreamingLexer, LRNonStreamingLexerDef, Rule};
 use lrlex_base::{Edit, Id, Lexeme, Lexer, LexerTypes, NonStreamingLexer};

@@ -6,7 +6,8 @@ use Rattle.lrlex_rules.specs.Definition.{Rule}
 use Rattle.lrlex_rules.specs.Parts.{as_rule}
 use Rattle.lrlex.specs.Tiling.{Lexeme}
 use Rattle.lrlex_rules.specs.declared.rules.Rule as code
-use Rattle.lrlex_cli.specs.Lines.{gives, name_of, line}
+use Rattle.lrlex.specs.Ids.{gives, name_of}
+use Rattle.lrlex_cli.specs.Lines.{line}
 
 -- the first that passes, before and after a change of all
 pub find_map : {X Y : Type 0} (p : Y → Bool) (f : X → Y) (xs : List X) → find p (map f xs) ≡ option_map f (find (λ x. p (f x)) xs)

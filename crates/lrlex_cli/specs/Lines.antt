@@ -1,18 +1,9 @@
 -- The lines that are written of a text's items.
-use Rattle.std.specs.Prelude.{ℕ, ◌==◌, ◌&&◌, Bool, false, List, [], ◌∷◌, ◌++◌, take, drop, is_some, unwrap_or, flat_map}
-use Rattle.std.specs.Option.{option_and_then, option_map_or}
-use Rattle.std.specs.List.{find}
+use Rattle.std.specs.Prelude.{ℕ, List, [], ◌∷◌, ◌++◌, take, drop, flat_map}
 use Rattle.lrlex_rules.specs.Definition.{Rule}
 use Rattle.lrlex.specs.Faults.{stop_text}
+use Rattle.lrlex.specs.Ids.{name_of}
 use Rattle.lrlex.specs.Tiling.{Item, Lexeme, Error}
-
--- the rule has a name and this id
-abbrev pub gives : ℕ → Rule → Bool
-gives id r = option_map_or (λ (n : ℕ). n == id) r.id false && is_some r.name
-
--- the name of the first such rule
-abbrev pub name_of : List Rule → ℕ → List ℕ
-name_of rules id = unwrap_or (option_and_then (λ r. r.name) (find (gives id) rules)) []
 
 -- a lexeme's line is its rule's name, a blank and the matched text; an error's says where lexing stopped
 abbrev pub line : List Rule → List ℕ → Item → List ℕ

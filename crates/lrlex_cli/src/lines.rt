@@ -5,7 +5,8 @@ ghost use Rattle.lrlex_base.specs.Spans.{span_start, span_end};
 ghost use Rattle.lrlex.specs.Faults.{lex_error_span, stop_text};
 ghost use Rattle.lrlex_rules.specs.Parts.{as_rule};
 ghost use Rattle.lrlex.specs.Views.{item_of};
-ghost use Rattle.lrlex_cli.specs.Lines.{gives, name_of, line, lines};
+ghost use Rattle.lrlex.specs.Ids.{gives, name_of};
+ghost use Rattle.lrlex_cli.specs.Lines.{line, lines};
 
 use lrlex::{LRLexError, Rule};
 use lrlex_base::{Id, Lexeme, LexerTypes, Span};

@@ -89,65 +89,6 @@ fn lines_after_an_edit(rt: HostRuntime) -> Result<(), Fail> {
 }
 
 #[test]
-fn lines(rt: HostRuntime) -> Result<(), Fail> {
-    let mut out = TestWriter::new(rt.alloc(), 100, Trouble::Never);
-    assert!(rt; matches!(ran(&rt, ROW_1, "abc 123", &mut out), Ok(Ended::Lexed)));
-    assert_eq!(rt; out.held(), b"ID abc\nINT 123\n".as_slice());
-    let mut out = TestWriter::new(rt.alloc(), 100, Trouble::Never);
-    assert!(rt; matches!(ran(&rt, "%%\na|ab 'X'", "ab", &mut out), Ok(Ended::Stopped)));
-    assert_eq!(rt;
-        out.held(),
-        b"X a\nCouldn't lex input starting at byte 1\n".as_slice()
-    );
-    let mut out = TestWriter::new(rt.alloc(), 100, Trouble::Never);
-    assert!(rt; matches!(ran(&rt, "%%\n", "", &mut out), Ok(Ended::Lexed)));
-    assert!(rt; out.held().is_empty());
-    Ok(())
-}
-
-/// Where the rule text is refused nothing is written; its report is this one.
-fn reports(rt: &(impl AllocGlobal + Abort), rules: &str, want: &str) {
-    let mut out = TestWriter::new(rt.alloc(), 100, Trouble::Never);
-    let ended = run::<DefaultLexerTypes<u32>, TestWriter>(
-        rt.alloc(),
-        rules,
-        UNSPECIFIED_LEX_FLAGS,
-        "a",
-        &mut out,
-    );
-    let faults = match ended {
-        Ok(Ended::Refused(faults)) => faults,
-        other => panic!(rt; "{other:?}"),
-    };
-    assert!(rt; out.held().is_empty());
-    let mut err = TestWriter::new(rt.alloc(), 3, Trouble::Never);
-    assert!(rt; report(rt.alloc(), faults.as_slice(), rules, &mut err).is_ok());
-    assert_eq!(rt; err.held(), want.as_bytes());
-}
-
-#[test]
-fn report_rows(rt: HostRuntime) {
-    reports(&rt, "", "1:1: File ends prematurely\n");
-    reports(
-        &rt,
-        "%%\na 'A'\n( 'A'\n[0-9] int",
-        "2:4: Rule name already exists, again at 3:4\n4:7: Invalid rule name\n",
-    );
-    reports(
-        &rt,
-        "%s INITIAL\n%%",
-        "1:1: Start state already exists, again at 1:4\n",
-    );
-    reports(
-        &rt,
-        "%%\n x\na 'A'\nb 'A'\nc 'A'",
-        "2:1: Verbatim code not supported\n3:4: Rule name already exists, again at 4:4, 5:4\n",
-    );
-    reports(&rt, "%%\n( 'A'", "2:1: Invalid regular expression\n");
-    reports(&rt, "%S X\u{2028}", "1:6: File ends prematurely\n");
-}
-
-#[test]
 fn no_fault_no_line(rt: HostRuntime) {
     let mut err = TestWriter::new(rt.alloc(), 3, Trouble::Fails(1, ErrorKind::Other));
     assert!(rt; report(rt.alloc(), &[], "%%", &mut err).is_ok());

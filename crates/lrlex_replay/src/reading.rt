@@ -77,6 +77,10 @@ pub fn flags_of(value: &Value) -> LexFlags {
         swap_greed: value.get("swap_greed").and_then(Value::as_bool),
         ignore_whitespace: value.get("ignore_whitespace").and_then(Value::as_bool),
         unicode: value.get("unicode").and_then(Value::as_bool),
+        nest_limit: value
+            .get("nest_limit")
+            .and_then(Value::as_u64)
+            .and_then(|limit| u32::try_from(limit).ok()),
         ..UNSPECIFIED_LEX_FLAGS
     }
 }

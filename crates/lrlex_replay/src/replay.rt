@@ -10,7 +10,7 @@ use lrlex_base::Id;
 use serde_json::Value;
 use std::alloc::Global;
 
-/// Compares what lexing the case's input gives.
+/// Compares what lexing the case's input gives: the lexer's items and places, and the run's counts.
 fn compare_run<T: Id>(
     alloc: Global,
     case: &Value,
@@ -18,9 +18,11 @@ fn compare_run<T: Id>(
     findings: &mut Findings,
 ) -> Result<(), Trouble> {
     let input = text_in(case, "input")?;
+    let lexer = definition.lexer(alloc, input)?;
+    findings.compare(alloc, case, "items", &items_value(alloc, &lexer)?)?;
+    let places = places_value(alloc, &lexer, input)?;
+    findings.compare(alloc, case, "linecols", &places)?;
     let run = definition.run(alloc, input)?;
-    findings.compare(alloc, case, "items", &items_value(alloc, &run)?)?;
-    findings.compare(alloc, case, "linecols", &places_value(alloc, input, &run)?)?;
     findings.compare(alloc, case, "tiles", &Value::from(run.tiles()))?;
     findings.compare(
         alloc,

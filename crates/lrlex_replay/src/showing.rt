@@ -1,17 +1,21 @@
 //! What came of a case, as the JSON in which cases tell it.
-ghost use Rattle.lrlex_base.specs.Places.{AreBreaksOf};
+ghost use Rattle.std.specs.Prelude.{◌≡◌};
+ghost use Rattle.lrlex.specs.Lexers.{lexer_text};
 
 use lrlex::{
-    DefaultLexeme, DefaultLexerTypes, LRLexError, LexBuildError, LexErrorKind, LexRun, Rule,
-    StartState, StartStateOperation,
+    DefaultLexeme, DefaultLexerTypes, LRLexError, LRNonStreamingLexer, LexBuildError, LexErrorKind,
+    Rule, StartState, StartStateOperation,
 };
-use lrlex_base::{Id, LexError, Lexeme, NewlineCache, Span, Spanned};
+use lrlex_base::{Id, LexError, Lexeme, Lexer, NonStreamingLexer, Span, Spanned};
 use serde_json::{Value, json};
 use std::alloc::{AllocError, Global};
 use std::collections::HashSet;
 
 /// An item of a run.
 type Item<T> = Result<DefaultLexeme<T>, LRLexError>;
+
+/// A lexer with ids of this type.
+type LexerOver<'lexer, 'input, T> = LRNonStreamingLexer<'lexer, 'input, DefaultLexerTypes<T>>;
 
 fn kind_name(kind: &LexErrorKind) -> &'static str {
     match kind {
@@ -142,14 +146,14 @@ fn item_value<T: Id>(alloc: Global, item: &Item<T>) -> Result<Value, AllocError>
     }
 }
 
-/// The items, as `["lex", id, start, length]` or `["err", place, state]`.
+/// The items of a lexer, as `["lex", id, start, length]` or `["err", place, state]`.
 pub fn items_value<T: Id>(
     alloc: Global,
-    run: &LexRun<'_, '_, DefaultLexerTypes<T>>,
+    lexer: &LexerOver<'_, '_, T>,
 ) -> Result<Value, AllocError> {
     let mut list = Vec::new(alloc);
-    for item in run.items() {
-        list.push(item_value(alloc, item)?)?;
+    for item in lexer.iter() {
+        list.push(item_value(alloc, &item)?)?;
     }
     Ok(Value::Array(list))
 }
@@ -161,37 +165,23 @@ fn item_span<T: Id>(item: &Item<T>) -> Span {
     }
 }
 
-/// Line and column of a place of the input that the cache was fed, or null where no character begins there.
-fn place_value(
-    alloc: Global,
-    cache: &NewlineCache<Global>,
-    input: &str,
-    place: usize,
-) -> Result<Value, AllocError>
-    requires { AreBreaksOf input.now cache.now }
-{
-    if !input.is_char_boundary(place) {
-        return Ok(Value::Null);
-    }
-    match cache.byte_to_line_num_and_col_num(input, place) {
-        Some((line, column)) => json!(in alloc; [line, column]),
-        None => Ok(Value::Null),
-    }
-}
-
-/// Line and column of both ends of each item's span.
+/// Line and column of both ends of each item's span, of the lexer of this input; null where a span doesn't fit it.
 pub fn places_value<T: Id>(
     alloc: Global,
+    lexer: &LexerOver<'_, '_, T>,
     input: &str,
-    run: &LexRun<'_, '_, DefaultLexerTypes<T>>,
-) -> Result<Value, AllocError> {
-    let cache = NewlineCache::from_str(alloc, input)?;
+) -> Result<Value, AllocError>
+    requires { lexer_text lexer.now ≡ input.now }
+{
     let mut list = Vec::new(alloc);
-    for item in run.items() {
-        let span = item_span(item);
-        let start = place_value(alloc, &cache, input, span.start())?;
-        let end = place_value(alloc, &cache, input, span.end())?;
-        list.push(json!(in alloc; [start, end])?)?;
+    for item in lexer.iter() {
+        let span = item_span(&item);
+        if span.fits(input) {
+            let ((line, column), (end_line, end_column)) = lexer.line_col(span);
+            list.push(json!(in alloc; [[line, column], [end_line, end_column]])?)?;
+        } else {
+            list.push(Value::Null)?;
+        }
     }
     Ok(Value::Array(list))
 }

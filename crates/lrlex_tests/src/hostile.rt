@@ -1,6 +1,6 @@
 //! Rule texts that are long, deep or full of names: each has its exact answer, and none takes long.
-use crate::shown::{Definition, faults_of, rules_of};
-use lrlex::{LexBuildError, LexErrorKind, LexerDef, UNSPECIFIED_LEX_FLAGS};
+use crate::shown::{Definition, faults_of};
+use lrlex::{LexBuildError, LexErrorKind, LexerDef};
 use lrlex_base::{Span, Spanned};
 use std::alloc::{AllocError, Global};
 use std::fmt::Write;
@@ -68,28 +68,7 @@ fn long_texts_that_are_refused(rt: HostRuntime) -> Result<(), Fail> {
     ];
     for (head, part, count, tail, want) in rows {
         let rules = repeated(alloc, head, part, count, tail)?;
-        let got = faults_of(alloc, rules.as_str(), UNSPECIFIED_LEX_FLAGS)?;
-        assert_eq!(rt;
-            got.as_str(),
-            want,
-            "{head:?}, {count} times {part:?}, {tail:?}"
-        );
-    }
-    Ok(())
-}
-
-#[test]
-fn long_texts_that_build(rt: HostRuntime) -> Result<(), Fail> {
-    let alloc = rt.alloc();
-    let rows = [
-        ("%%\nx", " ", 10_000_000, "'a'\n", "a 10000005..10000006 x"),
-        ("%%\n", "\n", 1_000_000, "x 'a'", "a 1000006..1000007 x"),
-        ("", "\n", 1_000_000, "%%\nx 'a'", "a 1000006..1000007 x"),
-        ("%%\nx 'a'\n%%", "\n", 1_000_000, "", "a 6..7 x"),
-    ];
-    for (head, part, count, tail, want) in rows {
-        let rules = repeated(alloc, head, part, count, tail)?;
-        let got = rules_of(alloc, rules.as_str(), UNSPECIFIED_LEX_FLAGS)?;
+        let got = faults_of(alloc, rules.as_str())?;
         assert_eq!(rt;
             got.as_str(),
             want,
@@ -113,6 +92,26 @@ fn has_rule(
     rule.name().is_some_and(|name| name.len() == len)
         && rule.name_span() == Span::new(start, start.saturating_add(len))
         && rule.start_states().len() == states
+}
+
+#[test]
+fn long_texts_that_build(rt: HostRuntime) -> Result<(), Fail> {
+    let alloc = rt.alloc();
+    let rows = [
+        ("%%\nx", " ", 10_000_000, "'a'\n", 10_000_005),
+        ("%%\n", "\n", 1_000_000, "x 'a'", 1_000_006),
+        ("", "\n", 1_000_000, "%%\nx 'a'", 1_000_006),
+        ("%%\nx 'a'\n%%", "\n", 1_000_000, "", 6),
+    ];
+    for (head, part, count, tail, start) in rows {
+        let rules = repeated(alloc, head, part, count, tail)?;
+        let built = Definition::from_str(alloc, rules.as_str())?;
+        assert!(rt;
+            built.is_ok_and(|definition| has_rule(&definition, 0, 1, start, 0)),
+            "{head:?}, {count} times {part:?}, {tail:?}"
+        );
+    }
+    Ok(())
 }
 
 #[test]

@@ -7,20 +7,12 @@ mod callers;
 #[cfg(test)]
 mod edits;
 #[cfg(test)]
-mod faults;
-#[cfg(test)]
 mod hostile;
-#[cfg(test)]
-mod lexing;
 #[cfg(test)]
 mod long_inputs;
 #[cfg(test)]
 mod parts;
 #[cfg(test)]
-mod rules;
-#[cfg(test)]
 mod shown;
 #[cfg(test)]
 mod texts;
-#[cfg(test)]
-mod white;

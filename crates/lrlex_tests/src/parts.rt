@@ -1,12 +1,11 @@
-//! Definitions put together from parts, look-ups by id and name, and token ids from a map of names.
+//! Parts as they were handed in, look-ups by id and name, and both calls that set token ids.
 use lrlex::{
-    DEFAULT_LEX_FLAGS, DefaultLexeme, DefaultLexerTypes, LRLexError, LRNonStreamingLexerDef,
-    LexFlags, LexerDef, Rule, StartState, StartStateOperation, UNSPECIFIED_LEX_FLAGS,
+    DEFAULT_LEX_FLAGS, DefaultLexerTypes, LRNonStreamingLexerDef, LexFlags, LexerDef, Rule,
+    StartState, StartStateOperation, UNSPECIFIED_LEX_FLAGS,
 };
-use lrlex_base::{Id, LexError, Lexeme, LexerTypes, Span};
+use lrlex_base::{Id, LexerTypes, Span};
 use std::alloc::{AllocError, Global};
 use std::collections::{HashMap, HashSet};
-use std::fmt::Write;
 use std::test::Fail;
 
 type Definition<T> = LRNonStreamingLexerDef<DefaultLexerTypes<T>>;
@@ -30,48 +29,6 @@ fn rules_text<T: Id>(alloc: Global, rules: &[Rule<T>]) -> Result<String, AllocEr
         text.push_str(rule_text(alloc, rule)?.as_str())?;
     }
     Ok(text)
-}
-
-/// The items of a run by id, place and length: `1 0+3, error 3..3 in 0`; and the number of tiles.
-fn items_text<T: Id>(
-    alloc: Global,
-    items: &[Result<DefaultLexeme<T>, LRLexError>],
-    tiles: usize,
-) -> Result<String, AllocError> {
-    let mut text = String::new(alloc);
-    for item in items {
-        match item {
-            Ok(lexeme) => {
-                let id = lexeme.tok_id();
-                let start = lexeme.span().start();
-                let len = lexeme.span().len();
-                write!(text, "{id} {start}+{len}, ")?;
-            }
-            Err(error) => {
-                let start = error.span().start();
-                let end = error.span().end();
-                match error.lexing_state() {
-                    Some(state) => {
-                        let state = state.id();
-                        write!(text, "error {start}..{end} in {state}, ")?;
-                    }
-                    None => write!(text, "error {start}..{end}, ")?,
-                }
-            }
-        }
-    }
-    write!(text, "tiles {tiles}")?;
-    Ok(text)
-}
-
-/// What an input gives.
-fn lexed<T: Id>(
-    alloc: Global,
-    definition: &Definition<T>,
-    input: &str,
-) -> Result<String, AllocError> {
-    let run = definition.run(alloc, input)?;
-    items_text(alloc, run.items(), run.tiles())
 }
 
 /// The words in order, or `none` where there is no set.
@@ -166,82 +123,6 @@ fn ids_set_spanned<T: Id>(
     let unused = places_text(alloc, unused)?;
     let rules = rules_text(alloc, definition.rules())?;
     format!(in alloc; "{lacking} | {unused} | {rules}")
-}
-
-/// What setting ids on a rule text's definition tells by both calls, and what an input gives then.
-fn ids_told<T: Id>(
-    alloc: Global,
-    rules: &str,
-    ids: &[(&str, T)],
-    input: &str,
-) -> Result<Option<(String, String, String)>, AllocError> {
-    let Ok(mut definition) = Definition::<T>::from_str(alloc, rules)? else {
-        return Ok(None);
-    };
-    let told = ids_set(alloc, &mut definition, ids)?;
-    let items = lexed(alloc, &definition, input)?;
-    let Ok(mut definition) = Definition::<T>::from_str(alloc, rules)? else {
-        return Ok(None);
-    };
-    let spanned = ids_set_spanned(alloc, &mut definition, ids)?;
-    Ok(Some((told, spanned, items)))
-}
-
-#[test]
-fn ids_from_a_map_of_names(rt: HostRuntime) -> Result<(), Fail> {
-    let alloc = rt.alloc();
-    let rows: [(&str, &[(&str, u32)], &str, &str, &str, &str); 6] = [
-        (
-            "%%\n[a-z]+ 'ID'\n[ \\n] ;",
-            &[("INT", 0)],
-            "INT | ID | ID none, - 1",
-            "INT | ID 11..13 | ID none, - 1",
-            " a ",
-            "error 1..1, tiles 1",
-        ),
-        (
-            "%%\na ;\nb 'B'",
-            &[("B", 0)],
-            "none | none | - 0, B 0",
-            "none | none | - 0, B 0",
-            "ab",
-            "0 1+1, tiles 2",
-        ),
-        (
-            "\n%%\n[0-9]+ 'int'\n[a-zA-Z]+ 'id'\n[ \\t] ;",
-            &[("int", 0), ("id", 1)],
-            "none | none | int 0, id 1, - 2",
-            "none | none | int 0, id 1, - 2",
-            "abc 123",
-            "1 0+3, 0 4+3, tiles 3",
-        ),
-        (
-            "%%\nif 'IF'\n[a-z]+ 'ID'\n[ ] ;",
-            &[("IF", 0), ("ID", 1)],
-            "none | none | IF 0, ID 1, - 2",
-            "none | none | IF 0, ID 1, - 2",
-            "iff if",
-            "1 0+3, 0 4+2, tiles 3",
-        ),
-        (
-            "%%\na 'A'\nb 'B'\nc 'C'",
-            &[("B", 7), ("Y", 8), ("X", 9)],
-            "X, Y | A, C | A none, B 7, C none",
-            "X, Y | A 6..7, C 18..19 | A none, B 7, C none",
-            "ba",
-            "7 0+1, error 1..1, tiles 1",
-        ),
-        ("%%", &[], "none | none | ", "none | none | ", "", "tiles 0"),
-    ];
-    for (rules, ids, want, want_spanned, input, want_items) in rows {
-        let Some((told, spanned, items)) = ids_told::<u32>(alloc, rules, ids, input)? else {
-            panic!(rt; "{rules:?} is refused");
-        };
-        assert_eq!(rt; told.as_str(), want, "{rules:?}");
-        assert_eq!(rt; spanned.as_str(), want_spanned, "{rules:?}");
-        assert_eq!(rt; items.as_str(), want_items, "{rules:?} on {input:?}");
-    }
-    Ok(())
 }
 
 /// The rule that a look-up by id finds, by both calls: `B 0`, `none`.
@@ -357,82 +238,6 @@ fn initial(alloc: Global) -> Result<Vec<StartState>, AllocError> {
     Ok(states)
 }
 
-/// What a definition of state 0 and one rule gives.
-fn lexed_by_part<T: Id>(
-    alloc: Global,
-    rule: Option<Rule<T>>,
-    input: &str,
-) -> Result<String, AllocError> {
-    let Some(rule) = rule else {
-        return String::from_str(alloc, "refused");
-    };
-    let mut rules = Vec::new(alloc);
-    rules.push(rule)?;
-    let definition = Definition::<T>::from_rules(alloc, initial(alloc)?, rules)?;
-    lexed(alloc, &definition, input)
-}
-
-#[test]
-fn rules_put_together_from_parts(rt: HostRuntime) -> Result<(), Fail> {
-    let alloc = rt.alloc();
-    let named = Some(("A", Span::new(0, 1)));
-    let either_case = LexFlags {
-        case_insensitive: Some(true),
-        ..UNSPECIFIED_LEX_FLAGS
-    };
-    let unset = UNSPECIFIED_LEX_FLAGS;
-    let push = Some((7, StartStateOperation::Push));
-    let pop = Some((7, StartStateOperation::Pop));
-    let rows = [
-        (
-            Some(0),
-            named,
-            "a",
-            None,
-            either_case,
-            "A",
-            "0 0+1, tiles 1",
-        ),
-        (
-            Some(0),
-            named,
-            "a",
-            None,
-            unset,
-            "A",
-            "error 0..0 in 0, tiles 0",
-        ),
-        (None, named, "a", None, unset, "a", "error 0..0, tiles 0"),
-        (
-            Some(0),
-            named,
-            "a",
-            push,
-            unset,
-            "aa",
-            "0 0+1, error 0..0, tiles 0",
-        ),
-        (
-            Some(0),
-            named,
-            "a",
-            pop,
-            unset,
-            "aa",
-            "0 0+1, error 0..0, tiles 0",
-        ),
-        (None, None, "a", pop, unset, "aa", "error 0..0, tiles 0"),
-        (Some(0), named, "(", None, unset, "a", "refused"),
-        (Some(0), named, "a)|(b", None, unset, "b", "0 0+1, tiles 1"),
-    ];
-    for (id, name, re_str, target, flags, input, want) in rows {
-        let rule = part::<u32>(alloc, id, name, re_str, target, &flags)?;
-        let got = lexed_by_part::<u32>(alloc, rule, input)?;
-        assert_eq!(rt; got.as_str(), want, "{re_str:?} on {input:?}");
-    }
-    Ok(())
-}
-
 #[test]
 fn parts_are_kept_as_handed_in(rt: HostRuntime) -> Result<(), Fail> {
     let alloc = rt.alloc();
@@ -501,19 +306,5 @@ fn two_rules_of_one_name(rt: HostRuntime) -> Result<(), Fail> {
     assert_eq!(rt; got.as_str(), "none | A 0..1, A 2..3 | A none, A none");
     let got = ids_set_spanned(alloc, &mut definition, &[("A", 5), ("B", 6)])?;
     assert_eq!(rt; got.as_str(), "B | none | A 5, A 5");
-    Ok(())
-}
-
-fn lexed_without_a_state<T: Id>(alloc: Global, input: &str) -> Result<String, AllocError> {
-    let definition = Definition::<T>::from_rules(alloc, Vec::new(alloc), Vec::new(alloc))?;
-    lexed(alloc, &definition, input)
-}
-
-#[test]
-fn no_state_stops_at_once(rt: HostRuntime) -> Result<(), Fail> {
-    for input in ["", "a"] {
-        let got = lexed_without_a_state::<u32>(rt.alloc(), input)?;
-        assert_eq!(rt; got.as_str(), "error 0..0, tiles 0", "{input:?}");
-    }
     Ok(())
 }

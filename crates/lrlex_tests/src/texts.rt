@@ -2,11 +2,8 @@
 ghost use Rattle.std.specs.Prelude.{◌≡◌, IfOk};
 ghost use Rattle.lrlex.specs.Lexers.{lexer_text};
 
-use lrlex::{
-    DefaultLexerTypes, LRNonStreamingLexer, LRNonStreamingLexerDef, LexFlags, LexerDef,
-    UNSPECIFIED_LEX_FLAGS,
-};
-use lrlex_base::{Id, LexError, Lexeme, Lexer, NonStreamingLexer, Span};
+use lrlex::{DefaultLexerTypes, LRNonStreamingLexer, LRNonStreamingLexerDef, LexerDef};
+use lrlex_base::{Id, Lexeme, Lexer, NonStreamingLexer, Span};
 use std::alloc::{AllocError, Global};
 use std::fmt::Write;
 use std::test::Fail;
@@ -123,91 +120,6 @@ fn lines_and_columns_of_lexemes(rt: HostRuntime) -> Result<(), Fail> {
     for (rules, input, want) in rows {
         for made in [Made::AtOnce, Made::OfItsRun] {
             let got = places_over::<u32>(rt.alloc(), rules, input, made)?;
-            assert_eq!(rt; got.as_str(), want, "{rules:?} on {input:?}, {made:?}");
-        }
-    }
-    Ok(())
-}
-
-/// The items of an input, each by id, place and length, or as an error with its place.
-fn ids_over<T: Id>(
-    alloc: Global,
-    rules: &str,
-    flags: LexFlags,
-    input: &str,
-    made: Made,
-) -> Result<String, AllocError> {
-    let mut text = String::new(alloc);
-    let Ok(definition) = DefinitionOver::<T>::new_with_options(alloc, rules, flags)? else {
-        return String::from_str(alloc, "refused");
-    };
-    let lexer = lexer_over::<T>(alloc, &definition, input, made)?;
-    for item in lexer.iter() {
-        if !text.as_str().is_empty() {
-            text.push_str(", ")?;
-        }
-        match item {
-            Ok(lexeme) => {
-                let id = lexeme.tok_id();
-                let start = lexeme.span().start();
-                let len = lexeme.span().len();
-                write!(text, "{id} {start}+{len}")?;
-            }
-            Err(error) => {
-                let start = error.span().start();
-                let end = error.span().end();
-                write!(text, "error {start}..{end}")?;
-            }
-        }
-    }
-    Ok(text)
-}
-
-#[test]
-fn ids_of_lexemes(rt: HostRuntime) -> Result<(), Fail> {
-    let posix = LexFlags {
-        posix_escapes: Some(true),
-        ..UNSPECIFIED_LEX_FLAGS
-    };
-    let other = LexFlags {
-        posix_escapes: Some(false),
-        ..UNSPECIFIED_LEX_FLAGS
-    };
-    let rows = [
-        (
-            "\n%%\n[0-9]+ 'int'\n[a-zA-Z]+ 'id'\n[ \\t] ;",
-            UNSPECIFIED_LEX_FLAGS,
-            "abc 123",
-            "1 0+3, 0 4+3",
-        ),
-        (
-            "%%\nif 'IF'\n[a-z]+ 'ID'\n[ ] ;",
-            UNSPECIFIED_LEX_FLAGS,
-            "iff if",
-            "1 0+3, 0 4+2",
-        ),
-        (
-            "\n%%\n[0-9]+ 'int'",
-            UNSPECIFIED_LEX_FLAGS,
-            "abc",
-            "error 0..0",
-        ),
-        (
-            "%%\n\\\\ 'slash'\n\\a 'alert'\n\\b 'backspace'\n\\f 'feed'\n\\n 'newline'\n\\r 'return'\n\\t 'tab'\n\\v 'vtab'\n\\q 'normal_char'",
-            posix,
-            "\\\u{7}\u{8}\u{c}\n\r\t\u{b}q",
-            "0 0+1, 1 1+1, 2 2+1, 3 3+1, 4 4+1, 5 5+1, 6 6+1, 7 7+1, 8 8+1",
-        ),
-        (
-            "%%\n\\\\ 'slash'\n\\a 'alert'\na\\b a 'work_break'\n\\f 'feed'\n\\n 'newline'\n\\r 'return'\n\\t 'tab'\n\\v 'vtab'\n\\q 'normal_char'",
-            other,
-            "\\\u{7}a a\u{c}\n\r\t\u{b}q",
-            "0 0+1, 1 1+1, 2 2+3, 3 5+1, 4 6+1, 5 7+1, 6 8+1, 7 9+1, 8 10+1",
-        ),
-    ];
-    for (rules, flags, input, want) in rows {
-        for made in [Made::AtOnce, Made::OfItsRun] {
-            let got = ids_over::<u32>(rt.alloc(), rules, flags, input, made)?;
             assert_eq!(rt; got.as_str(), want, "{rules:?} on {input:?}, {made:?}");
         }
     }

@@ -132,6 +132,7 @@ impl Boundaries {
         let from = old.place(index);
         let before = old.given(index);
         let len = old.len();
+        self.all.reserve(len - index)?;
         'tail: for next in index + 1..len {
             let place = old.place(next) - from + to;
             let given = old.given(next) - before + after;

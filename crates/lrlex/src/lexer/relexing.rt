@@ -61,6 +61,7 @@ fn append_moved<L: LexerTypes<LexErrorT = LRLexError>>(
         ≡ map (item_of L.StorageT.number L.LexemeT.id_of L.LexemeT.start_of L.LexemeT.len_of L.LexemeT.is_faulty) items.old.items
         ++ map (rebased from to) (map (item_of L.StorageT.number L.LexemeT.id_of L.LexemeT.start_of L.LexemeT.len_of L.LexemeT.is_faulty) tail.now)) }
 {
+    items.reserve(tail.len())?;
     'tail: for index in 0..tail.len() {
         items.push(moved::<L>(&tail[index], from, to))?;
     }
