@@ -67,14 +67,14 @@ to_end() {
     fi
 }
 
-row='%-9s %8s %5s %6s %7s %7s %9s %5s %7s %7s %7s %7s %8s %6s\n'
-printf "$row" rules bytes rules states lexemes tiles asked end ns/ask run best worst lexer MB
+row='%-9s %8s %5s %6s %7s %7s %9s %5s %7s %7s %7s %7s %8s %6s %6s\n'
+printf "$row" rules bytes rules states lexemes tiles asked end ns/ask run best worst lexer lines MB
 for pair in c:c json:json py:py py_suffix:py conf:conf; do
     measure "${pair%:*}" "${pair#*:}" || exit 1
     printf "$row" "${pair%:*}" "$(value bytes)" "$(value rules)" "$(value states)" "$(value lexemes)" "$(value tiles)" \
         "$(value 'matches asked')" "$(to_end)" "$(value 'ns per match asked')" "$(value 'run median ns per byte')" \
         "$(value 'run best ns per byte')" "$(value 'run worst ns per byte')" "$(value 'lexer median ns per byte')" \
-        "$(megabytes "$(value 'peak kB')")"
+        "$(value 'lines median ns per byte')" "$(megabytes "$(value 'peak kB')")"
 done
 
 echo

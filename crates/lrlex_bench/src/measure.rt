@@ -4,7 +4,7 @@ use crate::figures::Hundredths;
 use crate::memory::peak;
 use crate::spread::{Spread, spread_of};
 use lrlex::{DefaultLexerTypes, LRNonStreamingLexerDef, LexRun, LexerDef};
-use lrlex_base::Id;
+use lrlex_base::{Id, NewlineCache};
 use std::time::{Duration, Instant};
 
 /// A definition with ids of this type.
@@ -89,6 +89,14 @@ fn time_lexer<T: Id>(
     Ok(took.as_nanos())
 }
 
+/// Finds the lines of the text once. The time, in nanoseconds.
+fn time_lines(rt: &HostRuntime, text: &str) -> Result<u128, Fault> {
+    let begin = Instant::now(rt)?;
+    let _lines = NewlineCache::from_str(rt.alloc(), text)?;
+    let took = begin.elapsed(rt)?;
+    Ok(took.as_nanos())
+}
+
 /// So many times `run`: the times, and what the last run counts.
 fn time_runs<T: Id>(
     rt: &HostRuntime,
@@ -127,6 +135,15 @@ fn lexer_times<T: Id>(
     let mut spent = Vec::new(rt.alloc());
     for _ in 0..times {
         spent.push(time_lexer(rt, definition, text)?)?;
+    }
+    Ok(spread_of(&mut spent))
+}
+
+/// So many times the lines.
+fn lines_times(rt: &HostRuntime, text: &str, times: u32) -> Result<Spread, Fault> {
+    let mut spent = Vec::new(rt.alloc());
+    for _ in 0..times {
+        spent.push(time_lines(rt, text)?)?;
     }
     Ok(spread_of(&mut spent))
 }
@@ -177,7 +194,7 @@ fn tell_bytes(rt: &HostRuntime, name: &str, spread: Spread, bytes: usize) -> Res
     Ok(())
 }
 
-/// Lexes the text so many times by `run` and by `lexer`, and prints what that took.
+/// Lexes the text so many times by `run` and by `lexer`, finds its lines as often, and prints what that took.
 pub fn tell_run<T: Id>(
     rt: &HostRuntime,
     definition: &Definition<T>,
@@ -188,6 +205,7 @@ pub fn tell_run<T: Id>(
     let before = peak(rt);
     let (runs, counts) = time_runs(rt, definition, text, times)?;
     let lexers = lexer_times(rt, definition, text, times)?;
+    let lines = lines_times(rt, text, times)?;
     let after = peak(rt);
     let ask = Hundredths::of(runs.median, counts.asked);
     tell_sizes(rt, definition, built, text)?;
@@ -195,6 +213,7 @@ pub fn tell_run<T: Id>(
     println!(rt; "ns per match asked: {ask}")?;
     tell_bytes(rt, "run", runs, text.len())?;
     tell_bytes(rt, "lexer", lexers, text.len())?;
+    tell_bytes(rt, "lines", lines, text.len())?;
     println!(rt; "peak kB before lexing: {before}")?;
     println!(rt; "peak kB: {after}")?;
     Ok(())
