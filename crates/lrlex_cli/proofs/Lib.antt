@@ -1,3 +1,4 @@
 pub mod CommandLemmas
 pub mod LineLemmas
 pub mod EngineLemmas
+pub mod SplitLemmas

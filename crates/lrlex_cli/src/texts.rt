@@ -1,6 +1,6 @@
 //! The texts that the program reads.
 ghost use Rattle.std.specs.Prelude.{IfOk};
-ghost use Rattle.lrlex_cli.specs.Texts.{GaveAll};
+ghost use Rattle.lrlex_cli.specs.Texts.{GaveAll, IsSplit};
 
 use std::alloc::{AllocError, Global};
 use std::io::Read;
@@ -62,17 +62,17 @@ pub fn text_at<R: Files + AllocGlobal, I: Read>(
 }
 
 /// The text before the first line `----`, and what stands after that line.
-pub fn split(text: &str) -> (&str, &str) {
-    let mut at = 0usize;
-    for line in text.split_inclusive('\n') {
-        let end = at.saturating_add(line.len());
-        if line == "----\n" || line == "----" {
-            return (
-                text.get(..at).unwrap_or(text),
-                text.get(end..).unwrap_or(""),
-            );
-        }
-        at = end;
+pub fn split(text: &str) -> (&str, &str)
+    ensures { IsSplit text.now result.0.now result.1.now }
+{
+    if let Some(after) = text.strip_prefix("----\n") {
+        return ("", after);
     }
-    (text, "")
+    if let Some(at) = text.find("\n----\n") {
+        return (&text[..at + 1], &text[at + 6..]);
+    }
+    match text.strip_suffix("----") {
+        Some(before) if before.is_empty() || before.ends_with('\n') => (before, ""),
+        _ => (text, ""),
+    }
 }
