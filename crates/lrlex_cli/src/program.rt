@@ -1,4 +1,5 @@
 //! The program: its words, its files, its standard streams and its status.
+ghost use Rattle.std.specs.Prelude.{◌≡◌};
 ghost use Rattle.lrlex_cli.specs.Engine.{HasPlacedFaults};
 
 use crate::engine::{Ended, EngineFault};
@@ -56,7 +57,9 @@ fn say<E: Write>(err: &mut E, pieces: &[&str]) {
 }
 
 /// Writes the line of the fault, and answers the status, 1. A fault of `err` is passed over.
-pub fn refuse<E: Write>(fault: Fault<'_>, err: &mut E) -> u8 {
+pub fn refuse<E: Write>(fault: Fault<'_>, err: &mut E) -> u8
+    ensures { result ≡ 1 }
+{
     match fault {
         Fault::Usage => say(err, &["Usage: lrlex <lexer.l> <input file>\n"]),
         Fault::CannotOpen(path) => say(err, &["Can't open file ", path, "\n"]),

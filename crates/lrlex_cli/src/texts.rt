@@ -1,5 +1,6 @@
 //! The texts that the program reads.
-ghost use Rattle.std.specs.Prelude.{IfOk};
+ghost use Rattle.std.specs.Prelude.{◌≡◌, IfOk};
+ghost use Rattle.lrlex_cli.specs.declared.texts.TextFault.TheVariants.{Memory};
 ghost use Rattle.lrlex_cli.specs.Texts.{GaveAll, IsSplit};
 
 use std::alloc::{AllocError, Global};
@@ -19,6 +20,8 @@ pub enum TextFault {
 }
 
 impl From<AllocError> for TextFault {
+    ghost from_gives = { λ _ e. e ≡ Memory };
+
     fn from(_fault: AllocError) -> TextFault {
         TextFault::Memory
     }

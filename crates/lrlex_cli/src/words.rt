@@ -1,9 +1,9 @@
 //! The words of the command line.
-ghost use Rattle.std.specs.Prelude.{◌≡◌, IfOk, codes, map, option_map};
+ghost use Rattle.std.specs.Prelude.{◌≡◌, ℕ, IfOk, IfErr, codes, map, option_map};
 ghost use Rattle.clap.specs.Words.{first_of, found_of, rows_of};
 ghost use Rattle.lrlex_cli.specs.declared.words.WordsFault.TheVariants.{Memory};
 ghost use Rattle.lrlex_cli.specs.Command.{given};
-ghost use Rattle.lrlex_cli.specs.Reading.{IsEdit, IsNumber, IsReadFrom, ReadsTruths, truth_in};
+ghost use Rattle.lrlex_cli.specs.Reading.{CanBeRead, IsEdit, IsNumber, IsReadFrom, ReadsTruths, truth_in};
 
 use crate::command::lrlex_command;
 use clap::ArgMatches;
@@ -75,7 +75,8 @@ fn flags_of(matches: &ArgMatches<'_>) -> LexFlags
 
 /// The number that a value is.
 fn number(text: &str) -> Result<usize, WordsFault>
-    ensures { IfOk result (IsNumber (Some text.now)) }
+    ensures value { IfOk result (IsNumber (Some text.now)) }
+    ensures refused { IfErr result (λ e. (n : ℕ) → IsNumber (Some text.now) n → e ≡ Memory) }
 {
     text.parse().map_err(|_| WordsFault::Refused)
 }
@@ -85,8 +86,10 @@ fn edit_of(
     alloc: Global,
     matches: &ArgMatches<'_>,
 ) -> Result<Option<(usize, usize, String)>, WordsFault>
-    ensures { let rows = rows_of (found_of matches.now) in
+    ensures value { let rows = rows_of (found_of matches.now) in
         IfOk result (IsEdit (first_of (codes "from") rows) (first_of (codes "to") rows) (first_of (codes "put") rows)) }
+    ensures refused { let rows = rows_of (found_of matches.now) in
+        IfErr result (λ e. (w : Words) → IsEdit (first_of (codes "from") rows) (first_of (codes "to") rows) (first_of (codes "put") rows) w.edit → e ≡ Memory) }
 {
     let from = value(matches, "from");
     let to = value(matches, "to");
@@ -104,7 +107,8 @@ fn edit_of(
 
 /// The words of the matches: both paths have to be there, and an edit whole or not at all.
 fn words_of(alloc: Global, matches: &ArgMatches<'_>) -> Result<Words, WordsFault>
-    ensures { IfOk result (IsReadFrom (rows_of (found_of matches.now))) }
+    ensures value { IfOk result (IsReadFrom (rows_of (found_of matches.now))) }
+    ensures refused { IfErr result (λ e. (w : Words) → IsReadFrom (rows_of (found_of matches.now)) w → e ≡ Memory) }
 {
     let Some(rules) = value(matches, "rules") else {
         return Err(WordsFault::Refused);
@@ -120,9 +124,10 @@ fn words_of(alloc: Global, matches: &ArgMatches<'_>) -> Result<Words, WordsFault
     })
 }
 
-/// Reads the words, the program's own name first.
+/// Reads the words, the program's own name first. They are refused only where they can't be read.
 pub fn read(alloc: Global, words: &[&str]) -> Result<Words, WordsFault>
-    ensures { IfOk result (IsReadFrom (given (map (λ w. w.now) words.now))) }
+    ensures value { IfOk result (IsReadFrom (given (map (λ w. w.now) words.now))) }
+    ensures refused { IfErr result (λ e. CanBeRead (map (λ w. w.now) words.now) → e ≡ Memory) }
 {
     let matches = match lrlex_command(alloc)?.try_get_matches_from(words) {
         Ok(matches) => matches,

@@ -1,5 +1,5 @@
 -- What was made is the lines of the items, and it is written.
-use Rattle.std.proofs.Common.{◌≡◌, sym, ◌∙◌, subst}
+use Rattle.std.proofs.Common.{sym, ◌∙◌, subst}
 use Rattle.std.specs.Io.KnownBytes.{Appends}
 use Rattle.lrlex_cli.specs.Writing.{AppendsFront}
 use Rattle.lrlex_cli.proofs.engine.write_items.Goals as goal
