@@ -6,7 +6,7 @@ use Rattle.std.proofs.Math.Logic.{∥∥₁_elim}
 use Rattle.std.proofs.lemmas.List.{drop-drop, length-drop, get_or-map, length-map}
 use Rattle.lrlex_rules.specs.Definition.{Definition}
 use Rattle.lrlex.specs.Active.{is_state}
-use Rattle.lrlex.specs.Tiling.{Item, Item-set, End, IsTiling, stack_past, items, boundaries, counts}
+use Rattle.lrlex.specs.Tiling.{Item, Item-set, End, IsTiling, stack_past, items, boundaries}
 use Rattle.lrlex.specs.Runs.{Differ, AreRuns}
 use Rattle.lrlex.specs.Marks.{Mark, bound, no_mark, mark_at}
 use Rattle.lrlex.specs.Edits.{IsSortedRuns}
@@ -14,7 +14,7 @@ use Rattle.lrlex.specs.Reach.{IsLexed, IsRun}
 use Rattle.lrlex.specs.Tiling.{Tile}
 use Rattle.lrlex.proofs.BestLemmas.{HasTiling, a_tiling}
 use Rattle.lrlex.proofs.TilingLemmas.{one_tiling, only_one, Wins-le}
-use Rattle.lrlex.proofs.SpliceLemmas.{bounds_within}
+use Rattle.lrlex.proofs.WithinLemmas.{bounds_within}
 
 pub Differ-prop : (rs : List (ℕ × ℕ)) → IsProp (Differ rs)
 Differ-prop [] = Unit-prop
@@ -38,9 +38,6 @@ module _ (d : Definition) (text : List ℕ) (found : List Item) (marks : List Ma
     boundaries_are = ∥∥₁_elim t (bounds_prop (map bound marks) (boundaries d 0 (0 ∷ []) tiling.tiles)) (λ r. let h = r.lexed initial in
         let same = one_tiling d text (0 ∷ []) h.cut tiling.tiles h.end tiling.end h.tiling tiling.is in
         h.boundaries_are ∙ ap (boundaries d 0 (0 ∷ [])) same.tiles);
-    counts_are = ∥∥₁_elim t (counts_prop (map (λ (m : Mark). m.given) marks) (counts d 0 tiling.tiles)) (λ r. let h = r.lexed initial in
-        let same = one_tiling d text (0 ∷ []) h.cut tiling.tiles h.end tiling.end h.tiling tiling.is in
-        h.counts_are ∙ ap (counts d 0) same.tiles);
     runs = λ k m within. record {
       some = λ i x below. ∥∥₁_elim t le_prop (λ r. ((r.lexed initial).runs k m within).some i x below);
       differ = ∥∥₁_elim t (Differ-prop (get_or marks k m).runs) (λ r. ((r.lexed initial).runs k m within).differ);
@@ -51,9 +48,6 @@ module _ (d : Definition) (text : List ℕ) (found : List Item) (marks : List Ma
 
     bounds_prop : (xs ys : List (ℕ × List ℕ)) → IsProp (xs ≡ ys)
     bounds_prop xs ys = Prim.hlevel props
-
-    counts_prop : (xs ys : List ℕ) → IsProp (xs ≡ ys)
-    counts_prop xs ys = Prim.hlevel props
 
 -- places rise
 rising_bounds : (d : Definition) (text : List ℕ) (place : ℕ) (stack : List ℕ) (ts : List Tile) (e : End) → IsTiling d (drop place text) stack ts e → place ≤ length text →

@@ -14,6 +14,8 @@ pub mod RelexLemmas
 pub mod RunsLemmas
 pub mod ScanLemmas
 pub mod SpliceLemmas
+pub mod StretchLemmas
 pub mod TailLemmas
 pub mod TilingLemmas
 pub mod ViewLemmas
+pub mod WithinLemmas

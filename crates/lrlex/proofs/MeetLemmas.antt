@@ -1,22 +1,24 @@
 -- A run that meets the old one, in whole.
 use Rattle.std.proofs.Common.{◌≡◌, ◌≢◌, ℕ, zero, suc, ◌+◌, ◌-◌, ◌^◌, ◌<◌, ◌≤◌, List, [], ◌∷◌, ◌++◌, length, map, take, drop, get_or, Some, slice_get, refl, sym, ap, ◌∙◌, subst, inl, inr, arith, All, append_assoc, ◌*◌, length-append}
 use Rattle.std.specs.List.{sum_by}
+use Rattle.std.specs.List.Sorted.{IsPartitionedBy}
 use Rattle.std.proofs.lemmas.Bool.{cases_lt}
 use Rattle.std.proofs.lemmas.List.{length-drop, length-map, get_or-drop, get_or-map, map-append}
 use Rattle.std.proofs.lemmas.List.Sums.{sum_by-append}
 use Rattle.std.proofs.lemmas.Option.{slice_get-get_or, get_or_from_slice_get, slice_get_within, same_Some}
 use Rattle.std.proofs.Math.Nat.{mul-le-mul_right}
 use Rattle.lrlex_rules.specs.Definition.{Definition}
-use Rattle.lrlex.specs.Tiling.{Item, boundaries, counts, rebased, asked_at}
+use Rattle.lrlex.specs.Tiling.{Item, boundaries, rebased, asked_at}
 use Rattle.lrlex.specs.Runs.{plain}
 use Rattle.lrlex.specs.Marks.{Mark, bound, no_mark, mark_at}
-use Rattle.lrlex.specs.Edits.{IsMovable, IsMovableMark, moved_mark, Meets}
+use Rattle.lrlex.specs.Edits.{IsMovable, IsMovableMark, begins_before, items_from, moved_mark, Meets}
 use Rattle.lrlex.specs.Reach.{Reached, IsLexed, searches}
 use Rattle.lrlex.proofs.TailLemmas.{tail_tiling}
 use Rattle.lrlex_base.specs.Spans.{span}
 use Rattle.lrlex_base.specs.Edits.{edited}
 use Rattle.lrlex.proofs.EditLemmas.{drop-edited}
-use Rattle.lrlex.proofs.SpliceLemmas.{AtBoundary, at_bound, tail_items, tail_counts, IsWithin, spliced, items_within, all_movable, bounds_within, counts_within}
+use Rattle.lrlex.proofs.SpliceLemmas.{AtBoundary, at_bound, tail_items, in_order, spliced}
+use Rattle.lrlex.proofs.WithinLemmas.{IsWithin, items_within, all_movable, bounds_within}
 use Rattle.lrlex.proofs.KnownLemmas.{sorted}
 use Rattle.lrlex.proofs.ReachLemmas.{length_now, searches-few}
 
@@ -29,14 +31,17 @@ module _ (d : Definition) (old new : List ℕ) (low high : ℕ) (put : List ℕ)
     (q : ℕ) (stack : List (ℕ × ℕ)) (found : List Item) (marks : List Mark) (asked : ℕ) (r : Reached d new q stack found marks asked)
     (j : ℕ) (within : j < length olds) (ordered : low ≤ high) (fits : high ≤ length old) (gives : new ≡ edited old (span low high) put)
     (past : low + length put ≤ q) (back : (mark_at olds j).place + (low + length put) ≡ q + high) (stacks : (mark_at olds j).runs ≡ stack) where
-  at_old : AtBoundary d h.cut h.end old_found olds j (mark_at olds j)
-  at_old = record { items_are = h.items_are; boundaries_are = h.boundaries_are; counts_are = h.counts_are; at = slice_get-get_or olds j no_mark within }
+  at_old : AtBoundary d old h.cut h.end old_found olds j (mark_at olds j)
+  at_old = record { tiling = h.tiling; items_are = h.items_are; boundaries_are = h.boundaries_are; at = slice_get-get_or olds j no_mark within }
 
   rest_same : drop (mark_at olds j).place old ≡ drop q new
   rest_same = sym (ap (drop q) gives ∙ drop-edited old low high put (mark_at olds j).place q ordered fits past back)
 
-  pub whole : IsLexed d new (found ++ map (rebased (mark_at olds j).place q) (drop (mark_at olds j).given old_found)) (marks ++ map (moved_mark (mark_at olds j).place q (mark_at olds j).given (length found)) (drop (j + 1) olds))
-  whole = spliced d old new h.cut h.end found old_found marks olds j q (mark_at olds j) stack asked r h.tiling at_old h.runs stacks rest_same
+  pub whole : IsLexed d new (found ++ map (rebased (mark_at olds j).place q) (items_from (mark_at olds j).place old_found)) (marks ++ map (moved_mark (mark_at olds j).place q) (drop (j + 1) olds))
+  whole = spliced d old new h.cut h.end found old_found marks olds j q (mark_at olds j) stack asked r at_old h.runs stacks rest_same
+
+  pub olds_in_order : IsPartitionedBy (begins_before (mark_at olds j).place) old_found
+  olds_in_order = in_order d old h.cut h.end old_found olds j (mark_at olds j) at_old
 
   bounds_len : length (boundaries d 0 (0 ∷ []) h.cut) ≡ length olds
   bounds_len = ap length (sym h.boundaries_are) ∙ length-map olds bound
@@ -47,46 +52,25 @@ module _ (d : Definition) (old new : List ℕ) (low high : ℕ) (put : List ℕ)
       let e : (get_or (boundaries d 0 (0 ∷ []) h.cut) k (bound no_mark)).0 ≡ (mark_at olds k).place = ap (λ bs. (get_or bs k (bound no_mark)).0) (sym h.boundaries_are) ∙ ap (λ (b : ℕ × List ℕ). b.0) (get_or-map bound olds k no_mark (bound no_mark) lt) in
       omega (arith, b.1, e)
 
-  counts_len : length (counts d 0 h.cut) ≡ length olds
-  counts_len = ap length (sym h.counts_are) ∙ length-map olds (λ m. m.given)
-
-  pub given_in : (k : ℕ) → k < length olds → (mark_at olds k).given ≤ length old_found
-  given_in k lt =
-      let b = counts_within d 0 0 0 h.cut h.end (omega arith) k 0 (omega (arith, counts_len)) in
-      let e : get_or (counts d 0 h.cut) k 0 ≡ (mark_at olds k).given = ap (λ bs. get_or bs k 0) (sym h.counts_are) ∙ get_or-map (λ m. m.given) olds k no_mark 0 lt in
-      omega (arith, b.1, e, ap length h.items_are)
-
   room : q ≤ length new → length new < 2 ^ 64 → length old + q < (mark_at olds j).place + 2 ^ 64
   room inside small = omega (arith, place_in j within, ap length rest_same, length-drop (mark_at olds j).place old, length-drop q new)
 
-  pub items_movable : q ≤ length new → length new < 2 ^ 64 → All (IsMovable (mark_at olds j).place q) (drop (mark_at olds j).given old_found)
+  pub items_movable : q ≤ length new → length new < 2 ^ 64 → All (IsMovable (mark_at olds j).place q) (items_from (mark_at olds j).place old_found)
   items_movable inside small =
       let p : ℕ = (mark_at olds j).place in
-      let tail = tail_tiling d old 0 (0 ∷ []) h.cut h.end j p (plain (mark_at olds j).runs) h.tiling (at_bound d h.cut h.end old_found olds j (mark_at olds j) at_old) in
-      all_movable p q (length old) (drop (mark_at olds j).given old_found) (room inside small)
-      (subst (All (IsWithin p (length old))) (sym (tail_items d h.cut h.end old_found olds j (mark_at olds j) at_old))
+      let tail = tail_tiling d old 0 (0 ∷ []) h.cut h.end j p (plain (mark_at olds j).runs) h.tiling (at_bound d old h.cut h.end old_found olds j (mark_at olds j) at_old) in
+      all_movable p q (length old) (items_from (mark_at olds j).place old_found) (room inside small)
+      (subst (All (IsWithin p (length old))) (sym (tail_items d old h.cut h.end old_found olds j (mark_at olds j) at_old))
       (items_within d old p p (plain (mark_at olds j).runs) (drop j h.cut) h.end tail (omega arith) (place_in j within)))
 
-  given_from : (k : ℕ) → k < length (drop j olds) → (mark_at olds j).given ≤ (mark_at olds (j + k)).given
-  given_from k lt =
-      let c = tail_counts d h.cut h.end old_found olds j (mark_at olds j) at_old in
-      let len : length (counts d (mark_at olds j).given (drop j h.cut)) ≡ length (drop j olds) = ap length (sym c) ∙ length-map (drop j olds) (λ m. m.given) in
-      let b = counts_within d (mark_at olds j).given (mark_at olds j).given 0 (drop j h.cut) h.end (omega arith) k 0 (omega (arith, len)) in
-      let e : get_or (counts d (mark_at olds j).given (drop j h.cut)) k 0 ≡ (mark_at olds (j + k)).given =
-      ap (λ bs. get_or bs k 0) (sym c) ∙ get_or-map (λ m. m.given) (drop j olds) k no_mark 0 lt ∙ ap (λ (m : Mark). m.given) (get_or-drop j olds k no_mark) in
-      omega (arith, b.0, e)
-
-  pub marks_movable : (n : ℕ) → q ≤ length new → length new < 2 ^ 64 → length old_found + n < 2 ^ 64 → All (IsMovableMark (mark_at olds j).place q (mark_at olds j).given n) (drop (j + 1) olds)
-  marks_movable n inside small few = λ k x lt.
+  pub marks_movable : q ≤ length new → length new < 2 ^ 64 → All (IsMovableMark (mark_at olds j).place q) (drop (j + 1) olds)
+  marks_movable inside small = λ k x lt.
       let len : length (drop (j + 1) olds) ≡ length olds - (j + 1) = length-drop (j + 1) olds in
       let m : ℕ = (j + 1) + k in
       let here : get_or (drop (j + 1) olds) k x ≡ mark_at olds m = get_or_any (drop (j + 1) olds) k x no_mark lt ∙ get_or-drop (j + 1) olds k no_mark in
-      let next : j + (k + 1) ≡ m = omega arith in
-      subst (IsMovableMark (mark_at olds j).place q (mark_at olds j).given n) (sym here) (record {
+      subst (IsMovableMark (mark_at olds j).place q) (sym here) (record {
         place_from = omega (arith, (sorted d old old_found olds h).rising j m (omega arith) (omega arith));
         place_fits = omega (arith, place_in m (omega arith), room inside small);
-        given_from = omega (arith, given_from (k + 1) (omega (arith, length-drop j olds)), ap (λ i. (mark_at olds i).given) next);
-        given_fits = omega (arith, given_in m (omega arith));
       })
 
 -- ---- what a meeting says of the searches
@@ -99,7 +83,6 @@ front_at (x ∷ xs) ys (suc k) h = front_at xs ys k (omega arith)
 pub meets_front : (olds marks tail all : List Mark) (low high len k : ℕ) → all ≡ marks ++ tail → k < length marks → Meets olds all low high len k → Meets olds marks low high len k
 meets_front olds marks tail all low high len k e lt m = record {
   q = m.q;
-  g = m.g;
   runs = m.runs;
   at = sym (front_at marks tail k lt) ∙ ap (λ ms. slice_get ms k) (sym e) ∙ m.at;
   past = m.past;
@@ -131,8 +114,8 @@ met d text olds low high len place stack found marks tail all asked now r unmet 
         arith,
         few,
         r.asks,
-        searches_front d text r.before (record { place = place; given = length found; runs = stack } ∷ tail) all k
-            (e ∙ ap (λ ms. ms ++ tail) r.kept ∙ append_assoc r.before (record { place = place; given = length found; runs = stack } ∷ []) tail) (omega arith),
+        searches_front d text r.before (record { place = place; runs = stack } ∷ tail) all k
+            (e ∙ ap (λ ms. ms ++ tail) r.kept ∙ append_assoc r.before (record { place = place; runs = stack } ∷ []) tail) (omega arith),
       )
     ]
 
@@ -162,8 +145,8 @@ none_met d text olds low high len place stack found marks asked r unmet none k m
       | inl early ↦ unmet k early m
       | inr late ↦
           let here : length r.before ≡ k = omega arith in
-          let cur : slice_get marks k ≡ Some (record { place = place; given = length found; runs = stack }) =
-          ap (λ ms. slice_get ms k) r.kept ∙ last_at r.before (record { place = place; given = length found; runs = stack }) k here in
+          let cur : slice_get marks k ≡ Some (record { place = place; runs = stack }) =
+          ap (λ ms. slice_get ms k) r.kept ∙ last_at r.before (record { place = place; runs = stack }) k here in
           let same = same_Some _ _ (sym m.at ∙ cur) in
           let in_old = slice_get_within olds m.j m.m m.there in
           let old_is : mark_at olds m.j ≡ m.m = get_or_from_slice_get olds m.j m.m no_mark m.there in

@@ -8,8 +8,8 @@ use Rattle.std.proofs.lemmas.List.Sums.{sum_by-append, sum_by-cons}
 use Rattle.std.proofs.lemmas.Bool.{cond-true, lt-ltb}
 use Rattle.std.proofs.Math.Nat.{mul-le-mul_right}
 use Rattle.lrlex_rules.specs.Definition.{Definition}
-use Rattle.lrlex.specs.Active.{active_count, is_state, rule_at, lexeme_id}
-use Rattle.lrlex.specs.Tiling.{Item, Error, top, Wins, End, IsTaken, IsEnd, IsWinner, stack_past, stack_after, or_initial, IsTiling, lexeme_of, tile_items, end_items, items, boundaries, counts, given_by, asked_at}
+use Rattle.lrlex.specs.Active.{active_count, is_state, rule_at}
+use Rattle.lrlex.specs.Tiling.{Item, Error, top, Wins, End, IsTaken, IsEnd, IsWinner, stack_past, stack_after, or_initial, IsTiling, tile_items, end_items, items, boundaries, asked_at}
 use Rattle.lrlex.specs.Runs.{plain, AreRuns}
 use Rattle.lrlex.specs.Marks.{Mark, bound, no_mark, mark_at, last_runs}
 use Rattle.lrlex.specs.Reach.{Reached, IsLexed, IsRun, searches}
@@ -26,16 +26,15 @@ AreStates d = All (λ q. is_state d q ≡ true)
 one_state : (d : Definition) (q : ℕ) → is_state d q ≡ true → AreStates d (q ∷ [])
 one_state d q h = All-push (λ q. is_state d q ≡ true) [] q (All-nil (λ q. is_state d q ≡ true)) h
 
-pub Reached-none : (d : Definition) (text : List ℕ) → is_state d 0 ≡ true → Reached d text 0 ((1, 0) ∷ []) [] (record { place = 0; given = 0; runs = (1, 0) ∷ [] } ∷ []) 0
+pub Reached-none : (d : Definition) (text : List ℕ) → is_state d 0 ≡ true → Reached d text 0 ((1, 0) ∷ []) [] (record { place = 0; runs = (1, 0) ∷ [] } ∷ []) 0
 Reached-none d text zero_is = record {
   cut = [];
   before = [];
   goes_on = λ ts e h. h;
   gives = λ ts e. refl;
   enters = λ ts. refl;
-  counted = λ ts. refl;
   kept = refl;
-  runs = All-push (λ (m : Mark). AreRuns m.runs) [] (record { place = 0; given = 0; runs = (1, 0) ∷ [] }) (All-nil (λ (m : Mark). AreRuns m.runs)) (runs-one 0);
+  runs = All-push (λ (m : Mark). AreRuns m.runs) [] (record { place = 0; runs = (1, 0) ∷ [] }) (All-nil (λ (m : Mark). AreRuns m.runs)) (runs-one 0);
   asks = omega arith;
   few = omega arith;
   deep = omega arith;
@@ -88,13 +87,6 @@ top_is_state d s h some = h (length s - 1) 0 (omega arith)
 
 -- ---- counts
 
-length-lexeme_of : (o : Option ℕ) (p q n : ℕ) → length (lexeme_of o p n) ≡ length (lexeme_of o q n)
-length-lexeme_of None p q n = refl
-length-lexeme_of (Some id) p q n = refl
-
-pub given-tile : (d : Definition) (place : ℕ) (t : Tile) → length (tile_items d place t) ≡ given_by d t
-given-tile d place t = length-lexeme_of (lexeme_id (rule_at d t.rule)) place 0 t.len
-
 searches-le : (d : Definition) (end : ℕ) (bs : List (ℕ × List ℕ)) → sum_by (asked_at d end) bs ≤ length bs * length d.rules
 searches-le d end [] = omega arith
 searches-le d end (b ∷ bs) = omega (arith, sum_by-cons (asked_at d end) b bs, asked_at-le d end b, searches-le d end bs)
@@ -107,9 +99,6 @@ searches-few d text marks = subst (λ n. searches d text marks ≤ n * length d.
 module _ (d : Definition) (text : List ℕ) (place : ℕ) (stack : List (ℕ × ℕ)) (found : List Item) (marks : List Mark) (asked : ℕ) (r : Reached d text place stack found marks asked) where
   pub bounds_now : map bound marks ≡ map bound r.before ++ (place, plain stack) ∷ []
   bounds_now = ap (map bound) r.kept ∙ map_push bound r.before _
-
-  pub givens_now : map (λ (m : Mark). m.given) marks ≡ map (λ m. m.given) r.before ++ length found ∷ []
-  givens_now = ap (map (λ (m : Mark). m.given)) r.kept ∙ map_push (λ m. m.given) r.before _
 
   pub searches_now : (now : ℕ) → place < length text → now ≤ asked + active_count d (top (plain stack)) → now ≤ searches d text marks
   searches_now now within few =
@@ -127,20 +116,20 @@ module _ (d : Definition) (text : List ℕ) (place : ℕ) (stack : List (ℕ × 
 
   pub last_now : last_runs marks ≡ stack
   last_now =
-      let n : length r.before ≡ length marks - 1 = omega (arith, ap length r.kept, length-append r.before (record { place = place; given = length found; runs = stack } ∷ [])) in
+      let n : length r.before ≡ length marks - 1 = omega (arith, ap length r.kept, length-append r.before (record { place = place; runs = stack } ∷ [])) in
       ap (λ i. (mark_at marks i).runs) (sym n) ∙ ap (λ ms. (mark_at ms (length r.before)).runs) r.kept
-      ∙ ap (λ (m : Mark). m.runs) (get_or_at r.before (record { place = place; given = length found; runs = stack }) [] no_mark (length r.before) refl)
+      ∙ ap (λ (m : Mark). m.runs) (get_or_at r.before (record { place = place; runs = stack }) [] no_mark (length r.before) refl)
 
   pub runs_now : AreRuns stack
-  runs_now = (All-pop (λ (m : Mark). AreRuns m.runs) marks r.before (Some (record { place = place; given = length found; runs = stack })) r.kept r.runs).1
+  runs_now = (All-pop (λ (m : Mark). AreRuns m.runs) marks r.before (Some (record { place = place; runs = stack })) r.kept r.runs).1
 
   pub length_now : length marks ≡ length r.before + 1
-  length_now = omega (arith, ap length r.kept, length-append r.before (record { place = place; given = length found; runs = stack } ∷ []))
+  length_now = omega (arith, ap length r.kept, length-append r.before (record { place = place; runs = stack } ∷ []))
 
   pub Reached-more : (next : List (ℕ × ℕ)) (more : List Item) (after : List Mark) (now : ℕ) (t : Tile) →
       place < length text → IsTaken d (drop place text) (plain stack) t → now ≤ asked + active_count d (top (plain stack)) →
       AreRuns next → plain next ≡ stack_past d (plain stack) t → more ≡ found ++ tile_items d place t →
-      after ≡ marks ++ record { place = place + t.len; given = length more; runs = next } ∷ [] →
+      after ≡ marks ++ record { place = place + t.len; runs = next } ∷ [] →
       Reached d text (place + t.len) next more after now
   Reached-more next more after now t within taken few runs moved given kept = record {
     cut = r.cut ++ t ∷ [];
@@ -157,11 +146,6 @@ module _ (d : Definition) (text : List ℕ) (place : ℕ) (stack : List (ℕ × 
         ap (boundaries d 0 (0 ∷ [])) (append_assoc r.cut (t ∷ []) ts) ∙ r.enters (t ∷ ts)
         ∙ sym (append_assoc (map bound r.before) ((place, plain stack) ∷ []) (boundaries d (place + t.len) (stack_past d (plain stack) t) ts))
         ∙ ap₂ ◌++◌ (sym bounds_now) (ap (λ s. boundaries d (place + t.len) s ts) (sym moved));
-    counted = λ ts.
-        let n : length found + given_by d t ≡ length more = omega (arith, ap length given, length-append found (tile_items d place t), given-tile d place t) in
-        ap (counts d 0) (append_assoc r.cut (t ∷ []) ts) ∙ r.counted (t ∷ ts)
-        ∙ sym (append_assoc (map (λ (m : Mark). m.given) r.before) (length found ∷ []) (counts d (length found + given_by d t) ts))
-        ∙ ap₂ ◌++◌ (sym givens_now) (ap (λ i. counts d i ts) n);
     kept = kept;
     runs = subst (All (λ (m : Mark). AreRuns m.runs)) (sym kept) (All-push (λ (m : Mark). AreRuns m.runs) marks _ r.runs runs);
     asks = searches_now now within few;
@@ -185,7 +169,6 @@ module _ (d : Definition) (text : List ℕ) (place : ℕ) (stack : List (ℕ × 
         only = only_one d text (r.cut ++ []) e tiling;
         items_are = is ∙ sym (r.gives [] e);
         boundaries_are = bounds_now ∙ sym (r.enters []);
-        counts_are = givens_now ∙ sym (r.counted []);
         runs = r.runs;
       }
 

@@ -21,11 +21,11 @@ pair_decides a b = (
 
 -- ---- the tail of the old boundaries
 
-pub movable_at : (old : List Mark) (i next p q g n : ℕ) → All (IsMovableMark p q g n) (drop (i + 1) old) → i + 1 ≤ next → next < length old → IsMovableMark p q g n (mark_at old next)
-movable_at old i next p q g n h le within =
+pub movable_at : (old : List Mark) (i next p q : ℕ) → All (IsMovableMark p q) (drop (i + 1) old) → i + 1 ≤ next → next < length old → IsMovableMark p q (mark_at old next)
+movable_at old i next p q h le within =
     let k : ℕ = next - (i + 1) in
     let at : (i + 1) + k ≡ next = omega arith in
-    subst (IsMovableMark p q g n) (get_or-drop (i + 1) old k no_mark ∙ ap (mark_at old) at) (h k no_mark (omega (arith, length-drop (i + 1) old)))
+    subst (IsMovableMark p q) (get_or-drop (i + 1) old k no_mark ∙ ap (mark_at old) at) (h k no_mark (omega (arith, length-drop (i + 1) old)))
 
 pub last_runs-push : (ms : List Mark) (m : Mark) → last_runs (ms ++ m ∷ []) ≡ m.runs
 last_runs-push ms m =

@@ -1,5 +1,5 @@
 -- What moves where after an edit.
-use Rattle.std.specs.Prelude.{◌≡◌, ℕ, ◌+◌, ◌-◌, ◌^◌, ◌<◌, ◌≤◌, All, List, length, Some, slice_get}
+use Rattle.std.specs.Prelude.{◌≡◌, ℕ, ◌+◌, ◌-◌, ◌^◌, ◌<◌, ◌≤◌, Bool, All, List, [], ◌∷◌, length, nat_lt, if◌then◌else◌, Some, slice_get}
 use Rattle.lrlex.specs.Tiling.{Item, Lexeme, Error}
 use Rattle.lrlex.specs.Runs.{plain, AreRuns}
 use Rattle.lrlex.specs.Marks.{Mark, mark_at}
@@ -10,24 +10,31 @@ IsMovable p q (Lexeme id start len faulty) = (p ≤ start) × ((start + q) < p +
 IsMovable p q (Error start end state) =
     (p ≤ start) × ((start + q) < p + 2 ^ 64) × (p ≤ end) × ((end + q) < p + 2 ^ 64)
 
--- the boundary once what stood at p stands at q, and n items come before it where g came
-abbrev pub moved_mark : ℕ → ℕ → ℕ → ℕ → Mark → Mark
-moved_mark p q g n m = record { place = (m.place + q) - p; given = (m.given + n) - g; runs = m.runs }
+-- whether the item begins before the place
+abbrev pub begins_before : ℕ → Item → Bool
+begins_before p (Lexeme id start len faulty) = nat_lt start p
+begins_before p (Error start end state) = nat_lt start p
+
+-- the items from the first one on that doesn't begin before the place
+abbrev pub items_from : ℕ → List Item → List Item
+items_from p [] = []
+items_from p (i ∷ rest) = if begins_before p i then items_from p rest else i ∷ rest
+
+-- the boundary once what stood at p stands at q
+abbrev pub moved_mark : ℕ → ℕ → Mark → Mark
+moved_mark p q m = record { place = (m.place + q) - p; runs = m.runs }
 
 -- the boundary fits the numbers once it is moved
-pub record IsMovableMark (p q g n : ℕ) (m : Mark) : Type 0 where
+pub record IsMovableMark (p q : ℕ) (m : Mark) : Type 0 where
   pub place_from : p ≤ m.place
   pub place_fits : m.place + q < p + 2 ^ 64
-  pub given_from : g ≤ m.given
-  pub given_fits : m.given + n < g + 2 ^ 64
 
 -- After the bytes from low to high gave way to so many others, this boundary of the new text meets one of the old:
 -- it stands past them, and an old one with an equal stack stands where it was.
 pub record Meets (old new : List Mark) (low high len k : ℕ) : Type 0 where
   pub q : ℕ
-  pub g : ℕ
   pub runs : List (ℕ × ℕ)
-  pub at : slice_get new k ≡ Some (record { place = q; given = g; runs = runs })
+  pub at : slice_get new k ≡ Some (record { place = q; runs = runs })
   pub past : low + len ≤ q
   pub j : ℕ
   pub m : Mark

@@ -2,15 +2,14 @@
 use Rattle.std.specs.Prelude.{ℕ, ◌-◌, max, List, [], ◌∷◌, length, get_or}
 use Rattle.lrlex.specs.Runs.{plain, entries}
 
--- a boundary's place, how many items came before it, and the runs of its stack
+-- a boundary's place, and the runs of its stack
 pub record Mark : Type 0 where
   pub place : ℕ
-  pub given : ℕ
   pub runs : List (ℕ × ℕ)
 
 -- what stands for a boundary past the last
 abbrev pub no_mark : Mark
-no_mark = record { place = 0; given = 0; runs = [] }
+no_mark = record { place = 0; runs = [] }
 
 abbrev pub mark_at : List Mark → ℕ → Mark
 mark_at ms k = get_or ms k no_mark

@@ -1,21 +1,53 @@
 -- Boundaries whose stacks are ranges of one list of runs.
-use Rattle.std.specs.Prelude.{ℕ, ◌≤◌, List, Option, None, Some, map}
-use Rattle.std.specs.List.{slice_range}
-use Rattle.lrlex.specs.Marks.{Mark}
-use Rattle.lrlex.specs.declared.lexer.boundary.Boundary.{Boundary}
+use Rattle.std.specs.Prelude.{◌≡◌, ℕ, ◌+◌, ◌<◌, ◌≤◌, List, All, [], ◌∷◌, nat_le, if◌then◌else◌, length, take, drop, slice_range}
+use Rattle.std.specs.List.{AllPairs}
+use Rattle.lrlex.specs.Marks.{Mark, most_runs}
+use Rattle.lrlex.specs.declared.lexer.boundary.Stretch.{Stretch}
 
-abbrev pub mark_in : List (ℕ × ℕ) → Boundary → Mark
-mark_in runs b = record { place = b.place; given = b.given; runs = slice_range runs b.first b.end }
+-- what stands before the first stretch
+abbrev pub no_stretch : Stretch
+no_stretch = record { from = 0; first = 0; end = 0 }
 
-abbrev pub marks_in : List (ℕ × ℕ) → List Boundary → List Mark
-marks_in runs all = map (mark_in runs) all
+-- the last stretch
+abbrev pub last_stretch : Stretch → List Stretch → Stretch
+last_stretch before [] = before
+last_stretch before (s ∷ ss) = last_stretch s ss
+
+-- the last of the stretches that begin at the boundary or before it
+abbrev pub begun_by : Stretch → List Stretch → ℕ → Stretch
+begun_by before [] k = before
+begun_by before (s ∷ ss) k = begun_by (if nat_le s.from k then s else before) ss k
+
+-- the stretch that the boundary is in
+abbrev pub stretch_at : List Stretch → ℕ → Stretch
+stretch_at ss k = begun_by no_stretch ss k
+
+abbrev pub runs_of : List (ℕ × ℕ) → Stretch → List (ℕ × ℕ)
+runs_of runs s = slice_range runs s.first s.end
+
+-- the boundaries at these places, the first of which is the one at k
+abbrev pub marks_from : List (ℕ × ℕ) → List Stretch → ℕ → List ℕ → List Mark
+marks_from runs ss k [] = []
+marks_from runs ss k (p ∷ ps) = record { place = p; runs = runs_of runs (stretch_at ss k) } ∷ marks_from runs ss (k + 1) ps
 
 -- the range lies in the list
-pub record IsRange (len : ℕ) (b : Boundary) : Type 0 where
-  pub ordered : b.first ≤ b.end
-  pub within : b.end ≤ len
+pub record IsRange (len : ℕ) (s : Stretch) : Type 0 where
+  pub ordered : s.first ≤ s.end
+  pub within : s.end ≤ len
 
--- the range of a boundary, or the empty one
-abbrev pub range_of : Option Boundary → ℕ × ℕ
-range_of None = (0, 0)
-range_of (Some b) = (b.first, b.end)
+-- each stretch begins behind the one before
+abbrev pub AreRising : List Stretch → Type 0
+AreRising ss = AllPairs (λ s t. s.from < t.from) ss
+
+-- the first n stretches, and no others, begin at the boundary or before it
+pub record AreBegun (ss : List Stretch) (n k : ℕ) : Type 0 where
+  pub within : n ≤ length ss
+  pub begun : All (λ s. s.from ≤ k) (take n ss)
+  pub later : All (λ s. k < s.from) (drop n ss)
+
+-- the fields of the program's boundaries, once they are lists
+pub record AreInOrder (runs : List (ℕ × ℕ)) (ss : List Stretch) (ps : List ℕ) (peak : ℕ) : Type 0 where
+  pub ranges : All (IsRange (length runs)) ss
+  pub begun : All (λ s. s.from < length ps) ss
+  pub rising : AreRising ss
+  pub most : peak ≡ most_runs (marks_from runs ss 0 ps)

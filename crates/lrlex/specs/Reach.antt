@@ -3,7 +3,7 @@ use Rattle.std.specs.Prelude.{◌≡◌, ℕ, ◌+◌, ◌<◌, ◌≤◌, true,
 use Rattle.std.specs.List.{sum_by}
 use Rattle.lrlex_rules.specs.Definition.{Definition}
 use Rattle.lrlex.specs.Active.{is_state}
-use Rattle.lrlex.specs.Tiling.{Item, Error, End, IsTiling, items, boundaries, counts, asked_at}
+use Rattle.lrlex.specs.Tiling.{Item, Error, End, IsTiling, items, boundaries, asked_at}
 use Rattle.lrlex.specs.Runs.{plain, AreRuns}
 use Rattle.lrlex.specs.Marks.{Mark, bound}
 use Rattle.lrlex.specs.Tiling.{Tile}
@@ -15,8 +15,7 @@ pub record Reached (d : Definition) (text : List ℕ) (place : ℕ) (stack : Lis
   pub goes_on : (ts : List Tile) (e : End) → IsTiling d (drop place text) (plain stack) ts e → IsTiling d text (0 ∷ []) (cut ++ ts) e
   pub gives : (ts : List Tile) (e : End) → items d 0 (cut ++ ts) e ≡ found ++ items d place ts e
   pub enters : (ts : List Tile) → boundaries d 0 (0 ∷ []) (cut ++ ts) ≡ map bound before ++ boundaries d place (plain stack) ts
-  pub counted : (ts : List Tile) → counts d 0 (cut ++ ts) ≡ map (λ m. m.given) before ++ counts d (length found) ts
-  pub kept : marks ≡ before ++ record { place = place; given = length found; runs = stack } ∷ []
+  pub kept : marks ≡ before ++ record { place = place; runs = stack } ∷ []
   pub runs : All (λ m. AreRuns m.runs) marks
   pub asks : asked ≤ sum_by (asked_at d (length text)) (map bound before)
   pub few : length before ≤ place
@@ -33,7 +32,6 @@ pub record IsLexed (d : Definition) (text : List ℕ) (found : List Item) (marks
   pub only : (ts : List Tile) (e : End) → IsTiling d text (0 ∷ []) ts e → (ts ≡ cut) × (e ≡ end)
   pub items_are : found ≡ items d 0 cut end
   pub boundaries_are : map bound marks ≡ boundaries d 0 (0 ∷ []) cut
-  pub counts_are : map (λ m. m.given) marks ≡ counts d 0 cut
   pub runs : All (λ m. AreRuns m.runs) marks
 
 -- without a state 0 there is one error and no boundary

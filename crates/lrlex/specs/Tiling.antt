@@ -123,12 +123,3 @@ lexemes d place (t ∷ ts) = tile_items d place t ++ lexemes d (place + t.len) t
 abbrev pub rebased : ℕ → ℕ → Item → Item
 rebased p q (Lexeme id start len faulty) = Lexeme id ((start + q) - p) len faulty
 rebased p q (Error start end state) = Error ((start + q) - p) ((end + q) - p) state
-
--- how many items a tile gives
-abbrev pub given_by : Definition → Tile → ℕ
-given_by d t = length (tile_items d 0 t)
-
--- how many items came before each boundary, where n came before the first
-abbrev pub counts : Definition → ℕ → List Tile → List ℕ
-counts d n [] = n ∷ []
-counts d n (t ∷ ts) = n ∷ counts d (n + given_by d t) ts

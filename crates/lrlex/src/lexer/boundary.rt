@@ -1,24 +1,27 @@
-ghost use Rattle.std.specs.Prelude.{◌≡◌, ◌+◌, ◌-◌, ◌≤◌, ◌++◌, length, slice_get, slice_range, take, drop, IfOk};
-ghost use Rattle.lrlex.specs.Ranges.{range_of};
+ghost use Rattle.std.specs.Prelude.{◌≡◌, ◌+◌, ◌≤◌, ◌++◌, length, slice_range, take, drop, IfOk};
+ghost use Rattle.lrlex.specs.Ranges.{last_stretch, no_stretch};
 
 use std::alloc::AllocError;
 
-/// Where a boundary stands, how many items came before it, and which runs are its stack.
+/// Boundaries in a row with one stack: the first of them, and where the stack stands in a list of runs.
 #[derive(Clone, Copy)]
-pub(crate) struct Boundary {
-    pub(crate) place: usize,
-    pub(crate) given: usize,
+pub(crate) struct Stretch {
+    pub(crate) from: usize,
     pub(crate) first: usize,
     pub(crate) end: usize,
 }
 
-/// The range of the last boundary's stack.
-pub(crate) fn last_range(all: &[Boundary]) -> (usize, usize)
-    ensures { result ≡ range_of (slice_get all.now (length all.now - 1)) }
+/// The last stretch, or one without runs where there is none.
+pub(crate) fn last_of(stretches: &[Stretch]) -> Stretch
+    ensures { result ≡ last_stretch no_stretch stretches.now }
 {
-    match all.last() {
-        Some(boundary) => (boundary.first, boundary.end),
-        None => (0, 0),
+    match stretches.last() {
+        Some(stretch) => *stretch,
+        None => Stretch {
+            from: 0,
+            first: 0,
+            end: 0,
+        },
     }
 }
 

@@ -42,7 +42,7 @@ pub(crate) fn begin<L: LexerTypes>(
     let mut stack = Vec::new(alloc);
     stack.push((1, 0))?;
     let mut boundaries = Boundaries::new(alloc);
-    boundaries.push(0, 0, &stack, 0)?;
+    boundaries.push(0, &stack, 0)?;
     Ok(Progress {
         place: 0,
         stack,
@@ -103,14 +103,11 @@ fn enter<L: LexerTypes>(
     ensures items { OnOk result (progress.new.items.items ≡ progress.old.items.items) }
     ensures asked { OnOk result (progress.new.asked ≡ progress.old.asked) }
     ensures kept { OnOk result (progress.new.boundaries ≡ progress.old.boundaries
-        ++ record { place = place; given = length progress.old.items.items; runs = progress.new.stack.items } ∷ []) }
+        ++ record { place = place; runs = progress.new.stack.items } ∷ []) }
 {
-    let given = progress.items.len();
     progress.place = place;
     let kept = step(&mut progress.stack, target)?;
-    progress
-        .boundaries
-        .push(place, given, &progress.stack, kept)?;
+    progress.boundaries.push(place, &progress.stack, kept)?;
     Ok(())
 }
 

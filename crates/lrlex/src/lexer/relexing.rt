@@ -4,7 +4,8 @@ ghost use Rattle.lrlex_base.specs.Spans.{span_start, span_end, as_span, Fits};
 ghost use Rattle.lrlex_base.specs.Edits.{edited};
 ghost use Rattle.lrlex.specs.Tiling.{rebased};
 ghost use Rattle.lrlex.specs.Marks.{mark_at, last_runs};
-ghost use Rattle.lrlex.specs.Edits.{IsMovable, IsMovableMark, moved_mark, Meets, IsSortedRuns};
+ghost use Rattle.std.specs.List.Sorted.{IsPartitionedBy};
+ghost use Rattle.lrlex.specs.Edits.{IsMovable, IsMovableMark, begins_before, items_from, moved_mark, Meets, IsSortedRuns};
 ghost use Rattle.lrlex.specs.Runs.{plain, AreRuns};
 ghost use Rattle.lrlex.specs.Reach.{IsRun, searches};
 ghost use Rattle.lrlex.specs.Views.{definition_of, items_by, item_of};
@@ -47,6 +48,35 @@ fn moved<L: LexerTypes<LexErrorT = LRLexError>>(
             }
         }
     }
+}
+
+/// Whether the item begins before the place.
+fn begins_before<L: LexerTypes<LexErrorT = LRLexError>>(
+    item: &Result<L::LexemeT, LRLexError>,
+    place: usize,
+) -> bool
+    ensures { result ≡ begins_before place (item_of L.StorageT.number L.LexemeT.id_of L.LexemeT.start_of L.LexemeT.len_of L.LexemeT.is_faulty item.now) }
+{
+    match item {
+        Ok(lexeme) => lexeme.span().start() < place,
+        Err(error) => error.span().start() < place,
+    }
+}
+
+/// The items that don't begin before the place, of items in order.
+fn items_from<'a, L: LexerTypes<LexErrorT = LRLexError>>(
+    items: &'a [Result<L::LexemeT, LRLexError>],
+    place: usize,
+) -> &'a [Result<L::LexemeT, LRLexError>]
+    requires { IsPartitionedBy (begins_before place) (map (item_of L.StorageT.number L.LexemeT.id_of L.LexemeT.start_of L.LexemeT.len_of L.LexemeT.is_faulty) items.now) }
+    ensures { map (item_of L.StorageT.number L.LexemeT.id_of L.LexemeT.start_of L.LexemeT.len_of L.LexemeT.is_faulty) result.now ≡ items_from place (map (item_of L.StorageT.number L.LexemeT.id_of L.LexemeT.start_of L.LexemeT.len_of L.LexemeT.is_faulty) items.now) }
+{
+    let before = items.partition_point(
+        |item: &Result<L::LexemeT, LRLexError>| -> bool
+            ensures { result ≡ begins_before place (item_of L.StorageT.number L.LexemeT.id_of L.LexemeT.start_of L.LexemeT.len_of L.LexemeT.is_faulty item.now) }
+        { begins_before::<L>(item, place) },
+    );
+    &items[before..]
 }
 
 /// Adds the items once what stood at `from` stands at `to`.
@@ -139,29 +169,26 @@ fn take_over<L: LexerTypes<LexErrorT = LRLexError>>(
     progress: &mut Progress<L>,
 ) -> Result<(), AllocError>
     requires within { index < length old.now.boundaries }
-    requires given { (mark_at old.now.boundaries index).given ≤ length old.now.items.items }
+    requires in_order { IsPartitionedBy (begins_before (mark_at old.now.boundaries index).place)
+        (map (item_of L.StorageT.number L.LexemeT.id_of L.LexemeT.start_of L.LexemeT.len_of L.LexemeT.is_faulty) old.now.items.items) }
     requires items { All (IsMovable (mark_at old.now.boundaries index).place progress.old.place)
-        (map (item_of L.StorageT.number L.LexemeT.id_of L.LexemeT.start_of L.LexemeT.len_of L.LexemeT.is_faulty) (drop (mark_at old.now.boundaries index).given old.now.items.items)) }
+        (items_from (mark_at old.now.boundaries index).place (map (item_of L.StorageT.number L.LexemeT.id_of L.LexemeT.start_of L.LexemeT.len_of L.LexemeT.is_faulty) old.now.items.items)) }
     requires last { last_runs progress.old.boundaries ≡ (mark_at old.now.boundaries index).runs }
-    requires boundaries { All (IsMovableMark (mark_at old.now.boundaries index).place progress.old.place (mark_at old.now.boundaries index).given (length progress.old.items.items))
+    requires boundaries { All (IsMovableMark (mark_at old.now.boundaries index).place progress.old.place)
         (drop (index + 1) old.now.boundaries) }
     ensures items { OnOk result (map (item_of L.StorageT.number L.LexemeT.id_of L.LexemeT.start_of L.LexemeT.len_of L.LexemeT.is_faulty) progress.new.items.items
         ≡ map (item_of L.StorageT.number L.LexemeT.id_of L.LexemeT.start_of L.LexemeT.len_of L.LexemeT.is_faulty) progress.old.items.items
         ++ map (rebased (mark_at old.now.boundaries index).place progress.old.place)
-        (map (item_of L.StorageT.number L.LexemeT.id_of L.LexemeT.start_of L.LexemeT.len_of L.LexemeT.is_faulty) (drop (mark_at old.now.boundaries index).given old.now.items.items))) }
+        (items_from (mark_at old.now.boundaries index).place (map (item_of L.StorageT.number L.LexemeT.id_of L.LexemeT.start_of L.LexemeT.len_of L.LexemeT.is_faulty) old.now.items.items))) }
     ensures boundaries { OnOk result (progress.new.boundaries ≡ progress.old.boundaries
-        ++ map (moved_mark (mark_at old.now.boundaries index).place progress.old.place (mark_at old.now.boundaries index).given (length progress.old.items.items))
-        (drop (index + 1) old.now.boundaries)) }
+        ++ map (moved_mark (mark_at old.now.boundaries index).place progress.old.place) (drop (index + 1) old.now.boundaries)) }
     ensures asked { OnOk result (progress.new.asked ≡ progress.old.asked) }
 {
     let to = progress.place;
-    let before = progress.items.len();
     let from = old.boundaries.place(index);
-    let given = old.boundaries.given(index);
-    append_moved::<L>(&mut progress.items, &old.items[given..], from, to)?;
-    progress
-        .boundaries
-        .append_moved(&old.boundaries, index, to, before)
+    let tail = items_from::<L>(&old.items, from);
+    append_moved::<L>(&mut progress.items, tail, from, to)?;
+    progress.boundaries.append_moved(&old.boundaries, index, to)
 }
 
 impl<'lexer, L: LexerTypes<LexErrorT = LRLexError>> LexRun<'lexer, '_, L> {

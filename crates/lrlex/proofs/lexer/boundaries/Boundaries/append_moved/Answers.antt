@@ -1,28 +1,42 @@
-use Rattle.std.proofs.Common.{◌≡◌, ◌+◌, ◌-◌, [], ◌∷◌, ◌++◌, sym, ap, ap₂, ◌∙◌, arith}
-use Rattle.lrlex.specs.Marks.{Mark, mark_at, last_runs}
+use Rattle.std.proofs.Common.{◌≡◌, ◌+◌, ◌-◌, ◌<◌, ◌≢◌, length, take, get_or, refl, [], ◌∷◌, ◌++◌, sym, ap, ap₂, subst, ◌∙◌, arith}
+use Rattle.std.proofs.lemmas.List.{get_or_default}
+use Rattle.lrlex.specs.Marks.{mark_at, last_runs}
 use Rattle.lrlex.specs.Edits.{moved_mark}
+use Rattle.lrlex.specs.Ranges.{AreBegun, no_stretch, last_stretch, runs_of}
+use Rattle.lrlex.specs.Runs.{Stay}
+use Rattle.lrlex.specs.declared.lexer.boundary.Stretch.{Stretch}
+use Rattle.lrlex.proofs.StretchLemmas.{stretch_at-begun, begun_more, begun_same}
+use Rattle.lrlex.proofs.ArenaLemmas.{range_is, entered_is, same_runs}
 use Rattle.lrlex.proofs.RelexLemmas.{movable_at, tail_more, last_runs-push}
+use Rattle.lrlex.proofs.lexer.boundaries.Boundaries.append_moved.Goals.{then-entered-len+then-index-next+in_ok-push, else-entered-len+in_ok-repeat, else-entered-len-via-then-entered-len+else-index-next, else-entered-len-via-else-entered-len}
 use Rattle.lrlex.proofs.lexer.boundaries.Boundaries.append_moved.Goals as goal
 
 pub overflow_sub-place : goal.overflow_sub-place
 overflow_sub-place c =
-    let h = movable_at c.args.old.now c.args.index c.tail.next _ _ _ _ c.requires.movable c.tail.invariant.from (omega arith) in
+    let h = movable_at c.args.old.now c.args.index c.tail.next _ _ c.requires.movable c.tail.invariant.from (omega arith) in
     omega (arith, h.place_from, c.place-from.ensures, c.place.ensures)
 
 pub overflow_add-place : goal.overflow_add-place
 overflow_add-place c =
-    let h = movable_at c.args.old.now c.args.index c.tail.next _ _ _ _ c.requires.movable c.tail.invariant.from (omega arith) in
+    let h = movable_at c.args.old.now c.args.index c.tail.next _ _ c.requires.movable c.tail.invariant.from (omega arith) in
     omega (arith, h.place_from, h.place_fits, c.place-from.ensures, c.place.ensures)
 
-pub overflow_sub-given : goal.overflow_sub-given
-overflow_sub-given c =
-    let h = movable_at c.args.old.now c.args.index c.tail.next _ _ _ _ c.requires.movable c.tail.invariant.from (omega arith) in
-    omega (arith, h.given_from, c.given-before.ensures, c.given.ensures)
+pub shared-requires-clause-before : goal.shared-requires-clause-before
+shared-requires-clause-before c =
+    let before_is = c.last_of-before.ensures ∙ ap (λ xs. last_stretch no_stretch (take c.tail.entered xs)) c.deref-then-index-next.ensures.value ∙ sym (stretch_at-begun c.tail.invariant.begun) in
+    (range_is (c.tail.next - 1) c.old.invariant c.old.view_is (omega arith) before_is refl).range.ordered
 
-pub overflow_add-given : goal.overflow_add-given
-overflow_add-given c =
-    let h = movable_at c.args.old.now c.args.index c.tail.next _ _ _ _ c.requires.movable c.tail.invariant.from (omega arith) in
-    omega (arith, h.given_from, h.given_fits, c.given-before.ensures, c.given.ensures)
+pub push-requires : goal.push-requires
+push-requires c =
+    let runs = c.old.inside.runs.items in
+    let first = c.last_of-before.result in
+    let here = c.index-here.result.now in
+    let before_is = c.last_of-before.ensures ∙ ap (λ xs. last_stretch no_stretch (take c.tail.entered xs)) c.deref-then-index-next.ensures.value ∙ sym (stretch_at-begun c.tail.invariant.begun) in
+    let before = range_is (c.tail.next - 1) c.old.invariant c.old.view_is (omega arith) before_is refl in
+    let more = begun_more c.index.result.now c.old.invariant.rising c.tail.invariant.begun (omega arith) (ap (λ (s : Stretch). s.from) (sym c.index.ensures) ∙ c.if-index-next.true) (omega arith) in
+    let after = entered_is c.tail.next c.old.invariant c.old.view_is (omega arith) more (omega arith) c.index-here.ensures in
+    subst (λ rs. Stay c.shared.result rs c.range_of.result.now) (before.is ∙ sym c.tail.invariant.last)
+    (subst (Stay c.shared.result (runs_of runs first)) (sym (c.range_of.ensures ∙ ap (λ rs. runs_of rs here) c.deref-then-index-next-2.ensures.value)) (c.shared.ensures runs before.range after.range))
 
 pub tail-preserved : goal.tail-preserved
 tail-preserved c =
@@ -30,16 +44,36 @@ tail-preserved c =
     let next = c.tail.next in
     let m = mark_at old next in
     let p = (mark_at old c.args.index).place in
-    let n = (mark_at old c.args.index).given in
-    let h = movable_at old c.args.index next p c.args.to n c.args.after c.requires.movable c.tail.invariant.from (omega arith) in
+    let ss = c.old.inside.stretches.items in
+    let begun = c.tail.invariant.begun in
+    let h = movable_at old c.args.index next p c.args.to c.requires.movable c.tail.invariant.from (omega arith) in
     let place_is : c.place.result - c.place-from.result + c.args.to ≡ (m.place + c.args.to) - p = omega (arith, h.place_from, c.place-from.ensures, c.place.ensures) in
-    let given_is : c.given.result - c.given-before.result + c.args.after ≡ (m.given + c.args.after) - n = omega (arith, h.given_from, c.given-before.ensures, c.given.ensures) in
     let here : next + 1 - 1 ≡ next = omega arith in
-    let is : c.push.new.self ≡ c.tail.self ++ moved_mark p c.args.to n c.args.after m ∷ [] =
-    c.in_ok-push.ensures
-    ∙ ap (λ (x : Mark). c.tail.self ++ x ∷ []) (ap₂ (λ i k. record { place = i; given = k; runs = c.stack.result.now }) place_is given_is ∙ ap (λ r. record { place = (m.place + c.args.to) - p; given = (m.given + c.args.after) - n; runs = r }) c.stack.ensures) in
+    let step : (c.if-entered-len.self ≡ c.tail.self ++ moved_mark p c.args.to m ∷ []) × AreBegun ss c.if-entered-len.entered next =
+    elim c.if-entered-len.branch [
+      | then-entered-len+then-index-next+in_ok-push w ↦
+          let more = begun_more w.index.result.now c.old.invariant.rising begun (omega arith) (ap (λ (s : Stretch). s.from) (sym w.index.ensures) ∙ w.if-index-next.true) (omega arith) in
+          let after = entered_is next c.old.invariant c.old.view_is (omega arith) more (omega arith) w.index-here.ensures in (
+            w.self-is ∙ w.in_ok-push.ensures
+                ∙ ap₂ (λ i r. c.tail.self ++ record { place = i; runs = r } ∷ []) place_is (w.range_of.ensures ∙ ap (λ rs. runs_of rs w.index-here.result.now) w.deref-then-index-next-2.ensures.value ∙ after.is),
+            subst (λ n. AreBegun ss n next) (sym w.entered-is) more,
+          )
+      | else-entered-len+in_ok-repeat w ↦
+          let none : (d : Stretch) → c.tail.entered < length ss → (get_or ss c.tail.entered d).from ≢ next =
+          elim w.else-entered-len.branch [
+            | else-entered-len-via-then-entered-len+else-index-next w' ↦ λ d lt is.
+                w'.if-index-next.false (ap (λ (s : Stretch). s.from) (w'.index.ensures ∙ get_or_default ss c.tail.entered w'.index.result.now d lt) ∙ is)
+            | else-entered-len-via-else-entered-len w' ↦ λ d lt. absurd (omega arith)
+          ] in
+          let same = begun_same c.old.invariant.rising begun none (omega arith) in (
+            w.self-is ∙ w.in_ok-repeat.ensures
+                ∙ ap₂ (λ i r. c.tail.self ++ record { place = i; runs = r } ∷ []) place_is (c.tail.invariant.last ∙ same_runs c.old.invariant c.old.view_is begun same (omega arith) (omega arith)),
+            subst (λ n. AreBegun ss n next) (sym w.entered-is) same,
+          )
+    ] in
     record {
       from = omega arith;
-      added = tail_more c.args.self.now c.tail.self c.push.new.self old (moved_mark p c.args.to n c.args.after) c.args.index next c.tail.invariant.from (omega arith) c.tail.invariant.added is;
-      last = ap last_runs is ∙ last_runs-push c.tail.self (moved_mark p c.args.to n c.args.after m) ∙ ap (λ i. (mark_at old i).runs) (sym here);
+      added = tail_more c.args.self.now c.tail.self c.if-entered-len.self old (moved_mark p c.args.to) c.args.index next c.tail.invariant.from (omega arith) c.tail.invariant.added step.0;
+      last = ap last_runs step.0 ∙ last_runs-push c.tail.self (moved_mark p c.args.to m) ∙ ap (λ i. (mark_at old i).runs) (sym here);
+      begun = rw here step.1;
     }

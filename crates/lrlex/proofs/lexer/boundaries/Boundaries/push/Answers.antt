@@ -1,49 +1,46 @@
-use Rattle.std.proofs.Common.{◌-◌, List, [], ◌∷◌, ◌++◌, length, drop, refl, sym, subst, slice_get, ap, ◌∙◌}
-use Rattle.lrlex.specs.Marks.{Mark, last_runs}
-use Rattle.lrlex.specs.Ranges.{range_of}
-use Rattle.lrlex.specs.Runs.{Stay}
-use Rattle.lrlex.specs.declared.lexer.boundary.Boundary.{Boundary}
-use Rattle.lrlex.proofs.ArenaLemmas.{added, unused, stays_at}
+use Rattle.std.proofs.Common.{[], ◌∷◌, ◌++◌, max, length, ap, ap₂, sym, arith, ◌∙◌}
+use Rattle.lrlex.specs.declared.lexer.boundary.Stretch.{Stretch}
+use Rattle.lrlex.proofs.ArenaLemmas.{last_range, stays_whole, stays_within, stays_same, in_order_more_runs, in_order_repeat, in_order_enter, marks_more_runs, marks_enter}
 use Rattle.lrlex.proofs.lexer.boundaries.Boundaries.push.Goals as goal
+
+pub overflow_sub-last : goal.overflow_sub-last
+overflow_sub-last c =
+    (last_range c.self.invariant c.self.view_is c.last_of-last.ensures c.deref.ensures.value).range.ordered
+
+pub returns-then-kept-last : goal.returns-then-kept-last
+returns-then-kept-last c =
+    let stack = stays_whole (last_range c.self.invariant c.self.view_is c.last_of-last.ensures c.deref.ensures.value) c.requires c.if-kept-stack.true c.if-kept-last.true in
+    rw stack c.repeat.ensures
 
 pub stored-requires-clause-within : goal.stored-requires-clause-within
 stored-requires-clause-within c =
-    (stays_at c.self.inside.runs.items c.args.stack.now c.self.inside.all.items c.last_range-first.result.0 c.last_range-first.result.1 c.args.kept c.self.invariant.ranges
-    (c.last_range-first.ensures ∙ ap (λ xs. range_of (slice_get xs (length xs - 1))) c.deref.ensures.value)
-    (subst (λ (ms : List Mark). Stay c.args.kept (last_runs ms) c.args.stack.now) (sym c.self.view_is) c.requires)).0
+    stays_within (last_range c.self.invariant c.self.view_is c.last_of-last.ensures c.deref.ensures.value) c.requires
 
 pub stored-requires-clause-same : goal.stored-requires-clause-same
 stored-requires-clause-same c =
-    (stays_at c.self.inside.runs.items c.args.stack.now c.self.inside.all.items c.last_range-first.result.0 c.last_range-first.result.1 c.args.kept c.self.invariant.ranges
-    (c.last_range-first.ensures ∙ ap (λ xs. range_of (slice_get xs (length xs - 1))) c.deref.ensures.value)
-    (subst (λ (ms : List Mark). Stay c.args.kept (last_runs ms) c.args.stack.now) (sym c.self.view_is) c.requires)).1
+    stays_same (last_range c.self.invariant c.self.view_is c.last_of-last.ensures c.deref.ensures.value) c.requires
 
 pub invariant_of-self : goal.invariant_of-self
-invariant_of-self c =
-    let extra = drop (length c.self.inside.runs.items) c.stored.new.runs.items in
-    let s = unused c.self.inside.runs.items extra c.stored.new.runs.items c.self.inside.all.items c.self.inside.all.items c.self.inside.peak
-    c.self.invariant.ranges c.self.invariant.peak c.stored.ensures.longer refl in
-    record { ranges = s.ranges; peak = s.peak_is }
+invariant_of-self c = in_order_more_runs c.stored.ensures.longer c.self.invariant
 
 pub invariant_of-self-in_err-push : goal.invariant_of-self-in_err-push
-invariant_of-self-in_err-push c =
-    let extra = drop (length c.self.inside.runs.items) c.stored.new.runs.items in
-    let s = unused c.self.inside.runs.items extra c.stored.new.runs.items c.self.inside.all.items c.push.new.self.items c.self.inside.peak
-    c.self.invariant.ranges c.self.invariant.peak c.stored.ensures.longer c.in_err-push.ensures.items in
-    record { ranges = s.ranges; peak = s.peak_is }
+invariant_of-self-in_err-push c = rw c.in_err-push.ensures.items (in_order_more_runs c.stored.ensures.longer c.self.invariant)
+
+pub invariant_of-self-in_err-push-2 : goal.invariant_of-self-in_err-push-2
+invariant_of-self-in_err-push-2 c =
+    rw c.in_err-push-2.ensures.items (in_order_repeat c.args.place c.in_ok-push.ensures.items (in_order_more_runs c.stored.ensures.longer c.self.invariant))
 
 pub invariant_of-self-2 : goal.invariant_of-self-2
 invariant_of-self-2 c =
-    let b : Boundary = record { place = c.args.place; given = c.args.given; first = c.in_ok-first.first; end = c.in_ok-first.end } in
-    let extra = drop (length c.self.inside.runs.items) c.stored.new.runs.items in
-    let s = added c.self.inside.runs.items extra c.stored.new.runs.items c.args.stack.now c.self.inside.all.items c.push.new.self.items b c.self.inside.peak c.max-self-inside.result
-    c.self.invariant.ranges c.self.invariant.peak c.in_ok-first.ensures.longer c.in_ok-first.ensures.ordered c.in_ok-first.ensures.within c.in_ok-first.ensures.stack c.in_ok-push.ensures.items c.max-self-inside.ensures in
-    record { ranges = s.ranges; peak = s.peak_is }
+    let s : Stretch = record { from = c.len-from.result; first = c.in_ok-first.first; end = c.in_ok-first.end } in
+    let top = c.max-self-inside.ensures ∙ ap (λ stack. max c.self.inside.peak (length stack)) (sym c.in_ok-first.ensures.stack) in
+    in_order_enter s c.args.place c.in_ok-push-2.ensures.items c.in_ok-push.ensures.items (omega arith)
+    (record { ordered = c.in_ok-first.ensures.ordered; within = c.in_ok-first.ensures.within }) top
+    (in_order_more_runs c.stored.ensures.longer c.self.invariant)
 
 pub returns : goal.returns
 returns c =
-    let b : Boundary = record { place = c.args.place; given = c.args.given; first = c.in_ok-first.first; end = c.in_ok-first.end } in
-    let extra = drop (length c.self.inside.runs.items) c.stored.new.runs.items in
-    let s = added c.self.inside.runs.items extra c.stored.new.runs.items c.args.stack.now c.self.inside.all.items c.push.new.self.items b c.self.inside.peak c.max-self-inside.result
-    c.self.invariant.ranges c.self.invariant.peak c.in_ok-first.ensures.longer c.in_ok-first.ensures.ordered c.in_ok-first.ensures.within c.in_ok-first.ensures.stack c.in_ok-push.ensures.items c.max-self-inside.ensures in
-    s.marks_are ∙ ap (λ ms. ms ++ record { place = c.args.place; given = c.args.given; runs = c.args.stack.now } ∷ []) c.self.view_is
+    let s : Stretch = record { from = c.len-from.result; first = c.in_ok-first.first; end = c.in_ok-first.end } in
+    marks_enter s c.args.place c.in_ok-push-2.ensures.items c.in_ok-push.ensures.items (omega arith) (in_order_more_runs c.stored.ensures.longer c.self.invariant)
+    ∙ ap₂ (λ ms stack. ms ++ record { place = c.args.place; runs = stack } ∷ [])
+    (marks_more_runs c.stored.ensures.longer c.self.invariant ∙ c.self.view_is) c.in_ok-first.ensures.stack

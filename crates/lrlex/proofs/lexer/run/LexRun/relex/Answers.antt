@@ -1,16 +1,15 @@
-use Rattle.std.proofs.Common.{◌≡◌, ◌+◌, [], ◌∷◌, ◌++◌, All, length, map, drop, sym, ap, ◌∙◌, subst, arith, append-nil, length-append, IsCharBoundary}
+use Rattle.std.proofs.Common.{◌≡◌, ◌+◌, [], ◌∷◌, ◌++◌, length, map, drop, sym, ap, ◌∙◌, subst, arith, append-nil, length-append, IsCharBoundary}
 use Rattle.std.proofs.lemmas.Str.{IsCharBoundary-start}
-use Rattle.std.proofs.lemmas.List.{length-map, drop-map}
 use Rattle.lrlex.specs.Tiling.{Done, rebased}
 use Rattle.lrlex.specs.Runs.{plain, AreRuns}
 use Rattle.lrlex.specs.Marks.{mark_at}
-use Rattle.lrlex.specs.Edits.{Meets, IsMovable, moved_mark}
+use Rattle.lrlex.specs.Edits.{Meets, items_from, moved_mark}
 use Rattle.lrlex.specs.Reach.{IsLexed, IsRun}
-use Rattle.lrlex.specs.Views.{definition_of, items_by, item_of, ArePaired}
+use Rattle.lrlex.specs.Views.{definition_of, items_by, ArePaired}
 use Rattle.lrlex.proofs.ViewLemmas.{paired_len, taken_back}
 use Rattle.lrlex.proofs.ReachLemmas.{ended, nothing_left, run_of, runs_now, last_now, few_searches}
 use Rattle.lrlex.proofs.KnownLemmas.{known, sorted}
-use Rattle.lrlex.proofs.MeetLemmas.{whole, given_in, items_movable, marks_movable, met, few_met, none_met, meets_front}
+use Rattle.lrlex.proofs.MeetLemmas.{whole, olds_in_order, items_movable, marks_movable, met, few_met, none_met, meets_front}
 use Rattle.lrlex.proofs.lexer.run.LexRun.relex.Goals as goal
 
 pub tiles-init : goal.tiles-init
@@ -54,8 +53,8 @@ meets-requires-clause-stack g c =
     let r = c.tiles.invariant.reached in
     subst AreRuns (sym c.deref-in-tiles.ensures.value) (runs_now d new p.place p.stack.items found p.boundaries p.asked r)
 
-pub take_over-requires-clause-given : goal.take_over-requires-clause-given
-take_over-requires-clause-given g c =
+pub take_over-requires-clause-in_order : goal.take_over-requires-clause-in_order
+take_over-requires-clause-in_order g c =
     let def = c.args.self.now.definition.now in
     let d = definition_of g.L.StorageT.Id.number def in
     let new = c.args.new.now in
@@ -67,12 +66,8 @@ take_over-requires-clause-given g c =
     let h = known d s.text.now (items_by g.L.StorageT.Id.number g.L.LexemeT.Lexeme.id_of g.L.LexemeT.Lexeme.start_of g.L.LexemeT.Lexeme.len_of g.L.LexemeT.Lexeme.is_faulty s.items.items) s.boundaries r.initial s.lexed in
     let j = c.meets.new.cursor in
     let stacks : (mark_at s.boundaries j).runs ≡ p.stack.items = c.meets.ensures.stack c.if-meets.true ∙ c.deref-in-tiles.ensures.value in
-    omega (
-      arith,
-      given_in d s.text.now new edit.removed.start edit.removed.end edit.put.now (items_by g.L.StorageT.Id.number g.L.LexemeT.Lexeme.id_of g.L.LexemeT.Lexeme.start_of g.L.LexemeT.Lexeme.len_of g.L.LexemeT.Lexeme.is_faulty s.items.items) s.boundaries h p.place p.stack.items found p.boundaries p.asked r
-          j (c.meets.ensures.within c.if-meets.true) edit.removed.in_order c.requires.fits.1.0 c.requires.gives (c.meets.ensures.past c.if-meets.true) (c.meets.ensures.place c.if-meets.true) stacks j (c.meets.ensures.within c.if-meets.true),
-      length-map s.items.items (item_of g.L.StorageT.Id.number g.L.LexemeT.Lexeme.id_of g.L.LexemeT.Lexeme.start_of g.L.LexemeT.Lexeme.len_of g.L.LexemeT.Lexeme.is_faulty),
-    )
+    olds_in_order d s.text.now new edit.removed.start edit.removed.end edit.put.now (items_by g.L.StorageT.Id.number g.L.LexemeT.Lexeme.id_of g.L.LexemeT.Lexeme.start_of g.L.LexemeT.Lexeme.len_of g.L.LexemeT.Lexeme.is_faulty s.items.items) s.boundaries h p.place p.stack.items found p.boundaries p.asked r
+    j (c.meets.ensures.within c.if-meets.true) edit.removed.in_order c.requires.fits.1.0 c.requires.gives (c.meets.ensures.past c.if-meets.true) (c.meets.ensures.place c.if-meets.true) stacks
 
 pub take_over-requires-clause-items : goal.take_over-requires-clause-items
 take_over-requires-clause-items g c =
@@ -87,9 +82,8 @@ take_over-requires-clause-items g c =
     let h = known d s.text.now (items_by g.L.StorageT.Id.number g.L.LexemeT.Lexeme.id_of g.L.LexemeT.Lexeme.start_of g.L.LexemeT.Lexeme.len_of g.L.LexemeT.Lexeme.is_faulty s.items.items) s.boundaries r.initial s.lexed in
     let j = c.meets.new.cursor in
     let stacks : (mark_at s.boundaries j).runs ≡ p.stack.items = c.meets.ensures.stack c.if-meets.true ∙ c.deref-in-tiles.ensures.value in
-    subst (All (IsMovable (mark_at s.boundaries j).place p.place)) (drop-map _ (mark_at s.boundaries j).given s.items.items)
-    (items_movable d s.text.now new edit.removed.start edit.removed.end edit.put.now (items_by g.L.StorageT.Id.number g.L.LexemeT.Lexeme.id_of g.L.LexemeT.Lexeme.start_of g.L.LexemeT.Lexeme.len_of g.L.LexemeT.Lexeme.is_faulty s.items.items) s.boundaries h p.place p.stack.items found p.boundaries p.asked r
-    j (c.meets.ensures.within c.if-meets.true) edit.removed.in_order c.requires.fits.1.0 c.requires.gives (c.meets.ensures.past c.if-meets.true) (c.meets.ensures.place c.if-meets.true) stacks c.tiles.invariant.boundary.0 (omega arith))
+    items_movable d s.text.now new edit.removed.start edit.removed.end edit.put.now (items_by g.L.StorageT.Id.number g.L.LexemeT.Lexeme.id_of g.L.LexemeT.Lexeme.start_of g.L.LexemeT.Lexeme.len_of g.L.LexemeT.Lexeme.is_faulty s.items.items) s.boundaries h p.place p.stack.items found p.boundaries p.asked r
+    j (c.meets.ensures.within c.if-meets.true) edit.removed.in_order c.requires.fits.1.0 c.requires.gives (c.meets.ensures.past c.if-meets.true) (c.meets.ensures.place c.if-meets.true) stacks c.tiles.invariant.boundary.0 (omega arith)
 
 pub take_over-requires-clause-boundaries : goal.take_over-requires-clause-boundaries
 take_over-requires-clause-boundaries g c =
@@ -105,8 +99,7 @@ take_over-requires-clause-boundaries g c =
     let j = c.meets.new.cursor in
     let stacks : (mark_at s.boundaries j).runs ≡ p.stack.items = c.meets.ensures.stack c.if-meets.true ∙ c.deref-in-tiles.ensures.value in
     marks_movable d s.text.now new edit.removed.start edit.removed.end edit.put.now (items_by g.L.StorageT.Id.number g.L.LexemeT.Lexeme.id_of g.L.LexemeT.Lexeme.start_of g.L.LexemeT.Lexeme.len_of g.L.LexemeT.Lexeme.is_faulty s.items.items) s.boundaries h p.place p.stack.items found p.boundaries p.asked r
-    j (c.meets.ensures.within c.if-meets.true) edit.removed.in_order c.requires.fits.1.0 c.requires.gives (c.meets.ensures.past c.if-meets.true) (c.meets.ensures.place c.if-meets.true) stacks (length p.items.items) c.tiles.invariant.boundary.0 (omega arith)
-    (omega (arith, length-map s.items.items (item_of g.L.StorageT.Id.number g.L.LexemeT.Lexeme.id_of g.L.LexemeT.Lexeme.start_of g.L.LexemeT.Lexeme.len_of g.L.LexemeT.Lexeme.is_faulty), s.items.ok.0, s.items.ok.1, s.items.small, p.items.ok.0, p.items.ok.1, p.items.small))
+    j (c.meets.ensures.within c.if-meets.true) edit.removed.in_order c.requires.fits.1.0 c.requires.gives (c.meets.ensures.past c.if-meets.true) (c.meets.ensures.place c.if-meets.true) stacks c.tiles.invariant.boundary.0 (omega arith)
 
 pub finished-requires : goal.finished-requires
 finished-requires g c =
@@ -121,11 +114,10 @@ finished-requires g c =
     let h = known d s.text.now (items_by g.L.StorageT.Id.number g.L.LexemeT.Lexeme.id_of g.L.LexemeT.Lexeme.start_of g.L.LexemeT.Lexeme.len_of g.L.LexemeT.Lexeme.is_faulty s.items.items) s.boundaries r.initial s.lexed in
     let j = c.meets.new.cursor in
     let stacks : (mark_at s.boundaries j).runs ≡ p.stack.items = c.meets.ensures.stack c.if-meets.true ∙ c.deref-in-tiles.ensures.value in
-    let n : length found ≡ length p.items.items = length-map p.items.items _ in
-    let items_is : items_by g.L.StorageT.Id.number g.L.LexemeT.Lexeme.id_of g.L.LexemeT.Lexeme.start_of g.L.LexemeT.Lexeme.len_of g.L.LexemeT.Lexeme.is_faulty c.take_over.new.progress.items.items ≡ found ++ map (rebased (mark_at s.boundaries j).place p.place) (drop (mark_at s.boundaries j).given (items_by g.L.StorageT.Id.number g.L.LexemeT.Lexeme.id_of g.L.LexemeT.Lexeme.start_of g.L.LexemeT.Lexeme.len_of g.L.LexemeT.Lexeme.is_faulty s.items.items)) =
-    c.in_ok-take_over.ensures.items ∙ ap (λ xs. found ++ map (rebased (mark_at s.boundaries j).place p.place) xs) (sym (drop-map _ (mark_at s.boundaries j).given s.items.items)) in
-    let marks_is : c.take_over.new.progress.boundaries ≡ p.boundaries ++ map (moved_mark (mark_at s.boundaries j).place p.place (mark_at s.boundaries j).given (length found)) (drop (j + 1) s.boundaries) =
-    c.in_ok-take_over.ensures.boundaries ∙ ap (λ i. p.boundaries ++ map (moved_mark (mark_at s.boundaries j).place p.place (mark_at s.boundaries j).given i) (drop (j + 1) s.boundaries)) (sym n) in
+    let items_is : items_by g.L.StorageT.Id.number g.L.LexemeT.Lexeme.id_of g.L.LexemeT.Lexeme.start_of g.L.LexemeT.Lexeme.len_of g.L.LexemeT.Lexeme.is_faulty c.take_over.new.progress.items.items ≡ found ++ map (rebased (mark_at s.boundaries j).place p.place) (items_from (mark_at s.boundaries j).place (items_by g.L.StorageT.Id.number g.L.LexemeT.Lexeme.id_of g.L.LexemeT.Lexeme.start_of g.L.LexemeT.Lexeme.len_of g.L.LexemeT.Lexeme.is_faulty s.items.items)) =
+    c.in_ok-take_over.ensures.items in
+    let marks_is : c.take_over.new.progress.boundaries ≡ p.boundaries ++ map (moved_mark (mark_at s.boundaries j).place p.place) (drop (j + 1) s.boundaries) =
+    c.in_ok-take_over.ensures.boundaries in
     let lexed : IsLexed d new (items_by g.L.StorageT.Id.number g.L.LexemeT.Lexeme.id_of g.L.LexemeT.Lexeme.start_of g.L.LexemeT.Lexeme.len_of g.L.LexemeT.Lexeme.is_faulty c.take_over.new.progress.items.items) c.take_over.new.progress.boundaries =
     subst (λ xs. IsLexed d new xs c.take_over.new.progress.boundaries) (sym items_is) (subst (IsLexed d new _) (sym marks_is) (whole d s.text.now new edit.removed.start edit.removed.end edit.put.now (items_by g.L.StorageT.Id.number g.L.LexemeT.Lexeme.id_of g.L.LexemeT.Lexeme.start_of g.L.LexemeT.Lexeme.len_of g.L.LexemeT.Lexeme.is_faulty s.items.items) s.boundaries h p.place p.stack.items found p.boundaries p.asked r
     j (c.meets.ensures.within c.if-meets.true) edit.removed.in_order c.requires.fits.1.0 c.requires.gives (c.meets.ensures.past c.if-meets.true) (c.meets.ensures.place c.if-meets.true) stacks)) in
@@ -144,11 +136,10 @@ returns-then-meets-clause-run g c =
     let h = known d s.text.now (items_by g.L.StorageT.Id.number g.L.LexemeT.Lexeme.id_of g.L.LexemeT.Lexeme.start_of g.L.LexemeT.Lexeme.len_of g.L.LexemeT.Lexeme.is_faulty s.items.items) s.boundaries r.initial s.lexed in
     let j = c.meets.new.cursor in
     let stacks : (mark_at s.boundaries j).runs ≡ p.stack.items = c.meets.ensures.stack c.if-meets.true ∙ c.deref-in-tiles.ensures.value in
-    let n : length found ≡ length p.items.items = length-map p.items.items _ in
-    let items_is : items_by g.L.StorageT.Id.number g.L.LexemeT.Lexeme.id_of g.L.LexemeT.Lexeme.start_of g.L.LexemeT.Lexeme.len_of g.L.LexemeT.Lexeme.is_faulty c.take_over.new.progress.items.items ≡ found ++ map (rebased (mark_at s.boundaries j).place p.place) (drop (mark_at s.boundaries j).given (items_by g.L.StorageT.Id.number g.L.LexemeT.Lexeme.id_of g.L.LexemeT.Lexeme.start_of g.L.LexemeT.Lexeme.len_of g.L.LexemeT.Lexeme.is_faulty s.items.items)) =
-    c.in_ok-take_over.ensures.items ∙ ap (λ xs. found ++ map (rebased (mark_at s.boundaries j).place p.place) xs) (sym (drop-map _ (mark_at s.boundaries j).given s.items.items)) in
-    let marks_is : c.take_over.new.progress.boundaries ≡ p.boundaries ++ map (moved_mark (mark_at s.boundaries j).place p.place (mark_at s.boundaries j).given (length found)) (drop (j + 1) s.boundaries) =
-    c.in_ok-take_over.ensures.boundaries ∙ ap (λ i. p.boundaries ++ map (moved_mark (mark_at s.boundaries j).place p.place (mark_at s.boundaries j).given i) (drop (j + 1) s.boundaries)) (sym n) in
+    let items_is : items_by g.L.StorageT.Id.number g.L.LexemeT.Lexeme.id_of g.L.LexemeT.Lexeme.start_of g.L.LexemeT.Lexeme.len_of g.L.LexemeT.Lexeme.is_faulty c.take_over.new.progress.items.items ≡ found ++ map (rebased (mark_at s.boundaries j).place p.place) (items_from (mark_at s.boundaries j).place (items_by g.L.StorageT.Id.number g.L.LexemeT.Lexeme.id_of g.L.LexemeT.Lexeme.start_of g.L.LexemeT.Lexeme.len_of g.L.LexemeT.Lexeme.is_faulty s.items.items)) =
+    c.in_ok-take_over.ensures.items in
+    let marks_is : c.take_over.new.progress.boundaries ≡ p.boundaries ++ map (moved_mark (mark_at s.boundaries j).place p.place) (drop (j + 1) s.boundaries) =
+    c.in_ok-take_over.ensures.boundaries in
     let lexed : IsLexed d new (items_by g.L.StorageT.Id.number g.L.LexemeT.Lexeme.id_of g.L.LexemeT.Lexeme.start_of g.L.LexemeT.Lexeme.len_of g.L.LexemeT.Lexeme.is_faulty c.take_over.new.progress.items.items) c.take_over.new.progress.boundaries =
     subst (λ xs. IsLexed d new xs c.take_over.new.progress.boundaries) (sym items_is) (subst (IsLexed d new _) (sym marks_is) (whole d s.text.now new edit.removed.start edit.removed.end edit.put.now (items_by g.L.StorageT.Id.number g.L.LexemeT.Lexeme.id_of g.L.LexemeT.Lexeme.start_of g.L.LexemeT.Lexeme.len_of g.L.LexemeT.Lexeme.is_faulty s.items.items) s.boundaries h p.place p.stack.items found p.boundaries p.asked r
     j (c.meets.ensures.within c.if-meets.true) edit.removed.in_order c.requires.fits.1.0 c.requires.gives (c.meets.ensures.past c.if-meets.true) (c.meets.ensures.place c.if-meets.true) stacks)) in

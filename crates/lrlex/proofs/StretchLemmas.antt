@@ -1,0 +1,105 @@
+-- Which stretch a boundary is in.
+use Rattle.std.proofs.Common.{◌≡◌, ℕ, zero, suc, ◌+◌, ◌-◌, ◌<◌, ◌≤◌, ◌≢◌, Bool, true, false, cond, leb, List, [], ◌∷◌, ◌++◌, All, Some, slice_get, length, take, drop, get_or, refl, sym, ap, ◌∙◌, arith, inl, inr, ◌⊎◌, take-append-drop, length-drop}
+use Rattle.std.proofs.lemmas.Bool.{cases_lt, le-leb, lt-leb}
+use Rattle.std.proofs.lemmas.List.{get_or-drop, get_or_default}
+use Rattle.std.proofs.lemmas.List.Elements.{All-head, All-tail, All-more, All-weaker}
+use Rattle.std.specs.List.Sorted.{IsPartitionedBy}
+use Rattle.std.proofs.lemmas.List.Sorted.{IsPartitionedBy-leb}
+use Rattle.lrlex.specs.Ranges.{AreBegun, AreRising, no_stretch, last_stretch, begun_by, stretch_at}
+use Rattle.lrlex.specs.declared.lexer.boundary.Stretch.{Stretch}
+
+pub last_stretch-some : (b s : Stretch) (ss : List Stretch) → slice_get ss (length ss - 1) ≡ Some s → last_stretch b ss ≡ s
+last_stretch-some b s [] h = cc
+last_stretch-some b s (x ∷ []) h = cc
+last_stretch-some b s (x ∷ y ∷ ss) h =
+    let n : length (x ∷ y ∷ ss) - 1 ≡ suc (length (y ∷ ss) - 1) = omega arith in
+    last_stretch-some x s (y ∷ ss) (ap (slice_get (x ∷ y ∷ ss)) (sym n) ∙ h)
+
+pub last_stretch-All : (P : Stretch → Type 0) (b : Stretch) (ss : List Stretch) → P b → All P ss → P (last_stretch b ss)
+last_stretch-All P b [] here h = here
+last_stretch-All P b (s ∷ ss) here h = last_stretch-All P s ss (All-head P s ss h) (All-tail P s ss h)
+
+either : (P : Stretch → Type 0) (a b : Stretch) (t : Bool) → P a → P b → P (cond t a b)
+either P a b true x y = x
+either P a b false x y = y
+
+pub begun_by-All : (P : Stretch → Type 0) (b : Stretch) (ss : List Stretch) (k : ℕ) → P b → All P ss → P (begun_by b ss k)
+begun_by-All P b [] k here h = here
+begun_by-All P b (s ∷ ss) k here h =
+    begun_by-All P (cond (leb s.from k) s b) ss k (either P s b (leb s.from k) (All-head P s ss h) here) (All-tail P s ss h)
+
+pub begun_by-append : (b : Stretch) (xs ys : List Stretch) (k : ℕ) → begun_by b (xs ++ ys) k ≡ begun_by (begun_by b xs k) ys k
+begun_by-append b [] ys k = refl
+begun_by-append b (x ∷ xs) ys k = begun_by-append (cond (leb x.from k) x b) xs ys k
+
+pub begun_by-all : (b : Stretch) (ss : List Stretch) (k : ℕ) → All (λ s. s.from ≤ k) ss → begun_by b ss k ≡ last_stretch b ss
+begun_by-all b [] k h = refl
+begun_by-all b (s ∷ ss) k h =
+    ap (λ t. begun_by (cond t s b) ss k) (le-leb s.from k (All-head (λ s. s.from ≤ k) s ss h))
+    ∙ begun_by-all s ss k (All-tail (λ s. s.from ≤ k) s ss h)
+
+pub begun_by-none : (b : Stretch) (ss : List Stretch) (k : ℕ) → All (λ s. k < s.from) ss → begun_by b ss k ≡ b
+begun_by-none b [] k h = refl
+begun_by-none b (s ∷ ss) k h =
+    ap (λ t. begun_by (cond t s b) ss k) (lt-leb s.from k (All-head (λ s. k < s.from) s ss h))
+    ∙ begun_by-none b ss k (All-tail (λ s. k < s.from) s ss h)
+
+pub stretch_at-begun : {ss : List Stretch} {n k : ℕ} → AreBegun ss n k → stretch_at ss k ≡ last_stretch no_stretch (take n ss)
+stretch_at-begun {ss} {n} {k} h =
+    ap (λ xs. stretch_at xs k) (sym (take-append-drop n ss)) ∙ begun_by-append no_stretch (take n ss) (drop n ss) k
+    ∙ begun_by-none (begun_by no_stretch (take n ss) k) (drop n ss) k h.later ∙ begun_by-all no_stretch (take n ss) k h.begun
+
+-- the last of so many
+pub last_of_front : (b : Stretch) (ss : List Stretch) (n : ℕ) (d : Stretch) → n < length ss → last_stretch b (take (n + 1) ss) ≡ get_or ss n d
+last_of_front b [] n d lt = absurd (omega arith)
+last_of_front b (s ∷ ss) zero d lt = refl
+last_of_front b (s ∷ ss) (suc n) d lt =
+    let e : suc n + 1 ≡ suc (n + 1) = omega arith in
+    ap (λ i. last_stretch b (take i (s ∷ ss))) e ∙ last_of_front s ss n d (omega arith)
+
+-- one more stretch
+pub stretch_at-before : (ss : List Stretch) (s : Stretch) (k : ℕ) → k < s.from → stretch_at (ss ++ s ∷ []) k ≡ stretch_at ss k
+stretch_at-before ss s k lt =
+    begun_by-append no_stretch ss (s ∷ []) k ∙ ap (λ t. cond t s (stretch_at ss k)) (lt-leb s.from k lt)
+
+pub stretch_at-last : (ss : List Stretch) (s : Stretch) (k : ℕ) → s.from ≤ k → stretch_at (ss ++ s ∷ []) k ≡ s
+stretch_at-last ss s k le =
+    begun_by-append no_stretch ss (s ∷ []) k ∙ ap (λ t. cond t s (stretch_at ss k)) (le-leb s.from k le)
+
+-- a later stretch doesn't begin before
+not_before : (ss : List Stretch) (i j : ℕ) (d : Stretch) → AreRising ss → i ≤ j → j < length ss → (i < j) ⊎ (j ≤ i) → (get_or ss i d).from ≤ (get_or ss j d).from
+not_before ss i j d h le within (inl lt) = omega (arith, h i j d lt within)
+not_before ss i j d h le within (inr ge) =
+    let same : i ≡ j = omega arith in
+    omega (arith, ap (λ n. (get_or ss n d).from) same)
+
+-- what halving asks
+pub rising_partitioned : (ss : List Stretch) (k : ℕ) → AreRising ss → IsPartitionedBy (λ s. leb s.from k) ss
+rising_partitioned ss k h = IsPartitionedBy-leb (λ s. s.from) ss k (λ i j d le within. not_before ss i j d h le within (cases_lt i j))
+
+-- the next boundary, where a stretch begins
+pub begun_more : {ss : List Stretch} {n k next : ℕ} (d : Stretch) → AreRising ss → AreBegun ss n k → n < length ss → (get_or ss n d).from ≡ next → next ≡ k + 1 → AreBegun ss (n + 1) next
+begun_more {ss} {n} {k} {next} d rising h lt is e = record {
+  within = omega arith;
+  begun = All-more (λ s. s.from ≤ next) ss n d lt (All-weaker (λ s. s.from ≤ k) (λ s. s.from ≤ next) (λ s le. omega arith) (take n ss) h.begun) (omega arith);
+  later = λ j d' within.
+      let at = get_or-drop (n + 1) ss j d' in
+      let same = get_or_default ss n d d' lt in
+      let above = rising n (n + 1 + j) d' (omega arith) (omega (arith, length-drop (n + 1) ss)) in
+      omega (arith, ap (λ s. s.from) at, ap (λ s. s.from) same);
+}
+
+-- the next boundary, where none begins
+pub begun_same : {ss : List Stretch} {n k next : ℕ} → AreRising ss → AreBegun ss n k → ((d : Stretch) → n < length ss → (get_or ss n d).from ≢ next) → next ≡ k + 1 → AreBegun ss n next
+begun_same {ss} {n} {k} {next} rising h none e = record {
+  within = h.within;
+  begun = All-weaker (λ s. s.from ≤ k) (λ s. s.from ≤ next) (λ s le. omega arith) (take n ss) h.begun;
+  later = λ j d within.
+      let long = length-drop n ss in
+      let front : n + 0 ≡ n = omega arith in
+      let first = get_or-drop n ss 0 d ∙ ap (λ i. get_or ss i d) front in
+      let at = get_or-drop n ss j d in
+      let later = h.later 0 d (omega arith) in
+      let above = not_before ss n (n + j) d rising (omega arith) (omega arith) (cases_lt n (n + j)) in
+      omega (arith, ap (λ s. s.from) at, ap (λ s. s.from) first, none d (omega arith));
+}

@@ -1,0 +1,16 @@
+use Rattle.std.proofs.Common.{rules, of_calls, ◌-◌, length, drop, map, sym, ap, ◌∙◌, arith}
+use Rattle.std.proofs.lemmas.List.{take_all, length-drop}
+use Rattle.std.proofs.lemmas.List.Sorted.{IsPartitionPoint-from_clause}
+use Rattle.lrlex.specs.Edits.{begins_before}
+use Rattle.lrlex.specs.Views.{item_of}
+use Rattle.lrlex.proofs.WithinLemmas.{in_order_of, from_point}
+use Rattle.lrlex.proofs.lexer.relexing.items_from.Goals as goal
+
+pub returns : goal.returns
+returns g c =
+    let view = item_of g.L.StorageT.Id.number g.L.LexemeT.Lexeme.id_of g.L.LexemeT.Lexeme.start_of g.L.LexemeT.Lexeme.len_of g.L.LexemeT.Lexeme.is_faulty in
+    let xs = c.args.items.now in
+    let n = c.partition_point-before.result in
+    let point = IsPartitionPoint-from_clause (λ x. begins_before c.args.place (view x)) xs n c.partition_point-before.ensures.partitioned (in_order_of view c.args.place xs c.requires) (λ a r f k. search (rules, of_calls)) in
+    ap (map view) (take_all (length xs - n) (drop n xs) (omega (arith, length-drop n xs)))
+    ∙ sym (from_point view c.args.place xs n c.partition_point-before.ensures.bound (λ k d lt. point.0 k d (omega arith) lt) (λ k d ge lt. point.1 k d ge lt))
