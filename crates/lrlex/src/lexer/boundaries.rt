@@ -158,8 +158,10 @@ impl Boundaries {
     {
         let from = old.place(index);
         let len = old.len();
-        self.places.reserve(len - index)?;
         let mut entered = begun(&old.stretches, index);
+        self.places.reserve(len - index)?;
+        self.stretches.reserve(old.stretches.len() - entered)?;
+        self.runs.reserve(old.runs.len())?;
         'tail: for next in index + 1..len {
             let place = old.place(next) - from + to;
             if entered < old.stretches.len() && old.stretches[entered].from == next {
