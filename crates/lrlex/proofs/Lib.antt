@@ -19,3 +19,5 @@ pub mod TailLemmas
 pub mod TilingLemmas
 pub mod ViewLemmas
 pub mod WithinLemmas
+pub mod TableLemmas
+pub mod MatcherLemmas

@@ -18,3 +18,8 @@ definition_of-parts number d file rules states flags = rw (rules, states, flags)
 pub has_initial : (states : List StartState) → slice_get states 0 ≡ Some initial → list_any (λ s. s.id == 0) states ≡ true
 has_initial [] h = cc
 has_initial (s ∷ more) h = subst (λ (x : StartState). list_any (λ y. y.id == 0) (x ∷ more) ≡ true) (sym (same_Some _ _ h)) refl
+
+-- the same parts make the same definition
+pub same_definition : {L X S E P Q : Type 0} (number : S → ℕ) (a b : LRNonStreamingLexerDef L X S E P Q) → a.table.rules ≡ b.table.rules → a.table.start_states ≡ b.table.start_states → a.flags ≡ b.flags →
+    definition_of number a ≡ definition_of number b
+same_definition number a b rules states flags = simp (rules, states, flags)

@@ -15,6 +15,7 @@ pub use lrlex_rules::{
     DEFAULT_LEX_FLAGS, LexBuildError, LexBuildResult, LexErrorKind, LexFlags, Rule, StartState,
     StartStateId, StartStateOperation, UNSPECIFIED_LEX_FLAGS,
 };
+pub use lrlex_table::Budget;
 
 /// The usual types of a lexer, with this crate's error.
 pub type DefaultLexerTypes<T = u32> = lrlex_base::DefaultLexerTypes<T, LRLexError>;

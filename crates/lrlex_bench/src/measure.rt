@@ -158,10 +158,16 @@ fn tell_sizes<T: Id>(
     let bytes = text.len();
     let rules = definition.rules().len();
     let states = definition.iter_start_states().count();
-    let ms = built.as_millis();
+    let tables = definition.tables();
+    let rows = definition.table_rows();
+    let asked = definition.asked_rules();
+    let ms = Hundredths::of(built.as_nanos(), 1_000_000);
     println!(rt; "bytes: {bytes}")?;
     println!(rt; "rules: {rules}")?;
     println!(rt; "states: {states}")?;
+    println!(rt; "tables: {tables}")?;
+    println!(rt; "rows of tables: {rows}")?;
+    println!(rt; "rules without a table: {asked}")?;
     println!(rt; "build ms: {ms}")?;
     Ok(())
 }

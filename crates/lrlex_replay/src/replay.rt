@@ -5,7 +5,7 @@ use crate::reading::{Trouble, text_in};
 use crate::showing::{
     faults_value, items_value, places_value, rules_value, sets_value, states_value,
 };
-use lrlex::LexerDef;
+use lrlex::{Budget, LexerDef};
 use lrlex_base::Id;
 use serde_json::Value;
 use std::alloc::Global;
@@ -52,11 +52,14 @@ fn compare_definition<T: Id>(
     compare_run(alloc, case, definition, findings)
 }
 
+/// Replays a case twice where there is a definition: by its tables, and without any, so that each rule is asked.
 fn replay_with<T: Id>(alloc: Global, case: &Value) -> Result<Findings, Trouble> {
     let mut findings = Findings::new(alloc);
     match build::<T>(alloc, case)? {
         Built::Whole(mut definition) => {
             compare_definition(alloc, case, &mut definition, &mut findings)?;
+            let asking = definition.with_budget(alloc, Budget::new(0, 0))?;
+            compare_run(alloc, case, &asking, &mut findings)?;
         }
         Built::Faulty(faults) => {
             findings.compare(alloc, case, "faults", &faults_value(alloc, &faults)?)?;

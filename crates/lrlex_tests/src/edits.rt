@@ -3,8 +3,8 @@ ghost use Rattle.std.specs.Prelude.{◌≡◌, IfOk, IfSome};
 
 use crate::shown::{DefinitionOver, items_text};
 use lrlex::{
-    DEFAULT_LEX_FLAGS, DefaultLexeme, DefaultLexerTypes, LRLexError, LexRun, LexerDef, Rule,
-    StartState, StartStateOperation,
+    Budget, DEFAULT_LEX_FLAGS, DefaultLexeme, DefaultLexerTypes, LRLexError, LexRun, LexerDef,
+    Rule, StartState, StartStateOperation,
 };
 use lrlex_base::{Edit, Id, LexError, Lexeme, Span};
 use std::alloc::{AllocError, Global};
@@ -643,11 +643,18 @@ fn four_edits<T: Id>(
     two_edits(alloc, &run_3, definition, random, third.as_str(), tally)
 }
 
-/// So many times four edits, from the empty text on. None where the rules are refused or an edit doesn't fit.
-fn many_edits<T: Id>(alloc: Global, seed: u64, times: u32) -> Result<Option<Tally>, AllocError> {
-    let Ok(definition) = DefinitionOver::<T>::from_str(alloc, STATES)? else {
+/// So many times four edits, from the empty text on, by tables within this budget. None where the rules are refused or an
+/// edit doesn't fit.
+fn many_edits<T: Id>(
+    alloc: Global,
+    seed: u64,
+    times: u32,
+    budget: Budget,
+) -> Result<Option<Tally>, AllocError> {
+    let Ok(built) = DefinitionOver::<T>::from_str(alloc, STATES)? else {
         return Ok(None);
     };
+    let definition = built.with_budget(alloc, budget)?;
     let mut random = Random { state: seed };
     let mut tally = Tally {
         edits: 0,
@@ -669,11 +676,15 @@ fn many_edits<T: Id>(alloc: Global, seed: u64, times: u32) -> Result<Option<Tall
 
 #[test]
 fn edits_made_by_chance(rt: HostRuntime) -> Result<(), Fail> {
-    let Some(tally) = many_edits::<u32>(rt.alloc(), 2024, 2_500)? else {
-        panic!(rt; "the rules are refused, or an edit doesn't fit");
-    };
-    assert_eq!(rt; tally.edits, 10_000);
-    assert_eq!(rt; tally.differ, 0);
-    assert_eq!(rt; tally.asked_more, 0);
+    // by tables, and by asking each rule
+    for (rows, times) in [(8_000, 2_500), (0, 500)] {
+        let budget = Budget::new(rows, 40_000_000);
+        let Some(tally) = many_edits::<u32>(rt.alloc(), 2024, times, budget)? else {
+            panic!(rt; "the rules are refused, or an edit doesn't fit");
+        };
+        assert_eq!(rt; tally.edits, times as usize * 4);
+        assert_eq!(rt; tally.differ, 0);
+        assert_eq!(rt; tally.asked_more, 0);
+    }
     Ok(())
 }

@@ -15,4 +15,6 @@ mod parts;
 #[cfg(test)]
 mod shown;
 #[cfg(test)]
+mod tables;
+#[cfg(test)]
 mod texts;

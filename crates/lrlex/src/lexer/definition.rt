@@ -1,19 +1,33 @@
-ghost use Rattle.std.specs.Prelude.{◌≡◌, map, true};
+ghost use Rattle.std.specs.Prelude.{◌≡◌, ◌<◌, All, length, map, true};
 ghost use Rattle.lrlex.specs.Active.{active_places, is_state, lacks_target};
 ghost use Rattle.lrlex_rules.specs.Parts.{as_rule, as_state};
+ghost use Rattle.lrlex.specs.Tables.{AreServed};
 
 use crate::lexer::active::{active_places, has_state, position_of};
+use crate::lexer::tables::tables_for;
 use lrlex_base::LexerTypes;
 use lrlex_rules::{LexFlags, Rule, StartState};
+use lrlex_table::{Budget, Tables};
 use std::alloc::{AllocError, Global};
 
-/// Rules and start states, with the places of the rules that are active in each state.
+/// What the tables of a definition may cost: rows, of some 512 bytes each, and work, in units of about a nanosecond.
+const MOST_ROWS: usize = 8_000;
+
+const MOST_WORK: usize = 40_000_000;
+
+/// Rules and start states, with the places of the rules that are active in each state, and their tables.
 #[derive(Drop)]
 pub(crate) struct RuleTable<S> {
     pub(crate) rules: Vec<Rule<S>>,
     pub(crate) start_states: Vec<StartState>,
     active: Vec<Vec<usize>>,
+    tables: Vec<Tables>,
+    /// Which of the tables each state has.
+    tables_at: Vec<usize>,
     ghost lists: { map (λ v. v.items) active.items ≡ map (λ s. active_places (map as_state start_states.items) (map (as_rule (λ _. 0)) rules.items) (as_state s).id) start_states.items },
+    ghost served: { ∥ AreServed rules.items (map (λ v. v.items) active.items) tables.items tables_at.items ∥₁ },
+    ghost each: { length tables_at.items ≡ length start_states.items },
+    ghost within: { All (λ j. j < length tables.items) tables_at.items },
 }
 
 /// The rules, start states and flags of a lexer.
@@ -26,6 +40,8 @@ pub struct LRNonStreamingLexerDef<L: LexerTypes> {
 impl<L: LexerTypes> LRNonStreamingLexerDef<L> {
     ghost use Rattle.lrlex.specs.Views.{definition_of};
     ghost use Rattle.std.specs.Prelude.{Some, option_map, IfOk};
+    ghost use Rattle.lrlex_table.specs.Tables.{AreTablesOf};
+    ghost use Rattle.lrlex.specs.Tables.{patterns_on};
 
     /// Just these start states, rules and flags, in order.
     pub(crate) fn of_parts(
@@ -38,17 +54,80 @@ impl<L: LexerTypes> LRNonStreamingLexerDef<L> {
         ensures states { IfOk result (λ d. d.table.start_states ≡ start_states) }
         ensures flags { IfOk result (λ d. d.flags ≡ flags) }
     {
+        let budget = Budget::new(MOST_ROWS, MOST_WORK);
+        Self::within_budget(alloc, start_states, rules, flags, budget)
+    }
+
+    /// The same, with tables that cost no more than this.
+    fn within_budget(
+        alloc: Global,
+        start_states: Vec<StartState>,
+        rules: Vec<Rule<L::StorageT>>,
+        flags: LexFlags,
+        budget: Budget,
+    ) -> Result<Self, AllocError>
+        ensures rules { IfOk result (λ d. d.table.rules ≡ rules) }
+        ensures states { IfOk result (λ d. d.table.start_states ≡ start_states) }
+        ensures flags { IfOk result (λ d. d.flags ≡ flags) }
+    {
         let mut active = Vec::with_capacity(alloc, start_states.len())?;
         'states: for index in 0..start_states.len() {
             let id = start_states[index].id();
             active.push(active_places(alloc, &start_states, &rules, id)?)?;
         }
+        let (tables, tables_at) = tables_for(alloc, &rules, &active, budget)?;
         let table = RuleTable {
             rules,
             start_states,
             active,
+            tables,
+            tables_at,
         };
         Ok(LRNonStreamingLexerDef { table, flags })
+    }
+
+    /// The same definition, with tables that cost no more than this. Under a budget of nothing each rule is asked by
+    /// itself. No answer changes.
+    pub fn with_budget(self, alloc: Global, budget: Budget) -> Result<Self, AllocError>
+        ensures { IfOk result (λ d. definition_of L.StorageT.number d ≡ definition_of L.StorageT.number self) }
+    {
+        let LRNonStreamingLexerDef { table, flags } = self;
+        let RuleTable {
+            rules,
+            start_states,
+            active: _,
+            tables: _,
+            tables_at: _,
+        } = table;
+        let definition = Self::within_budget(alloc, start_states, rules, flags, budget)?;
+        Ok(definition)
+    }
+
+    /// How many tables the start states have: states with the same rules share theirs.
+    pub fn tables(&self) -> usize {
+        let mut tables = 0usize;
+        for of_state in &self.table.tables {
+            tables = tables.saturating_add(of_state.count());
+        }
+        tables
+    }
+
+    /// How many rows all tables have, of some 512 bytes each.
+    pub fn table_rows(&self) -> usize {
+        let mut rows = 0usize;
+        for of_state in &self.table.tables {
+            rows = rows.saturating_add(of_state.rows());
+        }
+        rows
+    }
+
+    /// How many rules have no table, in all lists of rules that are active in a state.
+    pub fn asked_rules(&self) -> usize {
+        let mut asked = 0usize;
+        for of_state in &self.table.tables {
+            asked = asked.saturating_add(of_state.asked().len());
+        }
+        asked
     }
 
     /// The flags of the rule text, with their defaults.
@@ -74,6 +153,16 @@ impl<L: LexerTypes> LRNonStreamingLexerDef<L> {
             Some(index) => &self.table.active[index],
             None => &[],
         }
+    }
+
+    /// The tables of the rules that are active in the first state with the id.
+    pub(crate) fn tables_in(&self, id: usize) -> &Tables
+        requires { is_state (definition_of L.StorageT.number self.now) id ≡ true }
+        ensures { ∥ AreTablesOf (patterns_on (definition_of L.StorageT.number self.now).rules
+            (active_places (definition_of L.StorageT.number self.now).states (definition_of L.StorageT.number self.now).rules id)) result.now ∥₁ }
+    {
+        let index = position_of(&self.table.start_states, id).unwrap_or(0);
+        &self.table.tables[self.table.tables_at[index]]
     }
 
     /// Whether the rule's target is no state.

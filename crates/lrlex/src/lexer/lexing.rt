@@ -5,7 +5,8 @@ ghost use Rattle.lrlex.specs.Tiling.{Error, stack_after, lexeme_of};
 ghost use Rattle.lrlex.specs.Runs.{plain, AreRuns};
 ghost use Rattle.lrlex.specs.Marks.{Mark, last_runs};
 ghost use Rattle.lrlex.specs.Reach.{Reached, IsLexed, searches};
-ghost use Rattle.lrlex.specs.Views.{definition_of, ArePaired, item_of, items_by};
+ghost use Rattle.lrlex.specs.Tables.{AreMatchers};
+ghost use Rattle.lrlex.specs.Views.{definition_of, item_of, items_by};
 
 use crate::errors::LRLexError;
 use crate::lexer::active::{lacks_id, lexeme_id};
@@ -112,18 +113,19 @@ fn enter<L: LexerTypes>(
 }
 
 /// Takes the tile at the place, and answers whether lexing goes on after it.
-pub(crate) fn advance<L: LexerTypes>(
-    definition: &LRNonStreamingLexerDef<L>,
+pub(crate) fn advance<'d, L: LexerTypes>(
+    alloc: Global,
+    definition: &'d LRNonStreamingLexerDef<L>,
     text: &str,
-    matchers: &mut [Matcher<'_>],
+    matchers: &mut [Option<Matcher<'d>>],
     progress: &mut Progress<L>,
 ) -> Result<bool, AllocError>
     requires inside { progress.old.place < length text.now }
     requires boundary { IsCharBoundary text.now progress.old.place }
-    requires paired { ArePaired matchers.old definition.now.table.rules.items }
+    requires matchers { AreMatchers definition.now.table.rules.items matchers.old }
     requires reached { Reached (definition_of L.StorageT.number definition.now) text.now progress.old.place progress.old.stack.items
         (items_by L.StorageT.number L.LexemeT.id_of L.LexemeT.start_of L.LexemeT.len_of L.LexemeT.is_faulty progress.old.items.items) progress.old.boundaries progress.old.asked }
-    ensures paired { ArePaired matchers.new definition.now.table.rules.items }
+    ensures matchers { IfOk result (λ _. AreMatchers definition.now.table.rules.items matchers.new) }
     ensures goes_on { IfOk result (λ on. on ≡ true → Reached (definition_of L.StorageT.number definition.now) text.now progress.new.place progress.new.stack.items
         (items_by L.StorageT.number L.LexemeT.id_of L.LexemeT.start_of L.LexemeT.len_of L.LexemeT.is_faulty progress.new.items.items) progress.new.boundaries progress.new.asked) }
     ensures boundary { IfOk result (λ on. on ≡ true → IsCharBoundary text.now progress.new.place) }
@@ -137,7 +139,15 @@ pub(crate) fn advance<L: LexerTypes>(
     let place = progress.place;
     let state = top_of(&progress.stack);
     let rest = &text[place..];
-    let Some(tile) = winner(definition, state, matchers, rest, &mut progress.asked) else {
+    let won = winner(
+        alloc,
+        definition,
+        state,
+        matchers,
+        rest,
+        &mut progress.asked,
+    )?;
+    let Some(tile) = won else {
         give_error::<L>(&mut progress.items, place, Some(state))?;
         return Ok(false);
     };

@@ -14,7 +14,7 @@ use crate::errors::LRLexError;
 use crate::lexer::boundaries::Boundaries;
 use crate::lexer::lexing::{Progress, advance, begin};
 use crate::lexer::run::{LexRun, finished, refused};
-use crate::lexer::searching::matchers_of;
+use crate::lexer::searching::no_matchers;
 use lrlex_base::{Edit, LexError, Lexeme, LexerTypes, Span};
 use std::alloc::{AllocError, Global};
 
@@ -214,7 +214,7 @@ impl<'lexer, L: LexerTypes<LexErrorT = LRLexError>> LexRun<'lexer, '_, L> {
         if !definition.is_state(0) {
             return refused(alloc, definition, new);
         }
-        let mut matchers = matchers_of(alloc, &definition.table.rules)?;
+        let mut matchers = no_matchers(alloc, &definition.table.rules)?;
         let mut progress = begin(alloc, definition, new)?;
         let mut cursor = 0usize;
         'tiles: while progress.place < new.len() {
@@ -228,7 +228,7 @@ impl<'lexer, L: LexerTypes<LexErrorT = LRLexError>> LexRun<'lexer, '_, L> {
                 take_over(self, cursor, &mut progress)?;
                 return Ok(finished(definition, new, progress));
             }
-            if !advance(definition, new, &mut matchers, &mut progress)? {
+            if !advance(alloc, definition, new, &mut matchers, &mut progress)? {
                 return Ok(finished(definition, new, progress));
             }
         }

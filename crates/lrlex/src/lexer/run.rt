@@ -9,7 +9,7 @@ use crate::errors::LRLexError;
 use crate::lexer::boundaries::Boundaries;
 use crate::lexer::definition::LRNonStreamingLexerDef;
 use crate::lexer::lexing::{Progress, advance, begin, give_error};
-use crate::lexer::searching::matchers_of;
+use crate::lexer::searching::no_matchers;
 use lrlex_base::LexerTypes;
 use std::alloc::{AllocError, Global};
 
@@ -148,10 +148,10 @@ impl<L: LexerTypes<LexErrorT = LRLexError>> LRNonStreamingLexerDef<L> {
         if !self.is_state(0) {
             return refused(alloc, self, text);
         }
-        let mut matchers = matchers_of(alloc, &self.table.rules)?;
+        let mut matchers = no_matchers(alloc, &self.table.rules)?;
         let mut progress = begin(alloc, self, text)?;
         'tiles: while progress.place < text.len() {
-            if !advance(self, text, &mut matchers, &mut progress)? {
+            if !advance(alloc, self, text, &mut matchers, &mut progress)? {
                 return Ok(finished(self, text, progress));
             }
         }

@@ -1,11 +1,12 @@
-ghost use Rattle.std.specs.Prelude.{◌≡◌, ◌+◌, ◌^◌, ◌<◌, ◌≤◌, true, vec_len, IfOk, IfSome, MatchOption, IsCharBoundary};
+ghost use Rattle.std.specs.Prelude.{◌≡◌, ◌+◌, ◌^◌, ◌<◌, ◌≤◌, ◌⊎◌, true, false, vec_len, IfOk, IfSome, MatchOption, IsCharBoundary};
 ghost use Rattle.regex.specs.Patterns.{SameCaptures};
 ghost use Rattle.regex.specs.Strings.{matcher_pattern};
 ghost use Rattle.lrlex_rules.specs.Patterns.{match_length, pattern_of};
 ghost use Rattle.lrlex.specs.Active.{active_count, is_state};
 ghost use Rattle.lrlex.specs.Tiling.{Wins, IsStuck};
 ghost use Rattle.lrlex_rules.specs.Parts.{as_rule};
-ghost use Rattle.lrlex.specs.Views.{definition_of, ArePaired};
+ghost use Rattle.lrlex.specs.Tables.{IsMatcherOf, AreMatchers};
+ghost use Rattle.lrlex.specs.Views.{definition_of};
 
 use crate::lexer::definition::LRNonStreamingLexerDef;
 use lrlex_base::{Id, LexerTypes};
@@ -40,48 +41,97 @@ fn ask<S: Id>(matcher: &mut Matcher<'_>, rule: &Rule<S>, text: &str, asked: &mut
     }
 }
 
-/// A matcher for each rule.
-pub(crate) fn matchers_of<'d, S: Id>(
+/// The same, by a matcher that is made where there is none yet.
+fn ask_by<'d, S: Id>(
     alloc: Global,
-    rules: &'d [Rule<S>],
-) -> Result<Vec<Matcher<'d>>, AllocError>
-    ensures { IfOk result (λ m. ArePaired m.items rules.now) }
-{
-    let mut matchers = Vec::with_capacity(alloc, rules.len())?;
-    'rules: for index in 0..rules.len() {
-        matchers.push(rules[index].matcher(alloc)?)?;
-    }
-    Ok(matchers)
-}
-
-/// The rule that wins at the beginning of the text, among those that are active in the state.
-pub(crate) fn winner<L: LexerTypes>(
-    definition: &LRNonStreamingLexerDef<L>,
-    state: usize,
-    matchers: &mut [Matcher<'_>],
+    slot: &mut Option<Matcher<'d>>,
+    rule: &'d Rule<S>,
     text: &str,
     asked: &mut u128,
-) -> Option<Tile>
+) -> Result<usize, AllocError>
+    requires slot { IsMatcherOf rule.now slot.old }
+    requires room { asked.old + 1 < 2 ^ 128 }
+    ensures length { IfOk result (λ n. n ≡ match_length (pattern_of (as_rule S.number rule.now)) text.now) }
+    ensures boundary { IfOk result (λ n. IsCharBoundary text.now n) }
+    ensures counted { IfOk result (λ _. asked.new ≡ asked.old + 1) }
+    ensures slot { IsMatcherOf rule.now slot.new }
+{
+    let mut matcher = match slot.take() {
+        Some(matcher) => matcher,
+        None => rule.matcher(alloc)?,
+    };
+    let len = ask(&mut matcher, rule, text, asked);
+    *slot = Some(matcher);
+    Ok(len)
+}
+
+/// Room for a matcher of each rule, where none is made yet.
+pub(crate) fn no_matchers<'d, S: Id>(
+    alloc: Global,
+    rules: &'d [Rule<S>],
+) -> Result<Vec<Option<Matcher<'d>>>, AllocError>
+    ensures { IfOk result (λ made. AreMatchers rules.now made.items) }
+{
+    let mut made = Vec::with_capacity(alloc, rules.len())?;
+    'rules: for _index in 0..rules.len() {
+        made.push(None)?;
+    }
+    Ok(made)
+}
+
+/// Whether a rule that takes so many bytes is better than the best so far: it takes more, or as many and stands earlier.
+#[inline(always)]
+fn is_better(rule: usize, len: usize, best: Tile) -> bool
+    ensures better { result ≡ true → (best.len < len) ⊎ ((len ≡ best.len) × (rule < best.rule)) }
+    ensures no_more { result ≡ false → len ≤ best.len }
+    ensures later { result ≡ false → len ≡ best.len → best.rule ≤ rule }
+{
+    len > best.len || (len == best.len && rule < best.rule)
+}
+
+/// The rule that wins at the beginning of the text, among those that are active in the state: the tables tell the best of
+/// the rules that have one, and the others are asked.
+pub(crate) fn winner<'d, L: LexerTypes>(
+    alloc: Global,
+    definition: &'d LRNonStreamingLexerDef<L>,
+    state: usize,
+    matchers: &mut [Option<Matcher<'d>>],
+    text: &str,
+    asked: &mut u128,
+) -> Result<Option<Tile>, AllocError>
     requires state { is_state (definition_of L.StorageT.number definition.now) state ≡ true }
-    requires paired { ArePaired matchers.old definition.now.table.rules.items }
+    requires matchers { AreMatchers definition.now.table.rules.items matchers.old }
     requires room { asked.old + vec_len definition.now.table.rules < 2 ^ 128 }
-    ensures winner { MatchOption result (IsStuck (definition_of L.StorageT.number definition.now) state text.now)
-        (λ t. Wins (definition_of L.StorageT.number definition.now) state text.now t.rule t.len) }
-    ensures boundary { IfSome result (λ t. IsCharBoundary text.now t.len) }
-    ensures rule { IfSome result (λ t. t.rule < vec_len definition.now.table.rules) }
-    ensures counted { asked.new ≤ asked.old + active_count (definition_of L.StorageT.number definition.now) state }
-    ensures same { ArePaired matchers.new definition.now.table.rules.items }
+    ensures winner { IfOk result (λ o. MatchOption o (IsStuck (definition_of L.StorageT.number definition.now) state text.now)
+        (λ t. Wins (definition_of L.StorageT.number definition.now) state text.now t.rule t.len)) }
+    ensures boundary { IfOk result (λ o. IfSome o (λ t. IsCharBoundary text.now t.len)) }
+    ensures rule { IfOk result (λ o. IfSome o (λ t. t.rule < vec_len definition.now.table.rules)) }
+    ensures counted { IfOk result (λ _. asked.new ≤ asked.old + active_count (definition_of L.StorageT.number definition.now) state) }
+    ensures matchers { IfOk result (λ _. AreMatchers definition.now.table.rules.items matchers.new) }
 {
     let active = definition.active_in(state);
-    let mut best = Tile { rule: 0, len: 0 };
-    'rules: for index in 0..active.len() {
-        let place = active[index];
+    let tables = definition.tables_in(state);
+    let mut best = match tables.winner(text) {
+        Some(tile) => Tile {
+            rule: tile.rule,
+            len: tile.len,
+        },
+        None => Tile { rule: 0, len: 0 },
+    };
+    'others: for index in 0..tables.asked().len() {
+        let number = tables.asked()[index];
+        let place = active[number];
         let rule = &definition.table.rules[place];
-        let len = ask(&mut matchers[place], rule, text, asked);
-        let better = len > best.len;
-        if better {
-            best = Tile { rule: place, len };
+        let len = ask_by(alloc, &mut matchers[place], rule, text, asked)?;
+        if is_better(number, len, best) {
+            best = Tile { rule: number, len };
         }
     }
-    if best.len == 0 { None } else { Some(best) }
+    if best.len == 0 {
+        return Ok(None);
+    }
+    Ok(Some(Tile {
+        rule: active[best.rule],
+        len: best.len,
+    }))
 }

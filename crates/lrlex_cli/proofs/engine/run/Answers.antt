@@ -2,8 +2,11 @@
 use Rattle.std.proofs.Common.{ap, map}
 use Rattle.lrlex_rules.specs.Parts.{as_rule}
 use Rattle.lrlex_cli.specs.Engine.{Request}
-use Rattle.lrlex_cli.proofs.EngineLemmas.{ran}
+use Rattle.lrlex_cli.proofs.EngineLemmas.{ran, without_memory}
 use Rattle.lrlex_cli.proofs.engine.run.Goals as goal
+
+pub returns-in_err-lexed : goal.returns-in_err-lexed
+returns-in_err-lexed g c = without_memory _ _ _ c.from_residual-in_err-lexed.ensures.1
 
 pub returns : goal.returns
 returns g c =

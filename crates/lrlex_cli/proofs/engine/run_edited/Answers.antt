@@ -5,6 +5,9 @@ use Rattle.lrlex_cli.specs.Engine.{Request}
 use Rattle.lrlex_cli.proofs.EngineLemmas.{ran, without_memory}
 use Rattle.lrlex_cli.proofs.engine.run_edited.Goals as goal
 
+pub returns-in_err-before-in-Ok : goal.returns-in_err-before-in-Ok
+returns-in_err-before-in-Ok g c = without_memory _ _ _ c.from_residual-in_err-before-in-Ok.ensures.1
+
 pub returns-in_err-lexed-in-Ok : goal.returns-in_err-lexed-in-Ok
 returns-in_err-lexed-in-Ok g c = without_memory _ _ _ c.from_residual-in_err-lexed-in-Ok.ensures.1
 

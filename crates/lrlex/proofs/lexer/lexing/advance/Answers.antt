@@ -32,7 +32,7 @@ returns-in_default-clause-ends g c on =
     let on_top : c.top_of-state.result ≡ top (plain p.stack.items) = c.top_of-state.ensures ∙ ap (λ s. top (plain s)) c.deref.ensures.value in
     let q = c.top_of-state.result in
     ended d text p.place p.stack.items found p.boundaries p.asked r (items_by g.L.StorageT.Id.number g.L.LexemeT.Lexeme.id_of g.L.LexemeT.Lexeme.start_of g.L.LexemeT.Lexeme.len_of g.L.LexemeT.Lexeme.is_faulty c.give_error.new.items.items) (NoMatch q)
-    (something_left text p.place c.requires.inside, on_top, subst (IsStuck d q) c.range_from-rest.ensures.value c.in_default.ensures.winner)
+    (something_left text p.place c.requires.inside, on_top, subst (IsStuck d q) c.range_from-rest.ensures.value (rw c.in_default.is at c.in_ok-won.ensures.winner))
     c.in_ok-give_error.ensures
 
 pub returns-then-lacks_id-clause-ends : goal.returns-then-lacks_id-clause-ends
@@ -44,10 +44,9 @@ returns-then-lacks_id-clause-ends g c on =
     let found = items_by g.L.StorageT.Id.number g.L.LexemeT.Lexeme.id_of g.L.LexemeT.Lexeme.start_of g.L.LexemeT.Lexeme.len_of g.L.LexemeT.Lexeme.is_faulty p.items.items in
     let on_top : c.top_of-state.result ≡ top (plain p.stack.items) = c.top_of-state.ensures ∙ ap (λ s. top (plain s)) c.deref.ensures.value in
     let t : Tile = record { rule = c.in-Some.tile.rule; len = c.in-Some.tile.len } in
-    let won = c.in-Some.ensures in
-    let within : t.rule < length c.args.definition.now.table.rules.items = omega (arith, c.args.definition.now.table.rules.ok.0, won.rule) in
+    let within : t.rule < length c.args.definition.now.table.rules.items = omega (arith, c.args.definition.now.table.rules.ok.0, (rw c.in-Some.is at c.in_ok-won.ensures.rule)) in
     let rule_is = rule_read g.L.StorageT.Id.number c.args.definition.now t.rule c.index-rule.result.now within c.index-rule.ensures in
-    let wins = wins_at d c.top_of-state.result (plain p.stack.items) c.range_from-rest.result.now (drop p.place text) t on_top c.range_from-rest.ensures.value won.winner in
+    let wins = wins_at d c.top_of-state.result (plain p.stack.items) c.range_from-rest.result.now (drop p.place text) t on_top c.range_from-rest.ensures.value (rw c.in-Some.is at c.in_ok-won.ensures.winner) in
     ended d text p.place p.stack.items found p.boundaries p.asked r (items_by g.L.StorageT.Id.number g.L.LexemeT.Lexeme.id_of g.L.LexemeT.Lexeme.start_of g.L.LexemeT.Lexeme.len_of g.L.LexemeT.Lexeme.is_faulty c.give_error-then-lacks_id.new.items.items) NoId
     (t, wins, ap lacks_id rule_is ∙ sym c.if-lacks_id.ensures)
     c.in_ok-give_error-2.ensures
@@ -60,7 +59,7 @@ returns-then-lacks_id-clause-asked g c =
     let r = c.requires.reached in
     let found = items_by g.L.StorageT.Id.number g.L.LexemeT.Lexeme.id_of g.L.LexemeT.Lexeme.start_of g.L.LexemeT.Lexeme.len_of g.L.LexemeT.Lexeme.is_faulty p.items.items in
     let on_top : c.top_of-state.result ≡ top (plain p.stack.items) = c.top_of-state.ensures ∙ ap (λ s. top (plain s)) c.deref.ensures.value in
-    let few : c.winner.new.asked ≤ p.asked + active_count d (top (plain p.stack.items)) = subst (λ q. c.winner.new.asked ≤ p.asked + active_count d q) on_top c.in-Some.ensures.counted in
+    let few : c.winner.new.asked ≤ p.asked + active_count d (top (plain p.stack.items)) = subst (λ q. c.winner.new.asked ≤ p.asked + active_count d q) on_top c.in_ok-won.ensures.counted in
     searches_now d text p.place p.stack.items found p.boundaries p.asked r c.winner.new.asked c.requires.inside few
 
 pub returns-then-lacks_target-clause-ends : goal.returns-then-lacks_target-clause-ends
@@ -72,10 +71,9 @@ returns-then-lacks_target-clause-ends g c on =
     let found = items_by g.L.StorageT.Id.number g.L.LexemeT.Lexeme.id_of g.L.LexemeT.Lexeme.start_of g.L.LexemeT.Lexeme.len_of g.L.LexemeT.Lexeme.is_faulty p.items.items in
     let on_top : c.top_of-state.result ≡ top (plain p.stack.items) = c.top_of-state.ensures ∙ ap (λ s. top (plain s)) c.deref.ensures.value in
     let t : Tile = record { rule = c.in-Some.tile.rule; len = c.in-Some.tile.len } in
-    let won = c.in-Some.ensures in
-    let within : t.rule < length c.args.definition.now.table.rules.items = omega (arith, c.args.definition.now.table.rules.ok.0, won.rule) in
+    let within : t.rule < length c.args.definition.now.table.rules.items = omega (arith, c.args.definition.now.table.rules.ok.0, (rw c.in-Some.is at c.in_ok-won.ensures.rule)) in
     let rule_is = rule_read g.L.StorageT.Id.number c.args.definition.now t.rule c.index-rule.result.now within c.index-rule.ensures in
-    let wins = wins_at d c.top_of-state.result (plain p.stack.items) c.range_from-rest.result.now (drop p.place text) t on_top c.range_from-rest.ensures.value won.winner in
+    let wins = wins_at d c.top_of-state.result (plain p.stack.items) c.range_from-rest.result.now (drop p.place text) t on_top c.range_from-rest.ensures.value (rw c.in-Some.is at c.in_ok-won.ensures.winner) in
     let given : items_by g.L.StorageT.Id.number g.L.LexemeT.Lexeme.id_of g.L.LexemeT.Lexeme.start_of g.L.LexemeT.Lexeme.len_of g.L.LexemeT.Lexeme.is_faulty c.give.new.items.items ≡ found ++ tile_items d p.place t =
     c.in_ok-give.ensures ∙ sym (ap (λ (x : Rule). found ++ lexeme_of (lexeme_id x) p.place t.len) rule_is) in
     ended d text p.place p.stack.items found p.boundaries p.asked r (items_by g.L.StorageT.Id.number g.L.LexemeT.Lexeme.id_of g.L.LexemeT.Lexeme.start_of g.L.LexemeT.Lexeme.len_of g.L.LexemeT.Lexeme.is_faulty c.give_error-then-lacks_target.new.items.items) (NoTarget t)
@@ -91,7 +89,7 @@ returns-then-lacks_target-clause-asked g c =
     let r = c.requires.reached in
     let found = items_by g.L.StorageT.Id.number g.L.LexemeT.Lexeme.id_of g.L.LexemeT.Lexeme.start_of g.L.LexemeT.Lexeme.len_of g.L.LexemeT.Lexeme.is_faulty p.items.items in
     let on_top : c.top_of-state.result ≡ top (plain p.stack.items) = c.top_of-state.ensures ∙ ap (λ s. top (plain s)) c.deref.ensures.value in
-    let few : c.winner.new.asked ≤ p.asked + active_count d (top (plain p.stack.items)) = subst (λ q. c.winner.new.asked ≤ p.asked + active_count d q) on_top c.in-Some.ensures.counted in
+    let few : c.winner.new.asked ≤ p.asked + active_count d (top (plain p.stack.items)) = subst (λ q. c.winner.new.asked ≤ p.asked + active_count d q) on_top c.in_ok-won.ensures.counted in
     searches_now d text p.place p.stack.items found p.boundaries p.asked r c.winner.new.asked c.requires.inside few
 
 pub enter-requires-clause-runs : goal.enter-requires-clause-runs
@@ -113,10 +111,9 @@ returns-clause-goes_on g c on =
     let found = items_by g.L.StorageT.Id.number g.L.LexemeT.Lexeme.id_of g.L.LexemeT.Lexeme.start_of g.L.LexemeT.Lexeme.len_of g.L.LexemeT.Lexeme.is_faulty p.items.items in
     let on_top : c.top_of-state.result ≡ top (plain p.stack.items) = c.top_of-state.ensures ∙ ap (λ s. top (plain s)) c.deref.ensures.value in
     let t : Tile = record { rule = c.in-Some.tile.rule; len = c.in-Some.tile.len } in
-    let won = c.in-Some.ensures in
-    let within : t.rule < length c.args.definition.now.table.rules.items = omega (arith, c.args.definition.now.table.rules.ok.0, won.rule) in
+    let within : t.rule < length c.args.definition.now.table.rules.items = omega (arith, c.args.definition.now.table.rules.ok.0, (rw c.in-Some.is at c.in_ok-won.ensures.rule)) in
     let rule_is = rule_read g.L.StorageT.Id.number c.args.definition.now t.rule c.index-rule.result.now within c.index-rule.ensures in
-    let wins = wins_at d c.top_of-state.result (plain p.stack.items) c.range_from-rest.result.now (drop p.place text) t on_top c.range_from-rest.ensures.value won.winner in
+    let wins = wins_at d c.top_of-state.result (plain p.stack.items) c.range_from-rest.result.now (drop p.place text) t on_top c.range_from-rest.ensures.value (rw c.in-Some.is at c.in_ok-won.ensures.winner) in
     let given : items_by g.L.StorageT.Id.number g.L.LexemeT.Lexeme.id_of g.L.LexemeT.Lexeme.start_of g.L.LexemeT.Lexeme.len_of g.L.LexemeT.Lexeme.is_faulty c.give.new.items.items ≡ found ++ tile_items d p.place t =
     c.in_ok-give.ensures ∙ sym (ap (λ (x : Rule). found ++ lexeme_of (lexeme_id x) p.place t.len) rule_is) in
     let taken : IsTaken d (drop p.place text) (plain p.stack.items) t = record {
@@ -127,7 +124,7 @@ returns-clause-goes_on g c on =
     let n = c.enter.new.progress in
     let e = c.in_ok-enter.ensures in
     let few : n.asked ≤ p.asked + active_count d (top (plain p.stack.items)) =
-    subst (λ q. n.asked ≤ p.asked + active_count d q) on_top (omega (arith, e.asked, won.counted)) in
+    subst (λ q. n.asked ≤ p.asked + active_count d q) on_top (omega (arith, e.asked, c.in_ok-won.ensures.counted)) in
     let more : items_by g.L.StorageT.Id.number g.L.LexemeT.Lexeme.id_of g.L.LexemeT.Lexeme.start_of g.L.LexemeT.Lexeme.len_of g.L.LexemeT.Lexeme.is_faulty n.items.items ≡ found ++ tile_items d p.place t = ap (items_by g.L.StorageT.Id.number g.L.LexemeT.Lexeme.id_of g.L.LexemeT.Lexeme.start_of g.L.LexemeT.Lexeme.len_of g.L.LexemeT.Lexeme.is_faulty) e.items ∙ given in
     subst (λ i. Reached d text i n.stack.items (items_by g.L.StorageT.Id.number g.L.LexemeT.Lexeme.id_of g.L.LexemeT.Lexeme.start_of g.L.LexemeT.Lexeme.len_of g.L.LexemeT.Lexeme.is_faulty n.items.items) n.boundaries n.asked) (sym e.place)
     (Reached-more d text p.place p.stack.items found p.boundaries p.asked r n.stack.items (items_by g.L.StorageT.Id.number g.L.LexemeT.Lexeme.id_of g.L.LexemeT.Lexeme.start_of g.L.LexemeT.Lexeme.len_of g.L.LexemeT.Lexeme.is_faulty n.items.items) n.boundaries n.asked t c.requires.inside taken few
@@ -143,7 +140,7 @@ returns-clause-boundary g c on =
     let found = items_by g.L.StorageT.Id.number g.L.LexemeT.Lexeme.id_of g.L.LexemeT.Lexeme.start_of g.L.LexemeT.Lexeme.len_of g.L.LexemeT.Lexeme.is_faulty p.items.items in
     let t : Tile = record { rule = c.in-Some.tile.rule; len = c.in-Some.tile.len } in
     subst (IsCharBoundary text) (sym c.in_ok-enter.ensures.place)
-    (IsCharBoundary-from_rest text p.place t.len c.requires.boundary.0 (subst (λ rest. IsCharBoundary rest t.len) c.range_from-rest.ensures.value c.in-Some.ensures.boundary))
+    (IsCharBoundary-from_rest text p.place t.len c.requires.boundary.0 (subst (λ rest. IsCharBoundary rest t.len) c.range_from-rest.ensures.value (rw c.in-Some.is at c.in_ok-won.ensures.boundary)))
 
 pub returns-clause-asked : goal.returns-clause-asked
 returns-clause-asked g c =
@@ -154,5 +151,5 @@ returns-clause-asked g c =
     let found = items_by g.L.StorageT.Id.number g.L.LexemeT.Lexeme.id_of g.L.LexemeT.Lexeme.start_of g.L.LexemeT.Lexeme.len_of g.L.LexemeT.Lexeme.is_faulty p.items.items in
     let on_top : c.top_of-state.result ≡ top (plain p.stack.items) = c.top_of-state.ensures ∙ ap (λ s. top (plain s)) c.deref.ensures.value in
     let few : c.enter.new.progress.asked ≤ p.asked + active_count d (top (plain p.stack.items)) =
-    subst (λ q. c.enter.new.progress.asked ≤ p.asked + active_count d q) on_top (omega (arith, c.in_ok-enter.ensures.asked, c.in-Some.ensures.counted)) in
+    subst (λ q. c.enter.new.progress.asked ≤ p.asked + active_count d q) on_top (omega (arith, c.in_ok-enter.ensures.asked, c.in_ok-won.ensures.counted)) in
     searches_now d text p.place p.stack.items found p.boundaries p.asked r c.enter.new.progress.asked c.requires.inside few

@@ -1,143 +1,198 @@
-use Rattle.std.proofs.Common.{◌≡◌, ◌+◌, ◌<◌, length, get_or, slice_get, slice_set, refl, sym, ap, ◌∙◌, subst, arith, IsCharBoundary}
-use Rattle.std.proofs.lemmas.Str.{IsCharBoundary-start}
-use Rattle.std.proofs.lemmas.List.{length-map}
-use Rattle.regex.specs.Patterns.{SameCaptures}
-use Rattle.regex.specs.Strings.{matcher_pattern}
-use Rattle.regex.proofs.SetLemmas.{patterns_stay}
-use Rattle.lrlex.specs.Active.{taken}
+use Rattle.std.proofs.Common.{◌≡◌, ℕ, ◌+◌, ◌<◌, ◌≤◌, ◌⊎◌, true, false, length, get_or, slice_get, map, Some, refl, sym, ap, ◌∙◌, subst, inl, inr, arith, IsCharBoundary}
+use Rattle.std.proofs.lemmas.Option.{slice_get_read}
+use Rattle.std.proofs.lemmas.List.{length-map, get_or_default}
 use Rattle.lrlex_rules.specs.Parts.{as_rule}
-use Rattle.lrlex_rules.specs.Patterns.{pattern_of}
-use Rattle.lrlex.specs.Views.{definition_of, AreAlike, patterns_of, ArePaired}
+use Rattle.lrlex_table.specs.Tables.{IsBestAmong}
+use Rattle.lrlex.specs.Tables.{IsMatcherOf, AreMatchers, patterns_on, pattern_in}
+use Rattle.lrlex.specs.Views.{definition_of}
 use Rattle.lrlex.specs.declared.lexer.searching.Tile.{Tile}
-use Rattle.lrlex.proofs.BestLemmas.{Wins-of_IsBest, IsStuck-of_IsBest}
 use Rattle.lrlex.proofs.CountLemmas.{active_count-le}
-use Rattle.lrlex.proofs.ScanLemmas.{IsScanned, IsScanned-none, IsScanned-kept, IsScanned-taken, scanned_all, place_within, passes, length-places_of}
-use Rattle.lrlex.proofs.ViewLemmas.{paired_len, paired_at, rule_at_place, taken_active}
+use Rattle.lrlex.proofs.ScanLemmas.{length-places_of}
+use Rattle.lrlex.proofs.MatcherLemmas.{matcher_within, matcher_at, matchers_set}
+use Rattle.lrlex.proofs.TableLemmas.{active_within, looked_at, looked_more, other_within, others_few, told_none, told_some, best_kept, best_taken, best_wins, best_stuck, asked_is, wins_within}
 use Rattle.lrlex.proofs.lexer.searching.winner.Goals as goal
-use Rattle.lrlex.proofs.lexer.searching.winner.Goals.{then-better, else-better}
+use Rattle.lrlex.proofs.lexer.searching.winner.Goals.{in-Some, in-None, then-is_better, else-is_better}
 
-pub rules-init : goal.rules-init
-rules-init g c = record {
-  paired = c.requires.paired;
-  counted = omega arith;
-  scanned = IsScanned-none (definition_of g.L.StorageT.Id.number c.args.definition.now) c.args.state c.args.text.now c.active_in-active.result.now c.active_in-active.ensures;
-  boundary = IsCharBoundary-start c.args.text.now c.utf8.text;
-}
-
-pub bounds-matchers-place : goal.bounds-matchers-place
-bounds-matchers-place g c =
-    let d = definition_of g.L.StorageT.Id.number c.args.definition.now in
-    let i = c.rules.index in
-    let places = c.active_in-active.result.now in
-    let inv = c.rules.invariant in
-    let len = paired_len c.rules.matchers c.args.definition.now.table.rules.items inv.paired in
-    let rules = length-map c.args.definition.now.table.rules.items (as_rule g.L.StorageT.Id.number) in
-    let below = place_within d c.args.state c.args.text.now places i c.rules.best.rule c.rules.best.len (get_or places i 0) inv.scanned (omega arith) refl in
-    omega arith
-
-pub index-rule-requires : goal.index-rule-requires
-index-rule-requires g c =
-    let d = definition_of g.L.StorageT.Id.number c.args.definition.now in
-    let places = c.active_in-active.result.now in
-    let rules_len = length-map c.args.definition.now.table.rules.items (as_rule g.L.StorageT.Id.number) in
-    let below = place_within d c.args.state c.args.text.now places c.rules.index c.rules.best.rule c.rules.best.len (get_or places c.rules.index 0) c.rules.invariant.scanned (omega arith) refl in
-    omega (arith, c.args.definition.now.table.rules.ok.0)
-
-pub offset_bounds-matchers-place : goal.offset_bounds-matchers-place
-offset_bounds-matchers-place g c =
-    let d = definition_of g.L.StorageT.Id.number c.args.definition.now in
-    let i = c.rules.index in
-    let places = c.active_in-active.result.now in
-    let inv = c.rules.invariant in
-    let len = paired_len c.rules.matchers c.args.definition.now.table.rules.items inv.paired in
-    let rules_len = length-map c.args.definition.now.table.rules.items (as_rule g.L.StorageT.Id.number) in
-    let below = place_within d c.args.state c.args.text.now places i c.rules.best.rule c.rules.best.len (get_or places i 0) inv.scanned (omega arith) refl in
-    omega (arith, c.args.definition.now.table.rules.ok.0, c.args.definition.now.table.rules.ok.1, c.args.definition.now.table.rules.small)
-
-pub ask-len-requires : goal.ask-len-requires
-ask-len-requires g c =
-    let d = definition_of g.L.StorageT.Id.number c.args.definition.now in
-    let len = length-places_of d c.args.state c.active_in-active.result.now c.active_in-active.ensures in
-    let rules_len = length-map c.args.definition.now.table.rules.items (as_rule g.L.StorageT.Id.number) in
-    let m = c.index-matchers-place.result in
-    let read = c.index-matchers-place.is in
-    let places = c.active_in-active.result.now in
-    let inv = c.rules.invariant in
-    let below = place_within d c.args.state c.args.text.now places c.rules.index c.rules.best.rule c.rules.best.len (get_or places c.rules.index 0) inv.scanned (omega arith) refl in
-    record {
-      rule = subst (λ x. SameCaptures (matcher_pattern x) (pattern_of (as_rule g.L.StorageT.Id.number c.index-rule.result.now))) read
-          (paired_at g.L.StorageT.Id.number c.rules.matchers c.args.definition.now.table.rules.items (get_or places c.rules.index 0) m c.index-rule.result.now
-          inv.paired (omega (arith, rules_len)) read c.index-rule.ensures);
-      room = omega (arith, c.args.definition.now.table.rules.ok.0, inv.counted, active_count-le d c.args.state);
-    }
-
-pub rules-preserved : goal.rules-preserved
-rules-preserved g c =
+pub others-init : goal.others-init
+others-init g c =
     let d = definition_of g.L.StorageT.Id.number c.args.definition.now in
     let q = c.args.state in
     let text = c.args.text.now in
     let places = c.active_in-active.result.now in
-    let i = c.rules.index in
-    let place = get_or places i 0 in
-    let m = c.index-matchers-place.result in
-    let inv = c.rules.invariant in
-    let read = c.index-matchers-place.is in
-    let within : i < length places = omega arith in
-    let below = place_within d q text places i c.rules.best.rule c.rules.best.len place inv.scanned within refl in
+    let t = c.tables_in-tables.result.now in
+    let told = λ (b : Tile). IsBestAmong (patterns_on d.rules places) (looked_at t.parts.items t.asked.items 0) text b.rule b.len in
+    record {
+      matchers = c.requires.matchers;
+      counted = omega arith;
+      best = elim c.match-winner.branch [
+        | in-Some w ↦
+            subst told (sym w.best-is)
+            (told_some d q text places t.asked.items c.active_in-active.ensures t refl c.tables_in-tables.ensures c.winner.result c.winner.ensures w.in-Some.tile w.in-Some.is)
+        | in-None w ↦
+            subst told (sym w.best-is)
+            (told_none d q text places t.asked.items c.active_in-active.ensures t refl c.tables_in-tables.ensures c.winner.result c.winner.ensures w.in-None.is)
+      ];
+    }
+
+pub bounds-active-number : goal.bounds-active-number
+bounds-active-number g c =
+    let d = definition_of g.L.StorageT.Id.number c.args.definition.now in
+    let t = c.tables_in-tables.result.now in
+    other_within d c.args.state c.args.text.now c.active_in-active.result.now c.asked.result.now c.active_in-active.ensures t c.asked.ensures c.tables_in-tables.ensures c.others.index
+    (omega (arith, ap length c.asked.ensures, ap length c.asked-index-end.ensures))
+
+pub offset_bounds-active-number : goal.offset_bounds-active-number
+offset_bounds-active-number g c =
+    let d = definition_of g.L.StorageT.Id.number c.args.definition.now in
+    let t = c.tables_in-tables.result.now in
+    let within = other_within d c.args.state c.args.text.now c.active_in-active.result.now c.asked.result.now c.active_in-active.ensures t c.asked.ensures c.tables_in-tables.ensures c.others.index
+    (omega (arith, ap length c.asked.ensures, ap length c.asked-index-end.ensures)) in
+    omega (arith, c.active_in-active.type_inv)
+
+pub index-rule-requires : goal.index-rule-requires
+index-rule-requires g c =
+    let d = definition_of g.L.StorageT.Id.number c.args.definition.now in
+    let t = c.tables_in-tables.result.now in
+    let places = c.active_in-active.result.now in
+    let within = other_within d c.args.state c.args.text.now places c.asked.result.now c.active_in-active.ensures t c.asked.ensures c.tables_in-tables.ensures c.others.index
+    (omega (arith, ap length c.asked.ensures, ap length c.asked-index-end.ensures)) in
     let rules_len = length-map c.args.definition.now.table.rules.items (as_rule g.L.StorageT.Id.number) in
-    let among : place < length c.rules.matchers = omega (arith, paired_len c.rules.matchers c.args.definition.now.table.rules.items inv.paired) in
+    omega (arith, c.args.definition.now.table.rules.ok.0, rules_len, active_within d c.args.state places c.active_in-active.ensures (get_or c.asked.result.now c.others.index 0) within)
+
+pub bounds-matchers-place : goal.bounds-matchers-place
+bounds-matchers-place g c =
+    let rules = c.args.definition.now.table.rules.items in
+    let d = definition_of g.L.StorageT.Id.number c.args.definition.now in
+    let t = c.tables_in-tables.result.now in
+    let places = c.active_in-active.result.now in
+    let within = other_within d c.args.state c.args.text.now places c.asked.result.now c.active_in-active.ensures t c.asked.ensures c.tables_in-tables.ensures c.others.index
+    (omega (arith, ap length c.asked.ensures, ap length c.asked-index-end.ensures)) in
+    let rules_len = length-map rules (as_rule g.L.StorageT.Id.number) in
+    omega (arith, c.others.invariant.matchers.0, rules_len, active_within d c.args.state places c.active_in-active.ensures (get_or c.asked.result.now c.others.index 0) within)
+
+pub offset_bounds-matchers-place : goal.offset_bounds-matchers-place
+offset_bounds-matchers-place g c =
+    let rules = c.args.definition.now.table.rules.items in
+    let d = definition_of g.L.StorageT.Id.number c.args.definition.now in
+    let t = c.tables_in-tables.result.now in
+    let places = c.active_in-active.result.now in
+    let within = other_within d c.args.state c.args.text.now places c.asked.result.now c.active_in-active.ensures t c.asked.ensures c.tables_in-tables.ensures c.others.index
+    (omega (arith, ap length c.asked.ensures, ap length c.asked-index-end.ensures)) in
+    let rules_len = length-map rules (as_rule g.L.StorageT.Id.number) in
+    let place = active_within d c.args.state places c.active_in-active.ensures (get_or c.asked.result.now c.others.index 0) within in
+    omega (arith, c.args.definition.now.table.rules.ok.0, c.args.definition.now.table.rules.ok.1, c.args.definition.now.table.rules.small)
+
+pub ask_by-requires : goal.ask_by-requires
+ask_by-requires g c =
+    let rules = c.args.definition.now.table.rules.items in
+    let d = definition_of g.L.StorageT.Id.number c.args.definition.now in
+    let t = c.tables_in-tables.result.now in
+    let places = c.active_in-active.result.now in
+    let within = other_within d c.args.state c.args.text.now places c.asked.result.now c.active_in-active.ensures t c.asked.ensures c.tables_in-tables.ensures c.others.index
+    (omega (arith, ap length c.asked.ensures, ap length c.asked-index-end.ensures)) in
+    let place = get_or places (get_or c.asked.result.now c.others.index 0) 0 in
+    let rules_len = length-map rules (as_rule g.L.StorageT.Id.number) in
+    let below : place < length rules = omega (arith, rules_len, active_within d c.args.state places c.active_in-active.ensures (get_or c.asked.result.now c.others.index 0) within) in
+    let few = others_few d c.args.state c.args.text.now places t.asked.items c.active_in-active.ensures t refl c.tables_in-tables.ensures in
+    let at = slice_get_read rules (length rules) place c.index-rule.result.now refl below c.index-rule.ensures in
+    record {
+      slot = subst (IsMatcherOf c.index-rule.result.now) c.index-matchers-place.is (matcher_at rules c.others.matchers c.others.invariant.matchers place c.index-rule.result.now at c.index-matchers-place.result c.index-matchers-place.is);
+      room = omega (arith, few, c.others.invariant.counted, c.args.definition.now.table.rules.ok.0, length-places_of d c.args.state places c.active_in-active.ensures, active_count-le d c.args.state, rules_len, ap length c.asked-index-end.ensures);
+    }
+
+pub others-preserved : goal.others-preserved
+others-preserved g c =
+    let rules = c.args.definition.now.table.rules.items in
+    let d = definition_of g.L.StorageT.Id.number c.args.definition.now in
+    let q = c.args.state in
+    let text = c.args.text.now in
+    let places = c.active_in-active.result.now in
+    let t = c.tables_in-tables.result.now in
+    let i = c.others.index in
+    let k = get_or c.asked.result.now i 0 in
+    let place = get_or places k 0 in
     let r = c.index-rule.result.now in
-    let rule = rule_at_place g.L.StorageT.Id.number c.args.definition.now.table.rules.items place r (omega (arith, rules_len)) c.index-rule.ensures in
-    let is : taken d q text place ≡ c.ask-len.result =
-    taken_active d q text (slice_get d.rules place) (as_rule g.L.StorageT.Id.number r) (passes d q text places i c.rules.best.rule c.rules.best.len place inv.scanned within refl) rule
-    ∙ sym c.ask-len.ensures.length in
-    let paired : ArePaired (slice_set c.rules.matchers place c.ask-len.new.matcher) c.args.definition.now.table.rules.items =
-    subst (λ ps. AreAlike ps (patterns_of c.args.definition.now.table.rules.items))
-    (sym (patterns_stay matcher_pattern c.rules.matchers place m among read c.ask-len.new.matcher (c.ask-len.ensures.same ∙ ap matcher_pattern (sym read))))
-    inv.paired in
-    elim c.if-better.branch [
-      | then-better w ↦ record {
-        paired = paired;
-        counted = omega (arith, inv.counted);
-        scanned = subst (λ (t : Tile). IsScanned d q text places (i + 1) t.rule t.len) (sym w.best-is)
-            (IsScanned-taken d q text places i c.rules.best.rule c.rules.best.len place inv.scanned within refl c.ask-len.result is (omega arith));
-        boundary = subst (λ (t : Tile). IsCharBoundary text t.len) (sym w.best-is) c.ask-len.ensures.boundary;
+    let inv = c.others.invariant in
+    let here : i < length t.asked.items = omega (arith, ap length c.asked-index-end.ensures) in
+    let within = other_within d q text places c.asked.result.now c.active_in-active.ensures t c.asked.ensures c.tables_in-tables.ensures i (omega (arith, ap length c.asked.ensures)) in
+    let rules_len = length-map rules (as_rule g.L.StorageT.Id.number) in
+    let below : place < length rules = omega (arith, rules_len, active_within d q places c.active_in-active.ensures k within) in
+    let at = slice_get_read rules (length rules) place r refl below c.index-rule.ensures in
+    let len = c.in_ok-len.len in
+    let ps = patterns_on d.rules places in
+    let is = asked_is g.L.StorageT.Id.number d rules refl places text k place len r within refl below c.index-rule.ensures c.in_ok-len.ensures.length in
+    let inside : k < length ps = omega (arith, within, length-map places (pattern_in d.rules)) in
+    let a = looked_at t.parts.items t.asked.items i in
+    let b = looked_at t.parts.items t.asked.items (i + 1) in
+    let more : (j : ℕ) → b j ≡ true → (a j ≡ true) ⊎ (k ≡ j) = λ j h. elim (looked_more t.parts.items t.asked.items i j here h) [
+      | inl old ↦ inl old
+      | inr new ↦ inr (ap (λ xs. get_or xs i 0) c.asked.ensures ∙ new)
+    ] in
+    let matchers = matchers_set rules c.others.matchers inv.matchers place r at c.ask_by.new.slot c.in_ok-len.ensures.slot in
+    let best = λ (x : Tile). IsBestAmong ps b text x.rule x.len in
+    elim c.if-is_better.branch [
+      | then-is_better w ↦ record {
+        matchers = matchers;
+        counted = omega (arith, inv.counted, c.in_ok-len.ensures.counted);
+        best = subst best (sym w.best-is)
+            (best_taken ps text a b k more c.others.best.rule c.others.best.len inv.best len is inside c.in_ok-len.ensures.boundary (c.is_better.ensures.better w.if-is_better.true));
       }
-      | else-better w ↦ record {
-        paired = paired;
-        counted = omega (arith, inv.counted);
-        scanned = subst (λ (t : Tile). IsScanned d q text places (i + 1) t.rule t.len) (sym w.best-is)
-            (IsScanned-kept d q text places i c.rules.best.rule c.rules.best.len place inv.scanned within refl (omega arith));
-        boundary = subst (λ (t : Tile). IsCharBoundary text t.len) (sym w.best-is) inv.boundary;
+      | else-is_better w ↦ record {
+        matchers = matchers;
+        counted = omega (arith, inv.counted, c.in_ok-len.ensures.counted);
+        best = subst best (sym w.best-is)
+            (best_kept ps text a b k more c.others.best.rule c.others.best.len inv.best (subst (λ n. n ≤ c.others.best.len) is (c.is_better.ensures.no_more w.if-is_better.false))
+            (λ e. c.is_better.ensures.later w.if-is_better.false (is ∙ e)));
       }
     ]
 
 pub returns-then-best-eq0-clause-winner : goal.returns-then-best-eq0-clause-winner
 returns-then-best-eq0-clause-winner g c =
     let d = definition_of g.L.StorageT.Id.number c.args.definition.now in
-    let b = c.rules.best in
-    IsStuck-of_IsBest d c.args.state c.args.text.now b.rule b.len
-    (scanned_all d c.args.state c.args.text.now c.active_in-active.result.now c.rules.index b.rule b.len c.rules.invariant.scanned (omega arith)) (omega arith)
-
-pub returns-else-best-eq0-clause-winner : goal.returns-else-best-eq0-clause-winner
-returns-else-best-eq0-clause-winner g c =
-    let d = definition_of g.L.StorageT.Id.number c.args.definition.now in
-    let b = c.rules.best in
-    Wins-of_IsBest d c.args.state c.args.text.now b.rule b.len
-    (scanned_all d c.args.state c.args.text.now c.active_in-active.result.now c.rules.index b.rule b.len c.rules.invariant.scanned (omega arith)) (omega arith)
-
-pub returns-else-best-eq0-clause-rule : goal.returns-else-best-eq0-clause-rule
-returns-else-best-eq0-clause-rule g c =
-    let d = definition_of g.L.StorageT.Id.number c.args.definition.now in
-    let b = c.rules.best in
-    let best = scanned_all d c.args.state c.args.text.now c.active_in-active.result.now c.rules.index b.rule b.len c.rules.invariant.scanned (omega arith) in
-    let rules_len = length-map c.args.definition.now.table.rules.items (as_rule g.L.StorageT.Id.number) in
-    omega (arith, c.args.definition.now.table.rules.ok.0, best.within (omega arith))
+    let t = c.tables_in-tables.result.now in
+    best_stuck d c.args.state c.args.text.now c.active_in-active.result.now t.asked.items c.active_in-active.ensures t refl c.tables_in-tables.ensures c.others.index c.others.best.rule c.others.best.len
+    (omega (arith, c.others-test.false, ap length c.asked-index-end.ensures)) c.others.invariant.best c.if-best-eq0.true
 
 pub returns-then-best-eq0-clause-counted : goal.returns-then-best-eq0-clause-counted
 returns-then-best-eq0-clause-counted g c =
-    omega (arith, c.rules.invariant.counted, length-places_of (definition_of g.L.StorageT.Id.number c.args.definition.now) c.args.state c.active_in-active.result.now c.active_in-active.ensures)
+    let d = definition_of g.L.StorageT.Id.number c.args.definition.now in
+    let t = c.tables_in-tables.result.now in
+    let places = c.active_in-active.result.now in
+    omega (
+      arith,
+      c.others.invariant.counted,
+      c.others.auto.index-end,
+      ap length c.asked-index-end.ensures,
+      length-places_of d c.args.state places c.active_in-active.ensures,
+      others_few d c.args.state c.args.text.now places t.asked.items c.active_in-active.ensures t refl c.tables_in-tables.ensures,
+    )
 
-pub returns-else-best-eq0-clause-counted : goal.returns-else-best-eq0-clause-counted
-returns-else-best-eq0-clause-counted g c =
-    omega (arith, c.rules.invariant.counted, length-places_of (definition_of g.L.StorageT.Id.number c.args.definition.now) c.args.state c.active_in-active.result.now c.active_in-active.ensures)
+pub returns-clause-winner : goal.returns-clause-winner
+returns-clause-winner g c =
+    let d = definition_of g.L.StorageT.Id.number c.args.definition.now in
+    let t = c.tables_in-tables.result.now in
+    best_wins d c.args.state c.args.text.now c.active_in-active.result.now t.asked.items c.active_in-active.ensures t refl c.tables_in-tables.ensures c.others.index c.others.best.rule c.others.best.len
+    (omega (arith, c.others-test.false, ap length c.asked-index-end.ensures)) c.others.invariant.best (omega (arith, c.if-best-eq0.false))
+
+pub returns-clause-rule : goal.returns-clause-rule
+returns-clause-rule g c =
+    let d = definition_of g.L.StorageT.Id.number c.args.definition.now in
+    let places = c.active_in-active.result.now in
+    let inside = c.others.invariant.best.within (omega (arith, c.if-best-eq0.false)) in
+    let count = length-map places (pattern_in d.rules) in
+    let rules_len = length-map c.args.definition.now.table.rules.items (as_rule g.L.StorageT.Id.number) in
+    omega (arith, c.args.definition.now.table.rules.ok.0, rules_len, active_within d c.args.state places c.active_in-active.ensures c.others.best.rule (omega (arith, inside, count)))
+
+pub returns-clause-counted : goal.returns-clause-counted
+returns-clause-counted g c =
+    let d = definition_of g.L.StorageT.Id.number c.args.definition.now in
+    let t = c.tables_in-tables.result.now in
+    let places = c.active_in-active.result.now in
+    omega (
+      arith,
+      c.others.invariant.counted,
+      c.others.auto.index-end,
+      ap length c.asked-index-end.ensures,
+      length-places_of d c.args.state places c.active_in-active.ensures,
+      others_few d c.args.state c.args.text.now places t.asked.items c.active_in-active.ensures t refl c.tables_in-tables.ensures,
+    )

@@ -1,12 +1,13 @@
-use Rattle.std.proofs.Common.{◌+◌, ◌≤◌, IsCharBoundary}
-use Rattle.lrlex.specs.Views.{definition_of, ArePaired}
-use Rattle.lrlex.proofs.ScanLemmas.{IsScanned}
+use Rattle.std.proofs.Common.{◌+◌, ◌≤◌}
+use Rattle.lrlex.specs.Views.{definition_of}
+use Rattle.lrlex.specs.Tables.{AreMatchers, patterns_on}
+use Rattle.lrlex_table.specs.Tables.{IsBestAmong}
+use Rattle.lrlex.proofs.TableLemmas.{looked_at}
 use Rattle.lrlex.proofs.lexer.searching.winner.Given as goal
 
-abbrev pub invariant-rules : goal.invariant-rules
-invariant-rules g l = record {
-  paired : ArePaired l.matchers l.definition.table.rules.items;
+abbrev pub invariant-others : goal.invariant-others
+invariant-others g l = record {
+  matchers : AreMatchers l.definition.table.rules.items l.matchers;
   counted : l.asked ≤ l.fn.asked + l.index;
-  scanned : IsScanned (definition_of g.L.StorageT.Id.number l.definition) l.state l.text l.active l.index l.best.rule l.best.len;
-  boundary : IsCharBoundary l.text l.best.len;
+  best : IsBestAmong (patterns_on (definition_of g.L.StorageT.Id.number l.definition).rules l.active) (looked_at l.tables.parts.items l.tables.asked.items l.index) l.text l.best.rule l.best.len;
 }

@@ -2,14 +2,15 @@ use Rattle.std.proofs.Common.{◌≡◌, ◌≤◌, true, false, length, drop, s
 use Rattle.std.proofs.lemmas.Str.{IsCharBoundary-start}
 use Rattle.lrlex.specs.Tiling.{Done}
 use Rattle.lrlex.specs.Reach.{IsRun, searches}
-use Rattle.lrlex.specs.Views.{definition_of, items_by, ArePaired}
-use Rattle.lrlex.proofs.ViewLemmas.{paired_len, taken_back}
+use Rattle.lrlex.specs.Tables.{AreMatchers}
+use Rattle.lrlex.specs.Views.{definition_of, items_by}
+use Rattle.lrlex.proofs.ViewLemmas.{taken_back}
 use Rattle.lrlex.proofs.ReachLemmas.{ended, nothing_left, asked_now, few_searches, run_of}
 use Rattle.lrlex.proofs.lexer.definition.LRNonStreamingLexerDef.run.Goals as goal
 
 pub tiles-init : goal.tiles-init
 tiles-init g c = record {
-  paired = rw c.deref.ensures.value at c.in_ok-matchers.ensures;
+  matchers = rw c.deref.ensures.value at c.in_ok-matchers.ensures;
   boundary = subst (IsCharBoundary c.args.text.now) (sym c.in_ok-progress.ensures.start) (IsCharBoundary-start c.args.text.now c.utf8.text);
   reached = c.in_ok-progress.ensures.reached;
 }
@@ -18,10 +19,10 @@ pub tiles-preserved : goal.tiles-preserved
 tiles-preserved g c =
     let on : c.in_ok-advance.field-0 ≡ true = c.if-not-branch.false in
     record {
-      paired = subst (λ ms. ArePaired ms c.args.self.now.table.rules.items)
+      matchers = subst (λ ms. AreMatchers c.args.self.now.table.rules.items ms)
           (sym (taken_back c.advance.new.matchers (drop (length c.advance.new.matchers) c.tiles.matchers.items) c.tiles.matchers.len
-          (omega (arith, c.tiles.matchers.ok.0, paired_len c.advance.new.matchers c.args.self.now.table.rules.items c.in_ok-advance.ensures.paired, paired_len c.tiles.matchers.items c.args.self.now.table.rules.items c.tiles.invariant.paired))))
-          c.in_ok-advance.ensures.paired;
+          (omega (arith, c.tiles.matchers.ok.0, c.in_ok-advance.ensures.matchers.0, c.tiles.invariant.matchers.0))))
+          c.in_ok-advance.ensures.matchers;
       boundary = c.in_ok-advance.ensures.boundary on;
       reached = c.in_ok-advance.ensures.goes_on on;
     }
@@ -80,3 +81,6 @@ finished-requires g c =
     let d = definition_of g.L.StorageT.Id.number c.args.self.now in
     let p = c.advance.new.progress in
     run_of d c.args.text.now (items_by g.L.StorageT.Id.number g.L.LexemeT.Lexeme.id_of g.L.LexemeT.Lexeme.start_of g.L.LexemeT.Lexeme.len_of g.L.LexemeT.Lexeme.is_faulty p.items.items) p.boundaries c.tiles.invariant.reached.initial (c.in_ok-advance.ensures.ends c.if-not-branch.true)
+
+pub advance-requires-clause-matchers : goal.advance-requires-clause-matchers
+advance-requires-clause-matchers g c = subst (AreMatchers c.args.self.now.table.rules.items) (sym c.deref_mut.ensures.value) c.tiles.invariant.matchers

@@ -1,4 +1,7 @@
-use Rattle.std.proofs.Common.{map, length, drop, sym, ap, ◌∙◌, arith}
+use Rattle.std.proofs.Common.{map, length, drop, sym, ap, ◌∙◌, subst, arith}
+use mathlib.Core.Logic.{∥∥₁_map}
+use Rattle.lrlex.specs.Tables.{AreServed}
+use Rattle.lrlex.proofs.TableLemmas.{served_with_ids}
 use Rattle.lrlex.specs.Active.{active_places}
 use Rattle.lrlex.specs.Ids.{ids_of}
 use Rattle.lrlex_rules.specs.Parts.{as_rule, as_state}
@@ -18,4 +21,9 @@ invariant_of-self g c =
           ∙ lists_after g.S.Id.number (ids_of g.S.Id.number c.args.ids.now) states table.rules.items new
           (rw c.as_mut_slice.ensures.value at c.take_ids.ensures) table.start_states.items
           ∙ ap (λ rules. map (λ s. active_places states (map (as_rule (λ x. 0)) rules) s.id) table.start_states.items) (sym back);
+      served = subst (λ rules. ∥ AreServed rules (map (λ v. v.items) table.active.items) table.tables.items table.tables_at.items ∥₁) (sym back)
+          (∥∥₁_map table.served (served_with_ids g.S.Id.number (ids_of g.S.Id.number c.args.ids.now) table.rules.items new
+          (rw c.as_mut_slice.ensures.value at c.take_ids.ensures) (map (λ v. v.items) table.active.items) table.tables.items table.tables_at.items));
+      each = table.each;
+      within = table.within;
     }

@@ -5,8 +5,9 @@ use Rattle.lrlex.specs.Runs.{plain, AreRuns}
 use Rattle.lrlex.specs.Marks.{mark_at}
 use Rattle.lrlex.specs.Edits.{Meets, items_from, moved_mark}
 use Rattle.lrlex.specs.Reach.{IsLexed, IsRun}
-use Rattle.lrlex.specs.Views.{definition_of, items_by, ArePaired}
-use Rattle.lrlex.proofs.ViewLemmas.{paired_len, taken_back}
+use Rattle.lrlex.specs.Tables.{AreMatchers}
+use Rattle.lrlex.specs.Views.{definition_of, items_by}
+use Rattle.lrlex.proofs.ViewLemmas.{taken_back}
 use Rattle.lrlex.proofs.ReachLemmas.{ended, nothing_left, run_of, runs_now, last_now, few_searches}
 use Rattle.lrlex.proofs.KnownLemmas.{known, sorted}
 use Rattle.lrlex.proofs.MeetLemmas.{whole, olds_in_order, items_movable, marks_movable, met, few_met, none_met, meets_front}
@@ -20,7 +21,7 @@ tiles-init g c =
     let s = c.args.self.now in
     let edit = c.args.edit.now in
     record {
-      paired = rw c.deref.ensures.value at c.in_ok-matchers.ensures;
+      matchers = rw c.deref.ensures.value at c.in_ok-matchers.ensures;
       boundary = subst (IsCharBoundary new) (sym c.in_ok-progress.ensures.start) (IsCharBoundary-start new c.utf8.new);
       reached = c.in_ok-progress.ensures.reached;
       cursor = omega arith;
@@ -205,10 +206,10 @@ tiles-preserved g c =
     let more = c.in_ok-advance.ensures.more on in
     let grows = c.in_ok-advance.ensures.grows on in
     record {
-      paired = subst (λ ms. ArePaired ms def.table.rules.items)
+      matchers = subst (λ ms. AreMatchers def.table.rules.items ms)
           (sym (taken_back c.advance.new.matchers (drop (length c.advance.new.matchers) c.tiles.matchers.items) c.tiles.matchers.len
-          (omega (arith, c.tiles.matchers.ok.0, paired_len c.advance.new.matchers def.table.rules.items c.in_ok-advance.ensures.paired, paired_len c.tiles.matchers.items def.table.rules.items c.tiles.invariant.paired))))
-          c.in_ok-advance.ensures.paired;
+          (omega (arith, c.tiles.matchers.ok.0, c.in_ok-advance.ensures.matchers.0, c.tiles.invariant.matchers.0))))
+          c.in_ok-advance.ensures.matchers;
       boundary = c.in_ok-advance.ensures.boundary on;
       reached = c.in_ok-advance.ensures.goes_on on;
       cursor = c.meets.ensures.cursor;
@@ -283,3 +284,6 @@ returns-clause-few g c =
     let p = c.tiles.progress in
     few_met (definition_of g.L.StorageT.Id.number c.args.self.now.definition.now) c.args.new.now p.place p.stack.items (items_by g.L.StorageT.Id.number g.L.LexemeT.Lexeme.id_of g.L.LexemeT.Lexeme.start_of g.L.LexemeT.Lexeme.len_of g.L.LexemeT.Lexeme.is_faulty p.items.items) p.boundaries [] c.finished-2.result.boundaries p.asked c.finished-2.result.asked c.tiles.invariant.reached
     (c.finished-2.ensures.boundaries ∙ sym (append-nil p.boundaries)) (omega (arith, c.finished-2.ensures.asked))
+
+pub advance-requires-clause-matchers : goal.advance-requires-clause-matchers
+advance-requires-clause-matchers g c = subst (AreMatchers c.args.self.now.definition.now.table.rules.items) (sym c.deref_mut.ensures.value) c.tiles.invariant.matchers

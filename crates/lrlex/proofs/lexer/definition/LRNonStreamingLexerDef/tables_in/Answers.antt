@@ -1,0 +1,24 @@
+use Rattle.std.proofs.Common.{◌≡◌, ◌<◌, ◌==◌, Some, map, length, get_or, slice_get, refl, sym, ap, ◌∙◌, subst, arith}
+use Rattle.std.proofs.lemmas.Option.{slice_get_read}
+use Rattle.std.specs.List.{position}
+use Rattle.lrlex_rules.specs.Parts.{as_state}
+use Rattle.lrlex.proofs.ViewLemmas.{position_within, list_any-map}
+use Rattle.lrlex.proofs.TableLemmas.{tables_at_state, first_place}
+use Rattle.lrlex.proofs.lexer.definition.LRNonStreamingLexerDef.tables_in.Goals as goal
+
+pub returns : goal.returns
+returns g c =
+    let d = c.args.self.now in
+    let i = c.unwrap_or-index.result in
+    let j = c.index.result.now in
+    let found : Some i ≡ position (λ s. (as_state s).id == c.args.id) d.table.start_states.items =
+    first_place (λ s. (as_state s).id == c.args.id) d.table.start_states.items _ i
+    (sym (list_any-map as_state (λ s. s.id == c.args.id) d.table.start_states.items) ∙ c.requires)
+    (rw c.deref.ensures.value at c.position_of.ensures) c.unwrap_or-index.ensures in
+    let within = position_within (λ s. (as_state s).id == c.args.id) d.table.start_states.items i found in
+    let has : i < length d.table.tables_at.items = omega (arith, d.table.each) in
+    let inside : j < length d.table.tables.items = subst (λ n. n < length d.table.tables.items) (sym c.index.ensures) (d.table.within i j has) in
+    tables_at_state g.L.StorageT.Id.number d.table.active.items d.table.tables.items d.table.tables_at.items d.table.start_states.items d.table.rules.items i j c.args.id c.index-2.result.now
+    d.table.lists d.table.served found
+    (slice_get_read d.table.tables_at.items (length d.table.tables_at.items) i j refl has c.index.ensures)
+    (slice_get_read d.table.tables.items (length d.table.tables.items) j c.index-2.result.now refl inside c.index-2.ensures)

@@ -1,0 +1,10 @@
+use Rattle.std.proofs.Common.{◌≡◌, ◌<◌, map, length, All}
+use Rattle.lrlex.specs.Tables.{AreServed}
+use Rattle.lrlex.proofs.lexer.tables.tables_for.Given as goal
+
+abbrev pub invariant-states : goal.invariant-states
+invariant-states g l = record {
+  made : length l.at.items ≡ l.index;
+  within : All (λ j. j < length l.tables.items) l.at.items;
+  served : AreServed l.rules (map (λ v. v.items) l.active) l.tables.items l.at.items;
+}

@@ -1,0 +1,36 @@
+-- The tables of each start state, and the matchers of the rules that have none.
+use Rattle.std.specs.Prelude.{◌≡◌, ℕ, List, [], length, map, Option, Some, unwrap_or, slice_get, slice_index_or}
+use Rattle.regex.specs.Patterns.{Re, SameCaptures}
+use Rattle.regex.specs.Strings.{matcher_pattern}
+use Rattle.regex.specs.declared.string.matcher.Matcher.{Matcher}
+use Rattle.lrlex_rules.specs.Definition.{Rule}
+use Rattle.lrlex_rules.specs.Parts.{as_rule}
+use Rattle.lrlex_rules.specs.Patterns.{pattern_of}
+use Rattle.lrlex_rules.specs.declared.rules.Rule as code
+use Rattle.lrlex_table.specs.Tables.{AreTablesOf}
+use Rattle.lrlex_table.specs.declared.tables.Tables.{Tables}
+use Rattle.lrlex.specs.Active.{no_rule}
+
+-- the pattern of the rule at a place
+abbrev pub pattern_in : List Rule → ℕ → Re
+pattern_in rules i = pattern_of (unwrap_or (slice_get rules i) no_rule)
+
+-- the patterns of the rules at these places
+abbrev pub patterns_on : List Rule → List ℕ → List Re
+patterns_on rules places = map (pattern_in rules) places
+
+-- state i has the tables at the place that `at` gives, and they are those of its active rules
+abbrev pub AreServed : {S : Type 0} → List (code.Rule S) → List (List ℕ) → List Tables → List ℕ → Type 0
+AreServed rules active tables at =
+    (i j : ℕ) (t : Tables) → slice_get at i ≡ Some j → slice_get tables j ≡ Some t →
+    AreTablesOf (patterns_on (map (as_rule (λ _. 0)) rules) (slice_index_or active i [])) t
+
+-- a matcher, where there is one, is that of the rule
+abbrev pub IsMatcherOf : {S : Type 0} → code.Rule S → Option Matcher → Type 0
+IsMatcherOf r o = (m : Matcher) → o ≡ Some m → SameCaptures (matcher_pattern m) (pattern_of (as_rule (λ _. 0) r))
+
+-- room for a matcher of each rule, and each that was made is that of the rule at its place
+abbrev pub AreMatchers : {S : Type 0} → List (code.Rule S) → List (Option Matcher) → Type 0
+AreMatchers rules made =
+    (length made ≡ length rules)
+    × ((i : ℕ) (r : code.Rule _) (o : Option Matcher) → slice_get rules i ≡ Some r → slice_get made i ≡ Some o → IsMatcherOf r o)

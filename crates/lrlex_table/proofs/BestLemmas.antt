@@ -1,0 +1,103 @@
+-- The best match among the rules of several tables.
+use Rattle.std.proofs.Common.{◌≡◌, ℕ, ◌+◌, ◌<◌, ◌≤◌, ◌⊎◌, ◌||◌, Bool, true, List, [], ◌∷◌, length, map, take, get_or, IsUtf8, sym, ap, ◌∙◌, inl, inr, arith}
+use Rattle.std.proofs.lemmas.Bool.{cases_lt}
+use Rattle.std.proofs.lemmas.List.{length-map, get_or-map}
+use Rattle.std.proofs.lemmas.List.Folds.{list_any_more}
+use Rattle.std.proofs.lemmas.Str.{IsCharBoundary-start}
+use Rattle.regex.specs.Patterns.{Re, empty}
+use Rattle.lrlex_rules.specs.Patterns.{match_length}
+use Rattle.lrlex_table.specs.Merged.{pattern_at, IsLongest, NoneMatches}
+use Rattle.lrlex_table.specs.declared.tables.Part.{Part}
+use Rattle.lrlex_table.specs.Tables.{is_among, is_tabled, AreRising, IsBestAmong}
+use Rattle.lrlex_table.proofs.PartLemmas.{rising_within, rising_order, among_at}
+
+-- among none
+pub best_start : (ps : List Re) (among : ℕ → Bool) (text : List ℕ) → ((j : ℕ) → among j ≡ true → ⊥) → IsUtf8 text → IsBestAmong ps among text 0 0
+best_start ps among text none utf8 = record {
+  most = λ j lt is. absurd (none j is);
+  takes = λ some. absurd (omega arith);
+  first = λ some. absurd (omega arith);
+  within = λ some. absurd (omega arith);
+  cuts = IsCharBoundary-start text utf8;
+}
+
+-- the better of two is the best among the rules of both
+pub best_of_both : (ps : List Re) (one other among : ℕ → Bool) (text : List ℕ) (k n j m : ℕ) → IsBestAmong ps one text k n → IsBestAmong ps other text j m →
+    m ≤ n → (m ≡ n → 0 < n → k ≤ j) → ((i : ℕ) → among i ≡ true → (one i ≡ true) ⊎ (other i ≡ true)) → IsBestAmong ps among text k n
+best_of_both ps one other among text k n j m a b le earlier each = record {
+  most = λ i lt is. elim (each i is) [
+    | inl here ↦ a.most i lt here
+    | inr there ↦ omega (arith, b.most i lt there)
+  ];
+  takes = a.takes;
+  first = λ some i lt is. elim (each i is) [
+    | inl here ↦ a.first some i lt here
+    | inr there ↦ elim (cases_lt m n) [
+      | inl less ↦ omega (arith, b.most i (omega (arith, a.within some)) there)
+      | inr ge ↦ omega (arith, b.first (omega arith) i (omega (arith, earlier (omega arith) some)) there)
+    ]
+  ];
+  within = a.within;
+  cuts = a.cuts;
+}
+
+-- among fewer
+pub best_of_fewer : (ps : List Re) (among fewer : ℕ → Bool) (text : List ℕ) (k n : ℕ) → ((i : ℕ) → fewer i ≡ true → among i ≡ true) → IsBestAmong ps among text k n →
+    IsBestAmong ps fewer text k n
+best_of_fewer ps among fewer text k n each best = record {
+  most = λ j lt is. best.most j lt (each j is);
+  takes = best.takes;
+  first = λ some j lt is. best.first some j lt (each j is);
+  within = best.within;
+  cuts = best.cuts;
+}
+
+pub none_before : (parts : List Part) (k : ℕ) → is_tabled (take 0 parts) k ≡ true → ⊥
+none_before [] k is = cc
+none_before (p ∷ ps) k is = cc
+
+-- one more part
+pub tabled_more : (parts : List Part) (i : ℕ) (d : Part) → i < length parts → (k : ℕ) → is_tabled (take (i + 1) parts) k ≡ true →
+    (is_tabled (take i parts) k || is_among (get_or parts i d).rules.items k) ≡ true
+tabled_more parts i d lt k is = sym (list_any_more (λ (p : Part). is_among p.rules.items k) parts i d lt) ∙ is
+
+-- ---- the winner of a part
+
+length_of : (ps : List Re) (rules : List ℕ) (text : List ℕ) (i : ℕ) → i < length rules →
+    match_length (pattern_at (map (λ k. pattern_at ps k) rules) i) text ≡ match_length (pattern_at ps (get_or rules i 0)) text
+length_of ps rules text i lt = ap (λ re. match_length re text) (get_or-map (λ k. pattern_at ps k) rules i 0 empty lt)
+
+pub part_matches_none : (ps : List Re) (rules : List ℕ) (text : List ℕ) → NoneMatches (map (λ k. pattern_at ps k) rules) text → IsUtf8 text →
+    IsBestAmong ps (is_among rules) text 0 0
+part_matches_none ps rules text none utf8 = record {
+  most = λ j lt is.
+      let at = among_at rules j is in
+      let zero = none at.0 (omega (arith, at.1, length-map rules (λ k. pattern_at ps k))) in
+      let same : match_length (pattern_at ps j) text ≡ 0 = ap (λ r. match_length (pattern_at ps r) text) (sym at.2) ∙ sym (length_of ps rules text at.0 at.1) ∙ zero in
+      omega arith;
+  takes = λ some. absurd (omega arith);
+  first = λ some. absurd (omega arith);
+  within = λ some. absurd (omega arith);
+  cuts = IsCharBoundary-start text utf8;
+}
+
+pub part_matches_best : (ps : List Re) (rules : List ℕ) (text : List ℕ) (k n : ℕ) → AreRising 0 (length ps) rules → IsLongest (map (λ j. pattern_at ps j) rules) text k n →
+    IsBestAmong ps (is_among rules) text (get_or rules k 0) n
+part_matches_best ps rules text k n rises best =
+    let len = length-map rules (λ j. pattern_at ps j) in
+    let within : k < length rules = omega (arith, len, best.within) in
+    record {
+      most = λ j lt is.
+          let at = among_at rules j is in
+          let same : match_length (pattern_at ps j) text ≡ match_length (pattern_at (map (λ i. pattern_at ps i) rules) at.0) text
+          = ap (λ r. match_length (pattern_at ps r) text) (sym at.2) ∙ sym (length_of ps rules text at.0 at.1) in
+          omega (arith, best.greatest at.0 (omega (arith, at.1, len)));
+      takes = λ some. sym (length_of ps rules text k within) ∙ best.takes;
+      first = λ some j lt is.
+          let at = among_at rules j is in
+          let same : match_length (pattern_at ps j) text ≡ match_length (pattern_at (map (λ i. pattern_at ps i) rules) at.0) text
+          = ap (λ r. match_length (pattern_at ps r) text) (sym at.2) ∙ sym (length_of ps rules text at.0 at.1) in
+          omega (arith, best.earliest at.0 (rising_order 0 (length ps) rules at.0 k rises at.1 (omega (arith, at.2))));
+      within = λ some. (rising_within 0 (length ps) rules k rises within).1;
+      cuts = best.cuts;
+    }

@@ -1,0 +1,14 @@
+pub mod PickLemmas
+pub mod ByteLemmas
+pub mod PrefixLemmas
+pub mod RowLemmas
+pub mod GridLemmas
+pub mod MergedLemmas
+pub mod SideLemmas
+pub mod ChartLemmas
+pub mod LengthLemmas
+pub mod NfaLemmas
+pub mod WinLemmas
+pub mod PartLemmas
+pub mod BestLemmas
+pub mod ForCallers

@@ -1,0 +1,191 @@
+-- The parts of a list of rules: their rules rise, and each rule has a table or is asked.
+use Rattle.std.proofs.Common.{◌≡◌, ℕ, zero, suc, ◌+◌, ◌-◌, ◌<◌, ◌≤◌, ◌==◌, true, false, List, All, [], ◌∷◌, ◌++◌, length, map, set, get_or, refl, sym, ap, ◌∙◌, subst, inl, inr, arith}
+use Rattle.std.proofs.lemmas.Bool.{cases_lt, or_cases, or_parts, or_from, or_left, or_right, eqb-true, eq-eqb}
+use Rattle.std.proofs.lemmas.List.{map-append, get_or_at, length-append}
+use Rattle.std.proofs.lemmas.List.Elements.{All-nil, All-push, All-get_or, All-weaker}
+use Rattle.std.proofs.lemmas.List.Folds.{list_any-append}
+use Rattle.regex.specs.Patterns.{Re}
+use Rattle.lrlex_table.specs.Merged.{pattern_at, IsTableOf, Serves}
+use Rattle.lrlex_table.specs.declared.table.Table.{Table}
+use Rattle.lrlex_table.specs.declared.tables.Part.{Part}
+use Rattle.lrlex_table.specs.Tables.{is_among, is_tabled, AreRising, IsPartOf, AreParts, Covers, ArePartsOf}
+
+-- ---- numbers that rise
+
+pub rising_bounds : (lo hi : ℕ) (xs : List ℕ) → AreRising lo hi xs → lo ≤ hi
+rising_bounds lo hi [] r = r
+rising_bounds lo hi (x ∷ xs) r = omega (arith, r.0, rising_bounds (x + 1) hi xs r.1)
+
+pub rising_wider : (lo hi low high : ℕ) (xs : List ℕ) → low ≤ lo → hi ≤ high → AreRising lo hi xs → AreRising low high xs
+rising_wider lo hi low high [] below above r = omega (arith, r)
+rising_wider lo hi low high (x ∷ xs) below above r =
+    (omega (arith, r.0), rising_wider (x + 1) hi (x + 1) high xs (omega arith) above r.1)
+
+pub rising_append : (lo middle hi : ℕ) (xs ys : List ℕ) → AreRising lo middle xs → AreRising middle hi ys → AreRising lo hi (xs ++ ys)
+rising_append lo middle hi [] ys a b = rising_wider middle hi lo hi ys a (omega arith) b
+rising_append lo middle hi (x ∷ xs) ys a b = (a.0, rising_append (x + 1) middle hi xs ys a.1 b)
+
+pub rising_push : (lo n : ℕ) (xs : List ℕ) → AreRising lo n xs → AreRising lo (n + 1) (xs ++ n ∷ [])
+rising_push lo n xs r = rising_append lo n (n + 1) xs (n ∷ []) r (omega arith, omega arith)
+
+pub rising_within : (lo hi : ℕ) (xs : List ℕ) (i : ℕ) → AreRising lo hi xs → i < length xs → (lo ≤ get_or xs i 0) × (get_or xs i 0 < hi)
+rising_within lo hi [] i r lt = absurd (omega arith)
+rising_within lo hi (x ∷ xs) zero r lt = (r.0, omega (arith, rising_bounds (x + 1) hi xs r.1))
+rising_within lo hi (x ∷ xs) (suc i) r lt =
+    let at = rising_within (x + 1) hi xs i r.1 (omega arith) in (omega (arith, r.0, at.0), at.1)
+
+pub rising_lt : (lo hi : ℕ) (xs : List ℕ) (i j : ℕ) → AreRising lo hi xs → i < j → j < length xs → get_or xs i 0 < get_or xs j 0
+rising_lt lo hi [] i j r lt within = absurd (omega arith)
+rising_lt lo hi (x ∷ xs) i zero r lt within = absurd (omega arith)
+rising_lt lo hi (x ∷ xs) zero (suc j) r lt within = omega (arith, (rising_within (x + 1) hi xs j r.1 (omega arith)).0)
+rising_lt lo hi (x ∷ xs) (suc i) (suc j) r lt within = rising_lt (x + 1) hi xs i j r.1 (omega arith) (omega arith)
+
+-- a lesser number stands earlier
+pub rising_order : (lo hi : ℕ) (xs : List ℕ) (i j : ℕ) → AreRising lo hi xs → i < length xs → get_or xs i 0 < get_or xs j 0 → i < j
+rising_order lo hi xs i j r within lt = elim (cases_lt i j) [
+  | inl less ↦ less
+  | inr ge ↦ elim (cases_lt j i) [
+    | inl more ↦ absurd (omega (arith, rising_lt lo hi xs j i r more within))
+    | inr le ↦ let same : get_or xs i 0 ≡ get_or xs j 0 = ap (λ k. get_or xs k 0) (omega arith) in absurd (omega arith)
+  ]
+]
+
+-- below a bound that all keep
+rising_until : (lo hi top : ℕ) (xs : List ℕ) → AreRising lo hi xs → lo ≤ top → ((i : ℕ) → i < length xs → get_or xs i 0 < top) → AreRising lo top xs
+rising_until lo hi top [] r le below = le
+rising_until lo hi top (x ∷ xs) r le below =
+    (r.0, rising_until (x + 1) hi top xs r.1 (omega (arith, below 0 (omega arith))) (λ i lt. below (suc i) (omega arith)))
+
+-- two lists, where the last of the one is less than the first of the other
+pub rising_join : (lo hi : ℕ) (xs ys : List ℕ) → AreRising lo hi xs → AreRising lo hi ys → 0 < length xs → 0 < length ys →
+    get_or xs (length xs - 1) 0 < get_or ys 0 0 → AreRising lo hi (xs ++ ys)
+rising_join lo hi xs [] a b some other lt = absurd (omega arith)
+rising_join lo hi xs (y ∷ ys) a b some other lt =
+    let first = rising_within lo hi xs 0 a some in
+    let below : (i : ℕ) → i < length xs → get_or xs i 0 < y =
+    λ i within. elim (cases_lt i (length xs - 1)) [
+      | inl less ↦ omega (arith, rising_lt lo hi xs i (length xs - 1) a less (omega arith))
+      | inr ge ↦ let same : get_or xs i 0 ≡ get_or xs (length xs - 1) 0 = ap (λ k. get_or xs k 0) (omega arith) in omega arith
+    ] in
+    rising_append lo y hi xs (y ∷ ys) (rising_until lo hi y xs a (omega (arith, first.0, below 0 some)) below) (omega arith, b.1)
+
+-- ---- which rules have a table
+
+pub among_at : (xs : List ℕ) (k : ℕ) → is_among xs k ≡ true → (i : ℕ) × (i < length xs) × (get_or xs i 0 ≡ k)
+among_at [] k h = absurd (cc)
+among_at (x ∷ xs) k h = elim (or_cases (x == k) (is_among xs k) h) [
+  | inl here ↦ (0, omega arith, eqb-true x k here)
+  | inr there ↦ let at = among_at xs k there in (suc at.0, omega (arith, at.1), at.2)
+]
+
+pub among_one : (k j : ℕ) → k ≡ j → is_among (k ∷ []) j ≡ true
+among_one k j e = or_left (k == j) false (eq-eqb k j e)
+
+pub among_more : (xs : List ℕ) (n : ℕ) → ((k : ℕ) → k < n → is_among xs k ≡ true) → (k : ℕ) → k < n + 1 → is_among (xs ++ n ∷ []) k ≡ true
+among_more xs n all k lt = list_any-append (λ j. j == k) xs (n ∷ []) ∙ elim (cases_lt k n) [
+  | inl low ↦ or_left (is_among xs k) (is_among (n ∷ []) k) (all k low)
+  | inr high ↦ or_right (is_among xs k) (is_among (n ∷ []) k) (among_one n k (omega arith))
+]
+
+-- one of the parts takes the rules of another
+pub covers_set : (parts : List Part) (at : ℕ) (d both part : Part) → at < length parts →
+    both.rules.items ≡ (get_or parts at d).rules.items ++ part.rules.items → Covers (set parts at both) (part ∷ parts)
+covers_set [] at d both part lt is k none = absurd (omega arith)
+covers_set (p ∷ ps) zero d both part lt is k none =
+    let old = or_parts (is_among both.rules.items k) (is_tabled ps k) none in
+    let split = or_parts (is_among p.rules.items k) (is_among part.rules.items k)
+    (sym (list_any-append (λ j. j == k) p.rules.items part.rules.items) ∙ sym (ap (λ xs. is_among xs k) is) ∙ old.0) in
+    or_from (is_among part.rules.items k) (is_tabled (p ∷ ps) k) split.1 (or_from (is_among p.rules.items k) (is_tabled ps k) split.0 old.1)
+covers_set (p ∷ ps) (suc i) d both part lt is k none =
+    let old = or_parts (is_among p.rules.items k) (is_tabled (set ps i both) k) none in
+    let rest = or_parts (is_among part.rules.items k) (is_tabled ps k) (covers_set ps i d both part (omega arith) is k old.1) in
+    or_from (is_among part.rules.items k) (is_tabled (p ∷ ps) k) rest.0 (or_from (is_among p.rules.items k) (is_tabled ps k) old.0 rest.1)
+
+pub covers_push : (parts : List Part) (part : Part) → Covers (parts ++ part ∷ []) (part ∷ parts)
+covers_push parts part k none =
+    let split = or_parts (is_tabled parts k) (is_tabled (part ∷ []) k) (sym (list_any-append (λ (p : Part). is_among p.rules.items k) parts (part ∷ [])) ∙ none) in
+    let last = or_parts (is_among part.rules.items k) false split.1 in
+    or_from (is_among part.rules.items k) (is_tabled parts k) last.0 split.0
+
+-- no rule has a table among two lists of parts
+abbrev pub Neither : List Part → List Part → ℕ → Type 0
+Neither xs ys k = (is_tabled xs k ≡ false) × (is_tabled ys k ≡ false)
+
+pub neither_more : (new old xs ys : List Part) (part : Part) → Covers new (part ∷ old) → ((k : ℕ) → is_tabled old k ≡ false → Neither xs ys k) →
+    (k : ℕ) → is_tabled new k ≡ false → Neither xs (ys ++ part ∷ []) k
+neither_more new old xs ys part covers before k none =
+    let split = or_parts (is_among part.rules.items k) (is_tabled old k) (covers k none) in
+    let both = before k split.1 in (
+      both.0,
+      list_any-append (λ (p : Part). is_among p.rules.items k) ys (part ∷ [])
+          ∙ or_from (is_tabled ys k) (is_tabled (part ∷ []) k) both.1 (or_from (is_among part.rules.items k) false split.0 refl),
+    )
+
+-- ---- parts of a list of rules
+
+pub part_wider : (ps : List Re) (lo hi low high : ℕ) (p : Part) → low ≤ lo → hi ≤ high → IsPartOf ps lo hi p → IsPartOf ps low high p
+part_wider ps lo hi low high p below above is = record {
+  rises = rising_wider lo hi low high p.rules.items below above is.rises;
+  table = is.table;
+}
+
+pub parts_wider : (ps : List Re) (lo hi low high : ℕ) (parts : List Part) → low ≤ lo → hi ≤ high → AreParts ps lo hi parts → AreParts ps low high parts
+parts_wider ps lo hi low high parts below above are =
+    All-weaker (IsPartOf ps lo hi) (IsPartOf ps low high) (λ p. part_wider ps lo hi low high p below above) parts are
+
+pub part_joined : (ps : List Re) (lo hi : ℕ) (a b p : Part) → IsPartOf ps lo hi a → IsPartOf ps lo hi b → 0 < length a.rules.items → 0 < length b.rules.items →
+    get_or a.rules.items (length a.rules.items - 1) 0 < get_or b.rules.items 0 0 → p.rules.items ≡ a.rules.items ++ b.rules.items →
+    IsTableOf (map (λ k. pattern_at ps k) a.rules.items ++ map (λ k. pattern_at ps k) b.rules.items) p.table → IsPartOf ps lo hi p
+part_joined ps lo hi a b p left right some other lt is table = record {
+  rises = subst (AreRising lo hi) (sym is) (rising_join lo hi a.rules.items b.rules.items left.rises right.rises some other lt);
+  table = subst (λ qs. IsTableOf qs p.table) (sym (map-append (λ k. pattern_at ps k) a.rules.items b.rules.items) ∙ ap (map (λ k. pattern_at ps k)) (sym is)) table;
+}
+
+pub one_part : (ps : List Re) (rule : ℕ) (p : Part) → p.rules.items ≡ rule ∷ [] → IsTableOf (pattern_at ps rule ∷ []) p.table → ArePartsOf ps rule (rule + 1) (p ∷ []) []
+one_part ps rule p is table = record {
+  are = All-push (IsPartOf ps rule (rule + 1)) [] p (All-nil (IsPartOf ps rule (rule + 1))) (record {
+    rises = subst (AreRising rule (rule + 1)) (sym is) (omega arith, omega arith);
+    table = subst (λ xs. IsTableOf (map (λ k. pattern_at ps k) xs) p.table) (sym is) table;
+  });
+  rises = omega arith;
+  each = λ k ge lt none.
+      let among : is_among p.rules.items k ≡ true = ap (λ xs. is_among xs k) is ∙ among_one rule k (omega arith) in
+      let missing : is_among p.rules.items k ≡ false = (or_parts (is_among p.rules.items k) false none).0 in
+      absurd (cc);
+}
+
+pub one_asked : (ps : List Re) (rule : ℕ) → ArePartsOf ps rule (rule + 1) [] (rule ∷ [])
+one_asked ps rule = record {
+  are = All-nil (IsPartOf ps rule (rule + 1));
+  rises = (omega arith, omega arith);
+  each = λ k ge lt none. among_one rule k (omega arith);
+}
+
+-- an element of a list
+pub all_at : {X : Type 0} (P : X → Type 0) (all before after : List X) (x : X) → All P all → before ++ x ∷ after ≡ all → P x
+all_at P all before after x each is =
+    subst P (ap (λ xs. get_or xs (length before) x) (sym is) ∙ get_or_at before x after x (length before) refl)
+    (All-get_or P all (length before) x (omega (arith, ap length is, length-append before (x ∷ after))) each)
+
+pub parts_both : (ps : List Re) (lo middle hi : ℕ) (left right new : List Part) (asked also : List ℕ) → ArePartsOf ps lo middle left asked → ArePartsOf ps middle hi right also →
+    AreParts ps lo hi new → ((k : ℕ) → is_tabled new k ≡ false → Neither left right k) → ArePartsOf ps lo hi new (asked ++ also)
+parts_both ps lo middle hi left right new asked also l r are covers = record {
+  are = are;
+  rises = rising_append lo middle hi asked also l.rises r.rises;
+  each = λ k ge lt none. list_any-append (λ j. j == k) asked also ∙ elim (cases_lt k middle) [
+    | inl low ↦ or_left (is_among asked k) (is_among also k) (l.each k ge low (covers k none).0)
+    | inr high ↦ or_right (is_among asked k) (is_among also k) (r.each k high lt (covers k none).1)
+  ];
+}
+
+pub none_tabled : (ps : List Re) (n : ℕ) (asked : List ℕ) → AreRising 0 n asked → ((k : ℕ) → k < n → is_among asked k ≡ true) → ArePartsOf ps 0 n [] asked
+none_tabled ps n asked rises all = record {
+  are = All-nil (IsPartOf ps 0 n);
+  rises = rises;
+  each = λ k ge lt none. all k lt;
+}
+
+-- a copy serves the same patterns
+pub same_table : (ps : List Re) (a b : Table) → b.next.items ≡ a.next.items → b.wins.items ≡ a.wins.items → b.start ≡ a.start → IsTableOf ps a → IsTableOf ps b
+same_table ps a b next wins start is =
+    subst (λ xs. Serves xs b.wins.items b.start ps) (sym next) (subst (λ ws. Serves a.next.items ws b.start ps) (sym wins) (subst (λ s. Serves a.next.items a.wins.items s ps) (sym start) is))

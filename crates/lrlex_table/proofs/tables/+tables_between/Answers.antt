@@ -1,0 +1,18 @@
+use Rattle.std.proofs.Common.{◌≡◌, ◌+◌, map, sym, subst, IfOk, arith}
+use Rattle.std.proofs.lemmas.List.{get_or-map}
+use Rattle.regex.specs.Patterns.{empty}
+use Rattle.lrlex_table.specs.Tables.{ArePartsOf}
+use Rattle.lrlex_table.proofs.tables.+tables_between.Goals as goal
+
+pub returns-then-half-eq0 : goal.returns-then-half-eq0
+returns-then-half-eq0 t c pattern single =
+    let places = c.args.places.now in
+    let one : c.args.to ≡ c.args.from + 1 = omega arith in
+    subst (λ to. IfOk c.alone.result (λ r. ArePartsOf (map pattern places) c.args.from to r.parts.items r.asked.items)) (sym one)
+    (c.alone.ensures pattern (map pattern places) single (get_or-map pattern places c.args.from 0 empty (omega arith)))
+
+pub returns : goal.returns
+returns t c pattern single =
+    let left = c.in_ok-left.ensures pattern single in
+    let right = c.in_ok-right.ensures pattern single in
+    c.both.ensures (map pattern c.args.places.now) _ _ _ left right

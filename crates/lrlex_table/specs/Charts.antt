@@ -1,0 +1,96 @@
+-- The table of one rule: a list of threads for each row.
+use Rattle.std.specs.Prelude.{◌≡◌, ◌≢◌, ◌⊎◌, ℕ, ◌+◌, ◌*◌, ◌<◌, ◌≤◌, Bool, true, List, [], ◌∷◌, ◌++◌, length, map, Vec, Option, Some, None, is_some, if◌then◌else◌, ◌==◌, slice_index, slice_index_or}
+use Rattle.std.specs.declared.alloc.Global.{Global}
+use Rattle.regex_hir.specs.Looks.{Side}
+use Rattle.regex_hir.specs.declared.look.Look as look
+use Rattle.regex_hir.specs.declared.look.Look.TheVariants.{Start, StartLf}
+use Rattle.regex_nfa.specs.Run.{state_of}
+use Rattle.regex_nfa.specs.declared.state.State.TheVariants.{Look}
+use Rattle.regex_nfa.specs.declared.nfa.Nfa.{Nfa}
+use Rattle.regex_dfa.specs.Moves.{Test, Agrees, MovesForward}
+use Rattle.regex_dfa.specs.Walks.{AreStates}
+use Rattle.regex_dfa.specs.declared.dfa.Dfa.{Dfa}
+
+-- the start of the text, or of a line
+abbrev pub IsStart : look.Look → Type 0
+IsStart l = (l ≡ Start) ⊎ (l ≡ StartLf)
+
+-- below n, each assertion is the start of the text or of a line
+abbrev pub AskForStartsBelow : Nfa → ℕ → Type 0
+AskForStartsBelow nfa n = (q : ℕ) (l : look.Look) (next : ℕ) → q < n → state_of nfa q ≡ Look l next → IsStart l
+
+-- each assertion of the NFA is the start of the text or of a line
+abbrev pub AsksForStarts : Nfa → Type 0
+AsksForStarts nfa = (q : ℕ) (l : look.Look) (next : ℕ) → state_of nfa q ≡ Look l next → IsStart l
+
+-- what may stand before a position of the row: nothing, in row 1, and else the end of a line, or another byte
+abbrev pub side_at : ℕ → Bool → Side
+side_at r line = record { byte = (if r == 1 then None else Some (if line then 10 else 0)); char = None }
+
+abbrev pub no_side : Side
+no_side = record { byte = None; char = None }
+
+-- the step of these threads, where this stands before the position
+unfoldable pub StepsFrom : Nfa → Side → Option ℕ → List ℕ → List ℕ → Bool → Type 0
+StepsFrom nfa before byte threads next matched =
+    (test : Test) → Agrees nfa test before no_side true → MovesForward nfa test threads byte next matched
+
+-- the step of the row's threads, whatever may stand before the position
+unfoldable pub StepsOn : Nfa → ℕ → Option ℕ → List ℕ → List ℕ → Bool → Type 0
+StepsOn nfa r byte threads next matched = (line : Bool) → StepsFrom nfa (side_at r line) byte threads next matched
+
+abbrev pub win_of : Bool → Option ℕ
+win_of b = if b then Some 0 else None
+
+-- the threads of each row
+abbrev pub lists_of : Vec (Vec ℕ Global) Global → List (List ℕ)
+lists_of rows = map (λ v. v.items) rows.items
+
+abbrev pub threads_at : List (List ℕ) → ℕ → List ℕ
+threads_at rows r = slice_index_or rows r []
+
+abbrev pub is_won : List (Option ℕ) → ℕ → Bool
+is_won wins r = is_some (slice_index_or wins r None)
+
+-- on the byte, row r goes to row v
+abbrev pub IsCell : Nfa → List (List ℕ) → Bool → ℕ → ℕ → ℕ → Type 0
+IsCell nfa rows matched r b v = (v < length rows) × StepsOn nfa r (Some b) (threads_at rows r) (threads_at rows v) matched
+
+-- the rows and cells that were made so far
+pub record IsChart (nfa : Nfa) (rows : List (List ℕ)) (next : List ℕ) (wins : List (Option ℕ)) : Type 0 where
+  pub some : 2 ≤ length rows
+  pub nothing : threads_at rows 0 ≡ []
+  pub first : threads_at rows 1 ≡ nfa.start ∷ []
+  pub states : (r : ℕ) → AreStates nfa (threads_at rows r)
+  pub wide : length next ≤ length wins * 256
+  pub below : length wins ≤ length rows
+  pub fresh : (i : ℕ) → slice_index_or next i 0 ≢ 1
+  pub inside : (i : ℕ) → slice_index_or next i 0 < length rows
+  pub wins_are : (r : ℕ) → slice_index_or wins r None ≡ win_of (is_won wins r)
+  pub ends : (r : ℕ) → r < length wins → StepsOn nfa r None (threads_at rows r) [] (is_won wins r)
+  pub cells : (r b : ℕ) → b < 256 → r * 256 + b < length next → IsCell nfa rows (is_won wins r) r b (slice_index_or next (r * 256 + b) 0)
+
+-- the rows stay, and v is one with these threads, and not row 1
+pub record HasRow (old new : List (List ℕ)) (threads : List ℕ) (v : ℕ) : Type 0 where
+  pub grows : (new ≡ old) ⊎ (new ≡ old ++ threads ∷ [])
+  pub other : v ≢ 1
+  pub within : v < length new
+  pub is : threads_at new v ≡ threads
+
+-- the same, where v is not row 1
+abbrev pub IsCellOf : Nfa → List (List ℕ) → Bool → ℕ → ℕ → ℕ → Type 0
+IsCellOf nfa rows matched r b v = (v ≢ 1) × IsCell nfa rows matched r b v
+
+-- the row has its cells below this byte
+pub record IsFilling (nfa : Nfa) (rows : List (List ℕ)) (next : List ℕ) (wins : List (Option ℕ)) (row byte : ℕ) (threads : List ℕ) (matched : Bool) : Type 0 where
+  pub chart : IsChart nfa rows next wins
+  pub within : row < length rows
+  pub made : length wins ≡ row + 1
+  pub at : length next ≡ row * 256 + byte
+  pub are : threads ≡ threads_at rows row
+  pub won : is_won wins row ≡ matched
+
+-- where a class has a row in this list, each byte of the class leads there
+abbrev pub ClassesLead : Dfa → List (List ℕ) → Bool → ℕ → List (Option ℕ) → Type 0
+ClassesLead dfa rows matched r led =
+    (b v : ℕ) → b < 256 → slice_index_or led (slice_index dfa.class_of b) None ≡ Some v → IsCellOf dfa.nfa rows matched r b v

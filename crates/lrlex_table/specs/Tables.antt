@@ -1,0 +1,56 @@
+-- The tables of a list of rules: each serves some of the rules, and what has no table is asked by itself.
+use Rattle.std.specs.Prelude.{◌≡◌, ℕ, ◌+◌, ◌<◌, ◌≤◌, Bool, true, false, ◌==◌, List, All, [], ◌∷◌, length, map, Option, Some, IsCharBoundary, slice_get}
+use Rattle.std.specs.List.{list_any}
+use Rattle.regex.specs.Patterns.{Re}
+use Rattle.lrlex_rules.specs.Patterns.{match_length}
+use Rattle.lrlex_table.specs.Merged.{pattern_at, IsTableOf}
+use Rattle.lrlex_table.specs.declared.table.Table.{Table}
+use Rattle.lrlex_table.specs.declared.tables.Part.{Part}
+use Rattle.lrlex_table.specs.declared.tables.Tables.{Tables}
+
+-- a table at place k is that of pattern k alone
+abbrev pub AreSingle : (ℕ → Re) → List (Option Table) → Type 0
+AreSingle pattern tables = (k : ℕ) (t : Table) → slice_get tables k ≡ Some (Some t) → IsTableOf (pattern k ∷ []) t
+
+abbrev pub is_among : List ℕ → ℕ → Bool
+is_among rules k = list_any (λ j. j == k) rules
+
+-- rule k has a table
+abbrev pub is_tabled : List Part → ℕ → Bool
+is_tabled parts k = list_any (λ p. is_among p.rules.items k) parts
+
+-- each is greater than the one before, the first is lo at least, and all are below hi
+abbrev pub AreRising : ℕ → ℕ → List ℕ → Type 0
+AreRising lo hi [] = lo ≤ hi
+AreRising lo hi (x ∷ xs) = (lo ≤ x) × AreRising (x + 1) hi xs
+
+-- the table of some of the rules from lo on and below hi
+pub record IsPartOf (ps : List Re) (lo hi : ℕ) (p : Part) : Type 0 where
+  pub rises : AreRising lo hi p.rules.items
+  pub table : IsTableOf (map (λ k. pattern_at ps k) p.rules.items) p.table
+
+-- each is the table of some of the rules from lo on and below hi
+abbrev pub AreParts : List Re → ℕ → ℕ → List Part → Type 0
+AreParts ps lo hi = All (IsPartOf ps lo hi)
+
+-- a rule that has a table among the others has one among these
+abbrev pub Covers : List Part → List Part → Type 0
+Covers parts others = (k : ℕ) → is_tabled parts k ≡ false → is_tabled others k ≡ false
+
+-- each rule from lo on and below hi has a table or is asked
+pub record ArePartsOf (ps : List Re) (lo hi : ℕ) (parts : List Part) (asked : List ℕ) : Type 0 where
+  pub are : All (IsPartOf ps lo hi) parts
+  pub rises : AreRising lo hi asked
+  pub each : (k : ℕ) → lo ≤ k → k < hi → is_tabled parts k ≡ false → is_among asked k ≡ true
+
+-- the tables are those of the rules with these patterns
+abbrev pub AreTablesOf : List Re → Tables → Type 0
+AreTablesOf ps t = ArePartsOf ps 0 (length ps) t.parts.items t.asked.items
+
+-- Among some of the patterns none matches more than n bytes, and where that is not 0, k is the first that matches n.
+pub record IsBestAmong (ps : List Re) (among : ℕ → Bool) (text : List ℕ) (k n : ℕ) : Type 0 where
+  pub most : (j : ℕ) → j < length ps → among j ≡ true → match_length (pattern_at ps j) text ≤ n
+  pub takes : 0 < n → match_length (pattern_at ps k) text ≡ n
+  pub first : 0 < n → (j : ℕ) → j < k → among j ≡ true → match_length (pattern_at ps j) text < n
+  pub within : 0 < n → k < length ps
+  pub cuts : IsCharBoundary text n

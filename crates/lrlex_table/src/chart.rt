@@ -1,0 +1,371 @@
+//! The table of one rule: each row stands for the threads of its NFA, in order.
+ghost use Rattle.std.specs.Prelude.{◌≡◌, ◌≢◌, ℕ, ◌+◌, ◌-◌, ◌*◌, ◌<◌, ◌≤◌, true, Some, None, [], ◌∷◌, map, length, vec_len, IsTrue, IfOk, IfSome, slice_index};
+ghost use Rattle.regex_nfa.specs.Sides.{seen};
+ghost use Rattle.regex_dfa.specs.Walks.{AreStates};
+ghost use Rattle.regex.specs.Patterns.{Re};
+ghost use Rattle.lrlex_table.specs.Steps.{Fits};
+ghost use Rattle.lrlex_table.specs.Merged.{Measures, IsTableOf};
+ghost use Rattle.lrlex_table.specs.Charts.{AsksForStarts, side_at, StepsFrom, StepsOn, win_of, lists_of, threads_at, IsCellOf, IsChart, IsFilling, HasRow, ClassesLead};
+
+use crate::budget::Budget;
+use crate::index::{Index, hash_of};
+use crate::step::{Place, Scratch, Stuck};
+use crate::table::Table;
+use regex_dfa::Dfa;
+use regex_hir::Look;
+use regex_nfa::{Nfa, Side, State, StateId};
+use std::alloc::{AllocError, Global};
+
+/// The row of the first threads. No other row stands for a position with nothing before it.
+const START: u16 = 1;
+
+/// How many states the steps of one chart may visit.
+const MOST_VISITS_ALONE: usize = 300_000;
+
+/// What a row takes beside its steps, as a budget counts work.
+const WORK_OF_ROW: usize = 1_000;
+
+/// What a visit of a state takes, as a budget counts work.
+const WORK_OF_VISIT: usize = 5;
+
+#[derive(Drop)]
+pub struct Chart {
+    rows: Vec<Vec<StateId>>,
+    next: Vec<u16>,
+    wins: Vec<Option<u16>>,
+    index: Index,
+}
+
+/// Whether the NFA has no assertion but the start of the text or of a line.
+pub fn asks_for_starts(nfa: &Nfa) -> bool
+    ensures { IsTrue result → AsksForStarts nfa.now }
+{
+    'states: for q in 0..nfa.states.len() {
+        if let State::Look { look, .. } = nfa.state(q as u32) {
+            let (Look::Start | Look::StartLf) = look else {
+                return false
+            };
+        }
+    }
+    true
+}
+
+/// What may stand before a position of this row: where it isn't the edge of the text, a line's end or not.
+fn side_of(row: u16, line: bool) -> Side
+    ensures { seen result ≡ side_at row line }
+{
+    let byte = if row == START {
+        None
+    } else if line {
+        Some(b'\n')
+    } else {
+        Some(0)
+    };
+    Side { byte, char: None }
+}
+
+fn win_for(matched: bool) -> Option<u16>
+    ensures { result ≡ win_of matched }
+{
+    if matched { Some(0) } else { None }
+}
+
+/// The step of the threads where this stands before them, into `scratch.next`. None where it can't be told.
+fn step_from(
+    nfa: &Nfa,
+    scratch: &mut Scratch,
+    threads: &[StateId],
+    before: Side,
+    byte: Option<u8>,
+) -> Result<Option<bool>, AllocError>
+    requires fits { Fits scratch.old (vec_len nfa.now.states) }
+    requires states { AreStates nfa.now threads.now }
+    ensures fits { Fits scratch.new (vec_len nfa.now.states) }
+    ensures states { IfOk result (λ o. IfSome o (λ m. AreStates nfa.now scratch.new.next.items)) }
+    ensures steps { IfOk result (λ o. IfSome o (StepsFrom nfa.now (seen before) byte threads.now scratch.new.next.items)) }
+{
+    let place = Place {
+        before,
+        after: Side {
+            byte: None,
+            char: None,
+        },
+        exact: true,
+        byte,
+    };
+    match scratch.forward(nfa, threads, place) {
+        Ok(matched) => Ok(Some(matched)),
+        Err(Stuck::Undecided) => Ok(None),
+        Err(Stuck::OutOfMemory) => Err(AllocError),
+    }
+}
+
+/// The step of a row's threads, into `scratch.next`. None where it can't be told, as where it depends on whether a line
+/// ends before it, and once too many states have been visited.
+fn step(
+    alloc: Global,
+    dfa: &Dfa,
+    scratch: &mut Scratch,
+    threads: &[StateId],
+    row: u16,
+    byte: Option<u8>,
+) -> Result<Option<bool>, AllocError>
+    requires starts { AsksForStarts dfa.now.nfa }
+    requires fits { Fits scratch.old (vec_len dfa.now.nfa.states) }
+    requires states { AreStates dfa.now.nfa threads.now }
+    ensures fits { Fits scratch.new (vec_len dfa.now.nfa.states) }
+    ensures states { IfOk result (λ o. IfSome o (λ m. AreStates dfa.now.nfa scratch.new.next.items)) }
+    ensures steps { IfOk result (λ o. IfSome o (StepsOn dfa.now.nfa row byte threads.now scratch.new.next.items)) }
+{
+    if scratch.visits > MOST_VISITS_ALONE {
+        return Ok(None);
+    }
+    let Some(matched) = step_from(&dfa.nfa, scratch, threads, side_of(row, false), byte)? else {
+        return Ok(None);
+    };
+    if row == START || !dfa.needs.lf {
+        return Ok(Some(matched));
+    }
+    let next = Vec::from_slice(alloc, &scratch.next)?;
+    let Some(after) = step_from(&dfa.nfa, scratch, threads, side_of(row, true), byte)? else {
+        return Ok(None);
+    };
+    if after != matched || scratch.next.as_slice() != next.as_slice() {
+        return Ok(None);
+    }
+    Ok(Some(matched))
+}
+
+impl Chart {
+    fn new(alloc: Global, nfa: &Nfa) -> Result<Chart, AllocError>
+        ensures { IfOk result (λ c. IsChart nfa.now (lists_of c.rows) c.next.items c.wins.items × (vec_len c.next ≡ 0) × (vec_len c.wins ≡ 0)) }
+    {
+        let mut rows = Vec::new(alloc);
+        rows.push(Vec::new(alloc))?;
+        let mut first = Vec::new(alloc);
+        first.push(nfa.start)?;
+        rows.push(first)?;
+        let mut index = Index::new(alloc)?;
+        index.add(0, hash_of(&[]));
+        Ok(Chart {
+            rows,
+            next: Vec::new(alloc),
+            wins: Vec::new(alloc),
+            index,
+        })
+    }
+
+    fn find(&self, threads: &[StateId], hash: u32) -> Option<u16>
+        ensures other { IfSome result (λ v. v ≢ 1) }
+        ensures within { IfSome result (λ v. v < vec_len self.now.rows) }
+        ensures is { IfSome result (λ v. threads_at (lists_of self.now.rows) v ≡ threads.now) }
+    {
+        for probe in 0..self.index.len() {
+            let (row, other) = self.index.entry(hash, probe)?;
+            if other == hash
+                && row != START
+                && let Some(found) = self.rows.get(row as usize)
+                && found.as_slice() == threads
+            {
+                return Some(row);
+            }
+        }
+        None
+    }
+
+    /// The row of these threads. None where there would be more than `most`.
+    fn intern(
+        &mut self,
+        alloc: Global,
+        threads: &[StateId],
+        most: u16,
+    ) -> Result<Option<u16>, AllocError>
+        ensures row { IfOk result (λ o. IfSome o (HasRow (lists_of self.old.rows) (lists_of self.new.rows) threads.now)) }
+        ensures next { self.new.next ≡ self.old.next }
+        ensures wins { self.new.wins ≡ self.old.wins }
+    {
+        let hash = hash_of(threads);
+        if let Some(row) = self.find(threads, hash) {
+            return Ok(Some(row));
+        }
+        if self.rows.len() >= most as usize {
+            return Ok(None);
+        }
+        let row = self.rows.len() as u16;
+        if row == START {
+            return Ok(None);
+        }
+        self.rows.push(Vec::from_slice(alloc, threads)?)?;
+        self.index.add(row, hash);
+        Ok(Some(row))
+    }
+
+    /// The end of a row: whether it matches, which is noted. None where it can't be told.
+    fn begin(
+        &mut self,
+        alloc: Global,
+        dfa: &Dfa,
+        scratch: &mut Scratch,
+        threads: &[StateId],
+        row: u16,
+    ) -> Result<Option<bool>, AllocError>
+        requires starts { AsksForStarts dfa.now.nfa }
+        requires fits { Fits scratch.old (vec_len dfa.now.nfa.states) }
+        requires chart { IsChart dfa.now.nfa (lists_of self.old.rows) self.old.next.items self.old.wins.items }
+        requires row { row < vec_len self.old.rows }
+        requires wins { vec_len self.old.wins ≡ row }
+        requires next { vec_len self.old.next ≡ row * 256 }
+        requires threads { threads.now ≡ threads_at (lists_of self.old.rows) row }
+        ensures fits { Fits scratch.new (vec_len dfa.now.nfa.states) }
+        ensures filling { IfOk result (λ o. IfSome o
+            (IsFilling dfa.now.nfa (lists_of self.new.rows) self.new.next.items self.new.wins.items row 0 threads.now)) }
+    {
+        let Some(matched) = step(alloc, dfa, scratch, threads, row, None)? else {
+            return Ok(None);
+        };
+        if !scratch.next.is_empty() {
+            return Ok(None);
+        }
+        self.wins.push(win_for(matched))?;
+        Ok(Some(matched))
+    }
+
+    /// The row to which this row goes on the byte. `led` has those of the classes that were met in this row.
+    fn cell_for(
+        &mut self,
+        alloc: Global,
+        dfa: &Dfa,
+        scratch: &mut Scratch,
+        threads: &[StateId],
+        row: u16,
+        byte: u8,
+        led: &mut [Option<u16>],
+        matched: bool,
+        most: u16,
+    ) -> Result<Option<u16>, AllocError>
+        requires starts { AsksForStarts dfa.now.nfa }
+        requires fits { Fits scratch.old (vec_len dfa.now.nfa.states) }
+        requires filling { IsFilling dfa.now.nfa (lists_of self.old.rows) self.old.next.items self.old.wins.items row byte threads.now matched }
+        requires led { ClassesLead dfa.now (lists_of self.old.rows) matched row led.old }
+        requires classes { length led.old ≡ 256 }
+        ensures fits { Fits scratch.new (vec_len dfa.now.nfa.states) }
+        ensures filling { IfOk result (λ o. IfSome o (λ v.
+            IsFilling dfa.now.nfa (lists_of self.new.rows) self.new.next.items self.new.wins.items row byte threads.now matched)) }
+        ensures cell { IfOk result (λ o. IfSome o (IsCellOf dfa.now.nfa (lists_of self.new.rows) matched row byte)) }
+        ensures led { IfOk result (λ o. IfSome o (λ v. ClassesLead dfa.now (lists_of self.new.rows) matched row led.new)) }
+    {
+        let class = dfa.class_of[byte as usize] as usize;
+        if let Some(to) = led[class] {
+            return Ok(Some(to));
+        }
+        let Some(now) = step(alloc, dfa, scratch, threads, row, Some(byte))? else {
+            return Ok(None);
+        };
+        if now != matched {
+            return Ok(None);
+        }
+        let found = self.intern(alloc, &scratch.next, most)?;
+        let Some(to) = found else { return Ok(None) };
+        led[class] = Some(to);
+        Ok(Some(to))
+    }
+
+    /// Adds the cells of a row. False past `most` rows, and where a step can't be told.
+    fn fill(
+        &mut self,
+        alloc: Global,
+        dfa: &Dfa,
+        scratch: &mut Scratch,
+        row: u16,
+        most: u16,
+    ) -> Result<bool, AllocError>
+        requires starts { AsksForStarts dfa.now.nfa }
+        requires fits { Fits scratch.old (vec_len dfa.now.nfa.states) }
+        requires chart { IsChart dfa.now.nfa (lists_of self.old.rows) self.old.next.items self.old.wins.items }
+        requires row { row < vec_len self.old.rows }
+        requires wins { vec_len self.old.wins ≡ row }
+        requires next { vec_len self.old.next ≡ row * 256 }
+        ensures fits { Fits scratch.new (vec_len dfa.now.nfa.states) }
+        ensures chart { IfOk result (λ b. IsTrue b → IsChart dfa.now.nfa (lists_of self.new.rows) self.new.next.items self.new.wins.items) }
+        ensures row { IfOk result (λ b. IsTrue b → row < vec_len self.new.rows) }
+        ensures wins { IfOk result (λ b. IsTrue b → vec_len self.new.wins ≡ row + 1) }
+        ensures next { IfOk result (λ b. IsTrue b → vec_len self.new.next ≡ (row + 1) * 256) }
+    {
+        let threads = Vec::from_slice(alloc, self.rows[row as usize].as_slice())?;
+        let Some(matched) = self.begin(alloc, dfa, scratch, &threads, row)? else {
+            return Ok(false);
+        };
+        let mut led = [None; 256];
+        'bytes: for byte in 0..256usize {
+            let found = self.cell_for(
+                alloc, dfa, scratch, &threads, row, byte as u8, &mut led, matched, most,
+            )?;
+            let Some(to) = found else { return Ok(false) };
+            self.next.push(to)?;
+        }
+        Ok(true)
+    }
+
+    /// Adds the cells of all rows, each paid from the budget. False past `most` rows, where a step can't be told, and where
+    /// the budget is spent.
+    fn fill_all(
+        &mut self,
+        alloc: Global,
+        dfa: &Dfa,
+        scratch: &mut Scratch,
+        most: u16,
+        budget: &mut Budget,
+    ) -> Result<bool, AllocError>
+        requires starts { AsksForStarts dfa.now.nfa }
+        requires fits { Fits scratch.old (vec_len dfa.now.nfa.states) }
+        requires chart { IsChart dfa.now.nfa (lists_of self.old.rows) self.old.next.items self.old.wins.items }
+        requires wins { vec_len self.old.wins ≡ 0 }
+        requires next { vec_len self.old.next ≡ 0 }
+        ensures chart { IfOk result (λ b. IsTrue b → IsChart dfa.now.nfa (lists_of self.new.rows) self.new.next.items self.new.wins.items) }
+        ensures wins { IfOk result (λ b. IsTrue b → vec_len self.new.wins ≡ vec_len self.new.rows) }
+        ensures next { IfOk result (λ b. IsTrue b → vec_len self.new.next ≡ vec_len self.new.rows * 256) }
+        ensures paid { IfOk result (λ b. IsTrue b → vec_len self.new.wins + budget.new.rows ≤ budget.old.rows) }
+    {
+        'rows: for row in 0..most {
+            if row as usize == self.rows.len() {
+                return Ok(true);
+            }
+            if !budget.pay_rows(1) || !budget.pay_work(WORK_OF_ROW) {
+                return Ok(false);
+            }
+            let visited = scratch.visits;
+            let filled = self.fill(alloc, dfa, scratch, row, most)?;
+            let visits = scratch.visits.saturating_sub(visited);
+            if !budget.pay_work(visits.saturating_mul(WORK_OF_VISIT)) || !filled {
+                return Ok(false);
+            }
+        }
+        Ok(false)
+    }
+}
+
+/// The table of the NFA alone. None past `most` rows or too many steps, where the budget is spent, and where the NFA has
+/// an assertion other than the start of the text or of a line, or its steps depend on where lines end before them.
+pub fn chart_of(
+    alloc: Global,
+    dfa: &Dfa,
+    most: u16,
+    budget: &mut Budget,
+) -> Result<Option<Table>, AllocError>
+    ensures table { (re : Re) → Measures dfa.now.nfa re → IfOk result (λ o. IfSome o (IsTableOf (re ∷ []))) }
+    ensures paid { IfOk result (λ o. IfSome o (λ t. vec_len t.wins + budget.new.rows ≤ budget.old.rows)) }
+{
+    if !asks_for_starts(&dfa.nfa) {
+        return Ok(None);
+    }
+    let mut scratch = Scratch::new(alloc, dfa.nfa.states.len())?;
+    let mut chart = Chart::new(alloc, &dfa.nfa)?;
+    if !chart.fill_all(alloc, dfa, &mut scratch, most, budget)? {
+        return Ok(None);
+    }
+    Ok(Some(Table {
+        next: chart.next,
+        wins: chart.wins,
+        start: START,
+    }))
+}

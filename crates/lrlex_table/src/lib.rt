@@ -1,0 +1,21 @@
+//! Tables for the rules of a state, as few as can be had within a budget.
+#![tactic(auto)]
+
+mod budget;
+mod chart;
+mod index;
+mod merging;
+mod nfa;
+mod product;
+mod source;
+mod step;
+mod table;
+mod tables;
+mod walk;
+
+pub use budget::Budget;
+pub use merging::table_of;
+pub use source::Source;
+pub use table::Table;
+pub use tables::{Part, Tables, tables_of};
+pub use walk::{Sight, Tile};

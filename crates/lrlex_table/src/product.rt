@@ -1,0 +1,224 @@
+//! The table of the rules of two tables. Each row stands for a row of each.
+ghost use Rattle.std.specs.Prelude.{◌≡◌, ◌≢◌, ℕ, ◌+◌, ◌-◌, ◌*◌, ◌<◌, ◌≤◌, ◌++◌, List, length, vec_len, IsTrue, IfOk, IfSome, None, Some, slice_index_or};
+ghost use Rattle.regex.specs.Patterns.{Re};
+ghost use Rattle.lrlex_table.specs.Merged.{next_of, IsTableOf};
+ghost use Rattle.lrlex_table.specs.Grids.{first_win, pair_at, HasPair, IsPairCellOf, IsGridOf, IsPairingOf};
+
+use crate::budget::Budget;
+use crate::index::{Index, hash_of_pair};
+use crate::table::Table;
+use std::alloc::{AllocError, Global};
+
+/// The row of the two first rows.
+const START: u16 = 1;
+
+/// What it costs to fill a row, in the budget's units of work.
+const WORK_OF_A_ROW: usize = 1_000;
+
+#[derive(Drop)]
+pub struct Grid {
+    /// The first rows of the two tables.
+    first: (u16, u16),
+    rows: Vec<(u16, u16)>,
+    next: Vec<u16>,
+    wins: Vec<Option<u16>>,
+    index: Index,
+}
+
+/// The first of the rules of two tables, where the second's count from `shift`. None where it has no number.
+fn first_of(one: Option<u16>, other: Option<u16>, shift: u16) -> Option<Option<u16>>
+    ensures { IfSome result (λ win. win ≡ first_win shift one other) }
+{
+    match (one, other) {
+        (Some(k), _) => Some(Some(k)),
+        (None, Some(k)) => {
+            let place = k.checked_add(shift)?;
+            Some(Some(place))
+        }
+        (None, None) => Some(None),
+    }
+}
+
+impl Grid {
+    fn new(alloc: Global, a: &Table, b: &Table, shift: u16) -> Result<Option<Grid>, AllocError>
+        ensures grid { IfOk result (λ o. IfSome o (λ g. IsGridOf a.now b.now shift g.rows.items g.next.items g.wins.items)) }
+        ensures first { IfOk result (λ o. IfSome o (λ g. (g.first.0 ≡ a.now.start) × (g.first.1 ≡ b.now.start))) }
+        ensures next { IfOk result (λ o. IfSome o (λ g. vec_len g.next ≡ 0)) }
+        ensures wins { IfOk result (λ o. IfSome o (λ g. vec_len g.wins ≡ 0)) }
+    {
+        if a.start == 0 || b.start == 0 {
+            return Ok(None);
+        }
+        let mut rows = Vec::new(alloc);
+        rows.push((0, 0))?;
+        rows.push((a.start, b.start))?;
+        let mut index = Index::new(alloc)?;
+        index.add(0, hash_of_pair(0, 0));
+        Ok(Some(Grid {
+            first: (a.start, b.start),
+            rows,
+            next: Vec::new(alloc),
+            wins: Vec::new(alloc),
+            index,
+        }))
+    }
+
+    #[inline(always)]
+    fn find(&self, x: u16, y: u16, hash: u32) -> Option<u16>
+        ensures other { IfSome result (λ v. v ≢ 1) }
+        ensures within { IfSome result (λ v. v < vec_len self.now.rows) }
+        ensures is { IfSome result (λ v. pair_at self.now.rows.items v ≡ (x, y)) }
+    {
+        for probe in 0..self.index.len() {
+            let (row, other) = self.index.entry(hash, probe)?;
+            if other == hash
+                && row != START
+                && let Some(found) = self.rows.get(row as usize)
+                && found.0 == x
+                && found.1 == y
+            {
+                return Some(row);
+            }
+        }
+        None
+    }
+
+    /// The row of these two. None where there would be more than `most`.
+    fn intern(&mut self, x: u16, y: u16, most: u16) -> Result<Option<u16>, AllocError>
+        ensures row { IfOk result (λ o. IfSome o (HasPair self.old.first.0 self.old.first.1 self.old.rows.items self.new.rows.items x y)) }
+        ensures next { self.new.next ≡ self.old.next }
+        ensures wins { self.new.wins ≡ self.old.wins }
+        ensures first { self.new.first ≡ self.old.first }
+    {
+        let hash = hash_of_pair(x, y);
+        if let Some(row) = self.find(x, y, hash) {
+            return Ok(Some(row));
+        }
+        if self.rows.len() >= most as usize {
+            return Ok(None);
+        }
+        let row = self.rows.len() as u16;
+        if row == START || x == self.first.0 || y == self.first.1 {
+            return Ok(None);
+        }
+        self.rows.push((x, y))?;
+        self.index.add(row, hash);
+        Ok(Some(row))
+    }
+
+    /// Adds the cells of a row. False past `most` rows.
+    fn fill(
+        &mut self,
+        a: &Table,
+        b: &Table,
+        shift: u16,
+        row: u16,
+        most: u16,
+    ) -> Result<bool, AllocError>
+        requires grid { IsGridOf a.now b.now shift self.old.rows.items self.old.next.items self.old.wins.items }
+        requires first { (self.old.first.0 ≡ a.now.start) × (self.old.first.1 ≡ b.now.start) }
+        requires row { row < vec_len self.old.rows }
+        requires wins { vec_len self.old.wins ≡ row }
+        requires next { vec_len self.old.next ≡ row * 256 }
+        ensures first { self.new.first ≡ self.old.first }
+        ensures grid { IfOk result (λ t. IsTrue t → IsGridOf a.now b.now shift self.new.rows.items self.new.next.items self.new.wins.items) }
+        ensures row { IfOk result (λ t. IsTrue t → row < vec_len self.new.rows) }
+        ensures wins { IfOk result (λ t. IsTrue t → vec_len self.new.wins ≡ row + 1) }
+        ensures next { IfOk result (λ t. IsTrue t → vec_len self.new.next ≡ (row + 1) * 256) }
+    {
+        let (x, y) = self.rows[row as usize];
+        let Some(win) = first_of(a.win_of(x), b.win_of(y), shift) else {
+            return Ok(false);
+        };
+        self.wins.push(win)?;
+        let mut known = (0u16, 0u16, 0u16);
+        'bytes: for byte in 0..256usize {
+            let to = a.next_of(x, byte as u8);
+            let also = b.next_of(y, byte as u8);
+            let found = self.go(to, also, known, most)?;
+            let Some(v) = found else { return Ok(false) };
+            self.next.push(v)?;
+            known = (to, also, v);
+        }
+        Ok(true)
+    }
+
+    /// The row of these two, where that of two others is known.
+    #[inline(always)]
+    fn go(
+        &mut self,
+        x: u16,
+        y: u16,
+        known: (u16, u16, u16),
+        most: u16,
+    ) -> Result<Option<u16>, AllocError>
+        requires { HasPair self.old.first.0 self.old.first.1 self.old.rows.items self.old.rows.items known.0 known.1 known.2 }
+        ensures row { IfOk result (λ o. IfSome o (HasPair self.old.first.0 self.old.first.1 self.old.rows.items self.new.rows.items x y)) }
+        ensures next { self.new.next ≡ self.old.next }
+        ensures wins { self.new.wins ≡ self.old.wins }
+        ensures first { self.new.first ≡ self.old.first }
+    {
+        if x == known.0 && y == known.1 {
+            return Ok(Some(known.2));
+        }
+        self.intern(x, y, most)
+    }
+
+    /// Adds the cells of all rows. False past `most` rows or the budget.
+    fn fill_all(
+        &mut self,
+        a: &Table,
+        b: &Table,
+        shift: u16,
+        most: u16,
+        budget: &mut Budget,
+    ) -> Result<bool, AllocError>
+        requires grid { IsGridOf a.now b.now shift self.old.rows.items self.old.next.items self.old.wins.items }
+        requires first { (self.old.first.0 ≡ a.now.start) × (self.old.first.1 ≡ b.now.start) }
+        requires wins { vec_len self.old.wins ≡ 0 }
+        requires next { vec_len self.old.next ≡ 0 }
+        ensures grid { IfOk result (λ t. IsTrue t → IsGridOf a.now b.now shift self.new.rows.items self.new.next.items self.new.wins.items) }
+        ensures wins { IfOk result (λ t. IsTrue t → vec_len self.new.wins ≡ vec_len self.new.rows) }
+        ensures next { IfOk result (λ t. IsTrue t → vec_len self.new.next ≡ vec_len self.new.rows * 256) }
+    {
+        'rows: for row in 0..most {
+            if row as usize == self.rows.len() {
+                return Ok(true);
+            }
+            if !budget.pay_rows(1) || !budget.pay_work(WORK_OF_A_ROW) {
+                return Ok(false);
+            }
+            if !self.fill(a, b, shift, row, most)? {
+                return Ok(false);
+            }
+        }
+        Ok(false)
+    }
+}
+
+/// The table of all rules of both, where those of the second count from `shift`. None past `most` rows, and past the
+/// budget, which pays for each row.
+pub fn product(
+    alloc: Global,
+    a: &Table,
+    b: &Table,
+    shift: u16,
+    most: u16,
+    budget: &mut Budget,
+) -> Result<Option<Table>, AllocError>
+    ensures { (ps qs : List Re) → IsTableOf ps a.now → IsTableOf qs b.now → shift ≡ length ps →
+        IfOk result (λ o. IfSome o (IsTableOf (ps ++ qs))) }
+{
+    let made = Grid::new(alloc, a, b, shift)?;
+    let Some(mut grid) = made else {
+        return Ok(None)
+    };
+    if !grid.fill_all(a, b, shift, most, budget)? {
+        return Ok(None);
+    }
+    Ok(Some(Table {
+        next: grid.next,
+        wins: grid.wins,
+        start: START,
+    }))
+}

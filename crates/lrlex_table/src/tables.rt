@@ -1,0 +1,273 @@
+//! The tables of a list of rules: as few as can be had, half by half.
+ghost use Rattle.std.specs.Prelude.{◌≡◌, ℕ, Bool, ◌||◌, ◌+◌, ◌<◌, ◌≤◌, List, [], ◌∷◌, ◌++◌, length, map, vec_len, slice_index_or, IfOk, OnOk, IfSome, MatchOption, IsTrue, IsFalse};
+ghost use Rattle.regex.specs.Patterns.{Re};
+ghost use Rattle.lrlex_table.specs.Merged.{pattern_at};
+ghost use Rattle.lrlex_table.specs.Tables.{AreSingle, is_among, is_tabled, IsPartOf, AreParts, Covers, ArePartsOf, AreTablesOf, IsBestAmong};
+
+use crate::budget::Budget;
+use crate::product::product;
+use crate::table::Table;
+use crate::walk::Tile;
+use std::alloc::{AllocError, Global};
+
+/// The most rows of a table for the rules of several.
+const MOST_ROWS: usize = 65_534;
+
+/// What it costs to try whether two parts can be joined, in the budget's units of work.
+const WORK_OF_A_TRY: usize = 500;
+
+/// The table of some of the rules, with their places in the list.
+#[derive(Drop)]
+pub struct Part {
+    pub(crate) table: Table,
+    pub(crate) rules: Vec<usize>,
+}
+
+/// The tables of a list of rules, and the rules that have none.
+#[derive(Drop)]
+pub struct Tables {
+    pub(crate) parts: Vec<Part>,
+    pub(crate) asked: Vec<usize>,
+}
+
+/// How many rows the table of the rules of both may have: where it would have many more than both, they stay apart.
+fn most_rows(a: &Table, b: &Table) -> u16 {
+    let both = a.rows().saturating_add(b.rows());
+    let most = both.saturating_mul(2).saturating_add(64).min(MOST_ROWS);
+    most as u16
+}
+
+/// The part of the rules of both, in this order. None where they don't rise in it, and where its table would grow too
+/// big or the budget is spent.
+fn join(alloc: Global, a: &Part, b: &Part, budget: &mut Budget) -> Result<Option<Part>, AllocError>
+    ensures part { (ps : List Re) (lo hi : ℕ) → IsPartOf ps lo hi a.now → IsPartOf ps lo hi b.now →
+        IfOk result (λ o. IfSome o (IsPartOf ps lo hi)) }
+    ensures rules { IfOk result (λ o. IfSome o (λ p. p.rules.items ≡ a.now.rules.items ++ b.now.rules.items)) }
+{
+    let Some(last) = a.rules.last() else {
+        return Ok(None)
+    };
+    let Some(first) = b.rules.first() else {
+        return Ok(None)
+    };
+    if *last >= *first {
+        return Ok(None);
+    }
+    if !budget.pay_work(WORK_OF_A_TRY) {
+        return Ok(None);
+    }
+    let Ok(shift) = u16::try_from(a.rules.len()) else {
+        return Ok(None)
+    };
+    let most = most_rows(&a.table, &b.table);
+    let rows = budget.rows();
+    let made = product(alloc, &a.table, &b.table, shift, most, budget)?;
+    let Some(table) = made else {
+        budget.free_rows(rows.saturating_sub(budget.rows()));
+        return Ok(None);
+    };
+    let mut rules = Vec::from_slice(alloc, &a.rules)?;
+    rules.extend_from_slice(&b.rules)?;
+    Ok(Some(Part { table, rules }))
+}
+
+/// Joins the part with the first of the parts that it can be joined with, or adds it to them.
+fn put(
+    alloc: Global,
+    parts: &mut Vec<Part>,
+    part: Part,
+    budget: &mut Budget,
+) -> Result<(), AllocError>
+    ensures parts { (ps : List Re) (lo hi : ℕ) → AreParts ps lo hi parts.old.items → IsPartOf ps lo hi part →
+        OnOk result (AreParts ps lo hi parts.new.items) }
+    ensures covers { OnOk result (Covers parts.new.items (part ∷ parts.old.items)) }
+{
+    'parts: for at in 0..parts.len() {
+        let joined = join(alloc, &parts[at], &part, budget)?;
+        if let Some(both) = joined {
+            let replaced = parts[at].table.rows().saturating_add(part.table.rows());
+            parts[at] = both;
+            budget.free_rows(replaced);
+            return Ok(());
+        }
+    }
+    parts.push(part)?;
+    Ok(())
+}
+
+/// The tables of one rule.
+fn alone(
+    alloc: Global,
+    single: &[Option<Table>],
+    place: usize,
+    rule: usize,
+    budget: &mut Budget,
+) -> Result<Tables, AllocError>
+    ensures { (pattern : ℕ → Re) (ps : List Re) → AreSingle pattern single.now → pattern_at ps rule ≡ pattern place →
+        IfOk result (λ t. ArePartsOf ps rule (rule + 1) t.parts.items t.asked.items) }
+{
+    let mut parts = Vec::new(alloc);
+    let mut asked = Vec::new(alloc);
+    if let Some(Some(table)) = single.get(place)
+        && budget.pay_rows(table.rows())
+    {
+        let mut rules = Vec::new(alloc);
+        rules.push(rule)?;
+        let table = table.copy(alloc)?;
+        parts.push(Part { table, rules })?;
+    } else {
+        asked.push(rule)?;
+    }
+    Ok(Tables { parts, asked })
+}
+
+/// The tables of the rules of two, where those of the second stand later in the list.
+fn both(
+    alloc: Global,
+    mut left: Tables,
+    right: Tables,
+    budget: &mut Budget,
+) -> Result<Tables, AllocError>
+    ensures { (ps : List Re) (lo middle hi : ℕ) → ArePartsOf ps lo middle left.parts.items left.asked.items →
+        ArePartsOf ps middle hi right.parts.items right.asked.items →
+        IfOk result (λ t. ArePartsOf ps lo hi t.parts.items t.asked.items) }
+{
+    'parts: for part in right.parts {
+        put(alloc, &mut left.parts, part, budget)?;
+    }
+    left.asked.extend_from_slice(&right.asked)?;
+    Ok(left)
+}
+
+/// The tables of the rules from `from` on and below `to`.
+fn tables_between(
+    alloc: Global,
+    single: &[Option<Table>],
+    places: &[usize],
+    from: usize,
+    to: usize,
+    budget: &mut Budget,
+) -> Result<Tables, AllocError>
+    requires from { from < to }
+    requires to { to ≤ length places.now }
+    ensures { (pattern : ℕ → Re) → AreSingle pattern single.now →
+        IfOk result (λ t. ArePartsOf (map pattern places.now) from to t.parts.items t.asked.items) }
+{
+    let half = (to - from) / 2;
+    if half == 0 {
+        return alone(alloc, single, places[from], from, budget);
+    }
+    let middle = from + half;
+    let left = tables_between(alloc, single, places, from, middle, budget)?;
+    let right = tables_between(alloc, single, places, middle, to, budget)?;
+    both(alloc, left, right, budget)
+}
+
+/// Tables for the rules at these places, as few as can be had; `single` has the table of each rule alone. A rule that
+/// has none stays asked, and so do all that the budget doesn't reach.
+pub fn tables_of(
+    alloc: Global,
+    single: &[Option<Table>],
+    places: &[usize],
+    budget: &mut Budget,
+) -> Result<Tables, AllocError>
+    ensures { (pattern : ℕ → Re) → AreSingle pattern single.now → IfOk result (AreTablesOf (map pattern places.now)) }
+{
+    if places.is_empty() {
+        return Tables::none(alloc, 0);
+    }
+    tables_between(alloc, single, places, 0, places.len(), budget)
+}
+
+/// Whether a tile is better than another: it has more bytes, or as many by an earlier rule.
+#[inline(always)]
+fn comes_before(tile: Tile, other: Tile) -> bool
+    ensures yes { IsTrue result → (other.len ≤ tile.len) × (other.len ≡ tile.len → tile.rule ≤ other.rule) }
+    ensures no { IsFalse result → (tile.len ≤ other.len) × (tile.len ≡ other.len → other.rule ≤ tile.rule) }
+{
+    tile.len > other.len || (tile.len == other.len && tile.rule < other.rule)
+}
+
+impl Part {
+    /// Of the part's rules, the one that matches most bytes of the text from its beginning on, the first of several,
+    /// and how many. None where none matches a byte.
+    #[inline(always)]
+    fn winner(&self, text: &str) -> Option<Tile>
+        ensures { (ps : List Re) → IsPartOf ps 0 (length ps) self.now →
+            MatchOption result (IsBestAmong ps (is_among self.now.rules.items) text.now 0 0)
+            (λ t. (0 < t.len) × IsBestAmong ps (is_among self.now.rules.items) text.now t.rule t.len) }
+    {
+        let tile = self.table.winner(text)?;
+        let rule = self.rules.get(tile.rule)?;
+        Some(Tile {
+            rule: *rule,
+            len: tile.len,
+        })
+    }
+
+    /// The better of the part's winner and the best among other rules.
+    #[inline(always)]
+    fn better(&self, text: &str, best: Tile) -> Tile
+        ensures { (ps : List Re) (among : ℕ → Bool) → IsPartOf ps 0 (length ps) self.now → IsBestAmong ps among text.now best.rule best.len →
+            IsBestAmong ps (λ k. among k || is_among self.now.rules.items k) text.now result.rule result.len }
+    {
+        let Some(tile) = self.winner(text) else {
+            return best
+        };
+        if comes_before(tile, best) { tile } else { best }
+    }
+}
+
+impl Tables {
+    /// No table: all of so many rules are asked.
+    pub fn none(alloc: Global, rules: usize) -> Result<Tables, AllocError>
+        ensures { (ps : List Re) → length ps ≡ rules → IfOk result (AreTablesOf ps) }
+    {
+        let mut asked = Vec::new(alloc);
+        'rules: for place in 0..rules {
+            asked.push(place)?;
+        }
+        Ok(Tables {
+            parts: Vec::new(alloc),
+            asked,
+        })
+    }
+
+    /// The places in the list of the rules that have no table, rising.
+    pub fn asked(&self) -> &[usize]
+        ensures { result.now ≡ self.now.asked.items }
+    {
+        &self.asked
+    }
+
+    /// Of the rules that have a table, the one that matches most bytes of the text from its beginning on, the first of
+    /// several, and how many. None where none matches a byte.
+    #[inline(always)]
+    pub fn winner(&self, text: &str) -> Option<Tile>
+        ensures { (ps : List Re) → AreTablesOf ps self.now →
+            MatchOption result (IsBestAmong ps (is_tabled self.now.parts.items) text.now 0 0)
+            (λ t. (0 < t.len) × IsBestAmong ps (is_tabled self.now.parts.items) text.now t.rule t.len) }
+    {
+        let mut best = Tile { rule: 0, len: 0 };
+        'parts: for at in 0..self.parts.len() {
+            best = self.parts[at].better(text, best);
+        }
+        if best.len > 0 { Some(best) } else { None }
+    }
+
+    /// How many tables there are.
+    pub fn count(&self) -> usize
+        ensures { result ≡ vec_len self.now.parts }
+    {
+        self.parts.len()
+    }
+
+    /// How many rows all tables have.
+    pub fn rows(&self) -> usize {
+        let mut rows = 0usize;
+        for part in &self.parts {
+            rows = rows.saturating_add(part.table.rows());
+        }
+        rows
+    }
+}

@@ -1,0 +1,95 @@
+//! Which rules have a table, and that lexing by tables and by asking each rule answer alike.
+use crate::shown::{DefinitionOver, items_text};
+use lrlex::{Budget, LexerDef};
+use lrlex_base::Id;
+use std::alloc::{AllocError, Global};
+use std::test::Fail;
+
+/// How many tables the states have, and how many rules of them have none. None where the rules are refused.
+fn counts<T: Id>(alloc: Global, rules: &str) -> Result<Option<(usize, usize)>, AllocError> {
+    let Ok(definition) = DefinitionOver::<T>::from_str(alloc, rules)? else {
+        return Ok(None);
+    };
+    Ok(Some((definition.tables(), definition.asked_rules())))
+}
+
+#[test]
+fn rules_with_and_without_a_table(rt: HostRuntime) -> Result<(), Fail> {
+    // rules; tables, rules that are asked
+    let rows = [
+        ("%%\na 'A'", 1, 0),
+        ("%%\n[a-z]+ 'ID'\n[0-9]+ 'INT'\n[ ] ;", 1, 0),
+        ("%%\n^a 'A'\nb 'B'", 1, 0),
+        ("%%\na$ 'A'\nb 'B'\nc 'C'", 1, 1),
+        ("%%\nif\\b 'IF'\n[a-z]+ 'ID'", 1, 1),
+        ("%%\na\\nb 'A'\na\\n^b 'B'", 1, 1),
+        ("%%\n[a-z] 'A'\n(a|b)*a(a|b){12} 'B'\n[0-9] 'C'", 1, 1),
+        ("%s s t\n%%\na 'A'\nb 'B'", 1, 0),
+        ("%x s\n%%\na 'A'\n<s>b 'B'", 2, 0),
+        ("%x s\n%%\na <s>'A'", 1, 0),
+    ];
+    for (rules, tables, asked) in rows {
+        let Some(got) = counts::<u32>(rt.alloc(), rules)? else {
+            panic!(rt; "refused: {rules:?}");
+        };
+        assert_eq!(rt; got, (tables, asked), "{rules:?}");
+    }
+    Ok(())
+}
+
+/// What lexing gives by tables within this budget, and how many there are. None where the rules are refused.
+fn items_within<T: Id>(
+    alloc: Global,
+    rules: &str,
+    input: &str,
+    budget: Budget,
+) -> Result<Option<(String, usize)>, AllocError> {
+    let Ok(built) = DefinitionOver::<T>::from_str(alloc, rules)? else {
+        return Ok(None);
+    };
+    let definition = built.with_budget(alloc, budget)?;
+    let run = definition.run(alloc, input)?;
+    Ok(Some((items_text::<T>(alloc, definition.rules(), run.items())?, definition.tables())))
+}
+
+#[test]
+fn the_same_by_tables_and_by_asking(rt: HostRuntime) -> Result<(), Fail> {
+    // rules, an input
+    let rows = [
+        ("%%\n[a-z]+ 'ID'\nif 'IF'\n[ ] ;", "if iffy fi if"),
+        ("%%\nif 'IF'\n[a-z]+ 'ID'\n[ ] ;", "if iffy fi if"),
+        ("%%\na$ 'END'\na 'A'\n\\n 'NL'", "aa\na\naaa"),
+        (
+            "%%\n^a 'LINE'\na 'A'\nb\\n^a 'TWO'\n[b\\n] 'O'",
+            "ab\naab\na",
+        ),
+        (
+            "%%\n(a|b)*a(a|b){12} 'LONG'\na 'A'\nb 'B'",
+            "abababbabaabbabababbabb",
+        ),
+        ("%%\na*b 'B'\na 'A'", "aaaaaaaaab aaa"),
+        ("%%\n\\w+ 'W'\n[^\\w]+ 'O'", "für élan, naïve"),
+        ("%%\nx* 'X'\ny 'Y'", "xxyz"),
+        (
+            "%x s\n%%\n\" <+s>'O'\n<s>[^\"]+ 'T'\n<s>\" <-s>'C'\na 'A'",
+            "a\"abc\"a\"\"",
+        ),
+    ];
+    for (rules, input) in rows {
+        for most in [8_000, 20, 0] {
+            let asked = items_within::<u32>(rt.alloc(), rules, input, Budget::new(0, 0))?;
+            let budget = Budget::new(most, 40_000_000);
+            let got = items_within::<u32>(rt.alloc(), rules, input, budget)?;
+            let (Some((want, none)), Some((items, _))) = (asked, got) else {
+                panic!(rt; "refused: {rules:?}");
+            };
+            assert_eq!(rt; none, 0, "{rules:?}");
+            assert_eq!(rt;
+                items.as_str(),
+                want.as_str(),
+                "{rules:?} on {input:?}, {most}"
+            );
+        }
+    }
+    Ok(())
+}
