@@ -1,4 +1,6 @@
 -- Matchers that are made as their rules are asked.
+use Rattle.std.specs.declared.alloc.Global.{Global}
+use Rattle.std.specs.Prelude.{Box}
 use Rattle.std.proofs.Common.{◌≡◌, ◌≢◌, ℕ, ◌+◌, ◌<◌, ◌≤◌, List, [], ◌∷◌, ◌++◌, length, get_or, Option, None, Some, slice_get, slice_set, refl, sym, ap, ◌∙◌, subst, inl, inr, arith}
 use Rattle.std.proofs.lemmas.Bool.{cases_eq, cases_lt}
 use Rattle.std.proofs.lemmas.Option.{none-some, same_Some, slice_get-get_or, slice_get_within, get_or_from_slice_get}
@@ -7,19 +9,19 @@ use Rattle.regex.specs.declared.string.matcher.Matcher.{Matcher}
 use Rattle.lrlex_rules.specs.declared.rules.Rule as code
 use Rattle.lrlex.specs.Tables.{IsMatcherOf, AreMatchers}
 
-module _ {S : Type 0} (rules : List (code.Rule S)) (made : List (Option Matcher)) where
+module _ {S : Type 0} (rules : List (code.Rule S)) (made : List (Option (Box Matcher Global))) where
   -- no matcher is made yet
-  pub none_made : length made ≡ length rules → ((i : ℕ) (o : Option Matcher) → slice_get made i ≡ Some o → o ≡ None) → AreMatchers rules made
+  pub none_made : length made ≡ length rules → ((i : ℕ) (o : Option (Box Matcher Global)) → slice_get made i ≡ Some o → o ≡ None) → AreMatchers rules made
   none_made len none = (len, λ i r o at is m e. absurd (none-some m (sym (none i o is) ∙ e)))
 
   module _ (are : AreMatchers rules made) (place : ℕ) (r : code.Rule S) (at : slice_get rules place ≡ Some r) where
     pub matcher_within : place < length made
     matcher_within = omega (arith, are.0, slice_get_within rules place r at)
 
-    pub matcher_at : (o : Option Matcher) → o ≡ get_or made place o → IsMatcherOf r o
+    pub matcher_at : (o : Option (Box Matcher Global)) → o ≡ get_or made place o → IsMatcherOf r o
     matcher_at o read = are.1 place r o at (slice_get-get_or made place o matcher_within ∙ ap Some (sym read))
 
-    pub matchers_set : (o : Option Matcher) → IsMatcherOf r o → AreMatchers rules (slice_set made place o)
+    pub matchers_set : (o : Option (Box Matcher Global)) → IsMatcherOf r o → AreMatchers rules (slice_set made place o)
     matchers_set o is = (
       length-set made place o ∙ are.0,
       λ i s u found held. elim (cases_eq i place) [
@@ -35,15 +37,15 @@ module _ {S : Type 0} (rules : List (code.Rule S)) (made : List (Option Matcher)
     )
 
 -- one more place with no matcher
-pub nones_more : (made : List (Option Matcher)) → ((i : ℕ) (o : Option Matcher) → slice_get made i ≡ Some o → o ≡ None) →
-    (i : ℕ) (o : Option Matcher) → slice_get (made ++ None ∷ []) i ≡ Some o → o ≡ None
+pub nones_more : (made : List (Option (Box Matcher Global))) → ((i : ℕ) (o : Option (Box Matcher Global)) → slice_get made i ≡ Some o → o ≡ None) →
+    (i : ℕ) (o : Option (Box Matcher Global)) → slice_get (made ++ None ∷ []) i ≡ Some o → o ≡ None
 nones_more made none i o is = elim (cases_lt i (length made)) [
   | inl low ↦
       none i o
       (slice_get-get_or made i None low ∙ ap Some (sym (get_or_append_left made (None ∷ []) None i low))
-      ∙ sym (slice_get-get_or (made ++ None ∷ []) i None (omega (arith, length_push {X = Option Matcher} made None))) ∙ is)
+      ∙ sym (slice_get-get_or (made ++ None ∷ []) i None (omega (arith, length_push {X = Option (Box Matcher Global)} made None))) ∙ is)
   | inr high ↦
       let within : i < length (made ++ None ∷ []) = slice_get_within (made ++ None ∷ []) i o is in
-      let e : length made ≡ i = omega (arith, length_push {X = Option Matcher} made None) in
+      let e : length made ≡ i = omega (arith, length_push {X = Option (Box Matcher Global)} made None) in
       sym (get_or_from_slice_get (made ++ None ∷ []) i o None is) ∙ get_or_push made None None i e
 ]

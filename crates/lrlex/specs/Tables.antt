@@ -1,5 +1,6 @@
 -- The tables of each start state, and the matchers of the rules that have none.
-use Rattle.std.specs.Prelude.{◌≡◌, ℕ, List, [], length, map, Option, Some, unwrap_or, slice_get, slice_index_or}
+use Rattle.std.specs.declared.alloc.Global.{Global}
+use Rattle.std.specs.Prelude.{Box, ◌≡◌, ℕ, List, [], length, map, Option, Some, unwrap_or, slice_get, slice_index_or}
 use Rattle.regex.specs.Patterns.{Re, SameCaptures}
 use Rattle.regex.specs.Strings.{matcher_pattern}
 use Rattle.regex.specs.declared.string.matcher.Matcher.{Matcher}
@@ -26,11 +27,11 @@ AreServed rules active tables at =
     AreTablesOf (patterns_on (map (as_rule (λ _. 0)) rules) (slice_index_or active i [])) t
 
 -- a matcher, where there is one, is that of the rule
-abbrev pub IsMatcherOf : {S : Type 0} → code.Rule S → Option Matcher → Type 0
-IsMatcherOf r o = (m : Matcher) → o ≡ Some m → SameCaptures (matcher_pattern m) (pattern_of (as_rule (λ _. 0) r))
+abbrev pub IsMatcherOf : {S : Type 0} → code.Rule S → Option (Box Matcher Global) → Type 0
+IsMatcherOf r o = (m : Box Matcher Global) → o ≡ Some m → SameCaptures (matcher_pattern m.value) (pattern_of (as_rule (λ _. 0) r))
 
 -- room for a matcher of each rule, and each that was made is that of the rule at its place
-abbrev pub AreMatchers : {S : Type 0} → List (code.Rule S) → List (Option Matcher) → Type 0
+abbrev pub AreMatchers : {S : Type 0} → List (code.Rule S) → List (Option (Box Matcher Global)) → Type 0
 AreMatchers rules made =
     (length made ≡ length rules)
-    × ((i : ℕ) (r : code.Rule _) (o : Option Matcher) → slice_get rules i ≡ Some r → slice_get made i ≡ Some o → IsMatcherOf r o)
+    × ((i : ℕ) (r : code.Rule _) (o : Option (Box Matcher Global)) → slice_get rules i ≡ Some r → slice_get made i ≡ Some o → IsMatcherOf r o)

@@ -20,7 +20,7 @@ use std::alloc::{AllocError, Global};
 const START: u16 = 1;
 
 /// How many states the steps of one chart may visit.
-const MOST_VISITS_ALONE: usize = 300_000;
+const MOST_VISITS_ALONE: usize = 3_000_000;
 
 /// What a row takes beside its steps, as a budget counts work.
 const WORK_OF_ROW: usize = 1_000;

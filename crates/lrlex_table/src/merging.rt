@@ -13,7 +13,7 @@ use regex_nfa::BuildError;
 use std::alloc::{AllocError, Global};
 
 /// The most rows that the table of one pattern has.
-const MOST_ROWS_ALONE: u16 = 600;
+const MOST_ROWS_ALONE: u16 = 2_000;
 
 /// What it costs to read a pattern, and more for each of its bytes, in the budget's units of work.
 const WORK_OF_A_PATTERN: usize = 5_000;

@@ -8,7 +8,7 @@ use regex_syntax::{Config, ErrorKind};
 use std::alloc::{AllocError, Global};
 
 /// The most bytes that an NFA's tables take.
-const MOST: usize = 256 << 10;
+const MOST: usize = 2 << 20;
 
 /// An NFA for the regex, which was read under these options. None where it would be too big.
 pub fn nfa_of(alloc: Global, regex: &Regex, config: &Config) -> Result<Option<Nfa>, AllocError>

@@ -49,7 +49,10 @@ fn items_within<T: Id>(
     };
     let definition = built.with_budget(alloc, budget)?;
     let run = definition.run(alloc, input)?;
-    Ok(Some((items_text::<T>(alloc, definition.rules(), run.items())?, definition.tables())))
+    Ok(Some((
+        items_text::<T>(alloc, definition.rules(), run.items())?,
+        definition.tables(),
+    )))
 }
 
 #[test]

@@ -117,7 +117,7 @@ pub(crate) fn advance<'d, L: LexerTypes>(
     alloc: Global,
     definition: &'d LRNonStreamingLexerDef<L>,
     text: &str,
-    matchers: &mut [Option<Matcher<'d>>],
+    matchers: &mut [Option<Box<Matcher<'d>>>],
     progress: &mut Progress<L>,
 ) -> Result<bool, AllocError>
     requires inside { progress.old.place < length text.now }

@@ -44,7 +44,7 @@ fn ask<S: Id>(matcher: &mut Matcher<'_>, rule: &Rule<S>, text: &str, asked: &mut
 /// The same, by a matcher that is made where there is none yet.
 fn ask_by<'d, S: Id>(
     alloc: Global,
-    slot: &mut Option<Matcher<'d>>,
+    slot: &mut Option<Box<Matcher<'d>>>,
     rule: &'d Rule<S>,
     text: &str,
     asked: &mut u128,
@@ -56,20 +56,22 @@ fn ask_by<'d, S: Id>(
     ensures counted { IfOk result (λ _. asked.new ≡ asked.old + 1) }
     ensures slot { IsMatcherOf rule.now slot.new }
 {
-    let mut matcher = match slot.take() {
-        Some(matcher) => matcher,
-        None => rule.matcher(alloc)?,
-    };
-    let len = ask(&mut matcher, rule, text, asked);
-    *slot = Some(matcher);
-    Ok(len)
+    match slot {
+        Some(matcher) => Ok(ask(matcher, rule, text, asked)),
+        None => {
+            let mut matcher = Box::new(alloc, rule.matcher(alloc)?)?;
+            let len = ask(&mut matcher, rule, text, asked);
+            *slot = Some(matcher);
+            Ok(len)
+        }
+    }
 }
 
 /// Room for a matcher of each rule, where none is made yet.
 pub(crate) fn no_matchers<'d, S: Id>(
     alloc: Global,
     rules: &'d [Rule<S>],
-) -> Result<Vec<Option<Matcher<'d>>>, AllocError>
+) -> Result<Vec<Option<Box<Matcher<'d>>>>, AllocError>
     ensures { IfOk result (λ made. AreMatchers rules.now made.items) }
 {
     let mut made = Vec::with_capacity(alloc, rules.len())?;
@@ -95,7 +97,7 @@ pub(crate) fn winner<'d, L: LexerTypes>(
     alloc: Global,
     definition: &'d LRNonStreamingLexerDef<L>,
     state: usize,
-    matchers: &mut [Option<Matcher<'d>>],
+    matchers: &mut [Option<Box<Matcher<'d>>>],
     text: &str,
     asked: &mut u128,
 ) -> Result<Option<Tile>, AllocError>

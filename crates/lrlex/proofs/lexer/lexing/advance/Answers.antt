@@ -51,6 +51,17 @@ returns-then-lacks_id-clause-ends g c on =
     (t, wins, ap lacks_id rule_is ∙ sym c.if-lacks_id.ensures)
     c.in_ok-give_error-2.ensures
 
+pub returns-in_default-clause-asked : goal.returns-in_default-clause-asked
+returns-in_default-clause-asked g c =
+    let d = definition_of g.L.StorageT.Id.number c.args.definition.now in
+    let text = c.args.text.now in
+    let p = c.args.progress.now in
+    let r = c.requires.reached in
+    let found = items_by g.L.StorageT.Id.number g.L.LexemeT.Lexeme.id_of g.L.LexemeT.Lexeme.start_of g.L.LexemeT.Lexeme.len_of g.L.LexemeT.Lexeme.is_faulty p.items.items in
+    let on_top : c.top_of-state.result ≡ top (plain p.stack.items) = c.top_of-state.ensures ∙ ap (λ s. top (plain s)) c.deref.ensures.value in
+    let few : c.winner.new.asked ≤ p.asked + active_count d (top (plain p.stack.items)) = subst (λ q. c.winner.new.asked ≤ p.asked + active_count d q) on_top c.in_ok-won.ensures.counted in
+    searches_now d text p.place p.stack.items found p.boundaries p.asked r c.winner.new.asked c.requires.inside few
+
 pub returns-then-lacks_id-clause-asked : goal.returns-then-lacks_id-clause-asked
 returns-then-lacks_id-clause-asked g c =
     let d = definition_of g.L.StorageT.Id.number c.args.definition.now in

@@ -1,4 +1,6 @@
-use Rattle.std.proofs.Common.{◌≡◌, sym, ◌∙◌, subst}
+use Rattle.std.specs.declared.alloc.Global.{Global}
+use Rattle.std.specs.Prelude.{Box}
+use Rattle.std.proofs.Common.{◌≡◌, sym, ap, ◌∙◌, subst}
 use Rattle.std.proofs.lemmas.Option.{same_Some}
 use Rattle.regex.specs.Patterns.{SameCaptures}
 use Rattle.regex.specs.Strings.{matcher_pattern}
@@ -7,31 +9,21 @@ use Rattle.lrlex_rules.specs.Parts.{as_rule}
 use Rattle.lrlex_rules.specs.Patterns.{pattern_of}
 use Rattle.lrlex.proofs.TableLemmas.{pattern_here}
 use Rattle.lrlex.proofs.lexer.searching.ask_by.Goals as goal
-use Rattle.lrlex.proofs.lexer.searching.ask_by.Goals.{in-Some, in-None+in_ok-matcher-in-None}
 
-pub ask-len-requires-clause-rule : goal.ask-len-requires-clause-rule
-ask-len-requires-clause-rule g c =
+pub ask-requires-clause-rule : goal.ask-requires-clause-rule
+ask-requires-clause-rule g c =
     let rule = c.args.rule.now in
-    let own = pattern_of (as_rule g.S.Id.number rule) in
-    elim c.match-take.branch [
-      | in-Some w ↦
-          subst (λ (m : Matcher). SameCaptures (matcher_pattern m) own) (sym w.matcher-is)
-          (subst (SameCaptures (matcher_pattern w.in-Some.matcher)) (pattern_here (λ x. 0) g.S.Id.number rule)
-          (c.requires.slot w.in-Some.matcher (sym c.take.ensures.value ∙ w.in-Some.is)))
-      | in-None+in_ok-matcher-in-None w ↦ subst (λ (m : Matcher). SameCaptures (matcher_pattern m) own) (sym w.matcher-is) w.in_ok-matcher-in-None.ensures
-    ]
+    let m = c.in-Some.matcher in
+    subst (λ (x : Matcher). SameCaptures (matcher_pattern x) (pattern_of (as_rule g.S.Id.number rule))) (sym c.deref_mut.ensures.value)
+    (subst (SameCaptures (matcher_pattern m.value)) (pattern_here (λ x. 0) g.S.Id.number rule) (c.requires.slot m c.in-Some.is))
 
-pub returns-clause-slot : goal.returns-clause-slot
-returns-clause-slot g c m e =
+pub returns-in_ok-matcher-in-None-2-clause-slot : goal.returns-in_ok-matcher-in-None-2-clause-slot
+returns-in_ok-matcher-in-None-2-clause-slot g c m e =
     let rule = c.args.rule.now in
     let own = pattern_of (as_rule (λ x. 0) rule) in
-    let held : SameCaptures (matcher_pattern c.match-take.matcher) own = elim c.match-take.branch [
-      | in-Some w ↦
-          subst (λ (n : Matcher). SameCaptures (matcher_pattern n) own) (sym w.matcher-is)
-          (c.requires.slot w.in-Some.matcher (sym c.take.ensures.value ∙ w.in-Some.is))
-      | in-None+in_ok-matcher-in-None w ↦
-          subst (λ (n : Matcher). SameCaptures (matcher_pattern n) own) (sym w.matcher-is)
-          (subst (SameCaptures (matcher_pattern w.in_ok-matcher-in-None.matcher)) (pattern_here g.S.Id.number (λ x. 0) rule) w.in_ok-matcher-in-None.ensures)
-    ] in
-    subst (λ (n : Matcher). SameCaptures (matcher_pattern n) own) (same_Some _ _ e)
-    (subst (λ p. SameCaptures p own) (sym c.ask-len.ensures.same) held)
+    let made = c.in_ok-matcher-in-None.field-0 in
+    let same : matcher_pattern c.ask-len.new.matcher ≡ matcher_pattern made =
+    c.ask-len.ensures.same ∙ ap matcher_pattern (c.deref_mut-in-None.ensures.value ∙ c.in_ok-matcher-in-None-2.ensures.ok) in
+    let held : SameCaptures (matcher_pattern c.ask-len.new.matcher) own =
+    subst (λ p. SameCaptures p own) (sym same) (subst (SameCaptures (matcher_pattern made)) (pattern_here g.S.Id.number (λ x. 0) rule) c.in_ok-matcher-in-None.ensures) in
+    subst (λ (x : Box Matcher Global). SameCaptures (matcher_pattern x.value) own) (same_Some _ _ e) held

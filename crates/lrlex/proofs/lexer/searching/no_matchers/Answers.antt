@@ -1,3 +1,5 @@
+use Rattle.std.specs.declared.alloc.Global.{Global}
+use Rattle.std.specs.Prelude.{Box}
 use Rattle.std.proofs.Common.{◌≡◌, ℕ, ◌+◌, Option, None, Some, slice_get, length, ap, sym, ◌∙◌, subst, arith}
 use Rattle.regex.specs.declared.string.matcher.Matcher.{Matcher}
 use Rattle.std.specs.List.{slice_get}
