@@ -41,7 +41,9 @@ fn ask<S: Id>(matcher: &mut Matcher<'_>, rule: &Rule<S>, text: &str, asked: &mut
     }
 }
 
-/// The same, by a matcher that is made where there is none yet.
+/// The same, by a matcher that is made where there is none yet. Out of line, since a matcher's room on the stack would cost
+/// each tile.
+#[inline(never)]
 fn ask_by<'d, S: Id>(
     alloc: Global,
     slot: &mut Option<Box<Matcher<'d>>>,
