@@ -16,6 +16,9 @@ const MOST_ROWS: usize = 65_534;
 /// What it costs to try whether two parts can be joined, in the budget's units of work.
 const WORK_OF_A_TRY: usize = 500;
 
+/// What it costs to look at a rule of a list, in the budget's units of work.
+const WORK_OF_A_RULE: usize = 100;
+
 /// The table of some of the rules, with their places in the list.
 #[derive(Drop)]
 pub struct Part {
@@ -173,8 +176,9 @@ pub fn tables_of(
 ) -> Result<Tables, AllocError>
     ensures { (pattern : ℕ → Re) → AreSingle pattern single.now → IfOk result (AreTablesOf (map pattern places.now)) }
 {
-    if places.is_empty() {
-        return Tables::none(alloc, 0);
+    let looking = places.len().saturating_mul(WORK_OF_A_RULE);
+    if places.is_empty() || !budget.pay_work(looking) {
+        return Tables::none(alloc, places.len());
     }
     tables_between(alloc, single, places, 0, places.len(), budget)
 }
