@@ -29,12 +29,12 @@ outcomes_prop : (a b : Option (ℕ × (ℕ → Option ℕ))) → IsProp (a ≡ b
 outcomes_prop a b = Prim.hlevel props
 
 -- the compiled pattern of a rule gives the matches and captures of the rule's pattern
-pub rule_alike : {S : Type 0} (number : S → ℕ) (r : code.Rule S) → SameCaptures (regex_pattern r.re) (pattern_of (as_rule number r))
+pub rule_alike : {S : Type 0} (number : S → ℕ) (r : code.Rule S) → SameCaptures (regex_pattern r.re.value) (pattern_of (as_rule number r))
 unfolding pattern_of
 rule_alike number r =
-    let read : SameCaptures (regex_pattern r.re) (pattern_read (regex_config r.re) (regex_source r.re)) =
-    record { at = λ hay bytes k i. ∥∥₁_elim r.read (outcomes_prop _ _) (λ h. (as_read r.re h).at hay bytes k i) } in
-    subst (λ source. SameCaptures (regex_pattern r.re) (pattern_read (regex_config r.re) source)) r.source read
+    let read : SameCaptures (regex_pattern r.re.value) (pattern_read (regex_config r.re.value) (regex_source r.re.value)) =
+    record { at = λ hay bytes k i. ∥∥₁_elim r.read (outcomes_prop _ _) (λ h. (as_read r.re.value h).at hay bytes k i) } in
+    subst (λ source. SameCaptures (regex_pattern r.re.value) (pattern_read (regex_config r.re.value) source)) r.source read
 
 -- and such patterns match equally much
 pub length_alike : (a b : Re) → SameCaptures a b → (text : List ℕ) → ((k : ℕ) → get_or text k 0 < 256) → match_length a text ≡ match_length b text

@@ -23,7 +23,7 @@ as_rule number r = record {
   re_str = string_bytes r.re_str;
   start_states = r.start_states.items;
   target = r.target_state;
-  config = regex_config r.re;
+  config = regex_config r.re.value;
 }
 
 abbrev pub as_state : start.StartState → StartState

@@ -1,14 +1,19 @@
 -- The best match among the rules of several tables.
-use Rattle.std.proofs.Common.{◌≡◌, ℕ, ◌+◌, ◌<◌, ◌≤◌, ◌⊎◌, ◌||◌, Bool, true, List, [], ◌∷◌, length, map, take, get_or, IsUtf8, sym, ap, ◌∙◌, inl, inr, arith}
+use Rattle.std.proofs.Common.{◌≡◌, ℕ, ◌+◌, ◌<◌, ◌≤◌, ◌⊎◌, ◌||◌, Bool, true, false, List, [], ◌∷◌, length, map, take, get_or, IsUtf8, Option, Some, None, refl, sym, ap, ◌∙◌, subst, inl, inr, arith}
 use Rattle.std.proofs.lemmas.Bool.{cases_lt}
-use Rattle.std.proofs.lemmas.List.{length-map, get_or-map}
+use Rattle.std.proofs.lemmas.List.{length-map, get_or-map, take_all}
 use Rattle.std.proofs.lemmas.List.Folds.{list_any_more}
 use Rattle.std.proofs.lemmas.Str.{IsCharBoundary-start}
 use Rattle.regex.specs.Patterns.{Re, empty}
 use Rattle.lrlex_rules.specs.Patterns.{match_length}
 use Rattle.lrlex_table.specs.Merged.{pattern_at, IsLongest, NoneMatches}
 use Rattle.lrlex_table.specs.declared.tables.Part.{Part}
-use Rattle.lrlex_table.specs.Tables.{is_among, is_tabled, AreRising, IsBestAmong}
+use Rattle.lrlex_table.specs.Tables.{is_among, is_tabled, AreRising, ArePartsOf, IsBestAmong, IsWinnerAmong, IsDecidedAmong, IsSightOf}
+use Rattle.lrlex_table.specs.Decided.{IsDecidedBy}
+use Rattle.lrlex_table.specs.declared.walk.Sight.{Sight}
+use Rattle.lrlex_table.specs.declared.walk.Tile.{Tile}
+use Rattle.lrlex_table.proofs.PrefixLemmas.{alike_less}
+use Rattle.lrlex_table.proofs.WinLemmas.{decided_of_matches}
 use Rattle.lrlex_table.proofs.PartLemmas.{rising_within, rising_order, among_at}
 
 -- among none
@@ -101,3 +106,52 @@ part_matches_best ps rules text k n rises best =
       within = λ some. (rising_within 0 (length ps) rules k rises within).1;
       cuts = best.cuts;
     }
+
+-- ---- what decides a look at several tables
+
+pub decided_farther : (ps : List Re) (among : ℕ → Bool) (text : List ℕ) (n m : ℕ) → n ≤ m → IsDecidedAmong ps among text n → IsDecidedAmong ps among text m
+decided_farther ps among text n m le is other also same k lt this = is other also (alike_less n m text other le same) k lt this
+
+pub decided_both : (ps : List Re) (one other among : ℕ → Bool) (text : List ℕ) (n : ℕ) → IsDecidedAmong ps one text n → IsDecidedAmong ps other text n →
+    ((k : ℕ) → among k ≡ true → (one k ≡ true) ⊎ (other k ≡ true)) → IsDecidedAmong ps among text n
+decided_both ps one other among text n a b each now also same k lt this = elim (each k this) [
+  | inl here ↦ a now also same k lt here
+  | inr there ↦ b now also same k lt there
+]
+
+pub decided_part : (ps : List Re) (rules text : List ℕ) (n : ℕ) → IsDecidedBy (map (λ k. pattern_at ps k) rules) text n → IsDecidedAmong ps (is_among rules) text n
+decided_part ps rules text n is other also same k lt this =
+    let at = among_at rules k this in
+    let here : match_length (pattern_at ps (get_or rules at.0 0)) other ≡ match_length (pattern_at ps (get_or rules at.0 0)) text
+    = sym (length_of ps rules other at.0 at.1) ∙ is.matches other also same at.0 (omega (arith, at.1, length-map rules (λ j. pattern_at ps j))) ∙ length_of ps rules text at.0 at.1 in
+    subst (λ j. match_length (pattern_at ps j) other ≡ match_length (pattern_at ps j) text) at.2 here
+
+tabled_or_not : (b : Bool) → (b ≡ false → false ≡ true) → b ≡ true
+tabled_or_not true h = refl
+tabled_or_not false h = h refl
+
+-- where no rule is asked
+pub decided_all : (ps : List Re) (parts : List Part) (asked text : List ℕ) (i n : ℕ) → ArePartsOf ps 0 (length ps) parts asked → asked ≡ [] → length parts ≤ i →
+    IsDecidedAmong ps (is_tabled (take i parts)) text n → IsDecidedBy ps text n
+decided_all ps parts asked text i n are none all is =
+    decided_of_matches ps text n (λ other also same k lt.
+    is other also same k lt
+    (ap (λ xs. is_tabled xs k) (take_all i parts all) ∙ tabled_or_not (is_tabled parts k) (λ bare. sym (ap (λ xs. is_among xs k) none) ∙ are.each k (omega arith) lt bare)))
+
+pub sight_start : (ps : List Re) (among : ℕ → Bool) (text : List ℕ) → ((j : ℕ) → among j ≡ true → ⊥) → IsUtf8 text → IsSightOf ps among text (record { tile = None; reach = 0 })
+sight_start ps among text none utf8 = record {
+  winner = best_start ps among text none utf8;
+  decided = λ other also same k lt this. absurd (none k this);
+}
+
+winner_of_fewer : (ps : List Re) (among fewer : ℕ → Bool) (text : List ℕ) (o : Option Tile) → ((i : ℕ) → fewer i ≡ true → among i ≡ true) → IsWinnerAmong ps among text o →
+    IsWinnerAmong ps fewer text o
+winner_of_fewer ps among fewer text None each best = best_of_fewer ps among fewer text 0 0 each best
+winner_of_fewer ps among fewer text (Some t) each best = (best.0, best_of_fewer ps among fewer text t.rule t.len each best.1)
+
+pub sight_of_fewer : (ps : List Re) (among fewer : ℕ → Bool) (text : List ℕ) (s : Sight) → ((i : ℕ) → fewer i ≡ true → among i ≡ true) → IsSightOf ps among text s →
+    IsSightOf ps fewer text s
+sight_of_fewer ps among fewer text s each is = record {
+  winner = winner_of_fewer ps among fewer text s.tile each is.winner;
+  decided = λ other also same k lt this. is.decided other also same k lt (each k this);
+}

@@ -4,7 +4,9 @@ pub mod PrefixLemmas
 pub mod RowLemmas
 pub mod GridLemmas
 pub mod MergedLemmas
+pub mod CellLemmas
 pub mod SideLemmas
+pub mod ReaderLemmas
 pub mod ChartLemmas
 pub mod LengthLemmas
 pub mod NfaLemmas

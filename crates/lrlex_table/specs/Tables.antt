@@ -1,16 +1,23 @@
 -- The tables of a list of rules: each serves some of the rules, and what has no table is asked by itself.
-use Rattle.std.specs.Prelude.{◌≡◌, ℕ, ◌+◌, ◌<◌, ◌≤◌, Bool, true, false, ◌==◌, List, All, [], ◌∷◌, length, map, Option, Some, IsCharBoundary, slice_get}
-use Rattle.std.specs.List.{list_any}
+use Rattle.std.specs.Prelude.{◌≡◌, ℕ, ◌+◌, ◌<◌, ◌≤◌, Bool, true, false, ◌==◌, List, All, [], ◌∷◌, length, map, Option, Some, vec_len, IsCharBoundary, MatchOption, slice_get}
+use Rattle.std.specs.List.{list_any, sum_by}
 use Rattle.regex.specs.Patterns.{Re}
 use Rattle.lrlex_rules.specs.Patterns.{match_length}
 use Rattle.lrlex_table.specs.Merged.{pattern_at, IsTableOf}
+use Rattle.lrlex_table.specs.Decided.{IsText, BeginsAlike}
 use Rattle.lrlex_table.specs.declared.table.Table.{Table}
 use Rattle.lrlex_table.specs.declared.tables.Part.{Part}
 use Rattle.lrlex_table.specs.declared.tables.Tables.{Tables}
+use Rattle.lrlex_table.specs.declared.walk.Sight.{Sight}
+use Rattle.lrlex_table.specs.declared.walk.Tile.{Tile}
 
 -- a table at place k is that of pattern k alone
 abbrev pub AreSingle : (ℕ → Re) → List (Option Table) → Type 0
 AreSingle pattern tables = (k : ℕ) (t : Table) → slice_get tables k ≡ Some (Some t) → IsTableOf (pattern k ∷ []) t
+
+-- how many rows the tables have
+abbrev pub rows_of : List Part → ℕ
+rows_of parts = sum_by (λ p. vec_len p.table.wins) parts
 
 abbrev pub is_among : List ℕ → ℕ → Bool
 is_among rules k = list_any (λ j. j == k) rules
@@ -54,3 +61,18 @@ pub record IsBestAmong (ps : List Re) (among : ℕ → Bool) (text : List ℕ) (
   pub first : 0 < n → (j : ℕ) → j < k → among j ≡ true → match_length (pattern_at ps j) text < n
   pub within : 0 < n → k < length ps
   pub cuts : IsCharBoundary text n
+
+-- the tile is that of the best, where one matches a byte
+abbrev pub IsWinnerAmong : List Re → (ℕ → Bool) → List ℕ → Option Tile → Type 0
+IsWinnerAmong ps among text o = MatchOption o (IsBestAmong ps among text 0 0) (λ t. (0 < t.len) × IsBestAmong ps among text t.rule t.len)
+
+-- the text's first `reach` bytes decide how many bytes each of these patterns matches
+abbrev pub IsDecidedAmong : List Re → (ℕ → Bool) → List ℕ → ℕ → Type 0
+IsDecidedAmong ps among text reach =
+    (other : List ℕ) → IsText other → BeginsAlike reach text other →
+    (k : ℕ) → k < length ps → among k ≡ true → match_length (pattern_at ps k) other ≡ match_length (pattern_at ps k) text
+
+-- what a look at the text sees of these patterns
+pub record IsSightOf (ps : List Re) (among : ℕ → Bool) (text : List ℕ) (s : Sight) : Type 0 where
+  pub winner : IsWinnerAmong ps among text s.tile
+  pub decided : IsDecidedAmong ps among text s.reach

@@ -52,4 +52,22 @@ impl Budget {
         self.work = self.work.saturating_sub(work);
         enough
     }
+
+    /// Sets half of the work aside, and answers how much that is.
+    pub fn set_aside(&mut self) -> usize
+        ensures all { self.new.work + result ≡ self.old.work }
+        ensures rows { self.new.rows ≡ self.old.rows }
+    {
+        let half = self.work / 2;
+        self.work -= half;
+        half
+    }
+
+    /// Puts work back that was set aside.
+    pub fn put_back(&mut self, work: usize)
+        ensures left { self.old.work + work < 2 ^ 64 → self.new.work ≡ self.old.work + work }
+        ensures rows { self.new.rows ≡ self.old.rows }
+    {
+        self.work = self.work.saturating_add(work);
+    }
 }

@@ -9,6 +9,7 @@ ghost use Rattle.lrlex_table.specs.Charts.{AsksForStarts, side_at, StepsFrom, St
 
 use crate::budget::Budget;
 use crate::index::{Index, hash_of};
+use crate::marking::marked_table;
 use crate::step::{Place, Scratch, Stuck};
 use crate::table::Table;
 use regex_dfa::Dfa;
@@ -120,6 +121,10 @@ fn step(
     if scratch.visits > MOST_VISITS_ALONE {
         return Ok(None);
     }
+    let alone = scratch.read_alone(&dfa.nfa, threads, byte)?;
+    if alone {
+        return Ok(Some(false));
+    }
     let Some(matched) = step_from(&dfa.nfa, scratch, threads, side_of(row, false), byte)? else {
         return Ok(None);
     };
@@ -155,6 +160,18 @@ impl Chart {
         })
     }
 
+    /// Whether no thread is left, as in row 0.
+    #[inline(always)]
+    fn is_dead(&self, threads: &[StateId]) -> bool
+        ensures within { IsTrue result → 0 < vec_len self.now.rows }
+        ensures is { IsTrue result → threads_at (lists_of self.now.rows) 0 ≡ threads.now }
+    {
+        match self.rows.first() {
+            Some(dead) => dead.is_empty() && threads.is_empty(),
+            None => false,
+        }
+    }
+
     fn find(&self, threads: &[StateId], hash: u32) -> Option<u16>
         ensures other { IfSome result (λ v. v ≢ 1) }
         ensures within { IfSome result (λ v. v < vec_len self.now.rows) }
@@ -174,7 +191,26 @@ impl Chart {
     }
 
     /// The row of these threads. None where there would be more than `most`.
+    #[inline(always)]
     fn intern(
+        &mut self,
+        alloc: Global,
+        threads: &[StateId],
+        most: u16,
+    ) -> Result<Option<u16>, AllocError>
+        ensures row { IfOk result (λ o. IfSome o (HasRow (lists_of self.old.rows) (lists_of self.new.rows) threads.now)) }
+        ensures next { self.new.next ≡ self.old.next }
+        ensures wins { self.new.wins ≡ self.old.wins }
+    {
+        if self.is_dead(threads) {
+            return Ok(Some(0));
+        }
+        self.find_or_add(alloc, threads, most)
+    }
+
+    /// The same, by the index.
+    #[inline(never)]
+    fn find_or_add(
         &mut self,
         alloc: Global,
         threads: &[StateId],
@@ -271,6 +307,7 @@ impl Chart {
     }
 
     /// Adds the cells of a row. False past `most` rows, and where a step can't be told.
+    #[inline(never)]
     fn fill(
         &mut self,
         alloc: Global,
@@ -363,9 +400,5 @@ pub fn chart_of(
     if !chart.fill_all(alloc, dfa, &mut scratch, most, budget)? {
         return Ok(None);
     }
-    Ok(Some(Table {
-        next: chart.next,
-        wins: chart.wins,
-        start: START,
-    }))
+    Ok(marked_table(chart.next, chart.wins, START))
 }

@@ -4,6 +4,7 @@
 mod budget;
 mod chart;
 mod index;
+mod marking;
 mod merging;
 mod nfa;
 mod product;

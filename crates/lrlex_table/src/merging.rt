@@ -20,8 +20,8 @@ const WORK_OF_A_PATTERN: usize = 5_000;
 
 const WORK_OF_A_BYTE: usize = 50;
 
-/// What a state of an NFA costs before its table is begun, in the budget's units of work.
-const WORK_OF_A_STATE: usize = 100;
+/// What a state of an NFA costs before its table is begun, in the budget's units of work: to make it, and to look at it.
+const WORK_OF_A_STATE: usize = 400;
 
 /// The table of one pattern. None where it has an assertion that no table can hold, or past the budget.
 pub fn table_of(

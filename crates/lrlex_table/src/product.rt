@@ -6,6 +6,7 @@ ghost use Rattle.lrlex_table.specs.Grids.{first_win, pair_at, HasPair, IsPairCel
 
 use crate::budget::Budget;
 use crate::index::{Index, hash_of_pair};
+use crate::marking::marked_table;
 use crate::table::Table;
 use std::alloc::{AllocError, Global};
 
@@ -39,6 +40,27 @@ fn first_of(one: Option<u16>, other: Option<u16>, shift: u16) -> Option<Option<u
     }
 }
 
+/// The first byte after this one for which one of the two rows has another cell, or 256.
+#[inline(always)]
+fn run_end(a: &Table, x: u16, b: &Table, y: u16, byte: usize) -> usize
+    requires byte { byte < 256 }
+    requires row { x < vec_len a.now.wins }
+    requires other { y < vec_len b.now.wins }
+    ensures past { byte < result }
+    ensures within { result ≤ 256 }
+    ensures row { (c : ℕ) → byte ≤ c → c < result → slice_index_or a.now.cells.items (x * 256 + c) 0 ≡ slice_index_or a.now.cells.items (x * 256 + byte) 0 }
+    ensures other { (c : ℕ) → byte ≤ c → c < result → slice_index_or b.now.cells.items (y * 256 + c) 0 ≡ slice_index_or b.now.cells.items (y * 256 + byte) 0 }
+{
+    let (x, y) = (x as usize * 256, y as usize * 256);
+    let (to, also) = (a.cells[x + byte], b.cells[y + byte]);
+    'cells: for end in byte + 1..256 {
+        if a.cells[x + end] != to || b.cells[y + end] != also {
+            return end;
+        }
+    }
+    256
+}
+
 impl Grid {
     fn new(alloc: Global, a: &Table, b: &Table, shift: u16) -> Result<Option<Grid>, AllocError>
         ensures grid { IfOk result (λ o. IfSome o (λ g. IsGridOf a.now b.now shift g.rows.items g.next.items g.wins.items)) }
@@ -54,10 +76,11 @@ impl Grid {
         rows.push((a.start, b.start))?;
         let mut index = Index::new(alloc)?;
         index.add(0, hash_of_pair(0, 0));
+        let cells = a.rows().saturating_add(b.rows()).saturating_mul(256);
         Ok(Some(Grid {
             first: (a.start, b.start),
             rows,
-            next: Vec::new(alloc),
+            next: Vec::with_capacity(alloc, cells)?,
             wins: Vec::new(alloc),
             index,
         }))
@@ -84,6 +107,7 @@ impl Grid {
     }
 
     /// The row of these two. None where there would be more than `most`.
+    #[inline(never)]
     fn intern(&mut self, x: u16, y: u16, most: u16) -> Result<Option<u16>, AllocError>
         ensures row { IfOk result (λ o. IfSome o (HasPair self.old.first.0 self.old.first.1 self.old.rows.items self.new.rows.items x y)) }
         ensures next { self.new.next ≡ self.old.next }
@@ -107,6 +131,7 @@ impl Grid {
     }
 
     /// Adds the cells of a row. False past `most` rows.
+    #[inline(never)]
     fn fill(
         &mut self,
         a: &Table,
@@ -131,37 +156,20 @@ impl Grid {
             return Ok(false);
         };
         self.wins.push(win)?;
-        let mut known = (0u16, 0u16, 0u16);
-        'bytes: for byte in 0..256usize {
+        if x as usize >= a.rows() || y as usize >= b.rows() {
+            return Ok(false);
+        }
+        let mut byte = 0usize;
+        'bytes: while byte < 256 {
+            let end = run_end(a, x, b, y, byte);
             let to = a.next_of(x, byte as u8);
             let also = b.next_of(y, byte as u8);
-            let found = self.go(to, also, known, most)?;
+            let found = self.intern(to, also, most)?;
             let Some(v) = found else { return Ok(false) };
-            self.next.push(v)?;
-            known = (to, also, v);
+            self.next.resize(row as usize * 256 + end, v)?;
+            byte = end;
         }
         Ok(true)
-    }
-
-    /// The row of these two, where that of two others is known.
-    #[inline(always)]
-    fn go(
-        &mut self,
-        x: u16,
-        y: u16,
-        known: (u16, u16, u16),
-        most: u16,
-    ) -> Result<Option<u16>, AllocError>
-        requires { HasPair self.old.first.0 self.old.first.1 self.old.rows.items self.old.rows.items known.0 known.1 known.2 }
-        ensures row { IfOk result (λ o. IfSome o (HasPair self.old.first.0 self.old.first.1 self.old.rows.items self.new.rows.items x y)) }
-        ensures next { self.new.next ≡ self.old.next }
-        ensures wins { self.new.wins ≡ self.old.wins }
-        ensures first { self.new.first ≡ self.old.first }
-    {
-        if x == known.0 && y == known.1 {
-            return Ok(Some(known.2));
-        }
-        self.intern(x, y, most)
     }
 
     /// Adds the cells of all rows. False past `most` rows or the budget.
@@ -216,9 +224,5 @@ pub fn product(
     if !grid.fill_all(a, b, shift, most, budget)? {
         return Ok(None);
     }
-    Ok(Some(Table {
-        next: grid.next,
-        wins: grid.wins,
-        start: START,
-    }))
+    Ok(marked_table(grid.next, grid.wins, START))
 }

@@ -1,26 +1,48 @@
-ghost use Rattle.lrlex_table.specs.Sound.{IsSound};
+ghost use Rattle.std.specs.Prelude.{◌≡◌, ◌+◌, ◌*◌, None, IfOk, vec_len, slice_index_or};
+ghost use Rattle.lrlex_table.specs.Sound.{row_in, rows_in, IsSound};
 
 use std::alloc::{AllocError, Global};
 
-/// For each row and byte the next row. Row 0 is dead. `wins` has the first pattern that matches at a row.
+/// Added to a cell where some pattern matches at its row.
+pub(crate) const MARK: u16 = 0x8000;
+
+/// A cell for each row and byte: the next row, marked where some pattern matches there. Row 0 is dead. `wins` has the
+/// first pattern that matches at a row.
 #[derive(Drop)]
 pub struct Table {
-    pub(crate) next: Vec<u16>,
+    pub(crate) cells: Vec<u16>,
     pub(crate) wins: Vec<Option<u16>>,
     pub(crate) start: u16,
-    ghost sound: { IsSound next.items wins.items start },
+    ghost sound: { IsSound cells.items wins.items start },
+}
+
+/// The row to which a cell leads.
+#[inline(always)]
+pub(crate) fn row_of(cell: u16) -> u16
+    ensures { result ≡ row_in cell }
+{
+    cell % MARK
+}
+
+/// The first pattern that matches at the row.
+#[inline(always)]
+pub(crate) fn win_in(wins: &[Option<u16>], row: u16) -> Option<u16>
+    ensures { result ≡ slice_index_or wins.now row None }
+{
+    match wins.get(row as usize) {
+        Some(rule) => *rule,
+        None => None,
+    }
 }
 
 impl Table {
-    ghost use Rattle.std.specs.Prelude.{◌≡◌, ◌+◌, ◌*◌, None, IfOk, vec_len, slice_index_or};
-
     /// Where the row goes on the byte. Row 0 for no row.
     #[inline(always)]
     pub(crate) fn next_of(&self, row: u16, byte: u8) -> u16
-        ensures { result ≡ slice_index_or self.now.next.items (row * 256 + byte) 0 }
+        ensures { result ≡ slice_index_or (rows_in self.now.cells.items) (row * 256 + byte) 0 }
     {
-        match self.next.get(row as usize * 256 + byte as usize) {
-            Some(to) => *to,
+        match self.cells.get(row as usize * 256 + byte as usize) {
+            Some(cell) => row_of(*cell),
             None => 0,
         }
     }
@@ -30,10 +52,7 @@ impl Table {
     pub(crate) fn win_of(&self, row: u16) -> Option<u16>
         ensures { result ≡ slice_index_or self.now.wins.items row None }
     {
-        match self.wins.get(row as usize) {
-            Some(rule) => *rule,
-            None => None,
-        }
+        win_in(&self.wins, row)
     }
 
     /// How many rows there are.
@@ -45,12 +64,12 @@ impl Table {
 
     /// The same table again.
     pub(crate) fn copy(&self, alloc: Global) -> Result<Table, AllocError>
-        ensures next { IfOk result (λ t. t.next.items ≡ self.now.next.items) }
+        ensures cells { IfOk result (λ t. t.cells.items ≡ self.now.cells.items) }
         ensures wins { IfOk result (λ t. t.wins.items ≡ self.now.wins.items) }
         ensures start { IfOk result (λ t. t.start ≡ self.now.start) }
     {
         Ok(Table {
-            next: Vec::from_slice(alloc, &self.next)?,
+            cells: Vec::from_slice(alloc, &self.cells)?,
             wins: Vec::from_slice(alloc, &self.wins)?,
             start: self.start,
         })

@@ -1,13 +1,14 @@
-//! The tables of a list of rules: as few as can be had, half by half.
-ghost use Rattle.std.specs.Prelude.{◌≡◌, ℕ, Bool, ◌||◌, ◌+◌, ◌<◌, ◌≤◌, List, [], ◌∷◌, ◌++◌, length, map, vec_len, slice_index_or, IfOk, OnOk, IfSome, MatchOption, IsTrue, IsFalse};
+//! The tables of a list of rules: as few as can be had, joined in pairs.
+ghost use Rattle.std.specs.Prelude.{◌≡◌, ℕ, Bool, ◌||◌, ◌+◌, ◌^◌, ◌<◌, ◌≤◌, List, [], ◌∷◌, ◌++◌, length, map, vec_len, slice_index_or, IfOk, OnOk, IfSome, MatchOption, IsTrue, IsFalse, IsUtf8};
 ghost use Rattle.regex.specs.Patterns.{Re};
-ghost use Rattle.lrlex_table.specs.Merged.{pattern_at};
-ghost use Rattle.lrlex_table.specs.Tables.{AreSingle, is_among, is_tabled, IsPartOf, AreParts, Covers, ArePartsOf, AreTablesOf, IsBestAmong};
+ghost use Rattle.lrlex_table.specs.Merged.{pattern_at, IsLongest, NoneMatches};
+ghost use Rattle.lrlex_table.specs.Decided.{IsDecidedBy};
+ghost use Rattle.lrlex_table.specs.Tables.{AreSingle, rows_of, is_among, is_tabled, IsPartOf, AreParts, Covers, ArePartsOf, AreTablesOf, IsBestAmong, IsWinnerAmong, IsSightOf};
 
 use crate::budget::Budget;
 use crate::product::product;
 use crate::table::Table;
-use crate::walk::Tile;
+use crate::walk::{Sight, Tile};
 use std::alloc::{AllocError, Global};
 
 /// The most rows of a table for the rules of several.
@@ -142,6 +143,47 @@ fn both(
     Ok(left)
 }
 
+/// How many rows the table of the rule at this place has by itself.
+fn rows_at(single: &[Option<Table>], place: usize) -> usize {
+    match single.get(place) {
+        Some(Some(table)) => table.rows(),
+        _ => 1,
+    }
+}
+
+/// How many rows the tables of the rules from `from` on and below `to` have, each by itself.
+fn rows_between(single: &[Option<Table>], places: &[usize], from: usize, to: usize) -> usize
+    requires from { from ≤ to }
+    requires to { to ≤ length places.now }
+{
+    let mut rows = 0usize;
+    for place in &places[from..to] {
+        rows = rows.saturating_add(rows_at(single, *place));
+    }
+    rows
+}
+
+/// Where to part these rules, so that the tables of both sides have about as many rows: each join goes through all rows
+/// of both tables, and so a big table is to take part in few.
+fn middle_of(single: &[Option<Table>], places: &[usize], from: usize, to: usize) -> usize
+    requires two { from + 1 < to }
+    requires to { to ≤ length places.now }
+    ensures after { from < result }
+    ensures before { result < to }
+{
+    let all = rows_between(single, places, from, to);
+    let mut left = rows_at(single, places[from]);
+    'places: for middle in from + 1..to - 1 {
+        let rows = rows_at(single, places[middle]);
+        let more = left.saturating_add(rows);
+        if left.saturating_add(more) >= all {
+            return middle;
+        }
+        left = more;
+    }
+    to - 1
+}
+
 /// The tables of the rules from `from` on and below `to`.
 fn tables_between(
     alloc: Global,
@@ -156,11 +198,10 @@ fn tables_between(
     ensures { (pattern : ℕ → Re) → AreSingle pattern single.now →
         IfOk result (λ t. ArePartsOf (map pattern places.now) from to t.parts.items t.asked.items) }
 {
-    let half = (to - from) / 2;
-    if half == 0 {
+    if to - from == 1 {
         return alone(alloc, single, places[from], from, budget);
     }
-    let middle = from + half;
+    let middle = middle_of(single, places, from, to);
     let left = tables_between(alloc, single, places, from, middle, budget)?;
     let right = tables_between(alloc, single, places, middle, to, budget)?;
     both(alloc, left, right, budget)
@@ -192,16 +233,47 @@ fn comes_before(tile: Tile, other: Tile) -> bool
     tile.len > other.len || (tile.len == other.len && tile.rule < other.rule)
 }
 
+/// The better of two tiles, where they are there.
+#[inline(always)]
+fn better(one: Option<Tile>, other: Option<Tile>) -> Option<Tile>
+    ensures winner { (ps : List Re) (a b : ℕ → Bool) (text : List ℕ) → IsWinnerAmong ps a text one → IsWinnerAmong ps b text other →
+        IsWinnerAmong ps (λ k. a k || b k) text result }
+    ensures past { (n : ℕ) → IfSome one (λ t. t.len < n) → IfSome other (λ t. t.len < n) → IfSome result (λ t. t.len < n) }
+{
+    let Some(tile) = one else { return other };
+    let Some(rival) = other else { return one };
+    if comes_before(rival, tile) {
+        other
+    } else {
+        one
+    }
+}
+
+/// What two looks at a text see together: the better tile, and the greater reach.
+#[inline(always)]
+fn together(a: Sight, b: Sight) -> Sight
+    ensures sight { (ps : List Re) (one other : ℕ → Bool) (text : List ℕ) → IsSightOf ps one text a → IsSightOf ps other text b →
+        IsSightOf ps (λ k. one k || other k) text result }
+    ensures past { IfSome a.tile (λ t. t.len < a.reach) → IfSome b.tile (λ t. t.len < b.reach) → IfSome result.tile (λ t. t.len < result.reach) }
+{
+    let reach = if a.reach < b.reach { b.reach } else { a.reach };
+    Sight {
+        tile: better(a.tile, b.tile),
+        reach,
+    }
+}
+
 impl Part {
-    /// Of the part's rules, the one that matches most bytes of the text from its beginning on, the first of several,
-    /// and how many. None where none matches a byte.
+    /// The tile with its rule's place in the list, where the table has that among the part's rules.
     #[inline(always)]
-    fn winner(&self, text: &str) -> Option<Tile>
-        ensures { (ps : List Re) → IsPartOf ps 0 (length ps) self.now →
-            MatchOption result (IsBestAmong ps (is_among self.now.rules.items) text.now 0 0)
-            (λ t. (0 < t.len) × IsBestAmong ps (is_among self.now.rules.items) text.now t.rule t.len) }
+    fn placed(&self, tile: Option<Tile>) -> Option<Tile>
+        ensures winner { (ps : List Re) (text : List ℕ) → IsPartOf ps 0 (length ps) self.now → IsUtf8 text →
+            MatchOption tile (NoneMatches (map (λ k. pattern_at ps k) self.now.rules.items) text)
+            (λ t. IsLongest (map (λ k. pattern_at ps k) self.now.rules.items) text t.rule t.len) →
+            IsWinnerAmong ps (is_among self.now.rules.items) text result }
+        ensures past { (n : ℕ) → IfSome tile (λ t. t.len < n) → IfSome result (λ t. t.len < n) }
     {
-        let tile = self.table.winner(text)?;
+        let tile = tile?;
         let rule = self.rules.get(tile.rule)?;
         Some(Tile {
             rule: *rule,
@@ -209,16 +281,17 @@ impl Part {
         })
     }
 
-    /// The better of the part's winner and the best among other rules.
+    /// What the table sees of the part's rules.
     #[inline(always)]
-    fn better(&self, text: &str, best: Tile) -> Tile
-        ensures { (ps : List Re) (among : ℕ → Bool) → IsPartOf ps 0 (length ps) self.now → IsBestAmong ps among text.now best.rule best.len →
-            IsBestAmong ps (λ k. among k || is_among self.now.rules.items k) text.now result.rule result.len }
+    fn look(&self, text: &str) -> Sight
+        ensures sight { (ps : List Re) → IsPartOf ps 0 (length ps) self.now → IsSightOf ps (is_among self.now.rules.items) text.now result }
+        ensures past { IfSome result.tile (λ t. t.len < result.reach) }
     {
-        let Some(tile) = self.winner(text) else {
-            return best
-        };
-        if comes_before(tile, best) { tile } else { best }
+        let sight = self.table.look(text);
+        Sight {
+            tile: self.placed(sight.tile),
+            reach: sight.reach,
+        }
     }
 }
 
@@ -252,11 +325,27 @@ impl Tables {
             MatchOption result (IsBestAmong ps (is_tabled self.now.parts.items) text.now 0 0)
             (λ t. (0 < t.len) × IsBestAmong ps (is_tabled self.now.parts.items) text.now t.rule t.len) }
     {
-        let mut best = Tile { rule: 0, len: 0 };
+        self.look(text).tile
+    }
+
+    /// The winner, and how many bytes decide it, where all rules have a table: each text with the same first bytes has
+    /// the same winner.
+    #[inline(always)]
+    pub fn look(&self, text: &str) -> Sight
+        ensures winner { (ps : List Re) → AreTablesOf ps self.now →
+            MatchOption result.tile (IsBestAmong ps (is_tabled self.now.parts.items) text.now 0 0)
+            (λ t. (0 < t.len) × IsBestAmong ps (is_tabled self.now.parts.items) text.now t.rule t.len) }
+        ensures decided { (ps : List Re) → AreTablesOf ps self.now → self.now.asked.items ≡ [] → IsDecidedBy ps text.now result.reach }
+        ensures past { IfSome result.tile (λ t. t.len < result.reach) }
+    {
+        let mut sight = Sight {
+            tile: None,
+            reach: 0,
+        };
         'parts: for at in 0..self.parts.len() {
-            best = self.parts[at].better(text, best);
+            sight = together(sight, self.parts[at].look(text));
         }
-        if best.len > 0 { Some(best) } else { None }
+        sight
     }
 
     /// How many tables there are.
@@ -267,10 +356,12 @@ impl Tables {
     }
 
     /// How many rows all tables have.
-    pub fn rows(&self) -> usize {
+    pub fn rows(&self) -> usize
+        ensures { rows_of self.now.parts.items < 2 ^ 64 → result ≡ rows_of self.now.parts.items }
+    {
         let mut rows = 0usize;
-        for part in &self.parts {
-            rows = rows.saturating_add(part.table.rows());
+        'parts: for at in 0..self.parts.len() {
+            rows = rows.saturating_add(self.parts[at].table.rows());
         }
         rows
     }

@@ -1,4 +1,4 @@
-use Rattle.std.proofs.Common.{◌≡◌, true, false, sym, ◌∙◌, subst, rules}
+use Rattle.std.proofs.Common.{◌≡◌, true, false, IsTrue, sym, ◌∙◌, subst, rules}
 use Rattle.std.proofs.lemmas.Bool.{not-false}
 use Rattle.std.proofs.lemmas.Slice.Eq.{bytes_eq-Decides}
 use Rattle.lrlex_table.specs.Charts.{side_at, StepsFrom, StepsOn}
@@ -42,3 +42,9 @@ returns-clause-steps c =
     let lists : other ≡ after = sym kept ∙ sym c.as_slice-else-after-matched.ensures.value ∙ sym equal ∙ c.as_slice.ensures.value in
     steps_alike nfa row byte threads after matched (subst (λ qs. StepsFrom nfa (side_at row false) byte threads qs matched) lists first)
     (subst (λ m. StepsFrom nfa (side_at row true) byte threads after m) same second)
+
+pub returns-then-alone-clause-steps : goal.returns-then-alone-clause-steps
+unfolding StepsOn StepsFrom
+returns-then-alone-clause-steps c line test agrees =
+    let alone : IsTrue c.in_ok-alone.alone = search rules in
+    c.in_ok-alone.ensures.moves alone test

@@ -4,8 +4,8 @@ use Rattle.regex.specs.Patterns.{empty}
 use Rattle.lrlex_table.specs.Tables.{ArePartsOf}
 use Rattle.lrlex_table.proofs.tables.+tables_between.Goals as goal
 
-pub returns-then-half-eq0 : goal.returns-then-half-eq0
-returns-then-half-eq0 t c pattern single =
+pub returns-then-to-from-eq1 : goal.returns-then-to-from-eq1
+returns-then-to-from-eq1 t c pattern single =
     let places = c.args.places.now in
     let one : c.args.to ≡ c.args.from + 1 = omega arith in
     subst (λ to. IfOk c.alone.result (λ r. ArePartsOf (map pattern places) c.args.from to r.parts.items r.asked.items)) (sym one)

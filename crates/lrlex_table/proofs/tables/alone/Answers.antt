@@ -17,7 +17,7 @@ returns c pattern ps single is = elim c.match-get.branch [
       let p : Part = record { table = w.in_ok-table.table; rules = w.push.new.self } in
       let copied = w.in_ok-table.ensures in
       let serves : IsTableOf (pattern c.args.place ∷ []) p.table =
-      same_table (pattern c.args.place ∷ []) found.table w.in_ok-table.table copied.next copied.wins copied.start (single c.args.place found.table read) in
+      same_table (pattern c.args.place ∷ []) found.table w.in_ok-table.table copied.cells copied.wins copied.start (single c.args.place found.table read) in
       subst (λ asked. ArePartsOf ps c.args.rule (c.args.rule + 1) c.match-get.parts.items asked) (sym (ap (λ v. v.items) w.asked-is ∙ c.new-asked.ensures.items))
       (subst (λ parts. ArePartsOf ps c.args.rule (c.args.rule + 1) parts []) (sym (ap (λ v. v.items) w.parts-is ∙ w.in_ok-push-2.ensures.items ∙ ap (λ xs. xs ++ p ∷ []) c.new-parts.ensures.items))
       (one_part ps c.args.rule p (w.in_ok-push.ensures.items ∙ ap (λ xs. xs ++ c.args.rule ∷ []) w.new-rules.ensures.items)

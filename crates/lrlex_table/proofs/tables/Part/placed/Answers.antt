@@ -1,18 +1,17 @@
 use Rattle.std.proofs.Common.{◌≡◌, get_or, sym, ap, ◌∙◌, subst}
+use Rattle.std.proofs.lemmas.Option.{MatchOption-at_none, MatchOption-at_some}
 use Rattle.lrlex_table.specs.Tables.{is_among, IsBestAmong}
 use Rattle.lrlex_table.proofs.BestLemmas.{part_matches_none, part_matches_best}
-use Rattle.lrlex_table.proofs.tables.Part.winner.Goals as goal
+use Rattle.lrlex_table.proofs.tables.Part.placed.Goals as goal
 
-pub returns-in_err-tile : goal.returns-in_err-tile
-returns-in_err-tile c ps is =
-    let rules = c.args.self.now.rules.items in
-    rw c.from_residual.ensures (part_matches_none ps rules c.args.text.now (c.in_err-tile.ensures _ is.table) c.utf8.text)
+pub returns-in_err-tile-clause-winner : goal.returns-in_err-tile-clause-winner
+returns-in_err-tile-clause-winner c ps text is utf8 none =
+    rw c.from_residual.ensures (part_matches_none ps c.args.self.now.rules.items text (MatchOption-at_none _ _ c.in_err-tile.was none) utf8)
 
-pub returns : goal.returns
-returns c ps is =
+pub returns-clause-winner : goal.returns-clause-winner
+returns-clause-winner c ps text is utf8 told =
     let rules = c.args.self.now.rules.items in
-    let best = c.in_ok-tile.ensures _ is.table in
-    let text = c.args.text.now in
+    let best = MatchOption-at_some _ _ c.in_ok-tile.tile c.in_ok-tile.was told in
     let at = c.in_ok-rule.ensures.lookup in
     let read : c.in_ok-rule.rule.now ≡ get_or rules c.in_ok-tile.tile.rule 0 = at.3.1 0 ∙ ap (λ xs. get_or xs c.in_ok-tile.tile.rule 0) c.deref.ensures.value in (
       best.some,
