@@ -50,7 +50,7 @@ unfolding EndsCleanly
 taken_by_any-cut d q text None = λ le some. absurd (omega (arith, some))
 taken_by_any-cut d q text (Some r) = taken_by-cut d q text r
 
-Wins-cut : (d : Definition) (q : ℕ) (text : List ℕ) (k n : ℕ) → Wins d q text k n → IsCharBoundary text n
+pub Wins-cut : (d : Definition) (q : ℕ) (text : List ℕ) (k n : ℕ) → Wins d q text k n → IsCharBoundary text n
 unfolding EndsCleanly
 Wins-cut d q text k n w = subst (EndsCleanly text) w.takes (taken_by_any-cut d q text (slice_get d.rules k)) (Wins-le d q text k n w) w.some
 

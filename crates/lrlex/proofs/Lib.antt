@@ -21,3 +21,8 @@ pub mod ViewLemmas
 pub mod WithinLemmas
 pub mod TableLemmas
 pub mod MatcherLemmas
+pub mod ResumeLemmas
+pub mod DecidedLemmas
+pub mod AheadLemmas
+pub mod RaisedLemmas
+pub mod GoingLemmas

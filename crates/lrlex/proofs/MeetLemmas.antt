@@ -13,6 +13,7 @@ use Rattle.lrlex.specs.Runs.{plain}
 use Rattle.lrlex.specs.Marks.{Mark, bound, no_mark, mark_at}
 use Rattle.lrlex.specs.Edits.{IsMovable, IsMovableMark, begins_before, items_from, moved_mark, Meets}
 use Rattle.lrlex.specs.Reach.{Reached, IsLexed, searches}
+use Rattle.lrlex.specs.Decided.{IsSafe}
 use Rattle.lrlex.proofs.TailLemmas.{tail_tiling}
 use Rattle.lrlex_base.specs.Spans.{span}
 use Rattle.lrlex_base.specs.Edits.{edited}
@@ -34,7 +35,7 @@ module _ (d : Definition) (old new : List ℕ) (low high : ℕ) (put : List ℕ)
   at_old : AtBoundary d old h.cut h.end old_found olds j (mark_at olds j)
   at_old = record { tiling = h.tiling; items_are = h.items_are; boundaries_are = h.boundaries_are; at = slice_get-get_or olds j no_mark within }
 
-  rest_same : drop (mark_at olds j).place old ≡ drop q new
+  pub rest_same : drop (mark_at olds j).place old ≡ drop q new
   rest_same = sym (ap (drop q) gives ∙ drop-edited old low high put (mark_at olds j).place q ordered fits past back)
 
   pub whole : IsLexed d new (found ++ map (rebased (mark_at olds j).place q) (items_from (mark_at olds j).place old_found)) (marks ++ map (moved_mark (mark_at olds j).place q) (drop (j + 1) olds))
@@ -154,3 +155,24 @@ none_met d text olds low high len place stack found marks asked r unmet none k m
           (omega (arith, m.back, ap (λ (x : Mark). x.place) same, ap (λ (x : Mark). x.place) old_is))
           (ap (λ (x : Mark). plain x.runs) old_is ∙ m.stack ∙ ap (λ (x : Mark). plain x.runs) same)
     ]
+
+-- ---- how many tiles are cut anew
+
+module _ (olds marks tail all : List Mark) (numbers : List ℕ) (low high len kept anew : ℕ) (unmet : (k : ℕ) → k + 1 < length marks → Meets olds marks low high len k → ⊥)
+    (e : all ≡ marks ++ tail) (reused : (k : ℕ) → k < length olds → IsSafe olds numbers low k → k < kept) (some : kept ≤ length marks) (is : anew ≡ length marks - kept) where
+  met_late : (j : ℕ) → Meets olds all low high len j → length marks ≤ j + 1
+  met_late j m = elim (cases_lt (j + 1) (length marks)) [
+    | inl early ↦ absurd (unmet j early (meets_front olds marks tail all low high len j e (omega arith) m))
+    | inr late ↦ late
+  ]
+
+  -- those from a safe boundary to a meeting
+  pub few_anew : (k : ℕ) → k < length olds → IsSafe olds numbers low k → (anew + k ≤ length all - 1) × ((j : ℕ) → Meets olds all low high len j → anew + k ≤ j)
+  few_anew k within safe = (
+    omega (arith, is, some, reused k within safe, ap length e, length-append marks tail),
+    λ j m. omega (arith, is, some, reused k within safe, met_late j m),
+  )
+
+-- boundaries before the edit meet none
+pub unmet_before : (olds marks : List Mark) (low high len : ℕ) → ((k : ℕ) → k + 1 < length marks → (mark_at marks k).place < low) → (k : ℕ) → k + 1 < length marks → Meets olds marks low high len k → ⊥
+unmet_before olds marks low high len before k lt m = absurd (omega (arith, before k lt, m.past, ap (λ (x : Mark). x.place) (get_or_from_slice_get marks k (record { place = m.q; runs = m.runs }) no_mark m.at)))

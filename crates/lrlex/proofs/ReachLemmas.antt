@@ -23,7 +23,7 @@ use Rattle.lrlex.proofs.CountLemmas.{asked_at-le}
 abbrev pub AreStates : Definition → List ℕ → Type 0
 AreStates d = All (λ q. is_state d q ≡ true)
 
-one_state : (d : Definition) (q : ℕ) → is_state d q ≡ true → AreStates d (q ∷ [])
+pub one_state : (d : Definition) (q : ℕ) → is_state d q ≡ true → AreStates d (q ∷ [])
 one_state d q h = All-push (λ q. is_state d q ≡ true) [] q (All-nil (λ q. is_state d q ≡ true)) h
 
 pub Reached-none : (d : Definition) (text : List ℕ) → is_state d 0 ≡ true → Reached d text 0 ((1, 0) ∷ []) [] (record { place = 0; runs = (1, 0) ∷ [] } ∷ []) 0

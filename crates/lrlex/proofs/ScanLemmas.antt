@@ -16,7 +16,7 @@ pub record IsScanned (d : Definition) (q : ℕ) (text : List ℕ) (places : List
   pub left : drop index places ≡ places_from (is_active d.states q) upto (drop upto d.rules)
   pub best : IsBest d q text upto k n
 
-slice_get-drop : {A : Type 0} (xs : List A) (m i : ℕ) → slice_get (drop m xs) i ≡ slice_get xs (m + i)
+pub slice_get-drop : {A : Type 0} (xs : List A) (m i : ℕ) → slice_get (drop m xs) i ≡ slice_get xs (m + i)
 slice_get-drop xs zero i = let z : 0 + i ≡ i = omega arith in ap (slice_get xs) (sym z)
 slice_get-drop [] (suc m) i = refl
 slice_get-drop (x ∷ xs) (suc m) i = let s : suc m + i ≡ suc (m + i) = omega arith in slice_get-drop xs m i ∙ ap (slice_get (x ∷ xs)) (sym s)

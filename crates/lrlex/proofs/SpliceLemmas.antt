@@ -64,7 +64,7 @@ module _ (d : Definition) (text : List ℕ) (ts : List Tile) (e : End) (found : 
   pub at_bound : slice_get (boundaries d 0 (0 ∷ []) ts) j ≡ Some (m.place, plain m.runs)
   at_bound = ap (λ bs. slice_get bs j) (sym b.boundaries_are) ∙ slice_get-map bound marks j ∙ ap (option_map bound) b.at
 
-  parted : IsParted m.place found (lexemes d 0 (take j ts)) (items d m.place (drop j ts) e)
+  pub parted : IsParted m.place found (lexemes d 0 (take j ts)) (items d m.place (drop j ts) e)
   parted = record {
     is = b.items_are ∙ items_tail d 0 (0 ∷ []) ts e j m.place (plain m.runs) at_bound;
     before = lexemes_before d text 0 (0 ∷ []) ts e j m.place (plain m.runs) b.tiling at_bound;

@@ -1,5 +1,5 @@
 -- What the tables of a state and the answers of the other rules say together: the best of them wins.
-use Rattle.std.proofs.Common.{◌≡◌, ℕ, zero, suc, ◌+◌, ◌-◌, ◌<◌, ◌≤◌, ◌⊎◌, ◌||◌, Bool, true, false, List, All, [], ◌∷◌, ◌++◌, length, map, take, get_or, Option, None, Some, IfSome, option_map, unwrap_or, slice_get, Vec, MatchOption, IsCharBoundary, Result, Ok, Err, IfOk, ◌==◌, refl, sym, ap, ap₂, ◌∙◌, subst, inl, inr, arith}
+use Rattle.std.proofs.Common.{◌≡◌, ℕ, zero, suc, ◌+◌, ◌-◌, ◌<◌, ◌≤◌, ◌⊎◌, ◌||◌, Bool, true, false, List, All, [], ◌∷◌, ◌++◌, length, map, take, get_or, Option, None, Some, IfSome, option_map, unwrap_or, slice_get, Vec, MatchOption, IsCharBoundary, ◌==◌, refl, sym, ap, ap₂, ◌∙◌, subst, inl, inr, arith}
 use Rattle.std.proofs.Props.{props}
 use Rattle.std.proofs.Math.Logic.{∥∥₁_elim}
 use mathlib.Core.Logic.{∥∥₁_map}
@@ -9,7 +9,7 @@ use Rattle.std.proofs.lemmas.Bool.{cases_lt, eqb-true}
 use Rattle.std.proofs.lemmas.Option.{none-some, same_Some, MatchOption-at_some, MatchOption-at_none, slice_get-map, slice_get-get_or, slice_get_past, slice_get_within, get_or_from_slice_get}
 use Rattle.std.proofs.lemmas.List.{length-map, length_push, get_or_append_left, get_or_push, take_all}
 use Rattle.std.proofs.lemmas.List.Folds.{list_any_more}
-use Rattle.std.proofs.lemmas.List.Elements.{All-push, All-get_or}
+use Rattle.std.proofs.lemmas.List.Elements.{All-push}
 use Rattle.regex_hir.specs.Text.{is_some_and}
 use Rattle.regex.specs.Patterns.{Re, SameCaptures, empty}
 use Rattle.lrlex_rules.specs.Definition.{Definition, Rule}
@@ -17,8 +17,8 @@ use Rattle.lrlex_rules.specs.Patterns.{match_length, pattern_of}
 use Rattle.lrlex_rules.specs.Parts.{as_rule, as_state}
 use Rattle.lrlex_rules.specs.declared.states.StartState as start
 use Rattle.lrlex_rules.specs.declared.rules.Rule as code
-use Rattle.lrlex_table.specs.Merged.{pattern_at, IsTableOf, IsLongest, NoneMatches}
-use Rattle.lrlex_table.specs.Tables.{AreSingle, is_among, is_tabled, AreRising, ArePartsOf, AreTablesOf, IsBestAmong}
+use Rattle.lrlex_table.specs.Merged.{next_rows, pattern_at, IsTableOf, IsLongest, NoneMatches}
+use Rattle.lrlex_table.specs.Tables.{AreSingle, is_among, is_tabled, AreRising, AreTablesOf, IsBestAmong}
 use Rattle.lrlex_table.specs.declared.table.Table.{Table}
 use Rattle.lrlex_table.specs.declared.tables.Part.{Part}
 use Rattle.lrlex_table.specs.declared.tables.Tables.{Tables}
@@ -29,7 +29,7 @@ use Rattle.lrlex.specs.Active.{is_active, active_places, taken, taken_by_any, ru
 use Rattle.lrlex.specs.Ids.{with_own_id}
 use Rattle.lrlex.specs.Tiling.{Wins, IsStuck}
 use Rattle.lrlex.proofs.BestLemmas.{Wins-of_IsBest, IsStuck-of_IsBest}
-use Rattle.lrlex.proofs.ScanLemmas.{IsScanned, IsScanned-none, IsScanned-kept, IsScanned-taken, scanned_all, passes, place_within, length-places_of}
+use Rattle.lrlex.proofs.ScanLemmas.{IsScanned, IsScanned-none, IsScanned-kept, IsScanned-taken, scanned_all, passes, place_within}
 use Rattle.lrlex.proofs.ViewLemmas.{taken_active, position_within, item_at, position_some, position_none, rule_at_place}
 use Rattle.lrlex.proofs.PlaceLemmas.{active_places-by}
 
@@ -375,7 +375,7 @@ single_more number rules tables i o p r len old at same new k t is = elim (cases
       let now : o ≡ Some t = sym (get_or_push tables o None k (len ∙ e)) ∙ get_or_from_slice_get (tables ++ o ∷ []) k (Some t) None is in
       let own : pattern_in (map (as_rule (λ _. 0)) rules) k ≡ pattern_of (as_rule number r) =
       ap (λ j. pattern_in (map (as_rule (λ _. 0)) rules) j) (sym e) ∙ ap (λ u. pattern_of (unwrap_or u no_rule)) (slice_get-map (as_rule (λ _. 0)) rules i ∙ ap (option_map (as_rule (λ _. 0))) at) ∙ pattern_here (λ _. 0) number r in
-      serves_alike t.next.items t.wins.items t.start (p ∷ []) (pattern_in (map (as_rule (λ _. 0)) rules) k ∷ []) refl
+      serves_alike (next_rows t) t.wins.items t.start (p ∷ []) (pattern_in (map (as_rule (λ _. 0)) rules) k ∷ []) refl
       (alike_one p (pattern_in (map (as_rule (λ _. 0)) rules) k) (subst (SameCaptures p) (sym own) same))
       (subst (λ u. IfSome u (IsTableOf (p ∷ []))) now new)
 ]

@@ -44,15 +44,15 @@ no_winner_of_nothing d q text k n e w =
     let none : length text ≡ 0 = ap length e in
     absurd (omega (arith, Wins-le d q text k n w, w.some))
 
-stuck_or_wins : (d : Definition) (q : ℕ) (text : List ℕ) (k n : ℕ) → IsStuck d q text → ¬ (Wins d q text k n)
+pub stuck_or_wins : (d : Definition) (q : ℕ) (text : List ℕ) (k n : ℕ) → IsStuck d q text → ¬ (Wins d q text k n)
 stuck_or_wins d q text k n stuck w = absurd (omega (arith, stuck k, w.takes, w.some))
 
 -- ---- one winner, one end, one tiling
 
-one_len : (d : Definition) (q : ℕ) (text : List ℕ) (k n j m : ℕ) → Wins d q text k n → Wins d q text j m → n ≡ m
+pub one_len : (d : Definition) (q : ℕ) (text : List ℕ) (k n j m : ℕ) → Wins d q text k n → Wins d q text j m → n ≡ m
 one_len d q text k n j m v w = omega (arith, v.takes, w.takes, v.greatest j, w.greatest k)
 
-one_rule : (d : Definition) (q : ℕ) (text : List ℕ) (k n j m : ℕ) → Wins d q text k n → Wins d q text j m → k ≡ j
+pub one_rule : (d : Definition) (q : ℕ) (text : List ℕ) (k n j m : ℕ) → Wins d q text k n → Wins d q text j m → k ≡ j
 one_rule d q text k n j m v w =
     let same = one_len d q text k n j m v w in
     elim (cases_lt k j) [

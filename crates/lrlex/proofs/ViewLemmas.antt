@@ -1,14 +1,12 @@
 -- Rules and states, seen through their views.
-use Rattle.std.proofs.Common.{◌≡◌, ◌≢◌, zero, suc, ne_eqb, ℕ, ◌<◌, Bool, true, false, cond, not, ◌||◌, ◌==◌, List, [], ◌∷◌, map, length, get_or, Option, Some, None, option_map, unwrap_or, slice_get, refl, sym, ap, ◌∙◌, arith, eq-eqb, ◌&&◌, true≢false, nat_lt, ◌≤◌, take, ◌+◌, ◌++◌, subst, IsCharBoundary}
+use Rattle.std.proofs.Common.{◌≡◌, ◌≢◌, zero, suc, ne_eqb, ℕ, ◌<◌, Bool, true, false, cond, not, ◌||◌, ◌==◌, List, [], ◌∷◌, map, length, get_or, Option, Some, None, option_map, unwrap_or, slice_get, refl, sym, ap, ◌∙◌, arith, eq-eqb, ◌&&◌, true≢false, nat_lt, ◌≤◌, take, ◌++◌, IsCharBoundary}
 use Rattle.std.proofs.Math.Seq.{take-append_seam}
-use Rattle.std.proofs.lemmas.Bool.{cond-true, cond-false, ltb-true, ltb-false}
+use Rattle.std.proofs.lemmas.Bool.{cond-true, cond-false, ltb-true, ltb-false, eqb-true}
 use Rattle.std.proofs.lemmas.List.Sums.{passes_at_first, fails_before_first}
-use Rattle.std.proofs.lemmas.List.Folds.{Any-from_list_any}
-use Rattle.std.proofs.lemmas.List.{length-map, map-append, map_more}
+use Rattle.std.proofs.lemmas.List.Folds.{Any-from_list_any, list_any_at}
+use Rattle.std.proofs.lemmas.List.{length-map, get_or_default}
 use Rattle.std.proofs.lemmas.Option.{slice_get-map, slice_get_read, same_Some, none-some}
-use Rattle.regex.specs.Strings.{matcher_pattern}
-use Rattle.regex.specs.declared.string.matcher.Matcher.{Matcher}
-use Rattle.regex.specs.Patterns.{Re, SameCaptures, find_str, span}
+use Rattle.regex.specs.Patterns.{Re, find_str, span}
 use Rattle.regex_hir.specs.Text.{is_boundary}
 use Rattle.regex.proofs.Utf8Lemmas.{test_of_IsCharBoundary}
 use Rattle.std.specs.List.{list_any, find, position, position_or_len}
@@ -17,7 +15,8 @@ use Rattle.lrlex_rules.specs.Definition.{Definition, Rule, StartState}
 use Rattle.lrlex_rules.specs.Patterns.{end_from_zero, match_length, pattern_of}
 use Rattle.lrlex.specs.Active.{is_active, taken_by, taken_by_any, no_rule, rule_at}
 use Rattle.lrlex_rules.specs.Parts.{as_state, as_rule}
-use Rattle.lrlex.specs.Views.{definition_of, AreAlike, patterns_of, ArePaired}
+use Rattle.lrlex.specs.Views.{definition_of}
+use Rattle.lrlex.specs.Tables.{ArePlaced}
 use Rattle.lrlex_rules.specs.declared.rules.Rule as code
 use Rattle.lrlex.specs.declared.lexer.definition.LRNonStreamingLexerDef.{LRNonStreamingLexerDef}
 use Rattle.lrlex_rules.specs.declared.states.StartState as start
@@ -66,55 +65,11 @@ end_elsewhere text s e h =
     let first : (s == 0) ≡ false = ne_eqb s 0 h in
     cond-false (s == 0 && is_boundary text e) e 0 (rw first refl)
 
--- ---- rules and their matchers by place
-
-alike_len : (xs ys : List Re) → AreAlike xs ys → length xs ≡ length ys
-alike_len [] [] h = refl
-alike_len [] (y ∷ ys) h = absurd h
-alike_len (x ∷ xs) [] h = absurd h
-alike_len (x ∷ xs) (y ∷ ys) h = ap suc (alike_len xs ys h.1)
-
-alike_at : (xs ys : List Re) (i : ℕ) (a b : Re) → AreAlike xs ys → slice_get xs i ≡ Some a → slice_get ys i ≡ Some b → SameCaptures a b
-alike_at [] ys i a b h e f = absurd (none-some _ e)
-alike_at (x ∷ xs) [] i a b h e f = absurd h
-alike_at (x ∷ xs) (y ∷ ys) zero a b h e f = subst (λ p. SameCaptures p b) (same_Some _ _ e) (subst (SameCaptures x) (same_Some _ _ f) h.0)
-alike_at (x ∷ xs) (y ∷ ys) (suc i) a b h e f = alike_at xs ys i a b h.1 e f
-
-alike_more : (xs ys : List Re) (a b : Re) → AreAlike xs ys → SameCaptures a b → AreAlike (xs ++ a ∷ []) (ys ++ b ∷ [])
-alike_more [] [] a b h same = (same, tt)
-alike_more [] (y ∷ ys) a b h same = absurd h
-alike_more (x ∷ xs) [] a b h same = absurd h
-alike_more (x ∷ xs) (y ∷ ys) a b h same = (h.0, alike_more xs ys a b h.1 same)
-
-pub paired_len : {S : Type 0} (matchers : List Matcher) (rules : List (code.Rule S)) → ArePaired matchers rules → length matchers ≡ length rules
-paired_len matchers rules p =
-    sym (length-map matchers matcher_pattern) ∙ alike_len (map matcher_pattern matchers) (patterns_of rules) p ∙ length-map rules (λ r. pattern_of (as_rule (λ _. 0) r))
+-- ---- rules by place
 
 module _ {A : Type 0} (xs : List A) (i : ℕ) (x : A) (within : i < length xs) (read : x ≡ get_or xs i x) where
   view_at : {B : Type 0} (f : A → B) → slice_get (map f xs) i ≡ Some (f x)
   view_at f = slice_get-map f xs i ∙ ap (option_map f) (slice_get_read xs (length xs) i x refl within read)
-
-same_pattern : {S : Type 0} (number : S → ℕ) (r : code.Rule S) → pattern_of (as_rule (λ _. 0) r) ≡ pattern_of (as_rule number r)
-unfolding pattern_of
-same_pattern number r = refl
-
-pub paired_at : {S : Type 0} (number : S → ℕ) (matchers : List Matcher) (rules : List (code.Rule S)) (i : ℕ) (m : Matcher) (r : code.Rule S) → ArePaired matchers rules →
-    i < length rules → m ≡ get_or matchers i m → r ≡ get_or rules i r → SameCaptures (matcher_pattern m) (pattern_of (as_rule number r))
-paired_at number matchers rules i m r p within at bt =
-    subst (SameCaptures (matcher_pattern m)) (same_pattern number r)
-    (alike_at (map matcher_pattern matchers) (patterns_of rules) i (matcher_pattern m) (pattern_of (as_rule (λ _. 0) r)) p
-    (view_at matchers i m (omega (arith, paired_len matchers rules p)) at matcher_pattern)
-    (view_at rules i r within bt (λ x. pattern_of (as_rule (λ _. 0) x))))
-
--- one more matcher, for the next rule
-pub paired_more : {S : Type 0} (number : S → ℕ) (matchers : List Matcher) (rules : List (code.Rule S)) (i : ℕ) (m : Matcher) (r : code.Rule S) → ArePaired matchers (take i rules) →
-    i < length rules → r ≡ get_or rules i r → SameCaptures (matcher_pattern m) (pattern_of (as_rule number r)) → ArePaired (matchers ++ m ∷ []) (take (i + 1) rules)
-paired_more number matchers rules i m r p within read same =
-    let pattern : code.Rule _ → Re = λ x. pattern_of (as_rule (λ _. 0) x) in
-    let more : patterns_of (take (i + 1) rules) ≡ patterns_of (take i rules) ++ pattern r ∷ [] = map_more pattern rules i r within ∙ ap (λ x. patterns_of (take i rules) ++ pattern x ∷ []) (sym read) in
-    subst (λ ps. AreAlike ps (patterns_of (take (i + 1) rules))) (sym (map-append matcher_pattern matchers (m ∷ [])))
-    (subst (AreAlike (map matcher_pattern matchers ++ matcher_pattern m ∷ [])) (sym more)
-    (alike_more (map matcher_pattern matchers) (patterns_of (take i rules)) (matcher_pattern m) (pattern r) p (subst (SameCaptures (matcher_pattern m)) (sym (same_pattern number r)) same)))
 
 pub rule_at_place : {S : Type 0} (number : S → ℕ) (rules : List (code.Rule S)) (i : ℕ) (r : code.Rule S) → i < length rules → r ≡ get_or rules i r →
     slice_get (map (as_rule number) rules) i ≡ Some (as_rule number r)
@@ -175,6 +130,54 @@ position_none p xs e some =
     let any = Any-from_list_any p xs some in
     let no = fails_before_first p xs any.0 any.1 (omega (arith, any.2, past)) in
     true≢false (sym any.4 ∙ ap p (sym any.3) ∙ no)
+
+-- ---- where ids are places
+
+placed_at : (states : List start.StartState) (i q : ℕ) (d : start.StartState) → ArePlaced states → i < length states → ((as_state (get_or states i d)).id == q) ≡ true → i ≡ q
+placed_at states i q d placed within is =
+    let s = get_or states i d in
+    sym (placed i s (slice_get_read states (length states) i s refl within (get_or_default states i d s within))) ∙ eqb-true _ _ is
+
+placed_is : (states : List start.StartState) (q : ℕ) (d : start.StartState) → ArePlaced states → q < length states → ((as_state (get_or states q d)).id == q) ≡ true
+placed_is states q d placed within =
+    let s = get_or states q d in
+    eq-eqb _ _ (placed q s (slice_get_read states (length states) q s refl within (get_or_default states q d s within)))
+
+pub placed_has : (states : List start.StartState) (q : ℕ) → ArePlaced states → q < length states → list_any (λ s. (as_state s).id == q) states ≡ true
+placed_has states q placed within =
+    let d = item_at states q within in
+    list_any_at (λ s. (as_state s).id == q) states q d within (placed_is states q d placed within)
+
+found_within : (states : List start.StartState) (q : ℕ) (o : Option ℕ) → ArePlaced states → q < length states → o ≡ position (λ s. (as_state s).id == q) states → Some q ≡ o
+found_within states q None placed within e = absurd (position_none _ states e (placed_has states q placed within))
+found_within states q (Some i) placed within e =
+    let found = position_some _ states i e (item_at states q within) in
+    ap Some (sym (placed_at states i q (item_at states q within) placed found.0 found.1))
+
+pub placed_within : (states : List start.StartState) (q : ℕ) → ArePlaced states → q < length states → Some q ≡ position (λ s. (as_state s).id == q) states
+placed_within states q placed within = found_within states q _ placed within refl
+
+found_past : (states : List start.StartState) (q : ℕ) (o : Option ℕ) → ArePlaced states → length states ≤ q → o ≡ position (λ s. (as_state s).id == q) states → None ≡ o
+found_past states q None placed past e = refl
+found_past states q (Some i) placed past e =
+    let within = position_within _ states i e in
+    let d = item_at states i within in
+    let found = position_some _ states i e d in
+    absurd (omega (arith, placed_at states i q d placed found.0 found.1))
+
+pub placed_past : (states : List start.StartState) (q : ℕ) → ArePlaced states → length states ≤ q → None ≡ position (λ s. (as_state s).id == q) states
+placed_past states q placed past = found_past states q _ placed past refl
+
+lacks_past : (states : List start.StartState) (q : ℕ) (b : Bool) → ArePlaced states → length states ≤ q → list_any (λ s. (as_state s).id == q) states ≡ b → b ≡ false
+lacks_past states q false placed past e = refl
+lacks_past states q true placed past e = absurd (position_none _ states (placed_past states q placed past) e)
+
+test_of_place : (states : List start.StartState) (q : ℕ) (b : Bool) → ArePlaced states → nat_lt q (length states) ≡ b → b ≡ list_any (λ s. (as_state s).id == q) states
+test_of_place states q true placed e = sym (placed_has states q placed (ltb-true q (length states) e))
+test_of_place states q false placed e = sym (lacks_past states q _ placed (ltb-false q (length states) e) refl)
+
+pub placed_test : (states : List start.StartState) (q : ℕ) → ArePlaced states → nat_lt q (length states) ≡ list_any (λ s. (as_state s).id == q) states
+placed_test states q placed = test_of_place states q _ placed refl
 
 -- the item at the same place of two lists
 pub at_same_place : {A B C : Type 0} (f : A → C) (g : B → C) (xs : List A) (ys : List B) (i : ℕ) (x : A) (y : B) → map f xs ≡ map g ys →

@@ -1,16 +1,21 @@
--- The tables of each start state, and the matchers of the rules that have none.
+-- Start states by their places, the tables of each, and the matchers of the rules that have none.
 use Rattle.std.specs.declared.alloc.Global.{Global}
 use Rattle.std.specs.Prelude.{Box, ◌≡◌, ℕ, List, [], length, map, Option, Some, unwrap_or, slice_get, slice_index_or}
 use Rattle.regex.specs.Patterns.{Re, SameCaptures}
 use Rattle.regex.specs.Strings.{matcher_pattern}
 use Rattle.regex.specs.declared.string.matcher.Matcher.{Matcher}
 use Rattle.lrlex_rules.specs.Definition.{Rule}
-use Rattle.lrlex_rules.specs.Parts.{as_rule}
+use Rattle.lrlex_rules.specs.Parts.{as_rule, as_state}
 use Rattle.lrlex_rules.specs.Patterns.{pattern_of}
 use Rattle.lrlex_rules.specs.declared.rules.Rule as code
+use Rattle.lrlex_rules.specs.declared.states.StartState as start
 use Rattle.lrlex_table.specs.Tables.{AreTablesOf}
 use Rattle.lrlex_table.specs.declared.tables.Tables.{Tables}
 use Rattle.lrlex.specs.Active.{no_rule}
+
+-- the id of each state is its place
+abbrev pub ArePlaced : List start.StartState → Type 0
+ArePlaced states = (i : ℕ) (s : start.StartState) → slice_get states i ≡ Some s → (as_state s).id ≡ i
 
 -- the pattern of the rule at a place
 abbrev pub pattern_in : List Rule → ℕ → Re

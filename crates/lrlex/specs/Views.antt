@@ -1,13 +1,9 @@
 -- What a definition of the program says, and what a run of it answers.
-use Rattle.std.specs.Prelude.{ℕ, Bool, List, [], ◌∷◌, option_map, Result, Ok, Err, map}
-use Rattle.regex.specs.Patterns.{Re, SameCaptures}
-use Rattle.regex.specs.Strings.{matcher_pattern}
-use Rattle.regex.specs.declared.string.matcher.Matcher.{Matcher}
+use Rattle.std.specs.Prelude.{ℕ, Bool, List, option_map, Result, Ok, Err, map}
 use Rattle.lrlex_base.specs.Spans.{span_start, span_end}
 use Rattle.lrlex_rules.specs.Definition.{Definition}
 use Rattle.lrlex.specs.Faults.{lex_error_span, lex_error_state}
 use Rattle.lrlex_rules.specs.Parts.{as_rule, as_state, state_number}
-use Rattle.lrlex_rules.specs.Patterns.{pattern_of}
 use Rattle.lrlex.specs.Tiling.{Item, Lexeme, Error}
 use Rattle.lrlex.specs.declared.errors.LRLexError.{LRLexError}
 use Rattle.lrlex_rules.specs.declared.rules.Rule as code
@@ -28,21 +24,6 @@ definition_rules d = d.table.rules.items
 
 abbrev pub definition_states : {L X S E P Q : Type 0} → LRNonStreamingLexerDef L X S E P Q → List start.StartState
 definition_states d = d.table.start_states.items
-
--- patterns of one number, which give the same matches and captures place by place
-abbrev pub AreAlike : List Re → List Re → Type 0
-AreAlike [] [] = Unit {0}
-AreAlike [] (b ∷ bs) = ⊥
-AreAlike (a ∷ rest) [] = ⊥
-AreAlike (a ∷ rest) (b ∷ bs) = SameCaptures a b × AreAlike rest bs
-
--- the patterns of rules
-abbrev pub patterns_of : {S : Type 0} → List (code.Rule S) → List Re
-patterns_of rules = map (λ r. pattern_of (as_rule (λ _. 0) r)) rules
-
--- each matcher searches for the pattern of the rule at its place
-abbrev pub ArePaired : {S : Type 0} → List Matcher → List (code.Rule S) → Type 0
-ArePaired matchers rules = AreAlike (map matcher_pattern matchers) (patterns_of rules)
 
 -- an item of the program, by what the functions say of an id and a lexeme
 abbrev pub item_of : {S X : Type 0} → (S → ℕ) → (X → S) → (X → ℕ) → (X → ℕ) → (X → Bool) → Result X LRLexError → Item

@@ -24,20 +24,21 @@ fn boundary_from(text: &str, from: usize) -> usize {
     text.len()
 }
 
-/// Lexes once again after the edit. The time, in nanoseconds, and how many matches were asked for.
+/// Lexes once again after the edit. The time, in nanoseconds, how many matches were asked for, and how many tiles were cut
+/// anew.
 fn time_relex<T: Id>(
     rt: &HostRuntime,
     run: &LexRun<'_, '_, DefaultLexerTypes<T>>,
     edit: &Edit<'_>,
     new: &str,
-) -> Result<(u128, u128), Fault>
+) -> Result<(u128, u128, usize), Fault>
     requires fits { Fits run.now.text.now edit.now.removed }
     requires gives { new.now ≡ edited run.now.text.now (as_span edit.now.removed) edit.now.put.now }
 {
     let begin = Instant::now(rt)?;
     let after = run.relex(rt.alloc(), edit, new)?;
     let took = begin.elapsed(rt)?;
-    Ok((took.as_nanos(), after.asked()))
+    Ok((took.as_nanos(), after.asked(), after.lexed()))
 }
 
 /// Prints what lexing again took, and how many times as long `run` takes.
@@ -84,11 +85,14 @@ fn tell_edit<T: Id>(
     let new = edit.apply(rt.alloc(), text)?;
     let mut spent = Vec::new(rt.alloc());
     let mut asked = 0u128;
+    let mut lexed = 0usize;
     for _ in 0..times {
-        let (took, found) = time_relex(rt, run, &edit, new.as_str())?;
+        let (took, found, cut) = time_relex(rt, run, &edit, new.as_str())?;
         spent.push(took)?;
         asked = found;
+        lexed = cut;
     }
+    println!(rt; "{name} tiles cut anew: {lexed}")?;
     tell_relex(rt, name, spread_of(&mut spent), asked, anew)
 }
 

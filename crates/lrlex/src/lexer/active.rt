@@ -1,14 +1,16 @@
-ghost use Rattle.std.specs.Prelude.{◌≡◌, ◌==◌, map, option_map, IfOk};
+ghost use Rattle.std.specs.Prelude.{◌≡◌, ◌==◌, map, option_map, IfOk, IsTrue};
 ghost use Rattle.std.specs.List.{find, list_any, position};
 ghost use Rattle.std.specs.Option.{option_copied};
 ghost use Rattle.lrlex.specs.Active.{is_inclusive, is_active_where, active_places, lacks_id, lexeme_id};
 ghost use Rattle.lrlex_rules.specs.Parts.{as_rule, as_state};
+ghost use Rattle.lrlex.specs.Tables.{ArePlaced};
 
 use lrlex_base::Id;
 use lrlex_rules::{Rule, StartState};
 use std::alloc::{AllocError, Global};
 
 /// Whether the rule has a name and no id.
+#[inline(always)]
 pub(crate) fn lacks_id<S: Id>(rule: &Rule<S>) -> bool
     ensures { result ≡ lacks_id (as_rule S.number rule.now) }
 {
@@ -16,6 +18,7 @@ pub(crate) fn lacks_id<S: Id>(rule: &Rule<S>) -> bool
 }
 
 /// The id of the rule's lexemes. An unnamed rule gives none.
+#[inline(always)]
 pub(crate) fn lexeme_id<S: Id>(rule: &Rule<S>) -> Option<S>
     ensures { option_map S.number result ≡ lexeme_id (as_rule S.number rule.now) }
 {
@@ -26,18 +29,48 @@ pub(crate) fn lexeme_id<S: Id>(rule: &Rule<S>) -> Option<S>
     }
 }
 
-/// Whether a state has the id.
-pub(crate) fn has_state(states: &[StartState], id: usize) -> bool
-    ensures { result ≡ list_any (λ s. (as_state s).id == id) states.now }
+/// Whether the id of each state is its place.
+pub(crate) fn are_placed(states: &[StartState]) -> bool
+    ensures { IsTrue result → ArePlaced states.now }
 {
-    states.iter().any(|s| s.id() == id)
+    'states: for index in 0..states.len() {
+        if states[index].id() != index {
+            return false;
+        }
+    }
+    true
 }
 
-/// The place of the first state with the id.
-pub(crate) fn position_of(states: &[StartState], id: usize) -> Option<usize>
+/// Whether a state has the id. Where ids are places, none is looked at.
+#[inline(always)]
+pub(crate) fn has_state(states: &[StartState], placed: bool, id: usize) -> bool
+    requires { IsTrue placed → ArePlaced states.now }
+    ensures { result ≡ list_any (λ s. (as_state s).id == id) states.now }
+{
+    if placed {
+        id < states.len()
+    } else {
+        states.iter().any(|s| s.id() == id)
+    }
+}
+
+fn first_position(states: &[StartState], id: usize) -> Option<usize>
     ensures { result ≡ position (λ s. (as_state s).id == id) states.now }
 {
     states.iter().position(|s| s.id() == id)
+}
+
+/// The place of the first state with the id. Where ids are places, none is looked at.
+#[inline(always)]
+pub(crate) fn position_of(states: &[StartState], placed: bool, id: usize) -> Option<usize>
+    requires { IsTrue placed → ArePlaced states.now }
+    ensures { result ≡ position (λ s. (as_state s).id == id) states.now }
+{
+    if placed {
+        if id < states.len() { Some(id) } else { None }
+    } else {
+        first_position(states, id)
+    }
 }
 
 fn first_state(states: &[StartState], id: usize) -> Option<&StartState>

@@ -1,4 +1,4 @@
-ghost use Rattle.std.specs.Prelude.{◌≡◌, ℕ, ◌+◌, ◌-◌, ◌<◌, ◌≤◌, List, All, [], ◌∷◌, ◌++◌, length, map, drop, nat_le, OnOk};
+ghost use Rattle.std.specs.Prelude.{◌≡◌, ℕ, ◌+◌, ◌-◌, ◌<◌, ◌≤◌, List, All, [], ◌∷◌, ◌++◌, length, map, take, drop, nat_le, IfOk, OnOk};
 ghost use Rattle.lrlex.specs.Marks.{mark_at, last_runs, most_runs};
 ghost use Rattle.lrlex.specs.Edits.{moved_mark, IsMovableMark};
 ghost use Rattle.lrlex.specs.Ranges.{AreBegun, AreRising, IsRange, runs_of, stretch_at};
@@ -84,6 +84,18 @@ impl Boundaries {
         }
     }
 
+    /// None yet, with room for so many.
+    pub(crate) fn with_capacity(alloc: Global, many: usize) -> Result<Self, AllocError>
+        ensures { IfOk result (λ made. made ≡ []) }
+    {
+        Ok(Boundaries {
+            places: Vec::with_capacity(alloc, many)?,
+            stretches: Vec::new(alloc),
+            runs: Vec::new(alloc),
+            peak: 0,
+        })
+    }
+
     /// How many there are.
     pub(crate) fn len(&self) -> usize
         ensures { result ≡ length self.now }
@@ -114,7 +126,8 @@ impl Boundaries {
     }
 
     /// Adds a boundary with the stack of the last one.
-    fn repeat(&mut self, place: usize) -> Result<(), AllocError>
+    #[inline(always)]
+    pub(crate) fn repeat(&mut self, place: usize) -> Result<(), AllocError>
         ensures { OnOk result (self.new ≡ self.old ++ record { place = place; runs = last_runs self.old } ∷ []) }
     {
         self.places.push(place)?;
@@ -164,6 +177,29 @@ impl Boundaries {
         self.runs.reserve(old.runs.len())?;
         'tail: for next in index + 1..len {
             let place = old.place(next) - from + to;
+            if entered < old.stretches.len() && old.stretches[entered].from == next {
+                let before = last_of(&old.stretches[..entered]);
+                let here = old.stretches[entered];
+                entered += 1;
+                self.push(place, range_of(&old.runs, here), shared(before, here))?;
+            } else {
+                self.repeat(place)?;
+            }
+        }
+        Ok(())
+    }
+
+    /// Adds the boundaries before `end` of a list, where this one has its first boundary alone.
+    pub(crate) fn copy_front(&mut self, old: &Boundaries, end: usize) -> Result<(), AllocError>
+        requires some { 0 < end }
+        requires within { end ≤ length old.now }
+        requires first { self.old ≡ take 1 old.now }
+        ensures { OnOk result (self.new ≡ take end old.now) }
+    {
+        let mut entered = begun(&old.stretches, 0);
+        self.places.reserve(end)?;
+        'front: for next in 1..end {
+            let place = old.place(next);
             if entered < old.stretches.len() && old.stretches[entered].from == next {
                 let before = last_of(&old.stretches[..entered]);
                 let here = old.stretches[entered];

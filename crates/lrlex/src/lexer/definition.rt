@@ -1,9 +1,9 @@
-ghost use Rattle.std.specs.Prelude.{◌≡◌, ◌<◌, All, length, map, true};
+ghost use Rattle.std.specs.Prelude.{◌≡◌, ◌<◌, All, length, map, true, IsTrue};
 ghost use Rattle.lrlex.specs.Active.{active_places, is_state, lacks_target};
 ghost use Rattle.lrlex_rules.specs.Parts.{as_rule, as_state};
-ghost use Rattle.lrlex.specs.Tables.{AreServed};
+ghost use Rattle.lrlex.specs.Tables.{AreServed, ArePlaced};
 
-use crate::lexer::active::{active_places, has_state, position_of};
+use crate::lexer::active::{active_places, are_placed, has_state, position_of};
 use crate::lexer::tables::tables_for;
 use lrlex_base::LexerTypes;
 use lrlex_rules::{LexFlags, Rule, StartState};
@@ -11,7 +11,7 @@ use lrlex_table::{Budget, Tables};
 use std::alloc::{AllocError, Global};
 
 /// What the tables of a definition may cost: rows, of some 512 bytes each, and work, in units of about a nanosecond.
-const MOST_ROWS: usize = 8_000;
+const MOST_ROWS: usize = 7_000;
 
 const MOST_WORK: usize = 40_000_000;
 
@@ -20,10 +20,13 @@ const MOST_WORK: usize = 40_000_000;
 pub(crate) struct RuleTable<S> {
     pub(crate) rules: Vec<Rule<S>>,
     pub(crate) start_states: Vec<StartState>,
+    /// Whether the id of each state is its place, as in every definition that was read.
+    placed: bool,
     active: Vec<Vec<usize>>,
     tables: Vec<Tables>,
     /// Which of the tables each state has.
     tables_at: Vec<usize>,
+    ghost at_places: { IsTrue placed → ArePlaced start_states.items },
     ghost lists: { map (λ v. v.items) active.items ≡ map (λ s. active_places (map as_state start_states.items) (map (as_rule (λ _. 0)) rules.items) (as_state s).id) start_states.items },
     ghost served: { ∥ AreServed rules.items (map (λ v. v.items) active.items) tables.items tables_at.items ∥₁ },
     ghost each: { length tables_at.items ≡ length start_states.items },
@@ -76,9 +79,11 @@ impl<L: LexerTypes> LRNonStreamingLexerDef<L> {
             active.push(active_places(alloc, &start_states, &rules, id)?)?;
         }
         let (tables, tables_at) = tables_for(alloc, &rules, &active, budget)?;
+        let placed = are_placed(&start_states);
         let table = RuleTable {
             rules,
             start_states,
+            placed,
             active,
             tables,
             tables_at,
@@ -95,6 +100,7 @@ impl<L: LexerTypes> LRNonStreamingLexerDef<L> {
         let RuleTable {
             rules,
             start_states,
+            placed: _,
             active: _,
             tables: _,
             tables_at: _,
@@ -138,34 +144,38 @@ impl<L: LexerTypes> LRNonStreamingLexerDef<L> {
     }
 
     /// Whether a state has the id.
+    #[inline(always)]
     pub(crate) fn is_state(&self, id: usize) -> bool
         ensures { result ≡ is_state (definition_of L.StorageT.number self.now) id }
     {
-        has_state(&self.table.start_states, id)
+        has_state(&self.table.start_states, self.table.placed, id)
     }
 
     /// The places of the rules that are active in the first state with the id, in order.
+    #[inline(always)]
     pub(crate) fn active_in(&self, id: usize) -> &[usize]
         requires { is_state (definition_of L.StorageT.number self.now) id ≡ true }
         ensures { result.now ≡ active_places (definition_of L.StorageT.number self.now).states (definition_of L.StorageT.number self.now).rules id }
     {
-        match position_of(&self.table.start_states, id) {
+        match position_of(&self.table.start_states, self.table.placed, id) {
             Some(index) => &self.table.active[index],
             None => &[],
         }
     }
 
     /// The tables of the rules that are active in the first state with the id.
+    #[inline(always)]
     pub(crate) fn tables_in(&self, id: usize) -> &Tables
         requires { is_state (definition_of L.StorageT.number self.now) id ≡ true }
         ensures { ∥ AreTablesOf (patterns_on (definition_of L.StorageT.number self.now).rules
             (active_places (definition_of L.StorageT.number self.now).states (definition_of L.StorageT.number self.now).rules id)) result.now ∥₁ }
     {
-        let index = position_of(&self.table.start_states, id).unwrap_or(0);
+        let index = position_of(&self.table.start_states, self.table.placed, id).unwrap_or(0);
         &self.table.tables[self.table.tables_at[index]]
     }
 
     /// Whether the rule's target is no state.
+    #[inline(always)]
     pub(crate) fn lacks_target(&self, rule: &Rule<L::StorageT>) -> bool
         ensures { result ≡ lacks_target (definition_of L.StorageT.number self.now) (as_rule L.StorageT.number rule.now) }
     {

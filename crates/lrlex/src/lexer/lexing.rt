@@ -1,10 +1,11 @@
-ghost use Rattle.std.specs.Prelude.{◌≡◌, ◌+◌, ◌^◌, ◌<◌, ◌≤◌, true, false, [], ◌∷◌, ◌++◌, length, map, IfOk, OnOk, IsCharBoundary};
+ghost use Rattle.std.specs.Prelude.{◌≡◌, ◌+◌, ◌-◌, ◌^◌, ◌<◌, ◌≤◌, true, false, [], ◌∷◌, ◌++◌, length, map, IfOk, OnOk, IsCharBoundary};
 ghost use Rattle.lrlex.specs.Active.{is_state, lexeme_id};
 ghost use Rattle.lrlex_rules.specs.Parts.{as_rule};
 ghost use Rattle.lrlex.specs.Tiling.{Error, stack_after, lexeme_of};
 ghost use Rattle.lrlex.specs.Runs.{plain, AreRuns};
 ghost use Rattle.lrlex.specs.Marks.{Mark, last_runs};
 ghost use Rattle.lrlex.specs.Reach.{Reached, IsLexed, searches};
+ghost use Rattle.lrlex.specs.Decided.{HasLooked, capped};
 ghost use Rattle.lrlex.specs.Tables.{AreMatchers};
 ghost use Rattle.lrlex.specs.Views.{definition_of, item_of, items_by};
 
@@ -27,6 +28,18 @@ pub(crate) struct Progress<L: LexerTypes> {
     pub(crate) items: Vec<Result<L::LexemeT, LRLexError>>,
     pub(crate) boundaries: Boundaries,
     pub(crate) asked: u128,
+    /// For each boundary, how many bytes past its place the tiles before it looked. 255 stands for more.
+    pub(crate) ahead: Vec<u8>,
+    /// How many bytes past the place the tiles looked.
+    pub(crate) over: usize,
+}
+
+/// The most tiles for which room is made ahead.
+const MOST_EXPECTED: usize = 1 << 20;
+
+/// For how many tiles room is made ahead.
+fn tiles_expected(text: &str) -> usize {
+    (text.len() / 4).min(MOST_EXPECTED)
 }
 
 /// Nothing found yet, in state 0.
@@ -37,23 +50,31 @@ pub(crate) fn begin<L: LexerTypes>(
 ) -> Result<Progress<L>, AllocError>
     requires { is_state (definition_of L.StorageT.number definition.now) 0 ≡ true }
     ensures reached { IfOk result (λ p. Reached (definition_of L.StorageT.number definition.now) text.now p.place p.stack.items (items_by L.StorageT.number L.LexemeT.id_of L.LexemeT.start_of L.LexemeT.len_of L.LexemeT.is_faulty p.items.items) p.boundaries p.asked) }
+    ensures looked { IfOk result (λ p. HasLooked (definition_of L.StorageT.number definition.now) text.now p.boundaries p.ahead.items p.place p.over) }
     ensures start { IfOk result (λ p. p.place ≡ 0) }
     ensures one { IfOk result (λ p. length p.boundaries ≡ 1) }
 {
+    let room = tiles_expected(text);
     let mut stack = Vec::new(alloc);
     stack.push((1, 0))?;
-    let mut boundaries = Boundaries::new(alloc);
+    let mut boundaries = Boundaries::with_capacity(alloc, room)?;
     boundaries.push(0, &stack, 0)?;
+    let mut ahead = Vec::with_capacity(alloc, room)?;
+    ahead.push(0)?;
+    let items = Vec::with_capacity(alloc, room)?;
     Ok(Progress {
         place: 0,
         stack,
-        items: Vec::new(alloc),
+        items,
         boundaries,
         asked: 0,
+        ahead,
+        over: 0,
     })
 }
 
 /// Gives the tile's lexeme, if its rule gives one.
+#[inline(always)]
 fn give<L: LexerTypes>(
     items: &mut Vec<Result<L::LexemeT, LRLexError>>,
     rule: &Rule<L::StorageT>,
@@ -72,6 +93,7 @@ fn give<L: LexerTypes>(
 }
 
 /// Gives an error at the place, with the state in which no rule matches there, if that is why.
+#[inline(never)]
 pub(crate) fn give_error<L: LexerTypes>(
     items: &mut Vec<Result<L::LexemeT, LRLexError>>,
     place: usize,
@@ -89,11 +111,22 @@ pub(crate) fn give_error<L: LexerTypes>(
     Ok(())
 }
 
-/// Enters the next boundary: moves the stack by a rule's target.
+/// The number that stands for so many bytes.
+#[inline(always)]
+pub(crate) fn capped(over: usize) -> u8
+    ensures { result ≡ capped over }
+{
+    if over < 255 { over as u8 } else { 255 }
+}
+
+/// Enters the next boundary: moves the stack by a rule's target. The tiles looked `over` bytes past its place.
+#[inline(always)]
+#[tactic(auto, unfolding(crate::specs::Tiling::stack_after))]
 fn enter<L: LexerTypes>(
     progress: &mut Progress<L>,
     target: Option<(usize, StartStateOperation)>,
     place: usize,
+    over: usize,
 ) -> Result<(), AllocError>
     requires runs { AreRuns progress.old.stack.items }
     requires room { length (plain progress.old.stack.items) + 1 < 2 ^ 64 }
@@ -103,16 +136,26 @@ fn enter<L: LexerTypes>(
     ensures moved { OnOk result (plain progress.new.stack.items ≡ stack_after (plain progress.old.stack.items) target) }
     ensures items { OnOk result (progress.new.items.items ≡ progress.old.items.items) }
     ensures asked { OnOk result (progress.new.asked ≡ progress.old.asked) }
+    ensures over { OnOk result (progress.new.over ≡ over) }
+    ensures ahead { OnOk result (progress.new.ahead.items ≡ progress.old.ahead.items ++ capped over ∷ []) }
     ensures kept { OnOk result (progress.new.boundaries ≡ progress.old.boundaries
         ++ record { place = place; runs = progress.new.stack.items } ∷ []) }
 {
     progress.place = place;
-    let kept = step(&mut progress.stack, target)?;
-    progress.boundaries.push(place, &progress.stack, kept)?;
+    progress.over = over;
+    progress.ahead.push(capped(over))?;
+    match target {
+        None => progress.boundaries.repeat(place)?,
+        Some(_) => {
+            let kept = step(&mut progress.stack, target)?;
+            progress.boundaries.push(place, &progress.stack, kept)?;
+        }
+    }
     Ok(())
 }
 
 /// Takes the tile at the place, and answers whether lexing goes on after it.
+#[inline(always)]
 pub(crate) fn advance<'d, L: LexerTypes>(
     alloc: Global,
     definition: &'d LRNonStreamingLexerDef<L>,
@@ -125,21 +168,24 @@ pub(crate) fn advance<'d, L: LexerTypes>(
     requires matchers { AreMatchers definition.now.table.rules.items matchers.old }
     requires reached { Reached (definition_of L.StorageT.number definition.now) text.now progress.old.place progress.old.stack.items
         (items_by L.StorageT.number L.LexemeT.id_of L.LexemeT.start_of L.LexemeT.len_of L.LexemeT.is_faulty progress.old.items.items) progress.old.boundaries progress.old.asked }
+    requires looked { HasLooked (definition_of L.StorageT.number definition.now) text.now progress.old.boundaries progress.old.ahead.items progress.old.place progress.old.over }
     ensures matchers { IfOk result (λ _. AreMatchers definition.now.table.rules.items matchers.new) }
     ensures goes_on { IfOk result (λ on. on ≡ true → Reached (definition_of L.StorageT.number definition.now) text.now progress.new.place progress.new.stack.items
         (items_by L.StorageT.number L.LexemeT.id_of L.LexemeT.start_of L.LexemeT.len_of L.LexemeT.is_faulty progress.new.items.items) progress.new.boundaries progress.new.asked) }
+    ensures looked { IfOk result (λ on. on ≡ true → HasLooked (definition_of L.StorageT.number definition.now) text.now progress.new.boundaries progress.new.ahead.items progress.new.place progress.new.over) }
     ensures boundary { IfOk result (λ on. on ≡ true → IsCharBoundary text.now progress.new.place) }
     ensures grows { IfOk result (λ on. on ≡ true → progress.old.place < progress.new.place) }
     ensures more { IfOk result (λ on. on ≡ true → (m : Mark) × (progress.new.boundaries ≡ progress.old.boundaries ++ m ∷ [])) }
     ensures ends { IfOk result (λ on. on ≡ false → IsLexed (definition_of L.StorageT.number definition.now) text.now
         (items_by L.StorageT.number L.LexemeT.id_of L.LexemeT.start_of L.LexemeT.len_of L.LexemeT.is_faulty progress.new.items.items) progress.new.boundaries) }
     ensures same { IfOk result (λ on. on ≡ false → progress.new.boundaries ≡ progress.old.boundaries) }
+    ensures ahead { IfOk result (λ on. on ≡ false → progress.new.ahead.items ≡ progress.old.ahead.items) }
     ensures asked { IfOk result (λ _. progress.new.asked ≤ searches (definition_of L.StorageT.number definition.now) text.now progress.old.boundaries) }
 {
     let place = progress.place;
     let state = top_of(&progress.stack);
     let rest = &text[place..];
-    let won = winner(
+    let sight = winner(
         alloc,
         definition,
         state,
@@ -147,7 +193,7 @@ pub(crate) fn advance<'d, L: LexerTypes>(
         rest,
         &mut progress.asked,
     )?;
-    let Some(tile) = won else {
+    let Some(tile) = sight.tile else {
         give_error::<L>(&mut progress.items, place, Some(state))?;
         return Ok(false);
     };
@@ -161,6 +207,7 @@ pub(crate) fn advance<'d, L: LexerTypes>(
         give_error::<L>(&mut progress.items, place, None)?;
         return Ok(false);
     }
-    enter(progress, rule.target_state(), place + tile.len)?;
+    let over = progress.over.max(sight.reach).saturating_sub(tile.len);
+    enter(progress, rule.target_state(), place + tile.len, over)?;
     Ok(true)
 }

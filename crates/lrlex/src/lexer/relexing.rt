@@ -1,4 +1,4 @@
-ghost use Rattle.std.specs.Prelude.{◌≡◌, ◌≢◌, ℕ, ◌+◌, ◌-◌, ◌*◌, ◌<◌, ◌≤◌, ◌^◌, true, false, All, ◌++◌, length, map, drop, take, IfOk, OnOk};
+ghost use Rattle.std.specs.Prelude.{◌≡◌, ◌≢◌, ℕ, ◌+◌, ◌-◌, ◌*◌, ◌<◌, ◌≤◌, ◌^◌, true, false, max, All, ◌++◌, length, map, drop, take, IfOk, OnOk};
 ghost use Rattle.lrlex.specs.Active.{is_state};
 ghost use Rattle.lrlex_base.specs.Spans.{span_start, span_end, as_span, Fits};
 ghost use Rattle.lrlex_base.specs.Edits.{edited};
@@ -8,11 +8,13 @@ ghost use Rattle.std.specs.List.Sorted.{IsPartitionedBy};
 ghost use Rattle.lrlex.specs.Edits.{IsMovable, IsMovableMark, begins_before, items_from, moved_mark, Meets, IsSortedRuns};
 ghost use Rattle.lrlex.specs.Runs.{plain, AreRuns};
 ghost use Rattle.lrlex.specs.Reach.{IsRun, searches};
+ghost use Rattle.lrlex.specs.Decided.{AreRaised, IsSafe};
 ghost use Rattle.lrlex.specs.Views.{definition_of, items_by, item_of};
 
 use crate::errors::LRLexError;
 use crate::lexer::boundaries::Boundaries;
-use crate::lexer::lexing::{Progress, advance, begin};
+use crate::lexer::lexing::{Progress, advance};
+use crate::lexer::resuming::{append_raised, resume, up_to};
 use crate::lexer::run::{LexRun, finished, refused};
 use crate::lexer::searching::no_matchers;
 use lrlex_base::{Edit, LexError, Lexeme, LexerTypes, Span};
@@ -51,7 +53,7 @@ fn moved<L: LexerTypes<LexErrorT = LRLexError>>(
 }
 
 /// Whether the item begins before the place.
-fn begins_before<L: LexerTypes<LexErrorT = LRLexError>>(
+pub(crate) fn begins_before<L: LexerTypes<LexErrorT = LRLexError>>(
     item: &Result<L::LexemeT, LRLexError>,
     place: usize,
 ) -> bool
@@ -129,6 +131,16 @@ fn is_at(boundaries: &Boundaries, index: usize, place: usize, stack: &[(usize, u
     boundaries.stack(index) == stack
 }
 
+/// How many old boundaries stand before what follows the edit.
+fn behind(old: &Boundaries, edit: &Edit<'_>) -> usize
+    requires { IsSortedRuns old.now }
+    ensures within { result ≤ length old.now }
+    ensures before { (j : ℕ) → j < result → (mark_at old.now j).place < span_end edit.now.removed }
+{
+    let end = edit.removed.end();
+    if end == 0 { 0 } else { up_to(old, end - 1) }
+}
+
 /// Whether an old boundary stands where the new one stood before the edit, with the same stack.
 /// The cursor moves forward to the place.
 fn meets(
@@ -143,9 +155,9 @@ fn meets(
     requires put { span_start edit.now.removed + length edit.now.put.now < 2 ^ 64 }
     requires room { place + span_end edit.now.removed < span_start edit.now.removed + length edit.now.put.now + 2 ^ 64 }
     requires cursor { cursor.old ≤ length old.now }
-    requires behind { (j : ℕ) → j < cursor.old → (mark_at old.now j).place + (span_start edit.now.removed + length edit.now.put.now) < place + span_end edit.now.removed }
+    requires behind { (j : ℕ) → j < cursor.old → (mark_at old.now j).place + (span_start edit.now.removed + length edit.now.put.now) < max place (span_start edit.now.removed + length edit.now.put.now) + span_end edit.now.removed }
     ensures cursor { cursor.new ≤ length old.now }
-    ensures behind { (j : ℕ) → j < cursor.new → (mark_at old.now j).place + (span_start edit.now.removed + length edit.now.put.now) < place + span_end edit.now.removed }
+    ensures behind { (j : ℕ) → j < cursor.new → (mark_at old.now j).place + (span_start edit.now.removed + length edit.now.put.now) < max place (span_start edit.now.removed + length edit.now.put.now) + span_end edit.now.removed }
     ensures within { result ≡ true → cursor.new < length old.now }
     ensures past { result ≡ true → span_start edit.now.removed + length edit.now.put.now ≤ place }
     ensures place { result ≡ true → (mark_at old.now cursor.new).place + (span_start edit.now.removed + length edit.now.put.now) ≡ place + span_end edit.now.removed }
@@ -176,6 +188,8 @@ fn take_over<L: LexerTypes<LexErrorT = LRLexError>>(
     requires last { last_runs progress.old.boundaries ≡ (mark_at old.now.boundaries index).runs }
     requires boundaries { All (IsMovableMark (mark_at old.now.boundaries index).place progress.old.place)
         (drop (index + 1) old.now.boundaries) }
+    requires sorted { IsSortedRuns old.now.boundaries }
+    requires numbers { length old.now.ahead.items ≡ length old.now.boundaries }
     ensures items { OnOk result (map (item_of L.StorageT.number L.LexemeT.id_of L.LexemeT.start_of L.LexemeT.len_of L.LexemeT.is_faulty) progress.new.items.items
         ≡ map (item_of L.StorageT.number L.LexemeT.id_of L.LexemeT.start_of L.LexemeT.len_of L.LexemeT.is_faulty) progress.old.items.items
         ++ map (rebased (mark_at old.now.boundaries index).place progress.old.place)
@@ -183,17 +197,28 @@ fn take_over<L: LexerTypes<LexErrorT = LRLexError>>(
     ensures boundaries { OnOk result (progress.new.boundaries ≡ progress.old.boundaries
         ++ map (moved_mark (mark_at old.now.boundaries index).place progress.old.place) (drop (index + 1) old.now.boundaries)) }
     ensures asked { OnOk result (progress.new.asked ≡ progress.old.asked) }
+    ensures ahead { OnOk result (AreRaised old.now.boundaries old.now.ahead.items index progress.old.over (length old.now.boundaries) progress.old.ahead.items progress.new.ahead.items) }
 {
     let to = progress.place;
     let from = old.boundaries.place(index);
     let tail = items_from::<L>(&old.items, from);
     append_moved::<L>(&mut progress.items, tail, from, to)?;
-    progress.boundaries.append_moved(&old.boundaries, index, to)
+    progress
+        .boundaries
+        .append_moved(&old.boundaries, index, to)?;
+    append_raised(
+        &mut progress.ahead,
+        &old.boundaries,
+        &old.ahead,
+        index,
+        progress.over,
+    )?;
+    Ok(())
 }
 
 impl<'lexer, L: LexerTypes<LexErrorT = LRLexError>> LexRun<'lexer, '_, L> {
-    /// Lexes the text after an edit. From the first boundary on where place and stack meet the old ones,
-    /// the old items are taken over.
+    /// Lexes the text after an edit. The old items are taken over up to the last boundary before which no tile is known to
+    /// have looked at what the edit changes, and again from the first boundary on where place and stack meet the old ones.
     pub fn relex<'new>(
         &self,
         alloc: Global,
@@ -209,14 +234,18 @@ impl<'lexer, L: LexerTypes<LexErrorT = LRLexError>> LexRun<'lexer, '_, L> {
         ensures few { IfOk result (λ r. r.asked ≤ length r.boundaries * length (definition_of L.StorageT.number self.now.definition.now).rules) }
         ensures met { IfOk result (λ r. (k : ℕ) → Meets self.now.boundaries r.boundaries (span_start edit.now.removed) (span_end edit.now.removed) (length edit.now.put.now) k
             → r.asked ≤ searches (definition_of L.StorageT.number self.now.definition.now) new.now (take k r.boundaries)) }
+        ensures lexed { IfOk result (λ r. (k : ℕ) → k < length self.now.boundaries → IsSafe self.now.boundaries self.now.ahead.items (span_start edit.now.removed) k
+            → (r.anew + k ≤ length r.boundaries - 1)
+            × ((j : ℕ) → Meets self.now.boundaries r.boundaries (span_start edit.now.removed) (span_end edit.now.removed) (length edit.now.put.now) j → r.anew + k ≤ j)) }
     {
         let definition = self.definition;
         if !definition.is_state(0) {
             return refused(alloc, definition, new);
         }
         let mut matchers = no_matchers(alloc, &definition.table.rules)?;
-        let mut progress = begin(alloc, definition, new)?;
-        let mut cursor = 0usize;
+        let mut progress = resume(alloc, self, edit, new)?;
+        let kept = progress.boundaries.len();
+        let mut cursor = behind(&self.boundaries, edit);
         'tiles: while progress.place < new.len() {
             if meets(
                 &self.boundaries,
@@ -225,13 +254,16 @@ impl<'lexer, L: LexerTypes<LexErrorT = LRLexError>> LexRun<'lexer, '_, L> {
                 progress.place,
                 &progress.stack,
             ) {
+                let anew = progress.boundaries.len() - kept;
                 take_over(self, cursor, &mut progress)?;
-                return Ok(finished(definition, new, progress));
+                return Ok(finished(definition, new, progress, anew));
             }
             if !advance(alloc, definition, new, &mut matchers, &mut progress)? {
-                return Ok(finished(definition, new, progress));
+                let anew = progress.boundaries.len() - kept;
+                return Ok(finished(definition, new, progress, anew));
             }
         }
-        Ok(finished(definition, new, progress))
+        let anew = progress.boundaries.len() - kept;
+        Ok(finished(definition, new, progress, anew))
     }
 }

@@ -1,8 +1,9 @@
-ghost use Rattle.std.specs.Prelude.{◌≡◌, ◌+◌, ◌-◌, ◌*◌, ◌<◌, ◌≤◌, true, false, length, vec_len, IfOk};
+ghost use Rattle.std.specs.Prelude.{◌≡◌, ◌+◌, ◌-◌, ◌*◌, ◌<◌, ◌≤◌, true, false, [], length, vec_len, IfOk, slice_index};
 ghost use Rattle.lrlex.specs.Active.{is_state};
 ghost use Rattle.lrlex.specs.Marks.{mark_at, most_runs};
 ghost use Rattle.lrlex.specs.Runs.{AreRuns};
 ghost use Rattle.lrlex.specs.Reach.{Reached, IsLexed, IsRun, searches};
+ghost use Rattle.lrlex.specs.Decided.{LooksAhead};
 ghost use Rattle.lrlex.specs.Views.{definition_of, items_by};
 
 use crate::errors::LRLexError;
@@ -21,6 +22,11 @@ pub struct LexRun<'lexer, 'input, L: LexerTypes<LexErrorT = LRLexError>> {
     pub(crate) items: Vec<Result<L::LexemeT, LRLexError>>,
     pub(crate) boundaries: Boundaries,
     pub(crate) asked: u128,
+    /// For each boundary, how many bytes past its place the tiles before it looked. 255 stands for more.
+    pub(crate) ahead: Vec<u8>,
+    /// How many tiles were cut anew.
+    pub(crate) anew: usize,
+    ghost looks: { ∥ LooksAhead (definition_of L.StorageT.number definition.now) text.now boundaries ahead.items ∥₁ },
     ghost lexed: { ∥ IsRun (definition_of L.StorageT.number definition.now) text.now (items_by L.StorageT.number L.LexemeT.id_of L.LexemeT.start_of L.LexemeT.len_of L.LexemeT.is_faulty items.items) boundaries ∥₁ },
 }
 
@@ -46,6 +52,13 @@ impl<'lexer, 'input, L: LexerTypes<LexErrorT = LRLexError>> LexRun<'lexer, 'inpu
         self.asked
     }
 
+    /// How many tiles the call that made this run cut anew. It took over the others.
+    pub fn lexed(&self) -> usize
+        ensures { result ≡ self.now.anew }
+    {
+        self.anew
+    }
+
     /// The greatest number of runs of equal neighbours in a stack of a boundary.
     pub fn entries_peak(&self) -> usize
         ensures { result ≡ most_runs self.now.boundaries }
@@ -66,6 +79,14 @@ impl<'lexer, 'input, L: LexerTypes<LexErrorT = LRLexError>> LexRun<'lexer, 'inpu
         ensures { result ≡ (mark_at self.now.boundaries index).place }
     {
         self.boundaries.place(index)
+    }
+
+    /// How many bytes past the boundary's place the tiles before it looked. 255 stands for more.
+    pub fn ahead(&self, index: usize) -> u8
+        requires { index < length self.now.boundaries }
+        ensures { result ≡ slice_index self.now.ahead.items index }
+    {
+        self.ahead[index]
     }
 
     /// The boundary's stack from bottom to top, as runs of a count and a state.
@@ -89,6 +110,8 @@ pub(crate) fn refused<'lexer, 'input, L: LexerTypes<LexErrorT = LRLexError>>(
     ensures definition { IfOk result (λ r. r.definition.now ≡ definition.now) }
     ensures text { IfOk result (λ r. r.text.now ≡ text.now) }
     ensures asked { IfOk result (λ r. r.asked ≡ 0) }
+    ensures none { IfOk result (λ r. r.boundaries ≡ []) }
+    ensures lexed { IfOk result (λ r. r.anew ≡ 0) }
 {
     let mut items = Vec::new(alloc);
     give_error::<L>(&mut items, 0, None)?;
@@ -98,21 +121,27 @@ pub(crate) fn refused<'lexer, 'input, L: LexerTypes<LexErrorT = LRLexError>>(
         items,
         boundaries: Boundaries::new(alloc),
         asked: 0,
+        ahead: Vec::new(alloc),
+        anew: 0,
     })
 }
 
-/// The run that has come to its end.
+/// The run that has come to its end, with so many tiles cut anew.
 pub(crate) fn finished<'lexer, 'input, L: LexerTypes<LexErrorT = LRLexError>>(
     definition: &'lexer LRNonStreamingLexerDef<L>,
     text: &'input str,
     progress: Progress<L>,
+    anew: usize,
 ) -> LexRun<'lexer, 'input, L>
-    requires { IsRun (definition_of L.StorageT.number definition.now) text.now (items_by L.StorageT.number L.LexemeT.id_of L.LexemeT.start_of L.LexemeT.len_of L.LexemeT.is_faulty progress.items.items) progress.boundaries }
+    requires looks { LooksAhead (definition_of L.StorageT.number definition.now) text.now progress.boundaries progress.ahead.items }
+    requires run { IsRun (definition_of L.StorageT.number definition.now) text.now (items_by L.StorageT.number L.LexemeT.id_of L.LexemeT.start_of L.LexemeT.len_of L.LexemeT.is_faulty progress.items.items) progress.boundaries }
     ensures definition { result.definition.now ≡ definition.now }
     ensures text { result.text.now ≡ text.now }
     ensures items { result.items.items ≡ progress.items.items }
     ensures boundaries { result.boundaries ≡ progress.boundaries }
     ensures asked { result.asked ≡ progress.asked }
+    ensures ahead { result.ahead.items ≡ progress.ahead.items }
+    ensures anew { result.anew ≡ anew }
 {
     let Progress {
         place: _,
@@ -120,6 +149,8 @@ pub(crate) fn finished<'lexer, 'input, L: LexerTypes<LexErrorT = LRLexError>>(
         items,
         boundaries,
         asked,
+        ahead,
+        over: _,
     } = progress;
     LexRun {
         definition,
@@ -127,6 +158,8 @@ pub(crate) fn finished<'lexer, 'input, L: LexerTypes<LexErrorT = LRLexError>>(
         items,
         boundaries,
         asked,
+        ahead,
+        anew,
     }
 }
 
@@ -144,6 +177,7 @@ impl<L: LexerTypes<LexErrorT = LRLexError>> LRNonStreamingLexerDef<L> {
         ensures text { IfOk result (λ r. r.text.now ≡ text.now) }
         ensures asked { IfOk result (λ r. r.asked ≤ searches (definition_of L.StorageT.number self.now) text.now r.boundaries) }
         ensures few { IfOk result (λ r. r.asked ≤ length r.boundaries * length (definition_of L.StorageT.number self.now).rules) }
+        ensures lexed { IfOk result (λ r. r.anew ≡ length r.boundaries - 1) }
     {
         if !self.is_state(0) {
             return refused(alloc, self, text);
@@ -152,9 +186,11 @@ impl<L: LexerTypes<LexErrorT = LRLexError>> LRNonStreamingLexerDef<L> {
         let mut progress = begin(alloc, self, text)?;
         'tiles: while progress.place < text.len() {
             if !advance(alloc, self, text, &mut matchers, &mut progress)? {
-                return Ok(finished(self, text, progress));
+                let anew = progress.boundaries.len().saturating_sub(1);
+                return Ok(finished(self, text, progress, anew));
             }
         }
-        Ok(finished(self, text, progress))
+        let anew = progress.boundaries.len().saturating_sub(1);
+        Ok(finished(self, text, progress, anew))
     }
 }

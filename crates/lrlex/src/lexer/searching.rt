@@ -4,6 +4,7 @@ ghost use Rattle.regex.specs.Strings.{matcher_pattern};
 ghost use Rattle.lrlex_rules.specs.Patterns.{match_length, pattern_of};
 ghost use Rattle.lrlex.specs.Active.{active_count, is_state};
 ghost use Rattle.lrlex.specs.Tiling.{Wins, IsStuck};
+ghost use Rattle.lrlex.specs.Decided.{IsDecided};
 ghost use Rattle.lrlex_rules.specs.Parts.{as_rule};
 ghost use Rattle.lrlex.specs.Tables.{IsMatcherOf, AreMatchers};
 ghost use Rattle.lrlex.specs.Views.{definition_of};
@@ -19,6 +20,13 @@ use std::alloc::{AllocError, Global};
 pub(crate) struct Tile {
     pub(crate) rule: usize,
     pub(crate) len: usize,
+}
+
+/// A winner, if there is one, and how many bytes of the text decide it. Its end counts as one more.
+#[derive(Clone, Copy)]
+pub(crate) struct Sight {
+    pub(crate) tile: Option<Tile>,
+    pub(crate) reach: usize,
 }
 
 /// How many bytes of the text the rule's pattern matches. No other function searches.
@@ -94,7 +102,9 @@ fn is_better(rule: usize, len: usize, best: Tile) -> bool
 }
 
 /// The rule that wins at the beginning of the text, among those that are active in the state: the tables tell the best of
-/// the rules that have one, and the others are asked.
+/// the rules that have one, and the others are asked. A search doesn't tell how far it looked, so where a rule is asked
+/// the whole text decides.
+#[inline(always)]
 pub(crate) fn winner<'d, L: LexerTypes>(
     alloc: Global,
     definition: &'d LRNonStreamingLexerDef<L>,
@@ -102,20 +112,22 @@ pub(crate) fn winner<'d, L: LexerTypes>(
     matchers: &mut [Option<Box<Matcher<'d>>>],
     text: &str,
     asked: &mut u128,
-) -> Result<Option<Tile>, AllocError>
+) -> Result<Sight, AllocError>
     requires state { is_state (definition_of L.StorageT.number definition.now) state ≡ true }
     requires matchers { AreMatchers definition.now.table.rules.items matchers.old }
     requires room { asked.old + vec_len definition.now.table.rules < 2 ^ 128 }
-    ensures winner { IfOk result (λ o. MatchOption o (IsStuck (definition_of L.StorageT.number definition.now) state text.now)
+    ensures winner { IfOk result (λ s. MatchOption s.tile (IsStuck (definition_of L.StorageT.number definition.now) state text.now)
         (λ t. Wins (definition_of L.StorageT.number definition.now) state text.now t.rule t.len)) }
-    ensures boundary { IfOk result (λ o. IfSome o (λ t. IsCharBoundary text.now t.len)) }
-    ensures rule { IfOk result (λ o. IfSome o (λ t. t.rule < vec_len definition.now.table.rules)) }
+    ensures boundary { IfOk result (λ s. IfSome s.tile (λ t. IsCharBoundary text.now t.len)) }
+    ensures rule { IfOk result (λ s. IfSome s.tile (λ t. t.rule < vec_len definition.now.table.rules)) }
+    ensures decided { IfOk result (λ s. IsDecided (definition_of L.StorageT.number definition.now) state text.now s.reach) }
     ensures counted { IfOk result (λ _. asked.new ≤ asked.old + active_count (definition_of L.StorageT.number definition.now) state) }
     ensures matchers { IfOk result (λ _. AreMatchers definition.now.table.rules.items matchers.new) }
 {
     let active = definition.active_in(state);
     let tables = definition.tables_in(state);
-    let mut best = match tables.winner(text) {
+    let sight = tables.look(text);
+    let mut best = match sight.tile {
         Some(tile) => Tile {
             rule: tile.rule,
             len: tile.len,
@@ -131,11 +143,17 @@ pub(crate) fn winner<'d, L: LexerTypes>(
             best = Tile { rule: number, len };
         }
     }
+    let reach = if tables.asked().is_empty() {
+        sight.reach
+    } else {
+        text.len() + 1
+    };
     if best.len == 0 {
-        return Ok(None);
+        return Ok(Sight { tile: None, reach });
     }
-    Ok(Some(Tile {
+    let tile = Some(Tile {
         rule: active[best.rule],
         len: best.len,
-    }))
+    });
+    Ok(Sight { tile, reach })
 }

@@ -54,6 +54,7 @@ fn pop_state(runs: &mut Vec<(usize, usize)>) -> Result<usize, AllocError>
 
 /// Moves the stack by a rule's target, and answers how many runs from the bottom stay.
 #[tactic(auto, unfolding(crate::specs::Tiling::stack_after))]
+#[inline(never)]
 pub(crate) fn step(
     runs: &mut Vec<(usize, usize)>,
     target: Option<(usize, StartStateOperation)>,
@@ -77,6 +78,7 @@ pub(crate) fn step(
 }
 
 /// The state on top of the stack.
+#[inline(always)]
 pub(crate) fn top_of(runs: &[(usize, usize)]) -> usize
     requires { AreRuns runs.now }
     ensures { result ≡ top (plain runs.now) }

@@ -59,7 +59,7 @@ fn same_before(
 }
 
 /// Tables for the states, whose active rules stand at these places, and which state has which. States with the same
-/// rules share theirs.
+/// rules share theirs. At most half of the work goes into the table of each rule alone, so that some is left to join them.
 pub(crate) fn tables_for<S: Id>(
     alloc: Global,
     rules: &[Rule<S>],
@@ -70,7 +70,9 @@ pub(crate) fn tables_for<S: Id>(
     ensures each { IfOk result (λ r. length r.1.items ≡ length active.now) }
     ensures within { IfOk result (λ r. All (λ j. j < length r.0.items) r.1.items) }
 {
+    let joining = budget.set_aside();
     let single = single_tables(alloc, rules, &mut budget)?;
+    budget.put_back(joining);
     let mut tables = Vec::new(alloc);
     let mut at = Vec::with_capacity(alloc, active.len())?;
     let mut known = HashMap::new(alloc);

@@ -10,6 +10,8 @@ use Rattle.lrlex.specs.Reach.{Reached}
 use Rattle.lrlex.specs.Views.{definition_of, items_by}
 use Rattle.lrlex.proofs.ViewLemmas.{rule_read}
 use Rattle.lrlex.proofs.ReachLemmas.{Reached-more, ended, runs_now, searches_now, searches-few, last_now, room_for, wins_at, something_left}
+use Rattle.lrlex.specs.Decided.{IsDecided, capped}
+use Rattle.lrlex.proofs.AheadLemmas.{looked_more}
 use Rattle.lrlex.proofs.lexer.lexing.advance.Goals as goal
 
 pub winner-requires-clause-room : goal.winner-requires-clause-room
@@ -32,7 +34,7 @@ returns-in_default-clause-ends g c on =
     let on_top : c.top_of-state.result ≡ top (plain p.stack.items) = c.top_of-state.ensures ∙ ap (λ s. top (plain s)) c.deref.ensures.value in
     let q = c.top_of-state.result in
     ended d text p.place p.stack.items found p.boundaries p.asked r (items_by g.L.StorageT.Id.number g.L.LexemeT.Lexeme.id_of g.L.LexemeT.Lexeme.start_of g.L.LexemeT.Lexeme.len_of g.L.LexemeT.Lexeme.is_faulty c.give_error.new.items.items) (NoMatch q)
-    (something_left text p.place c.requires.inside, on_top, subst (IsStuck d q) c.range_from-rest.ensures.value (rw c.in_default.is at c.in_ok-won.ensures.winner))
+    (something_left text p.place c.requires.inside, on_top, subst (IsStuck d q) c.range_from-rest.ensures.value (rw c.in_default.is at c.in_ok-sight.ensures.winner))
     c.in_ok-give_error.ensures
 
 pub returns-then-lacks_id-clause-ends : goal.returns-then-lacks_id-clause-ends
@@ -44,9 +46,9 @@ returns-then-lacks_id-clause-ends g c on =
     let found = items_by g.L.StorageT.Id.number g.L.LexemeT.Lexeme.id_of g.L.LexemeT.Lexeme.start_of g.L.LexemeT.Lexeme.len_of g.L.LexemeT.Lexeme.is_faulty p.items.items in
     let on_top : c.top_of-state.result ≡ top (plain p.stack.items) = c.top_of-state.ensures ∙ ap (λ s. top (plain s)) c.deref.ensures.value in
     let t : Tile = record { rule = c.in-Some.tile.rule; len = c.in-Some.tile.len } in
-    let within : t.rule < length c.args.definition.now.table.rules.items = omega (arith, c.args.definition.now.table.rules.ok.0, (rw c.in-Some.is at c.in_ok-won.ensures.rule)) in
+    let within : t.rule < length c.args.definition.now.table.rules.items = omega (arith, c.args.definition.now.table.rules.ok.0, (rw c.in-Some.is at c.in_ok-sight.ensures.rule)) in
     let rule_is = rule_read g.L.StorageT.Id.number c.args.definition.now t.rule c.index-rule.result.now within c.index-rule.ensures in
-    let wins = wins_at d c.top_of-state.result (plain p.stack.items) c.range_from-rest.result.now (drop p.place text) t on_top c.range_from-rest.ensures.value (rw c.in-Some.is at c.in_ok-won.ensures.winner) in
+    let wins = wins_at d c.top_of-state.result (plain p.stack.items) c.range_from-rest.result.now (drop p.place text) t on_top c.range_from-rest.ensures.value (rw c.in-Some.is at c.in_ok-sight.ensures.winner) in
     ended d text p.place p.stack.items found p.boundaries p.asked r (items_by g.L.StorageT.Id.number g.L.LexemeT.Lexeme.id_of g.L.LexemeT.Lexeme.start_of g.L.LexemeT.Lexeme.len_of g.L.LexemeT.Lexeme.is_faulty c.give_error-then-lacks_id.new.items.items) NoId
     (t, wins, ap lacks_id rule_is ∙ sym c.if-lacks_id.ensures)
     c.in_ok-give_error-2.ensures
@@ -59,7 +61,7 @@ returns-in_default-clause-asked g c =
     let r = c.requires.reached in
     let found = items_by g.L.StorageT.Id.number g.L.LexemeT.Lexeme.id_of g.L.LexemeT.Lexeme.start_of g.L.LexemeT.Lexeme.len_of g.L.LexemeT.Lexeme.is_faulty p.items.items in
     let on_top : c.top_of-state.result ≡ top (plain p.stack.items) = c.top_of-state.ensures ∙ ap (λ s. top (plain s)) c.deref.ensures.value in
-    let few : c.winner.new.asked ≤ p.asked + active_count d (top (plain p.stack.items)) = subst (λ q. c.winner.new.asked ≤ p.asked + active_count d q) on_top c.in_ok-won.ensures.counted in
+    let few : c.winner.new.asked ≤ p.asked + active_count d (top (plain p.stack.items)) = subst (λ q. c.winner.new.asked ≤ p.asked + active_count d q) on_top c.in_ok-sight.ensures.counted in
     searches_now d text p.place p.stack.items found p.boundaries p.asked r c.winner.new.asked c.requires.inside few
 
 pub returns-then-lacks_id-clause-asked : goal.returns-then-lacks_id-clause-asked
@@ -70,7 +72,7 @@ returns-then-lacks_id-clause-asked g c =
     let r = c.requires.reached in
     let found = items_by g.L.StorageT.Id.number g.L.LexemeT.Lexeme.id_of g.L.LexemeT.Lexeme.start_of g.L.LexemeT.Lexeme.len_of g.L.LexemeT.Lexeme.is_faulty p.items.items in
     let on_top : c.top_of-state.result ≡ top (plain p.stack.items) = c.top_of-state.ensures ∙ ap (λ s. top (plain s)) c.deref.ensures.value in
-    let few : c.winner.new.asked ≤ p.asked + active_count d (top (plain p.stack.items)) = subst (λ q. c.winner.new.asked ≤ p.asked + active_count d q) on_top c.in_ok-won.ensures.counted in
+    let few : c.winner.new.asked ≤ p.asked + active_count d (top (plain p.stack.items)) = subst (λ q. c.winner.new.asked ≤ p.asked + active_count d q) on_top c.in_ok-sight.ensures.counted in
     searches_now d text p.place p.stack.items found p.boundaries p.asked r c.winner.new.asked c.requires.inside few
 
 pub returns-then-lacks_target-clause-ends : goal.returns-then-lacks_target-clause-ends
@@ -82,9 +84,9 @@ returns-then-lacks_target-clause-ends g c on =
     let found = items_by g.L.StorageT.Id.number g.L.LexemeT.Lexeme.id_of g.L.LexemeT.Lexeme.start_of g.L.LexemeT.Lexeme.len_of g.L.LexemeT.Lexeme.is_faulty p.items.items in
     let on_top : c.top_of-state.result ≡ top (plain p.stack.items) = c.top_of-state.ensures ∙ ap (λ s. top (plain s)) c.deref.ensures.value in
     let t : Tile = record { rule = c.in-Some.tile.rule; len = c.in-Some.tile.len } in
-    let within : t.rule < length c.args.definition.now.table.rules.items = omega (arith, c.args.definition.now.table.rules.ok.0, (rw c.in-Some.is at c.in_ok-won.ensures.rule)) in
+    let within : t.rule < length c.args.definition.now.table.rules.items = omega (arith, c.args.definition.now.table.rules.ok.0, (rw c.in-Some.is at c.in_ok-sight.ensures.rule)) in
     let rule_is = rule_read g.L.StorageT.Id.number c.args.definition.now t.rule c.index-rule.result.now within c.index-rule.ensures in
-    let wins = wins_at d c.top_of-state.result (plain p.stack.items) c.range_from-rest.result.now (drop p.place text) t on_top c.range_from-rest.ensures.value (rw c.in-Some.is at c.in_ok-won.ensures.winner) in
+    let wins = wins_at d c.top_of-state.result (plain p.stack.items) c.range_from-rest.result.now (drop p.place text) t on_top c.range_from-rest.ensures.value (rw c.in-Some.is at c.in_ok-sight.ensures.winner) in
     let given : items_by g.L.StorageT.Id.number g.L.LexemeT.Lexeme.id_of g.L.LexemeT.Lexeme.start_of g.L.LexemeT.Lexeme.len_of g.L.LexemeT.Lexeme.is_faulty c.give.new.items.items ≡ found ++ tile_items d p.place t =
     c.in_ok-give.ensures ∙ sym (ap (λ (x : Rule). found ++ lexeme_of (lexeme_id x) p.place t.len) rule_is) in
     ended d text p.place p.stack.items found p.boundaries p.asked r (items_by g.L.StorageT.Id.number g.L.LexemeT.Lexeme.id_of g.L.LexemeT.Lexeme.start_of g.L.LexemeT.Lexeme.len_of g.L.LexemeT.Lexeme.is_faulty c.give_error-then-lacks_target.new.items.items) (NoTarget t)
@@ -100,7 +102,7 @@ returns-then-lacks_target-clause-asked g c =
     let r = c.requires.reached in
     let found = items_by g.L.StorageT.Id.number g.L.LexemeT.Lexeme.id_of g.L.LexemeT.Lexeme.start_of g.L.LexemeT.Lexeme.len_of g.L.LexemeT.Lexeme.is_faulty p.items.items in
     let on_top : c.top_of-state.result ≡ top (plain p.stack.items) = c.top_of-state.ensures ∙ ap (λ s. top (plain s)) c.deref.ensures.value in
-    let few : c.winner.new.asked ≤ p.asked + active_count d (top (plain p.stack.items)) = subst (λ q. c.winner.new.asked ≤ p.asked + active_count d q) on_top c.in_ok-won.ensures.counted in
+    let few : c.winner.new.asked ≤ p.asked + active_count d (top (plain p.stack.items)) = subst (λ q. c.winner.new.asked ≤ p.asked + active_count d q) on_top c.in_ok-sight.ensures.counted in
     searches_now d text p.place p.stack.items found p.boundaries p.asked r c.winner.new.asked c.requires.inside few
 
 pub enter-requires-clause-runs : goal.enter-requires-clause-runs
@@ -122,9 +124,9 @@ returns-clause-goes_on g c on =
     let found = items_by g.L.StorageT.Id.number g.L.LexemeT.Lexeme.id_of g.L.LexemeT.Lexeme.start_of g.L.LexemeT.Lexeme.len_of g.L.LexemeT.Lexeme.is_faulty p.items.items in
     let on_top : c.top_of-state.result ≡ top (plain p.stack.items) = c.top_of-state.ensures ∙ ap (λ s. top (plain s)) c.deref.ensures.value in
     let t : Tile = record { rule = c.in-Some.tile.rule; len = c.in-Some.tile.len } in
-    let within : t.rule < length c.args.definition.now.table.rules.items = omega (arith, c.args.definition.now.table.rules.ok.0, (rw c.in-Some.is at c.in_ok-won.ensures.rule)) in
+    let within : t.rule < length c.args.definition.now.table.rules.items = omega (arith, c.args.definition.now.table.rules.ok.0, (rw c.in-Some.is at c.in_ok-sight.ensures.rule)) in
     let rule_is = rule_read g.L.StorageT.Id.number c.args.definition.now t.rule c.index-rule.result.now within c.index-rule.ensures in
-    let wins = wins_at d c.top_of-state.result (plain p.stack.items) c.range_from-rest.result.now (drop p.place text) t on_top c.range_from-rest.ensures.value (rw c.in-Some.is at c.in_ok-won.ensures.winner) in
+    let wins = wins_at d c.top_of-state.result (plain p.stack.items) c.range_from-rest.result.now (drop p.place text) t on_top c.range_from-rest.ensures.value (rw c.in-Some.is at c.in_ok-sight.ensures.winner) in
     let given : items_by g.L.StorageT.Id.number g.L.LexemeT.Lexeme.id_of g.L.LexemeT.Lexeme.start_of g.L.LexemeT.Lexeme.len_of g.L.LexemeT.Lexeme.is_faulty c.give.new.items.items ≡ found ++ tile_items d p.place t =
     c.in_ok-give.ensures ∙ sym (ap (λ (x : Rule). found ++ lexeme_of (lexeme_id x) p.place t.len) rule_is) in
     let taken : IsTaken d (drop p.place text) (plain p.stack.items) t = record {
@@ -135,7 +137,7 @@ returns-clause-goes_on g c on =
     let n = c.enter.new.progress in
     let e = c.in_ok-enter.ensures in
     let few : n.asked ≤ p.asked + active_count d (top (plain p.stack.items)) =
-    subst (λ q. n.asked ≤ p.asked + active_count d q) on_top (omega (arith, e.asked, c.in_ok-won.ensures.counted)) in
+    subst (λ q. n.asked ≤ p.asked + active_count d q) on_top (omega (arith, e.asked, c.in_ok-sight.ensures.counted)) in
     let more : items_by g.L.StorageT.Id.number g.L.LexemeT.Lexeme.id_of g.L.LexemeT.Lexeme.start_of g.L.LexemeT.Lexeme.len_of g.L.LexemeT.Lexeme.is_faulty n.items.items ≡ found ++ tile_items d p.place t = ap (items_by g.L.StorageT.Id.number g.L.LexemeT.Lexeme.id_of g.L.LexemeT.Lexeme.start_of g.L.LexemeT.Lexeme.len_of g.L.LexemeT.Lexeme.is_faulty) e.items ∙ given in
     subst (λ i. Reached d text i n.stack.items (items_by g.L.StorageT.Id.number g.L.LexemeT.Lexeme.id_of g.L.LexemeT.Lexeme.start_of g.L.LexemeT.Lexeme.len_of g.L.LexemeT.Lexeme.is_faulty n.items.items) n.boundaries n.asked) (sym e.place)
     (Reached-more d text p.place p.stack.items found p.boundaries p.asked r n.stack.items (items_by g.L.StorageT.Id.number g.L.LexemeT.Lexeme.id_of g.L.LexemeT.Lexeme.start_of g.L.LexemeT.Lexeme.len_of g.L.LexemeT.Lexeme.is_faulty n.items.items) n.boundaries n.asked t c.requires.inside taken few
@@ -151,7 +153,7 @@ returns-clause-boundary g c on =
     let found = items_by g.L.StorageT.Id.number g.L.LexemeT.Lexeme.id_of g.L.LexemeT.Lexeme.start_of g.L.LexemeT.Lexeme.len_of g.L.LexemeT.Lexeme.is_faulty p.items.items in
     let t : Tile = record { rule = c.in-Some.tile.rule; len = c.in-Some.tile.len } in
     subst (IsCharBoundary text) (sym c.in_ok-enter.ensures.place)
-    (IsCharBoundary-from_rest text p.place t.len c.requires.boundary.0 (subst (λ rest. IsCharBoundary rest t.len) c.range_from-rest.ensures.value (rw c.in-Some.is at c.in_ok-won.ensures.boundary)))
+    (IsCharBoundary-from_rest text p.place t.len c.requires.boundary.0 (subst (λ rest. IsCharBoundary rest t.len) c.range_from-rest.ensures.value (rw c.in-Some.is at c.in_ok-sight.ensures.boundary)))
 
 pub returns-clause-asked : goal.returns-clause-asked
 returns-clause-asked g c =
@@ -162,5 +164,19 @@ returns-clause-asked g c =
     let found = items_by g.L.StorageT.Id.number g.L.LexemeT.Lexeme.id_of g.L.LexemeT.Lexeme.start_of g.L.LexemeT.Lexeme.len_of g.L.LexemeT.Lexeme.is_faulty p.items.items in
     let on_top : c.top_of-state.result ≡ top (plain p.stack.items) = c.top_of-state.ensures ∙ ap (λ s. top (plain s)) c.deref.ensures.value in
     let few : c.enter.new.progress.asked ≤ p.asked + active_count d (top (plain p.stack.items)) =
-    subst (λ q. c.enter.new.progress.asked ≤ p.asked + active_count d q) on_top (omega (arith, c.in_ok-enter.ensures.asked, c.in_ok-won.ensures.counted)) in
+    subst (λ q. c.enter.new.progress.asked ≤ p.asked + active_count d q) on_top (omega (arith, c.in_ok-enter.ensures.asked, c.in_ok-sight.ensures.counted)) in
     searches_now d text p.place p.stack.items found p.boundaries p.asked r c.enter.new.progress.asked c.requires.inside few
+
+pub returns-clause-looked : goal.returns-clause-looked
+returns-clause-looked g c on =
+    let d = definition_of g.L.StorageT.Id.number c.args.definition.now in
+    let text = c.args.text.now in
+    let p = c.args.progress.now in
+    let r = c.requires.reached in
+    let on_top : c.top_of-state.result ≡ top (plain p.stack.items) = c.top_of-state.ensures ∙ ap (λ s. top (plain s)) c.deref.ensures.value in
+    let n = c.enter.new.progress in
+    let e = c.in_ok-enter.ensures in
+    let reach = c.in_ok-sight.sight.reach in
+    let decided = subst (λ q. IsDecided d q (drop p.place text) reach) on_top (subst (λ xs. IsDecided d c.top_of-state.result xs reach) c.range_from-rest.ensures.value c.in_ok-sight.ensures.decided) in
+    looked_more d text r.before p.boundaries p.ahead.items p.place p.stack.items p.over r.kept c.requires.looked reach c.in-Some.tile.len decided n.stack.items n.place n.over n.boundaries n.ahead.items
+    e.place (omega (arith, e.over, c.saturating_sub-over.ensures, c.max.ensures)) (e.kept ∙ ap (λ i. p.boundaries ++ record { place = i; runs = n.stack.items } ∷ []) (sym e.place)) (e.ahead ∙ ap (λ i. p.ahead.items ++ capped i ∷ []) (sym e.over))

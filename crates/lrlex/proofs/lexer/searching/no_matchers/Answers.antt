@@ -1,7 +1,4 @@
-use Rattle.std.specs.declared.alloc.Global.{Global}
-use Rattle.std.specs.Prelude.{Box}
-use Rattle.std.proofs.Common.{◌≡◌, ℕ, ◌+◌, Option, None, Some, slice_get, length, ap, sym, ◌∙◌, subst, arith}
-use Rattle.regex.specs.declared.string.matcher.Matcher.{Matcher}
+use Rattle.std.proofs.Common.{slice_get, ap, sym, ◌∙◌, arith}
 use Rattle.std.specs.List.{slice_get}
 use Rattle.lrlex.proofs.MatcherLemmas.{none_made, nones_more}
 use Rattle.lrlex.proofs.lexer.searching.no_matchers.Goals as goal

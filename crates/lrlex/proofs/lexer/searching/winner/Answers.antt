@@ -1,17 +1,19 @@
-use Rattle.std.proofs.Common.{◌≡◌, ℕ, ◌+◌, ◌<◌, ◌≤◌, ◌⊎◌, true, false, length, get_or, slice_get, map, Some, refl, sym, ap, ◌∙◌, subst, inl, inr, arith, IsCharBoundary}
+use Rattle.std.proofs.Common.{◌≡◌, ℕ, ◌+◌, ◌<◌, ◌≤◌, ◌⊎◌, true, length, get_or, refl, sym, ap, ◌∙◌, subst, inl, inr, arith, rules}
 use Rattle.std.proofs.lemmas.Option.{slice_get_read}
-use Rattle.std.proofs.lemmas.List.{length-map, get_or_default}
+use Rattle.std.proofs.lemmas.List.{length-map, nil_from_length}
 use Rattle.lrlex_rules.specs.Parts.{as_rule}
 use Rattle.lrlex_table.specs.Tables.{IsBestAmong}
-use Rattle.lrlex.specs.Tables.{IsMatcherOf, AreMatchers, patterns_on, pattern_in}
+use Rattle.lrlex.specs.Tables.{IsMatcherOf, patterns_on, pattern_in}
+use Rattle.lrlex.specs.Decided.{IsDecided}
 use Rattle.lrlex.specs.Views.{definition_of}
 use Rattle.lrlex.specs.declared.lexer.searching.Tile.{Tile}
 use Rattle.lrlex.proofs.CountLemmas.{active_count-le}
 use Rattle.lrlex.proofs.ScanLemmas.{length-places_of}
-use Rattle.lrlex.proofs.MatcherLemmas.{matcher_within, matcher_at, matchers_set}
-use Rattle.lrlex.proofs.TableLemmas.{active_within, looked_at, looked_more, other_within, others_few, told_none, told_some, best_kept, best_taken, best_wins, best_stuck, asked_is, wins_within}
+use Rattle.lrlex.proofs.MatcherLemmas.{matcher_at, matchers_set}
+use Rattle.lrlex.proofs.DecidedLemmas.{decided_whole, decided_look}
+use Rattle.lrlex.proofs.TableLemmas.{active_within, looked_at, looked_more, other_within, others_few, told_none, told_some, best_kept, best_taken, best_wins, best_stuck, asked_is}
 use Rattle.lrlex.proofs.lexer.searching.winner.Goals as goal
-use Rattle.lrlex.proofs.lexer.searching.winner.Goals.{in-Some, in-None, then-is_better, else-is_better}
+use Rattle.lrlex.proofs.lexer.searching.winner.Goals.{in-Some, in-None, then-is_better, else-is_better, then-is_empty, else-is_empty}
 
 pub others-init : goal.others-init
 others-init g c =
@@ -24,13 +26,13 @@ others-init g c =
     record {
       matchers = c.requires.matchers;
       counted = omega arith;
-      best = elim c.match-winner.branch [
+      best = elim c.match-sight.branch [
         | in-Some w ↦
             subst told (sym w.best-is)
-            (told_some d q text places t.asked.items c.active_in-active.ensures t refl c.tables_in-tables.ensures c.winner.result c.winner.ensures w.in-Some.tile w.in-Some.is)
+            (told_some d q text places t.asked.items c.active_in-active.ensures t refl c.tables_in-tables.ensures c.look-sight.result.tile c.look-sight.ensures.winner w.in-Some.tile w.in-Some.is)
         | in-None w ↦
             subst told (sym w.best-is)
-            (told_none d q text places t.asked.items c.active_in-active.ensures t refl c.tables_in-tables.ensures c.winner.result c.winner.ensures w.in-None.is)
+            (told_none d q text places t.asked.items c.active_in-active.ensures t refl c.tables_in-tables.ensures c.look-sight.result.tile c.look-sight.ensures.winner w.in-None.is)
       ];
     }
 
@@ -196,3 +198,35 @@ returns-clause-counted g c =
       length-places_of d c.args.state places c.active_in-active.ensures,
       others_few d c.args.state c.args.text.now places t.asked.items c.active_in-active.ensures t refl c.tables_in-tables.ensures,
     )
+
+pub returns-then-best-eq0-clause-decided : goal.returns-then-best-eq0-clause-decided
+returns-then-best-eq0-clause-decided g c =
+    let d = definition_of g.L.StorageT.Id.number c.args.definition.now in
+    let q = c.args.state in
+    let text = c.args.text.now in
+    let t = c.tables_in-tables.result.now in
+    elim c.if-is_empty.branch [
+      | then-is_empty w ↦
+          let zero : length c.asked-2.result.now ≡ 0 = search (rules, arith) in
+          subst (IsDecided d q text) (sym w.reach-is)
+          (decided_look d q text c.active_in-active.result.now t.asked.items c.active_in-active.ensures t refl c.tables_in-tables.ensures c.others.index c.others.best.rule c.others.best.len
+          (omega (arith, c.others-test.false, ap length c.asked-index-end.ensures)) c.others.invariant.best c.look-sight.result.reach
+          (nil_from_length t.asked.items (omega (arith, zero, ap length c.asked-2.ensures))) c.look-sight.ensures.decided)
+      | else-is_empty w ↦ subst (IsDecided d q text) (sym w.reach-is) (decided_whole d q text)
+    ]
+
+pub returns-clause-decided : goal.returns-clause-decided
+returns-clause-decided g c =
+    let d = definition_of g.L.StorageT.Id.number c.args.definition.now in
+    let q = c.args.state in
+    let text = c.args.text.now in
+    let t = c.tables_in-tables.result.now in
+    elim c.if-is_empty.branch [
+      | then-is_empty w ↦
+          let zero : length c.asked-2.result.now ≡ 0 = search (rules, arith) in
+          subst (IsDecided d q text) (sym w.reach-is)
+          (decided_look d q text c.active_in-active.result.now t.asked.items c.active_in-active.ensures t refl c.tables_in-tables.ensures c.others.index c.others.best.rule c.others.best.len
+          (omega (arith, c.others-test.false, ap length c.asked-index-end.ensures)) c.others.invariant.best c.look-sight.result.reach
+          (nil_from_length t.asked.items (omega (arith, zero, ap length c.asked-2.ensures))) c.look-sight.ensures.decided)
+      | else-is_empty w ↦ subst (IsDecided d q text) (sym w.reach-is) (decided_whole d q text)
+    ]

@@ -1,4 +1,4 @@
-use Rattle.std.proofs.Common.{◌+◌, map, length, refl, subst, sym, arith}
+use Rattle.std.proofs.Common.{map, length, refl, subst, sym, arith}
 use Rattle.std.proofs.lemmas.Option.{slice_get_read}
 use Rattle.lrlex_rules.specs.Parts.{as_rule}
 use Rattle.lrlex_table.specs.Tables.{AreSingle}

@@ -13,6 +13,7 @@ tiles-init g c = record {
   matchers = rw c.deref.ensures.value at c.in_ok-matchers.ensures;
   boundary = subst (IsCharBoundary c.args.text.now) (sym c.in_ok-progress.ensures.start) (IsCharBoundary-start c.args.text.now c.utf8.text);
   reached = c.in_ok-progress.ensures.reached;
+  looked = c.in_ok-progress.ensures.looked;
 }
 
 pub tiles-preserved : goal.tiles-preserved
@@ -25,10 +26,11 @@ tiles-preserved g c =
           c.in_ok-advance.ensures.matchers;
       boundary = c.in_ok-advance.ensures.boundary on;
       reached = c.in_ok-advance.ensures.goes_on on;
+      looked = c.in_ok-advance.ensures.looked on;
     }
 
-pub finished-requires-2 : goal.finished-requires-2
-finished-requires-2 g c =
+pub finished-requires-2-clause-run : goal.finished-requires-2-clause-run
+finished-requires-2-clause-run g c =
     let p = c.tiles.progress in
     let d = definition_of g.L.StorageT.Id.number c.args.self.now in
     let found = items_by g.L.StorageT.Id.number g.L.LexemeT.Lexeme.id_of g.L.LexemeT.Lexeme.start_of g.L.LexemeT.Lexeme.len_of g.L.LexemeT.Lexeme.is_faulty p.items.items in
@@ -76,8 +78,8 @@ returns-then-not-branch-clause-few g c =
     few_searches d c.args.text.now c.tiles.progress.boundaries c.finished.result.boundaries c.advance.new.progress.asked c.finished.result.asked
     c.in_ok-advance.ensures.asked c.finished.ensures.asked (c.finished.ensures.boundaries ∙ c.in_ok-advance.ensures.same off)
 
-pub finished-requires : goal.finished-requires
-finished-requires g c =
+pub finished-requires-clause-run : goal.finished-requires-clause-run
+finished-requires-clause-run g c =
     let d = definition_of g.L.StorageT.Id.number c.args.self.now in
     let p = c.advance.new.progress in
     run_of d c.args.text.now (items_by g.L.StorageT.Id.number g.L.LexemeT.Lexeme.id_of g.L.LexemeT.Lexeme.start_of g.L.LexemeT.Lexeme.len_of g.L.LexemeT.Lexeme.is_faulty p.items.items) p.boundaries c.tiles.invariant.reached.initial (c.in_ok-advance.ensures.ends c.if-not-branch.true)

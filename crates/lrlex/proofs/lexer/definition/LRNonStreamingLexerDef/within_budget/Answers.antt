@@ -1,9 +1,12 @@
-use Rattle.std.proofs.Common.{length, take, map, subst, sym, ap, ◌∙◌, arith}
+use Rattle.std.proofs.Common.{length, take, map, subst, ap, ◌∙◌, arith}
 use Rattle.std.proofs.lemmas.List.{take_all, length-map}
 use Rattle.lrlex.specs.Active.{active_places}
-use Rattle.lrlex.specs.Tables.{AreServed}
+use Rattle.lrlex.specs.Tables.{AreServed, ArePlaced}
 use Rattle.lrlex_rules.specs.Parts.{as_rule, as_state}
 use Rattle.lrlex.proofs.lexer.definition.LRNonStreamingLexerDef.within_budget.Goals as goal
+
+pub invariant_of-table-clause-at_places : goal.invariant_of-table-clause-at_places
+invariant_of-table-clause-at_places g c placed = subst ArePlaced c.deref-4.ensures.value (c.are_placed-placed.ensures placed)
 
 pub invariant_of-table-clause-lists : goal.invariant_of-table-clause-lists
 invariant_of-table-clause-lists g c =

@@ -17,6 +17,7 @@ invariant_of-self g c =
     let back = taken_back new (drop (length new) table.rules.items) table.rules.len
     (omega (arith, c.take_ids.auto.rules, c.as_mut_slice.ensures.len)) in
     record {
+      at_places = table.at_places;
       lists = table.lists
           ∙ lists_after g.S.Id.number (ids_of g.S.Id.number c.args.ids.now) states table.rules.items new
           (rw c.as_mut_slice.ensures.value at c.take_ids.ensures) table.start_states.items

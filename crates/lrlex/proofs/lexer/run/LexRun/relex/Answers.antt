@@ -1,5 +1,4 @@
-use Rattle.std.proofs.Common.{◌≡◌, ◌+◌, [], ◌∷◌, ◌++◌, length, map, drop, sym, ap, ◌∙◌, subst, arith, append-nil, length-append, IsCharBoundary}
-use Rattle.std.proofs.lemmas.Str.{IsCharBoundary-start}
+use Rattle.std.proofs.Common.{◌≡◌, ◌+◌, [], ◌∷◌, ◌++◌, length, map, drop, sym, ap, ◌∙◌, subst, arith, append-nil, length-append}
 use Rattle.lrlex.specs.Tiling.{Done, rebased}
 use Rattle.lrlex.specs.Runs.{plain, AreRuns}
 use Rattle.lrlex.specs.Marks.{mark_at}
@@ -7,26 +6,33 @@ use Rattle.lrlex.specs.Edits.{Meets, items_from, moved_mark}
 use Rattle.lrlex.specs.Reach.{IsLexed, IsRun}
 use Rattle.lrlex.specs.Tables.{AreMatchers}
 use Rattle.lrlex.specs.Views.{definition_of, items_by}
+use Rattle.std.proofs.Props.{props}
+use Rattle.std.proofs.Math.Logic.{∥∥₁_elim}
+use Rattle.std.proofs.lemmas.Result.{IfOk-weaker}
+use Rattle.lrlex.specs.Decided.{LooksAhead}
+use Rattle.lrlex.proofs.AheadLemmas.{looks_known}
+use Rattle.lrlex.proofs.RaisedLemmas.{looks_taken_over}
 use Rattle.lrlex.proofs.ViewLemmas.{taken_back}
 use Rattle.lrlex.proofs.ReachLemmas.{ended, nothing_left, run_of, runs_now, last_now, few_searches}
 use Rattle.lrlex.proofs.KnownLemmas.{known, sorted}
-use Rattle.lrlex.proofs.MeetLemmas.{whole, olds_in_order, items_movable, marks_movable, met, few_met, none_met, meets_front}
+use Rattle.lrlex.proofs.MeetLemmas.{whole, olds_in_order, items_movable, marks_movable, met, few_met, none_met, meets_front, rest_same, few_anew, unmet_before}
 use Rattle.lrlex.proofs.lexer.run.LexRun.relex.Goals as goal
 
 pub tiles-init : goal.tiles-init
 tiles-init g c =
-    let def = c.args.self.now.definition.now in
-    let d = definition_of g.L.StorageT.Id.number def in
-    let new = c.args.new.now in
     let s = c.args.self.now in
     let edit = c.args.edit.now in
+    let p = c.in_ok-progress.progress in
+    let e = c.in_ok-progress.ensures in
     record {
       matchers = rw c.deref.ensures.value at c.in_ok-matchers.ensures;
-      boundary = subst (IsCharBoundary new) (sym c.in_ok-progress.ensures.start) (IsCharBoundary-start new c.utf8.new);
-      reached = c.in_ok-progress.ensures.reached;
-      cursor = omega arith;
-      behind = λ j lt. absurd (omega arith);
-      unmet = λ k lt m. absurd (omega (arith, c.in_ok-progress.ensures.one));
+      boundary = e.boundary;
+      reached = e.reached;
+      looked = e.looked;
+      kept = omega (arith, c.len-kept.ensures);
+      cursor = c.behind-cursor.ensures.within;
+      behind = λ j lt. omega (arith, c.behind-cursor.ensures.before j lt);
+      unmet = unmet_before s.boundaries p.boundaries edit.removed.start edit.removed.end (length edit.put.now) e.before;
     }
 
 pub meets-requires-clause-sorted : goal.meets-requires-clause-sorted
@@ -102,8 +108,8 @@ take_over-requires-clause-boundaries g c =
     marks_movable d s.text.now new edit.removed.start edit.removed.end edit.put.now (items_by g.L.StorageT.Id.number g.L.LexemeT.Lexeme.id_of g.L.LexemeT.Lexeme.start_of g.L.LexemeT.Lexeme.len_of g.L.LexemeT.Lexeme.is_faulty s.items.items) s.boundaries h p.place p.stack.items found p.boundaries p.asked r
     j (c.meets.ensures.within c.if-meets.true) edit.removed.in_order c.requires.fits.1.0 c.requires.gives (c.meets.ensures.past c.if-meets.true) (c.meets.ensures.place c.if-meets.true) stacks c.tiles.invariant.boundary.0 (omega arith)
 
-pub finished-requires : goal.finished-requires
-finished-requires g c =
+pub finished-requires-clause-run : goal.finished-requires-clause-run
+finished-requires-clause-run g c =
     let def = c.args.self.now.definition.now in
     let d = definition_of g.L.StorageT.Id.number def in
     let new = c.args.new.now in
@@ -212,13 +218,15 @@ tiles-preserved g c =
           c.in_ok-advance.ensures.matchers;
       boundary = c.in_ok-advance.ensures.boundary on;
       reached = c.in_ok-advance.ensures.goes_on on;
+      looked = c.in_ok-advance.ensures.looked on;
+      kept = omega (arith, c.tiles.invariant.kept, ap length more.1, length-append p.boundaries (more.0 ∷ []));
       cursor = c.meets.ensures.cursor;
       behind = λ j lt. omega (arith, c.meets.ensures.behind j lt, grows);
       unmet = λ k lt m. none k (meets_front s.boundaries p.boundaries (more.0 ∷ []) c.advance.new.progress.boundaries edit.removed.start edit.removed.end (length edit.put.now) k more.1 (omega (arith, lt, ap length more.1, length-append p.boundaries (more.0 ∷ []))) m);
     }
 
-pub finished-requires-2 : goal.finished-requires-2
-finished-requires-2 g c =
+pub finished-requires-2-clause-run : goal.finished-requires-2-clause-run
+finished-requires-2-clause-run g c =
     let def = c.args.self.now.definition.now in
     let d = definition_of g.L.StorageT.Id.number def in
     let new = c.args.new.now in
@@ -263,8 +271,8 @@ take_over-requires-clause-last g c =
     last_now (definition_of g.L.StorageT.Id.number c.args.self.now.definition.now) c.args.new.now p.place p.stack.items (items_by g.L.StorageT.Id.number g.L.LexemeT.Lexeme.id_of g.L.LexemeT.Lexeme.start_of g.L.LexemeT.Lexeme.len_of g.L.LexemeT.Lexeme.is_faulty p.items.items) p.boundaries p.asked c.tiles.invariant.reached
     ∙ sym (c.meets.ensures.stack c.if-meets.true ∙ c.deref-in-tiles.ensures.value)
 
-pub finished-requires-then-not-branch : goal.finished-requires-then-not-branch
-finished-requires-then-not-branch g c =
+pub finished-requires-then-not-branch-clause-run : goal.finished-requires-then-not-branch-clause-run
+finished-requires-then-not-branch-clause-run g c =
     let p = c.advance.new.progress in
     run_of (definition_of g.L.StorageT.Id.number c.args.self.now.definition.now) c.args.new.now (items_by g.L.StorageT.Id.number g.L.LexemeT.Lexeme.id_of g.L.LexemeT.Lexeme.start_of g.L.LexemeT.Lexeme.len_of g.L.LexemeT.Lexeme.is_faulty p.items.items) p.boundaries c.tiles.invariant.reached.initial (c.in_ok-advance.ensures.ends c.if-not-branch.true)
 
@@ -287,3 +295,112 @@ returns-clause-few g c =
 
 pub advance-requires-clause-matchers : goal.advance-requires-clause-matchers
 advance-requires-clause-matchers g c = subst (AreMatchers c.args.self.now.definition.now.table.rules.items) (sym c.deref_mut.ensures.value) c.tiles.invariant.matchers
+
+pub returns-then-not-is_state-clause-lexed : goal.returns-then-not-is_state-clause-lexed
+returns-then-not-is_state-clause-lexed g c =
+    let d = definition_of g.L.StorageT.Id.number c.args.self.now.definition.now in
+    let new = c.args.new.now in
+    let s = c.args.self.now in
+    let edit = c.args.edit.now in
+    let olds = items_by g.L.StorageT.Id.number g.L.LexemeT.Lexeme.id_of g.L.LexemeT.Lexeme.start_of g.L.LexemeT.Lexeme.len_of g.L.LexemeT.Lexeme.is_faulty s.items.items in
+    let none : length s.boundaries ≡ 0 = ∥∥₁_elim s.lexed (Prim.hlevel props) (λ (t : IsRun d s.text.now olds s.boundaries). ap length (t.refused (sym c.if-not-is_state.ensures)).boundaries_are) in
+    IfOk-weaker c.refused.result _ _ (λ x e k lt safe. absurd (omega (arith, none, lt))) c.refused.ensures.none
+
+pub behind-cursor-requires : goal.behind-cursor-requires
+behind-cursor-requires g c =
+    let d = definition_of g.L.StorageT.Id.number c.args.self.now.definition.now in
+    let new = c.args.new.now in
+    let s = c.args.self.now in
+    let edit = c.args.edit.now in
+    let olds = items_by g.L.StorageT.Id.number g.L.LexemeT.Lexeme.id_of g.L.LexemeT.Lexeme.start_of g.L.LexemeT.Lexeme.len_of g.L.LexemeT.Lexeme.is_faulty s.items.items in
+    let r = c.in_ok-progress.ensures.reached in
+    sorted d s.text.now olds s.boundaries (known d s.text.now olds s.boundaries r.initial s.lexed)
+
+pub take_over-requires-clause-sorted : goal.take_over-requires-clause-sorted
+take_over-requires-clause-sorted g c =
+    let d = definition_of g.L.StorageT.Id.number c.args.self.now.definition.now in
+    let new = c.args.new.now in
+    let s = c.args.self.now in
+    let edit = c.args.edit.now in
+    let olds = items_by g.L.StorageT.Id.number g.L.LexemeT.Lexeme.id_of g.L.LexemeT.Lexeme.start_of g.L.LexemeT.Lexeme.len_of g.L.LexemeT.Lexeme.is_faulty s.items.items in
+    let p = c.tiles.progress in
+    let found = items_by g.L.StorageT.Id.number g.L.LexemeT.Lexeme.id_of g.L.LexemeT.Lexeme.start_of g.L.LexemeT.Lexeme.len_of g.L.LexemeT.Lexeme.is_faulty p.items.items in
+    let r = c.tiles.invariant.reached in
+    let h = known d s.text.now olds s.boundaries r.initial s.lexed in
+    sorted d s.text.now olds s.boundaries h
+
+pub take_over-requires-clause-numbers : goal.take_over-requires-clause-numbers
+take_over-requires-clause-numbers g c =
+    let d = definition_of g.L.StorageT.Id.number c.args.self.now.definition.now in
+    let new = c.args.new.now in
+    let s = c.args.self.now in
+    let edit = c.args.edit.now in
+    let olds = items_by g.L.StorageT.Id.number g.L.LexemeT.Lexeme.id_of g.L.LexemeT.Lexeme.start_of g.L.LexemeT.Lexeme.len_of g.L.LexemeT.Lexeme.is_faulty s.items.items in
+    (looks_known d s.text.now s.boundaries s.ahead.items s.looks).len
+
+pub finished-requires-clause-looks : goal.finished-requires-clause-looks
+finished-requires-clause-looks g c =
+    let d = definition_of g.L.StorageT.Id.number c.args.self.now.definition.now in
+    let new = c.args.new.now in
+    let s = c.args.self.now in
+    let edit = c.args.edit.now in
+    let olds = items_by g.L.StorageT.Id.number g.L.LexemeT.Lexeme.id_of g.L.LexemeT.Lexeme.start_of g.L.LexemeT.Lexeme.len_of g.L.LexemeT.Lexeme.is_faulty s.items.items in
+    let p = c.tiles.progress in
+    let found = items_by g.L.StorageT.Id.number g.L.LexemeT.Lexeme.id_of g.L.LexemeT.Lexeme.start_of g.L.LexemeT.Lexeme.len_of g.L.LexemeT.Lexeme.is_faulty p.items.items in
+    let r = c.tiles.invariant.reached in
+    let h = known d s.text.now olds s.boundaries r.initial s.lexed in
+    let j = c.meets.new.cursor in
+    let stacks : (mark_at s.boundaries j).runs ≡ p.stack.items = c.meets.ensures.stack c.if-meets.true ∙ c.deref-in-tiles.ensures.value in
+    let same = rest_same d s.text.now new edit.removed.start edit.removed.end edit.put.now olds s.boundaries h p.place p.stack.items found p.boundaries p.asked r
+    j (c.meets.ensures.within c.if-meets.true) edit.removed.in_order c.requires.fits.1.0 c.requires.gives (c.meets.ensures.past c.if-meets.true) (c.meets.ensures.place c.if-meets.true) stacks in
+    subst (λ ms. LooksAhead d new ms c.take_over.new.progress.ahead.items) (sym c.in_ok-take_over.ensures.boundaries)
+    (looks_taken_over d s.text.now new s.boundaries s.ahead.items (looks_known d s.text.now s.boundaries s.ahead.items s.looks) (sorted d s.text.now olds s.boundaries h)
+    r.before p.boundaries p.ahead.items p.place p.stack.items p.over r.kept c.tiles.invariant.looked j (c.meets.ensures.within c.if-meets.true) same stacks c.take_over.new.progress.ahead.items c.in_ok-take_over.ensures.ahead)
+
+pub finished-requires-then-not-branch-clause-looks : goal.finished-requires-then-not-branch-clause-looks
+finished-requires-then-not-branch-clause-looks g c =
+    let d = definition_of g.L.StorageT.Id.number c.args.self.now.definition.now in
+    let new = c.args.new.now in
+    let s = c.args.self.now in
+    let edit = c.args.edit.now in
+    let olds = items_by g.L.StorageT.Id.number g.L.LexemeT.Lexeme.id_of g.L.LexemeT.Lexeme.start_of g.L.LexemeT.Lexeme.len_of g.L.LexemeT.Lexeme.is_faulty s.items.items in
+    let p = c.tiles.progress in
+    let n = c.advance.new.progress in
+    subst (λ ms. LooksAhead d new ms n.ahead.items) (sym (c.in_ok-advance.ensures.same c.if-not-branch.true))
+    (subst (LooksAhead d new p.boundaries) (sym (c.in_ok-advance.ensures.ahead c.if-not-branch.true)) c.tiles.invariant.looked.looks)
+
+pub returns-then-meets-clause-lexed : goal.returns-then-meets-clause-lexed
+returns-then-meets-clause-lexed g c =
+    let d = definition_of g.L.StorageT.Id.number c.args.self.now.definition.now in
+    let new = c.args.new.now in
+    let s = c.args.self.now in
+    let edit = c.args.edit.now in
+    let olds = items_by g.L.StorageT.Id.number g.L.LexemeT.Lexeme.id_of g.L.LexemeT.Lexeme.start_of g.L.LexemeT.Lexeme.len_of g.L.LexemeT.Lexeme.is_faulty s.items.items in
+    let p = c.tiles.progress in
+    few_anew s.boundaries p.boundaries _ c.finished.result.boundaries s.ahead.items edit.removed.start edit.removed.end (length edit.put.now) c.len-kept.result c.finished.result.anew c.tiles.invariant.unmet
+    (c.finished.ensures.boundaries ∙ c.in_ok-take_over.ensures.boundaries) (λ k within safe. omega (arith, c.in_ok-progress.ensures.last k within safe, c.len-kept.ensures)) c.tiles.invariant.kept
+    (omega (arith, c.finished.ensures.anew, c.len.ensures))
+
+pub returns-then-not-branch-clause-lexed : goal.returns-then-not-branch-clause-lexed
+returns-then-not-branch-clause-lexed g c =
+    let d = definition_of g.L.StorageT.Id.number c.args.self.now.definition.now in
+    let new = c.args.new.now in
+    let s = c.args.self.now in
+    let edit = c.args.edit.now in
+    let olds = items_by g.L.StorageT.Id.number g.L.LexemeT.Lexeme.id_of g.L.LexemeT.Lexeme.start_of g.L.LexemeT.Lexeme.len_of g.L.LexemeT.Lexeme.is_faulty s.items.items in
+    let p = c.tiles.progress in
+    few_anew s.boundaries p.boundaries [] c.finished-then-not-branch.result.boundaries s.ahead.items edit.removed.start edit.removed.end (length edit.put.now) c.len-kept.result c.finished-then-not-branch.result.anew c.tiles.invariant.unmet
+    (c.finished-then-not-branch.ensures.boundaries ∙ c.in_ok-advance.ensures.same c.if-not-branch.true ∙ sym (append-nil p.boundaries)) (λ k within safe. omega (arith, c.in_ok-progress.ensures.last k within safe, c.len-kept.ensures)) c.tiles.invariant.kept
+    (omega (arith, c.finished-then-not-branch.ensures.anew, c.len-then-not-branch.ensures, ap length (c.in_ok-advance.ensures.same c.if-not-branch.true)))
+
+pub returns-clause-lexed : goal.returns-clause-lexed
+returns-clause-lexed g c =
+    let d = definition_of g.L.StorageT.Id.number c.args.self.now.definition.now in
+    let new = c.args.new.now in
+    let s = c.args.self.now in
+    let edit = c.args.edit.now in
+    let olds = items_by g.L.StorageT.Id.number g.L.LexemeT.Lexeme.id_of g.L.LexemeT.Lexeme.start_of g.L.LexemeT.Lexeme.len_of g.L.LexemeT.Lexeme.is_faulty s.items.items in
+    let p = c.tiles.progress in
+    few_anew s.boundaries p.boundaries [] c.finished-2.result.boundaries s.ahead.items edit.removed.start edit.removed.end (length edit.put.now) c.len-kept.result c.finished-2.result.anew c.tiles.invariant.unmet
+    (c.finished-2.ensures.boundaries ∙ sym (append-nil p.boundaries)) (λ k within safe. omega (arith, c.in_ok-progress.ensures.last k within safe, c.len-kept.ensures)) c.tiles.invariant.kept
+    (omega (arith, c.finished-2.ensures.anew, c.len-2.ensures))

@@ -1,7 +1,8 @@
-use Rattle.std.proofs.Common.{ℕ, ◌+◌, ◌-◌, ◌<◌, ◌≤◌, length, IsCharBoundary}
+use Rattle.std.proofs.Common.{ℕ, ◌+◌, ◌-◌, ◌<◌, ◌≤◌, max, length, IsCharBoundary}
 use Rattle.lrlex.specs.Reach.{Reached}
 use Rattle.lrlex.specs.Marks.{mark_at}
 use Rattle.lrlex.specs.Edits.{Meets}
+use Rattle.lrlex.specs.Decided.{HasLooked}
 use Rattle.lrlex.specs.Tables.{AreMatchers}
 use Rattle.lrlex.specs.Views.{definition_of, items_by}
 use Rattle.lrlex.proofs.lexer.run.LexRun.relex.Given as goal
@@ -11,8 +12,10 @@ invariant-tiles g l = record {
   matchers : AreMatchers l.definition.table.rules.items l.matchers.items;
   boundary : IsCharBoundary l.new l.progress.place;
   reached : Reached (definition_of g.L.StorageT.Id.number l.definition) l.new l.progress.place l.progress.stack.items (items_by g.L.StorageT.Id.number g.L.LexemeT.Lexeme.id_of g.L.LexemeT.Lexeme.start_of g.L.LexemeT.Lexeme.len_of g.L.LexemeT.Lexeme.is_faulty l.progress.items.items) l.progress.boundaries l.progress.asked;
+  looked : HasLooked (definition_of g.L.StorageT.Id.number l.definition) l.new l.progress.boundaries l.progress.ahead.items l.progress.place l.progress.over;
+  kept : l.kept ≤ length l.progress.boundaries;
   cursor : l.cursor ≤ length l.self.boundaries;
-  behind : (j : ℕ) → j < l.cursor → (mark_at l.self.boundaries j).place + (l.edit.removed.start + length l.edit.put.now) < l.progress.place + l.edit.removed.end;
+  behind : (j : ℕ) → j < l.cursor → (mark_at l.self.boundaries j).place + (l.edit.removed.start + length l.edit.put.now) < max l.progress.place (l.edit.removed.start + length l.edit.put.now) + l.edit.removed.end;
   unmet : (k : ℕ) → k + 1 < length l.progress.boundaries → Meets l.self.boundaries l.progress.boundaries l.edit.removed.start l.edit.removed.end (length l.edit.put.now) k → ⊥;
 }
 

@@ -1,0 +1,5 @@
+use Rattle.lrlex.specs.Decided.{AreRaised}
+use Rattle.lrlex.proofs.lexer.resuming.append_raised.Given as goal
+
+abbrev pub invariant-near : goal.invariant-near
+invariant-near l = AreRaised l.old l.numbers l.index l.over l.next l.fn.ahead.items l.ahead.items

@@ -1,0 +1,171 @@
+use Rattle.std.proofs.Common.{◌≡◌, ◌+◌, ◌≤◌, length, take, sym, ap, ◌∙◌, subst, inl, inr, arith, IsCharBoundary}
+use Rattle.std.proofs.lemmas.Bool.{cases_lt}
+use Rattle.std.proofs.lemmas.List.{length-take-le, get_or-take}
+use Rattle.lrlex_table.specs.Decided.{IsText}
+use Rattle.lrlex_table.proofs.ByteLemmas.{are_bytes}
+use Rattle.lrlex.specs.Marks.{Mark, no_mark, mark_at}
+use Rattle.lrlex.specs.Reach.{Reached}
+use Rattle.lrlex.specs.Decided.{IsSafe, HasLooked, items_before}
+use Rattle.lrlex.specs.Views.{definition_of, items_by}
+use Rattle.lrlex.proofs.KnownLemmas.{known, sorted}
+use Rattle.lrlex.proofs.AheadLemmas.{looks_known}
+use Rattle.lrlex.proofs.GoingLemmas.{some_boundary, order_at, first_safe, going, going_looked}
+use Rattle.lrlex.proofs.lexer.resuming.resume.Goals as goal
+
+pub last_safe-index-requires-clause-sorted : goal.last_safe-index-requires-clause-sorted
+last_safe-index-requires-clause-sorted g c =
+    let d = definition_of g.L.StorageT.Id.number c.args.old.now.definition.now in
+    let o = c.args.old.now in
+    let found = items_by g.L.StorageT.Id.number g.L.LexemeT.Lexeme.id_of g.L.LexemeT.Lexeme.start_of g.L.LexemeT.Lexeme.len_of g.L.LexemeT.Lexeme.is_faulty o.items.items in
+    let h = known d o.text.now found o.boundaries c.requires.initial o.lexed in
+    sorted d o.text.now found o.boundaries h
+
+pub last_safe-index-requires-clause-numbers : goal.last_safe-index-requires-clause-numbers
+last_safe-index-requires-clause-numbers g c =
+    let o = c.args.old.now in
+    ap length c.deref.ensures.value ∙ (looks_known (definition_of g.L.StorageT.Id.number o.definition.now) o.text.now o.boundaries o.ahead.items o.looks).len
+
+pub last_safe-index-requires-clause-some : goal.last_safe-index-requires-clause-some
+last_safe-index-requires-clause-some g c =
+    let d = definition_of g.L.StorageT.Id.number c.args.old.now.definition.now in
+    let o = c.args.old.now in
+    let found = items_by g.L.StorageT.Id.number g.L.LexemeT.Lexeme.id_of g.L.LexemeT.Lexeme.start_of g.L.LexemeT.Lexeme.len_of g.L.LexemeT.Lexeme.is_faulty o.items.items in
+    let h = known d o.text.now found o.boundaries c.requires.initial o.lexed in
+    some_boundary d o.text.now found o.boundaries h
+
+pub last_safe-index-requires-clause-first : goal.last_safe-index-requires-clause-first
+last_safe-index-requires-clause-first g c =
+    let d = definition_of g.L.StorageT.Id.number c.args.old.now.definition.now in
+    let o = c.args.old.now in
+    let found = items_by g.L.StorageT.Id.number g.L.LexemeT.Lexeme.id_of g.L.LexemeT.Lexeme.start_of g.L.LexemeT.Lexeme.len_of g.L.LexemeT.Lexeme.is_faulty o.items.items in
+    let h = known d o.text.now found o.boundaries c.requires.initial o.lexed in
+    let looks = looks_known d o.text.now o.boundaries o.ahead.items o.looks in
+    let new = c.args.new.now in
+    let is : IsText new = record { bytes = are_bytes new c.type_inv.new; utf8 = c.utf8.new } in
+    let edit = c.args.edit.now in
+    let low = edit.removed.start in
+    let le : low ≤ length o.text.now = omega (arith, edit.removed.in_order, c.requires.fits.1.0) in
+    subst (λ n. IsSafe o.boundaries c.deref.result.now n 0) (sym c.start.ensures) (subst (λ ns. IsSafe o.boundaries ns low 0) (sym c.deref.ensures.value) (first_safe d o.text.now new edit.put.now low edit.removed.end found o.boundaries o.ahead.items c.requires.initial is le c.requires.gives h looks))
+
+pub resumed-requires-clause-in_order : goal.resumed-requires-clause-in_order
+resumed-requires-clause-in_order g c =
+    let d = definition_of g.L.StorageT.Id.number c.args.old.now.definition.now in
+    let o = c.args.old.now in
+    let found = items_by g.L.StorageT.Id.number g.L.LexemeT.Lexeme.id_of g.L.LexemeT.Lexeme.start_of g.L.LexemeT.Lexeme.len_of g.L.LexemeT.Lexeme.is_faulty o.items.items in
+    let h = known d o.text.now found o.boundaries c.requires.initial o.lexed in
+    order_at d o.text.now found o.boundaries h c.last_safe-index.result c.last_safe-index.ensures.within
+
+pub resumed-requires-clause-numbers : goal.resumed-requires-clause-numbers
+resumed-requires-clause-numbers g c =
+    let o = c.args.old.now in
+    (looks_known (definition_of g.L.StorageT.Id.number o.definition.now) o.text.now o.boundaries o.ahead.items o.looks).len
+
+pub returns-clause-reached : goal.returns-clause-reached
+returns-clause-reached g c =
+    let d = definition_of g.L.StorageT.Id.number c.args.old.now.definition.now in
+    let o = c.args.old.now in
+    let found = items_by g.L.StorageT.Id.number g.L.LexemeT.Lexeme.id_of g.L.LexemeT.Lexeme.start_of g.L.LexemeT.Lexeme.len_of g.L.LexemeT.Lexeme.is_faulty o.items.items in
+    let h = known d o.text.now found o.boundaries c.requires.initial o.lexed in
+    let looks = looks_known d o.text.now o.boundaries o.ahead.items o.looks in
+    let new = c.args.new.now in
+    let is : IsText new = record { bytes = are_bytes new c.type_inv.new; utf8 = c.utf8.new } in
+    let edit = c.args.edit.now in
+    let low = edit.removed.start in
+    let le : low ≤ length o.text.now = omega (arith, edit.removed.in_order, c.requires.fits.1.0) in
+    let k = c.last_safe-index.result in
+    let safe : IsSafe o.boundaries o.ahead.items low k = subst (λ n. IsSafe o.boundaries o.ahead.items n k) c.start.ensures (subst (λ ns. IsSafe o.boundaries ns c.start.result k) c.deref.ensures.value c.last_safe-index.ensures.safe) in
+    let p = c.in_ok-progress.progress in
+    let e = c.in_ok-progress.ensures in
+    let going = (going d o.text.now new edit.put.now low edit.removed.end found o.boundaries o.ahead.items c.requires.initial is le c.requires.gives h looks k c.last_safe-index.ensures.within safe).reached in
+    let front = items_before (mark_at o.boundaries k).place found in
+    let now = items_by g.L.StorageT.Id.number g.L.LexemeT.Lexeme.id_of g.L.LexemeT.Lexeme.start_of g.L.LexemeT.Lexeme.len_of g.L.LexemeT.Lexeme.is_faulty p.items.items in
+    subst (λ i. Reached d new i p.stack.items now p.boundaries p.asked) (sym e.place)
+    (subst (λ s. Reached d new (mark_at o.boundaries k).place s now p.boundaries p.asked) (sym e.stack)
+    (subst (λ xs. Reached d new (mark_at o.boundaries k).place (mark_at o.boundaries k).runs xs p.boundaries p.asked) (sym e.items)
+    (subst (λ ms. Reached d new (mark_at o.boundaries k).place (mark_at o.boundaries k).runs front ms p.asked) (sym e.boundaries)
+    (subst (λ n. Reached d new (mark_at o.boundaries k).place (mark_at o.boundaries k).runs front (take (k + 1) o.boundaries) n) (sym e.asked) going))))
+
+pub returns-clause-looked : goal.returns-clause-looked
+returns-clause-looked g c =
+    let d = definition_of g.L.StorageT.Id.number c.args.old.now.definition.now in
+    let o = c.args.old.now in
+    let found = items_by g.L.StorageT.Id.number g.L.LexemeT.Lexeme.id_of g.L.LexemeT.Lexeme.start_of g.L.LexemeT.Lexeme.len_of g.L.LexemeT.Lexeme.is_faulty o.items.items in
+    let h = known d o.text.now found o.boundaries c.requires.initial o.lexed in
+    let looks = looks_known d o.text.now o.boundaries o.ahead.items o.looks in
+    let new = c.args.new.now in
+    let is : IsText new = record { bytes = are_bytes new c.type_inv.new; utf8 = c.utf8.new } in
+    let edit = c.args.edit.now in
+    let low = edit.removed.start in
+    let le : low ≤ length o.text.now = omega (arith, edit.removed.in_order, c.requires.fits.1.0) in
+    let k = c.last_safe-index.result in
+    let safe : IsSafe o.boundaries o.ahead.items low k = subst (λ n. IsSafe o.boundaries o.ahead.items n k) c.start.ensures (subst (λ ns. IsSafe o.boundaries ns c.start.result k) c.deref.ensures.value c.last_safe-index.ensures.safe) in
+    let p = c.in_ok-progress.progress in
+    let e = c.in_ok-progress.ensures in
+    let looked = going_looked d o.text.now new edit.put.now low edit.removed.end found o.boundaries o.ahead.items c.requires.initial is le c.requires.gives h looks k c.last_safe-index.ensures.within safe p.over e.over in
+    subst (λ i. HasLooked d new p.boundaries p.ahead.items i p.over) (sym e.place)
+    (subst (λ ms. HasLooked d new ms p.ahead.items (mark_at o.boundaries k).place p.over) (sym e.boundaries)
+    (subst (λ ns. HasLooked d new (take (k + 1) o.boundaries) ns (mark_at o.boundaries k).place p.over) (sym e.ahead) looked))
+
+pub returns-clause-boundary : goal.returns-clause-boundary
+returns-clause-boundary g c =
+    let d = definition_of g.L.StorageT.Id.number c.args.old.now.definition.now in
+    let o = c.args.old.now in
+    let found = items_by g.L.StorageT.Id.number g.L.LexemeT.Lexeme.id_of g.L.LexemeT.Lexeme.start_of g.L.LexemeT.Lexeme.len_of g.L.LexemeT.Lexeme.is_faulty o.items.items in
+    let h = known d o.text.now found o.boundaries c.requires.initial o.lexed in
+    let looks = looks_known d o.text.now o.boundaries o.ahead.items o.looks in
+    let new = c.args.new.now in
+    let is : IsText new = record { bytes = are_bytes new c.type_inv.new; utf8 = c.utf8.new } in
+    let edit = c.args.edit.now in
+    let low = edit.removed.start in
+    let le : low ≤ length o.text.now = omega (arith, edit.removed.in_order, c.requires.fits.1.0) in
+    let k = c.last_safe-index.result in
+    let safe : IsSafe o.boundaries o.ahead.items low k = subst (λ n. IsSafe o.boundaries o.ahead.items n k) c.start.ensures (subst (λ ns. IsSafe o.boundaries ns c.start.result k) c.deref.ensures.value c.last_safe-index.ensures.safe) in
+    let p = c.in_ok-progress.progress in
+    let e = c.in_ok-progress.ensures in
+    subst (IsCharBoundary new) (sym e.place) (going d o.text.now new edit.put.now low edit.removed.end found o.boundaries o.ahead.items c.requires.initial is le c.requires.gives h looks k c.last_safe-index.ensures.within safe).boundary
+
+pub returns-clause-before : goal.returns-clause-before
+returns-clause-before g c =
+    let d = definition_of g.L.StorageT.Id.number c.args.old.now.definition.now in
+    let o = c.args.old.now in
+    let found = items_by g.L.StorageT.Id.number g.L.LexemeT.Lexeme.id_of g.L.LexemeT.Lexeme.start_of g.L.LexemeT.Lexeme.len_of g.L.LexemeT.Lexeme.is_faulty o.items.items in
+    let h = known d o.text.now found o.boundaries c.requires.initial o.lexed in
+    let looks = looks_known d o.text.now o.boundaries o.ahead.items o.looks in
+    let new = c.args.new.now in
+    let is : IsText new = record { bytes = are_bytes new c.type_inv.new; utf8 = c.utf8.new } in
+    let edit = c.args.edit.now in
+    let low = edit.removed.start in
+    let le : low ≤ length o.text.now = omega (arith, edit.removed.in_order, c.requires.fits.1.0) in
+    let k = c.last_safe-index.result in
+    let safe : IsSafe o.boundaries o.ahead.items low k = subst (λ n. IsSafe o.boundaries o.ahead.items n k) c.start.ensures (subst (λ ns. IsSafe o.boundaries ns c.start.result k) c.deref.ensures.value c.last_safe-index.ensures.safe) in
+    let p = c.in_ok-progress.progress in
+    let e = c.in_ok-progress.ensures in
+    λ j lt.
+    let count : length p.boundaries ≡ k + 1 = ap length e.boundaries ∙ length-take-le (k + 1) o.boundaries (omega (arith, c.last_safe-index.ensures.within)) in
+    let place : (mark_at p.boundaries j).place ≡ (mark_at o.boundaries j).place =
+    ap (λ ms. (mark_at ms j).place) e.boundaries ∙ ap (λ (m : Mark). m.place) (get_or-take (k + 1) o.boundaries j no_mark (omega (arith, count, lt))) in
+    omega (arith, place, safe.before, (sorted d o.text.now found o.boundaries h).rising j k (omega (arith, count, lt)) c.last_safe-index.ensures.within)
+
+pub returns-clause-last : goal.returns-clause-last
+returns-clause-last g c =
+    let d = definition_of g.L.StorageT.Id.number c.args.old.now.definition.now in
+    let o = c.args.old.now in
+    let found = items_by g.L.StorageT.Id.number g.L.LexemeT.Lexeme.id_of g.L.LexemeT.Lexeme.start_of g.L.LexemeT.Lexeme.len_of g.L.LexemeT.Lexeme.is_faulty o.items.items in
+    let h = known d o.text.now found o.boundaries c.requires.initial o.lexed in
+    let looks = looks_known d o.text.now o.boundaries o.ahead.items o.looks in
+    let new = c.args.new.now in
+    let is : IsText new = record { bytes = are_bytes new c.type_inv.new; utf8 = c.utf8.new } in
+    let edit = c.args.edit.now in
+    let low = edit.removed.start in
+    let le : low ≤ length o.text.now = omega (arith, edit.removed.in_order, c.requires.fits.1.0) in
+    let k = c.last_safe-index.result in
+    let safe : IsSafe o.boundaries o.ahead.items low k = subst (λ n. IsSafe o.boundaries o.ahead.items n k) c.start.ensures (subst (λ ns. IsSafe o.boundaries ns c.start.result k) c.deref.ensures.value c.last_safe-index.ensures.safe) in
+    let p = c.in_ok-progress.progress in
+    let e = c.in_ok-progress.ensures in
+    λ j lt is.
+    let count : length p.boundaries ≡ k + 1 = ap length e.boundaries ∙ length-take-le (k + 1) o.boundaries (omega (arith, c.last_safe-index.ensures.within)) in
+    elim (cases_lt k j) [
+      | inl later ↦ absurd (c.last_safe-index.ensures.last j later lt
+          (subst (λ n. IsSafe o.boundaries c.deref.result.now n j) (sym c.start.ensures) (subst (λ ns. IsSafe o.boundaries ns low j) (sym c.deref.ensures.value) is)))
+      | inr here ↦ omega (arith, count)
+    ]

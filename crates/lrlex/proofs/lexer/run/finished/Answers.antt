@@ -1,0 +1,4 @@
+use Rattle.lrlex.proofs.lexer.run.finished.Goals as goal
+
+pub invariant_of-result : goal.invariant_of-result
+invariant_of-result g c = record { looks = ∣ c.requires.looks ∣₁; lexed = ∣ c.requires.run ∣₁ }

@@ -1,0 +1,224 @@
+ghost use Rattle.std.specs.Prelude.{◌≡◌, ℕ, ◌+◌, ◌-◌, ◌<◌, ◌≤◌, true, false, max, List, [], ◌∷◌, ◌++◌, All, IfOk, OnOk, IsCharBoundary, map, take, drop, length, slice_index};
+ghost use Rattle.lrlex_base.specs.Spans.{span, span_start, as_span, Fits};
+ghost use Rattle.lrlex_base.specs.Edits.{edited};
+ghost use Rattle.lrlex_rules.specs.Definition.{Definition};
+ghost use Rattle.lrlex_table.specs.Decided.{IsText};
+ghost use Rattle.lrlex.specs.Active.{is_state};
+ghost use Rattle.lrlex.specs.Tiling.{Item};
+ghost use Rattle.lrlex.specs.Marks.{Mark, mark_at};
+ghost use Rattle.lrlex.specs.Reach.{IsLexed, Reached};
+ghost use Rattle.lrlex.specs.Decided.{IsDecided, IsDecidedAt, AreDecided, LooksAhead, IsSafe, GoesOn, BeginAlike, HasLooked, AreRaised};
+ghost use Rattle.lrlex.specs.Edits.{IsSortedRuns};
+ghost use Rattle.std.specs.List.Sorted.{IsPartitionedBy};
+ghost use Rattle.lrlex.specs.Edits.{begins_before};
+ghost use Rattle.lrlex.specs.Decided.{items_before};
+ghost use Rattle.lrlex.specs.Views.{definition_of, item_of, items_by};
+
+use crate::errors::LRLexError;
+use crate::lexer::boundaries::Boundaries;
+use crate::lexer::lexing::{Progress, capped};
+use crate::lexer::relexing::begins_before;
+use crate::lexer::run::LexRun;
+use lrlex_base::{Edit, LexerTypes};
+use std::alloc::{AllocError, Global};
+
+/// What an edit leaves of a run. Where what wins at each of the first k boundaries is decided by bytes that stand before the
+/// edit, the new run has the first k tiles of the old one, with their boundaries and items, and lexing may go on from
+/// boundary k.
+pub fn resume_laws()
+    ensures goes_on { (d : Definition) (old new put : List ℕ) (low high : ℕ) (found : List Item) (marks : List Mark) (k : ℕ)
+        → is_state d 0 ≡ true → IsText new → low ≤ length old → new ≡ edited old (span low high) put → IsLexed d old found marks
+        → k < length marks → AreDecided d old marks k low → GoesOn d new found marks k }
+    ensures same { (d : Definition) (old new put : List ℕ) (low high : ℕ) (found other_found : List Item) (marks other_marks : List Mark) (k : ℕ)
+        → is_state d 0 ≡ true → IsText new → low ≤ length old → new ≡ edited old (span low high) put
+        → (h : IsLexed d old found marks) (other : IsLexed d new other_found other_marks)
+        → k < length marks → AreDecided d old marks k low → BeginAlike h.cut other.cut found other_found marks other_marks k }
+{}
+
+/// How far the bytes go that decide what wins: the text and its end decide it, more bytes decide it too, before an edit the
+/// same bytes decide it as before, and behind the edit the same, moved with the text.
+pub fn decided_laws()
+    ensures whole { (d : Definition) (q : ℕ) (text : List ℕ) → IsDecided d q text (length text + 1) }
+    ensures more { (d : Definition) (q : ℕ) (text : List ℕ) (reach more : ℕ) → reach ≤ more → IsDecided d q text reach → IsDecided d q text more }
+    ensures kept { (d : Definition) (old new put : List ℕ) (low high : ℕ) (found : List Item) (marks : List Mark) (k far : ℕ)
+        → is_state d 0 ≡ true → IsText new → low ≤ length old → new ≡ edited old (span low high) put → IsLexed d old found marks
+        → k < length marks → far ≤ low → AreDecided d old marks k far → AreDecided d new marks k far }
+    ensures safe { (d : Definition) (text : List ℕ) (marks : List Mark) (ahead : List ℕ) (low k : ℕ)
+        → LooksAhead d text marks ahead → k < length marks → IsSafe marks ahead low k → AreDecided d text marks k low }
+    ensures moved { (d : Definition) (old new : List ℕ) (m : Mark) (place far to : ℕ) → drop m.place old ≡ drop place new
+        → far - m.place ≤ to - place → IsDecidedAt d old far m → IsDecidedAt d new to (record { place = place; runs = m.runs }) }
+{}
+
+/// How the numbers that tell how far the tiles looked grow with a run, and that those up to a safe boundary stay.
+pub fn ahead_laws()
+    ensures start { (d : Definition) (text : List ℕ) (m : Mark) → LooksAhead d text (m ∷ []) (0 ∷ []) }
+    ensures step { (d : Definition) (text : List ℕ) (marks : List Mark) (k far at : ℕ) → k < length marks → AreDecided d text marks k far
+        → IsDecidedAt d text at (mark_at marks k) → AreDecided d text marks (k + 1) (max far at) }
+    ensures more { (d : Definition) (text : List ℕ) (marks : List Mark) (ahead : List ℕ) (m : Mark) (far n : ℕ) → 0 < length marks → LooksAhead d text marks ahead
+        → AreDecided d text (marks ++ m ∷ []) (length marks) far → (n < 255 → far ≤ m.place + n) → LooksAhead d text (marks ++ m ∷ []) (ahead ++ n ∷ []) }
+    ensures kept { (d : Definition) (old new put : List ℕ) (low high : ℕ) (found : List Item) (marks : List Mark) (ahead : List ℕ) (k : ℕ)
+        → is_state d 0 ≡ true → IsText new → low ≤ length old → new ≡ edited old (span low high) put → IsLexed d old found marks
+        → k < length marks → LooksAhead d old marks ahead → IsSafe marks ahead low k → LooksAhead d new (take (k + 1) marks) (take (k + 1) ahead) }
+{}
+
+/// How many boundaries stand at the place or before it.
+pub(crate) fn up_to(boundaries: &Boundaries, place: usize) -> usize
+    requires { IsSortedRuns boundaries.now }
+    ensures within { result ≤ length boundaries.now }
+    ensures up_to { (j : ℕ) → j < result → (mark_at boundaries.now j).place ≤ place }
+    ensures past { (j : ℕ) → result ≤ j → j < length boundaries.now → place < (mark_at boundaries.now j).place }
+{
+    let mut from = 0usize;
+    let mut to = boundaries.len();
+    'halves: while from < to {
+        let middle = from + (to - from) / 2;
+        if boundaries.place(middle) <= place {
+            from = middle + 1;
+        } else {
+            to = middle;
+        }
+    }
+    from
+}
+
+/// Whether the tiles before the boundary are known to have looked at no byte from the place on.
+fn is_safe(boundaries: &Boundaries, ahead: &[u8], index: usize, place: usize) -> bool
+    requires within { index < length boundaries.now }
+    requires numbers { length ahead.now ≡ length boundaries.now }
+    ensures yes { result ≡ true → IsSafe boundaries.now ahead.now place index }
+    ensures no { result ≡ false → ¬ (IsSafe boundaries.now ahead.now place index) }
+{
+    let past = ahead[index];
+    let here = boundaries.place(index);
+    past < 255 && here <= place && past as usize <= place - here
+}
+
+/// The last boundary before which the tiles are known to have looked at no byte from the place on.
+pub(crate) fn last_safe(boundaries: &Boundaries, ahead: &[u8], place: usize) -> usize
+    requires sorted { IsSortedRuns boundaries.now }
+    requires numbers { length ahead.now ≡ length boundaries.now }
+    requires some { 0 < length boundaries.now }
+    requires first { IsSafe boundaries.now ahead.now place 0 }
+    ensures within { result < length boundaries.now }
+    ensures safe { IsSafe boundaries.now ahead.now place result }
+    ensures last { (j : ℕ) → result < j → j < length boundaries.now → ¬ (IsSafe boundaries.now ahead.now place j) }
+{
+    let mut index = up_to(boundaries, place);
+    'back: while index > 0 {
+        index -= 1;
+        let safe = is_safe(boundaries, ahead, index, place);
+        if safe {
+            return index;
+        }
+    }
+    0
+}
+
+/// The items that begin before the place, of items in order.
+pub(crate) fn items_before<'a, L: LexerTypes<LexErrorT = LRLexError>>(
+    items: &'a [Result<L::LexemeT, LRLexError>],
+    place: usize,
+) -> &'a [Result<L::LexemeT, LRLexError>]
+    requires { IsPartitionedBy (begins_before place) (map (item_of L.StorageT.number L.LexemeT.id_of L.LexemeT.start_of L.LexemeT.len_of L.LexemeT.is_faulty) items.now) }
+    ensures { map (item_of L.StorageT.number L.LexemeT.id_of L.LexemeT.start_of L.LexemeT.len_of L.LexemeT.is_faulty) result.now ≡ items_before place (map (item_of L.StorageT.number L.LexemeT.id_of L.LexemeT.start_of L.LexemeT.len_of L.LexemeT.is_faulty) items.now) }
+{
+    let before = items.partition_point(
+        |item: &Result<L::LexemeT, LRLexError>| -> bool
+            ensures { result ≡ begins_before place (item_of L.StorageT.number L.LexemeT.id_of L.LexemeT.start_of L.LexemeT.len_of L.LexemeT.is_faulty item.now) }
+        { begins_before::<L>(item, place) },
+    );
+    &items[..before]
+}
+
+/// For how many tiles more than the old run had room is made.
+const SLACK: usize = 64;
+
+/// A run that stands at an old boundary, with the old boundaries up to it and the old items before it.
+pub(crate) fn resumed<L: LexerTypes<LexErrorT = LRLexError>>(
+    alloc: Global,
+    old: &LexRun<'_, '_, L>,
+    index: usize,
+) -> Result<Progress<L>, AllocError>
+    requires within { index < length old.now.boundaries }
+    requires in_order { IsPartitionedBy (begins_before (mark_at old.now.boundaries index).place) (map (item_of L.StorageT.number L.LexemeT.id_of L.LexemeT.start_of L.LexemeT.len_of L.LexemeT.is_faulty) old.now.items.items) }
+    requires numbers { length old.now.ahead.items ≡ length old.now.boundaries }
+    ensures place { IfOk result (λ p. p.place ≡ (mark_at old.now.boundaries index).place) }
+    ensures stack { IfOk result (λ p. p.stack.items ≡ (mark_at old.now.boundaries index).runs) }
+    ensures items { IfOk result (λ p. map (item_of L.StorageT.number L.LexemeT.id_of L.LexemeT.start_of L.LexemeT.len_of L.LexemeT.is_faulty) p.items.items ≡ items_before (mark_at old.now.boundaries index).place (map (item_of L.StorageT.number L.LexemeT.id_of L.LexemeT.start_of L.LexemeT.len_of L.LexemeT.is_faulty) old.now.items.items)) }
+    ensures boundaries { IfOk result (λ p. p.boundaries ≡ take (index + 1) old.now.boundaries) }
+    ensures asked { IfOk result (λ p. p.asked ≡ 0) }
+    ensures ahead { IfOk result (λ p. p.ahead.items ≡ take (index + 1) old.now.ahead.items) }
+    ensures over { IfOk result (λ p. p.over ≡ slice_index old.now.ahead.items index) }
+{
+    let within = index < old.boundaries.len();
+    prove!(within);
+    let place = old.boundaries.place(index);
+    let mut stack = Vec::new(alloc);
+    stack.extend_from_slice(old.boundaries.stack(index))?;
+    let mut boundaries = Boundaries::with_capacity(
+        alloc,
+        old.boundaries.len().saturating_add(SLACK),
+    )?;
+    boundaries.push(old.boundaries.place(0), old.boundaries.stack(0), 0)?;
+    boundaries.copy_front(&old.boundaries, index + 1)?;
+    let mut items = Vec::with_capacity(alloc, old.items.len().saturating_add(SLACK))?;
+    items.extend_from_slice(items_before::<L>(&old.items, place))?;
+    Ok(Progress {
+        place,
+        stack,
+        items,
+        boundaries,
+        asked: 0,
+        ahead: Vec::from_slice(alloc, &old.ahead[..index + 1])?,
+        over: old.ahead[index] as usize,
+    })
+}
+
+/// A run of the new text that stands at the last boundary before which no tile looked at what the edit changes, as far as
+/// the old run knows.
+pub(crate) fn resume<L: LexerTypes<LexErrorT = LRLexError>>(
+    alloc: Global,
+    old: &LexRun<'_, '_, L>,
+    edit: &Edit<'_>,
+    new: &str,
+) -> Result<Progress<L>, AllocError>
+    requires initial { is_state (definition_of L.StorageT.number old.now.definition.now) 0 ≡ true }
+    requires fits { Fits old.now.text.now edit.now.removed }
+    requires gives { new.now ≡ edited old.now.text.now (as_span edit.now.removed) edit.now.put.now }
+    ensures reached { IfOk result (λ p. Reached (definition_of L.StorageT.number old.now.definition.now) new.now p.place p.stack.items (items_by L.StorageT.number L.LexemeT.id_of L.LexemeT.start_of L.LexemeT.len_of L.LexemeT.is_faulty p.items.items) p.boundaries p.asked) }
+    ensures looked { IfOk result (λ p. HasLooked (definition_of L.StorageT.number old.now.definition.now) new.now p.boundaries p.ahead.items p.place p.over) }
+    ensures boundary { IfOk result (λ p. IsCharBoundary new.now p.place) }
+    ensures before { IfOk result (λ p. (j : ℕ) → j + 1 < length p.boundaries → (mark_at p.boundaries j).place < span_start edit.now.removed) }
+    ensures last { IfOk result (λ p. (j : ℕ) → j < length old.now.boundaries → IsSafe old.now.boundaries old.now.ahead.items (span_start edit.now.removed) j → j < length p.boundaries) }
+{
+    let index = last_safe(&old.boundaries, &old.ahead, edit.removed.start());
+    let progress = resumed(alloc, old, index)?;
+    Ok(progress)
+}
+
+/// Adds the numbers of the boundaries behind the one at `index`, where the tiles before that one looked at most `over` bytes
+/// past its place.
+pub(crate) fn append_raised(
+    ahead: &mut Vec<u8>,
+    old: &Boundaries,
+    numbers: &[u8],
+    index: usize,
+    over: usize,
+) -> Result<(), AllocError>
+    requires within { index < length old.now }
+    requires numbers { length numbers.now ≡ length old.now }
+    requires sorted { IsSortedRuns old.now }
+    ensures { OnOk result (AreRaised old.now numbers.now index over (length old.now) ahead.old.items ahead.new.items) }
+{
+    let from = old.place(index);
+    let far = match from.checked_add(over) {
+        Some(end) => up_to(old, end),
+        None => old.len(),
+    };
+    'near: for next in index + 1..far {
+        let rest = over.saturating_sub(old.place(next) - from);
+        ahead.push(numbers[next].max(capped(rest)))?;
+    }
+    ahead.extend_from_slice(&numbers[far..])?;
+    Ok(())
+}
