@@ -688,3 +688,106 @@ fn edits_made_by_chance(rt: HostRuntime) -> Result<(), Fail> {
     }
     Ok(())
 }
+
+/// How many tiles lexing again cuts anew, by tables of at most so many rows. None where the rules are refused or the edit
+/// doesn't fit.
+fn cut_anew<T: Id>(
+    alloc: Global,
+    rules: &str,
+    old: &str,
+    change: Change<'_>,
+    rows: usize,
+) -> Result<Option<usize>, AllocError> {
+    let Ok(built) = DefinitionOver::<T>::from_str(alloc, rules)? else {
+        return Ok(None);
+    };
+    let definition = built.with_budget(alloc, Budget::new(rows, 40_000_000))?;
+    let (from, to, put) = change;
+    if from > to {
+        return Ok(None);
+    }
+    let edit = Edit {
+        removed: Span::new(from, to),
+        put,
+    };
+    if !edit.fits(old) {
+        return Ok(None);
+    }
+    let new = edit.apply(alloc, old)?;
+    let before = definition.run(alloc, old)?;
+    let after = before.relex(alloc, &edit, new.as_str())?;
+    Ok(Some(after.lexed()))
+}
+
+#[test]
+fn tiles_cut_anew_after_an_edit(rt: HostRuntime) -> Result<(), Fail> {
+    // Rules, old text and edit; then the tiles cut anew by tables, and where each rule is asked.
+    let rows = [
+        // in a word, at the front and at the end: the word alone
+        (WORDS, "ab cd ef", (4, 4, "x"), 1, 3),
+        (WORDS, "ab cd ef", (0, 0, "x"), 1, 1),
+        (WORDS, "ab cd ef", (8, 8, "g"), 1, 5),
+        // nothing
+        (WORDS, "ab cd ef", (4, 4, ""), 1, 3),
+        // the blank looked at the byte behind it, and a comment goes on to the end
+        (COMMENTS, "one two three", (4, 4, "/* "), 3, 4),
+        // the first match looked for a b
+        ("%%\na+b|a 'X'", "aac", (2, 3, "b"), 1, 1),
+    ];
+    for (rules, old, change, anew, asking) in rows {
+        assert_eq!(rt;
+            cut_anew::<u32>(rt.alloc(), rules, old, change, 8_000)?,
+            Some(anew),
+            "{old}"
+        );
+        assert_eq!(rt;
+            cut_anew::<u32>(rt.alloc(), rules, old, change, 0)?,
+            Some(asking),
+            "{old}"
+        );
+    }
+    Ok(())
+}
+
+/// How many tiles a run cuts, and how far past each boundary the tiles before it looked, joined by blanks. None where the
+/// rules are refused.
+fn looked_ahead<T: Id>(
+    alloc: Global,
+    rules: &str,
+    text: &str,
+    rows: usize,
+) -> Result<Option<(usize, String)>, AllocError> {
+    let Ok(built) = DefinitionOver::<T>::from_str(alloc, rules)? else {
+        return Ok(None);
+    };
+    let definition = built.with_budget(alloc, Budget::new(rows, 40_000_000))?;
+    let run = definition.run(alloc, text)?;
+    let mut numbers = String::new(alloc);
+    for k in 0..run.boundaries() {
+        let ahead = run.ahead(k);
+        write!(numbers, " {ahead}")?;
+    }
+    Ok(Some((run.lexed(), numbers)))
+}
+
+#[test]
+fn how_far_the_tiles_of_a_run_looked(rt: HostRuntime) -> Result<(), Fail> {
+    // Rules and text, and whether by tables; then the tiles cut, and the bytes past each boundary.
+    let rows = [
+        (WORDS, "ab cd", 8_000, 3, " 0 1 1 1"),
+        // a rule that is asked counts as one that looks at the text's end
+        (WORDS, "ab cd", 0, 3, " 0 4 3 1"),
+        ("%%\na+b|a 'X'", "aaac", 8_000, 3, " 0 3 2 1"),
+        (WORDS, "", 8_000, 0, " 0"),
+    ];
+    for (rules, text, rows, lexed, ahead) in rows {
+        match looked_ahead::<u32>(rt.alloc(), rules, text, rows)? {
+            Some((tiles, numbers)) => {
+                assert_eq!(rt; tiles, lexed, "{text}");
+                assert_eq!(rt; numbers.as_str(), ahead, "{text}");
+            }
+            None => panic!(rt; "the rules are refused"),
+        }
+    }
+    Ok(())
+}
