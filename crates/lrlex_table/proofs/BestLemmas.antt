@@ -1,7 +1,7 @@
 -- The best match among the rules of several tables.
 use Rattle.std.proofs.Common.{◌≡◌, ℕ, ◌+◌, ◌<◌, ◌≤◌, ◌⊎◌, ◌||◌, Bool, true, false, List, [], ◌∷◌, length, map, take, get_or, IsUtf8, Option, Some, None, refl, sym, ap, ◌∙◌, subst, inl, inr, arith}
 use Rattle.std.proofs.lemmas.Bool.{cases_lt}
-use Rattle.std.proofs.lemmas.List.{length-map, get_or-map, take_all}
+use Rattle.std.proofs.lemmas.List.{length-map, get_or-map}
 use Rattle.std.proofs.lemmas.List.Folds.{list_any_more}
 use Rattle.std.proofs.lemmas.Str.{IsCharBoundary-start}
 use Rattle.regex.specs.Patterns.{Re, empty}
@@ -61,10 +61,20 @@ pub none_before : (parts : List Part) (k : ℕ) → is_tabled (take 0 parts) k �
 none_before [] k is = cc
 none_before (p ∷ ps) k is = cc
 
+either_false : (b : Bool) → (b || false) ≡ true → b ≡ true
+either_false true is = refl
+either_false false is = is
+
 -- one more part
 pub tabled_more : (parts : List Part) (i : ℕ) (d : Part) → i < length parts → (k : ℕ) → is_tabled (take (i + 1) parts) k ≡ true →
     (is_tabled (take i parts) k || is_among (get_or parts i d).rules.items k) ≡ true
 tabled_more parts i d lt k is = sym (list_any_more (λ (p : Part). is_among p.rules.items k) parts i d lt) ∙ is
+
+-- of one part alone
+pub tabled_only : (parts : List Part) (d : Part) → length parts ≡ 1 → (k : ℕ) → is_tabled parts k ≡ true → is_among (get_or parts 0 d).rules.items k ≡ true
+tabled_only [] d one k is = absurd (omega (arith, one))
+tabled_only (p ∷ []) d one k is = either_false (is_among p.rules.items k) is
+tabled_only (p ∷ q ∷ qs) d one k is = absurd (omega (arith, one))
 
 -- ---- the winner of a part
 
@@ -131,12 +141,12 @@ tabled_or_not true h = refl
 tabled_or_not false h = h refl
 
 -- where no rule is asked
-pub decided_all : (ps : List Re) (parts : List Part) (asked text : List ℕ) (i n : ℕ) → ArePartsOf ps 0 (length ps) parts asked → asked ≡ [] → length parts ≤ i →
-    IsDecidedAmong ps (is_tabled (take i parts)) text n → IsDecidedBy ps text n
-decided_all ps parts asked text i n are none all is =
+pub decided_all : (ps : List Re) (parts : List Part) (asked text : List ℕ) (n : ℕ) → ArePartsOf ps 0 (length ps) parts asked → asked ≡ [] →
+    IsDecidedAmong ps (is_tabled parts) text n → IsDecidedBy ps text n
+decided_all ps parts asked text n are none is =
     decided_of_matches ps text n (λ other also same k lt.
     is other also same k lt
-    (ap (λ xs. is_tabled xs k) (take_all i parts all) ∙ tabled_or_not (is_tabled parts k) (λ bare. sym (ap (λ xs. is_among xs k) none) ∙ are.each k (omega arith) lt bare)))
+    (tabled_or_not (is_tabled parts k) (λ bare. sym (ap (λ xs. is_among xs k) none) ∙ are.each k (omega arith) lt bare)))
 
 pub sight_start : (ps : List Re) (among : ℕ → Bool) (text : List ℕ) → ((j : ℕ) → among j ≡ true → ⊥) → IsUtf8 text → IsSightOf ps among text (record { tile = None; reach = 0 })
 sight_start ps among text none utf8 = record {

@@ -328,14 +328,10 @@ impl Tables {
         self.look(text).tile
     }
 
-    /// The winner, and how many bytes decide it, where all rules have a table: each text with the same first bytes has
-    /// the same winner.
-    #[inline(always)]
-    pub fn look(&self, text: &str) -> Sight
-        ensures winner { (ps : List Re) → AreTablesOf ps self.now →
-            MatchOption result.tile (IsBestAmong ps (is_tabled self.now.parts.items) text.now 0 0)
-            (λ t. (0 < t.len) × IsBestAmong ps (is_tabled self.now.parts.items) text.now t.rule t.len) }
-        ensures decided { (ps : List Re) → AreTablesOf ps self.now → self.now.asked.items ≡ [] → IsDecidedBy ps text.now result.reach }
+    /// What all tables see. Out of line, since most lists of rules have one, and its look shall stay short.
+    #[inline(never)]
+    fn look_at_each(&self, text: &str) -> Sight
+        ensures sight { (ps : List Re) → AreTablesOf ps self.now → IsSightOf ps (is_tabled self.now.parts.items) text.now result }
         ensures past { IfSome result.tile (λ t. t.len < result.reach) }
     {
         let mut sight = Sight {
@@ -346,6 +342,23 @@ impl Tables {
             sight = together(sight, self.parts[at].look(text));
         }
         sight
+    }
+
+    /// The winner, and how many bytes decide it, where all rules have a table: each text with the same first bytes has
+    /// the same winner.
+    #[inline(always)]
+    pub fn look(&self, text: &str) -> Sight
+        ensures winner { (ps : List Re) → AreTablesOf ps self.now →
+            MatchOption result.tile (IsBestAmong ps (is_tabled self.now.parts.items) text.now 0 0)
+            (λ t. (0 < t.len) × IsBestAmong ps (is_tabled self.now.parts.items) text.now t.rule t.len) }
+        ensures decided { (ps : List Re) → AreTablesOf ps self.now → self.now.asked.items ≡ [] → IsDecidedBy ps text.now result.reach }
+        ensures past { IfSome result.tile (λ t. t.len < result.reach) }
+    {
+        if self.parts.len() == 1 {
+            self.parts[0].look(text)
+        } else {
+            self.look_at_each(text)
+        }
     }
 
     /// How many tables there are.

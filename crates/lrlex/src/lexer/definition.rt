@@ -33,6 +33,14 @@ pub(crate) struct RuleTable<S> {
     ghost within: { All (λ j. j < length tables.items) tables_at.items },
 }
 
+/// The rules that are active in a start state, as places, and their tables.
+#[derive(Clone, Copy)]
+pub(crate) struct RulesIn<'d> {
+    pub(crate) state: usize,
+    pub(crate) active: &'d [usize],
+    pub(crate) tables: &'d Tables,
+}
+
 /// The rules, start states and flags of a lexer.
 #[derive(Drop)]
 pub struct LRNonStreamingLexerDef<L: LexerTypes> {
@@ -44,7 +52,7 @@ impl<L: LexerTypes> LRNonStreamingLexerDef<L> {
     ghost use Rattle.lrlex.specs.Views.{definition_of};
     ghost use Rattle.std.specs.Prelude.{Some, option_map, IfOk};
     ghost use Rattle.lrlex_table.specs.Tables.{AreTablesOf};
-    ghost use Rattle.lrlex.specs.Tables.{patterns_on};
+    ghost use Rattle.lrlex.specs.Tables.{patterns_on, AreOf};
 
     /// Just these start states, rules and flags, in order.
     pub(crate) fn of_parts(
@@ -172,6 +180,36 @@ impl<L: LexerTypes> LRNonStreamingLexerDef<L> {
     {
         let index = position_of(&self.table.start_states, self.table.placed, id).unwrap_or(0);
         &self.table.tables[self.table.tables_at[index]]
+    }
+
+    /// The rules that are active in the first state with the id.
+    #[inline(always)]
+    pub(crate) fn rules_in(&self, id: usize) -> RulesIn<'_>
+        requires { is_state (definition_of L.StorageT.number self.now) id ≡ true }
+        ensures state { result.state ≡ id }
+        ensures rules { AreOf (definition_of L.StorageT.number self.now) id result }
+    {
+        RulesIn {
+            state: id,
+            active: self.active_in(id),
+            tables: self.tables_in(id),
+        }
+    }
+
+    /// The rules that are active in the first state with the id. These are the ones at hand, where they are that state's:
+    /// lexing mostly stays in a state.
+    #[inline(always)]
+    pub(crate) fn rules_at<'d>(&'d self, here: RulesIn<'d>, id: usize) -> RulesIn<'d>
+        requires id { is_state (definition_of L.StorageT.number self.now) id ≡ true }
+        requires here { AreOf (definition_of L.StorageT.number self.now) here.state here }
+        ensures state { result.state ≡ id }
+        ensures rules { AreOf (definition_of L.StorageT.number self.now) id result }
+    {
+        if here.state == id {
+            here
+        } else {
+            self.rules_in(id)
+        }
     }
 
     /// Whether the rule's target is no state.

@@ -6,13 +6,13 @@ ghost use Rattle.lrlex.specs.Runs.{plain, AreRuns};
 ghost use Rattle.lrlex.specs.Marks.{Mark, last_runs};
 ghost use Rattle.lrlex.specs.Reach.{Reached, IsLexed, searches};
 ghost use Rattle.lrlex.specs.Decided.{HasLooked, capped};
-ghost use Rattle.lrlex.specs.Tables.{AreMatchers};
+ghost use Rattle.lrlex.specs.Tables.{AreMatchers, AreOf};
 ghost use Rattle.lrlex.specs.Views.{definition_of, item_of, items_by};
 
 use crate::errors::LRLexError;
 use crate::lexer::active::{lacks_id, lexeme_id};
 use crate::lexer::boundaries::Boundaries;
-use crate::lexer::definition::LRNonStreamingLexerDef;
+use crate::lexer::definition::{LRNonStreamingLexerDef, RulesIn};
 use crate::lexer::searching::winner;
 use crate::lexer::stack::{step, top_of};
 use lrlex_base::{Lexeme, LexerTypes, Span};
@@ -154,21 +154,25 @@ fn enter<L: LexerTypes>(
     Ok(())
 }
 
-/// Takes the tile at the place, and answers whether lexing goes on after it.
+/// Takes the tile at the place, and answers whether lexing goes on after it. `here` are the rules of a state, and of the
+/// stack's top once the tile is taken.
 #[inline(always)]
 pub(crate) fn advance<'d, L: LexerTypes>(
     alloc: Global,
     definition: &'d LRNonStreamingLexerDef<L>,
     text: &str,
+    here: &mut RulesIn<'d>,
     matchers: &mut [Option<Box<Matcher<'d>>>],
     progress: &mut Progress<L>,
 ) -> Result<bool, AllocError>
+    requires here { AreOf (definition_of L.StorageT.number definition.now) here.old.state here.old }
     requires inside { progress.old.place < length text.now }
     requires boundary { IsCharBoundary text.now progress.old.place }
     requires matchers { AreMatchers definition.now.table.rules.items matchers.old }
     requires reached { Reached (definition_of L.StorageT.number definition.now) text.now progress.old.place progress.old.stack.items
         (items_by L.StorageT.number L.LexemeT.id_of L.LexemeT.start_of L.LexemeT.len_of L.LexemeT.is_faulty progress.old.items.items) progress.old.boundaries progress.old.asked }
     requires looked { HasLooked (definition_of L.StorageT.number definition.now) text.now progress.old.boundaries progress.old.ahead.items progress.old.place progress.old.over }
+    ensures here { IfOk result (λ _. AreOf (definition_of L.StorageT.number definition.now) here.new.state here.new) }
     ensures matchers { IfOk result (λ _. AreMatchers definition.now.table.rules.items matchers.new) }
     ensures goes_on { IfOk result (λ on. on ≡ true → Reached (definition_of L.StorageT.number definition.now) text.now progress.new.place progress.new.stack.items
         (items_by L.StorageT.number L.LexemeT.id_of L.LexemeT.start_of L.LexemeT.len_of L.LexemeT.is_faulty progress.new.items.items) progress.new.boundaries progress.new.asked) }
@@ -184,11 +188,13 @@ pub(crate) fn advance<'d, L: LexerTypes>(
 {
     let place = progress.place;
     let state = top_of(&progress.stack);
+    *here = definition.rules_at(*here, state);
     let rest = &text[place..];
     let sight = winner(
         alloc,
         definition,
         state,
+        *here,
         matchers,
         rest,
         &mut progress.asked,

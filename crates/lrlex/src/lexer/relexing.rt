@@ -246,6 +246,7 @@ impl<'lexer, L: LexerTypes<LexErrorT = LRLexError>> LexRun<'lexer, '_, L> {
         let mut progress = resume(alloc, self, edit, new)?;
         let kept = progress.boundaries.len();
         let mut cursor = behind(&self.boundaries, edit);
+        let mut here = definition.rules_in(0);
         'tiles: while progress.place < new.len() {
             if meets(
                 &self.boundaries,
@@ -258,7 +259,14 @@ impl<'lexer, L: LexerTypes<LexErrorT = LRLexError>> LexRun<'lexer, '_, L> {
                 take_over(self, cursor, &mut progress)?;
                 return Ok(finished(definition, new, progress, anew));
             }
-            if !advance(alloc, definition, new, &mut matchers, &mut progress)? {
+            if !advance(
+                alloc,
+                definition,
+                new,
+                &mut here,
+                &mut matchers,
+                &mut progress,
+            )? {
                 let anew = progress.boundaries.len() - kept;
                 return Ok(finished(definition, new, progress, anew));
             }

@@ -184,8 +184,9 @@ impl<L: LexerTypes<LexErrorT = LRLexError>> LRNonStreamingLexerDef<L> {
         }
         let mut matchers = no_matchers(alloc, &self.table.rules)?;
         let mut progress = begin(alloc, self, text)?;
+        let mut here = self.rules_in(0);
         'tiles: while progress.place < text.len() {
-            if !advance(alloc, self, text, &mut matchers, &mut progress)? {
+            if !advance(alloc, self, text, &mut here, &mut matchers, &mut progress)? {
                 let anew = progress.boundaries.len().saturating_sub(1);
                 return Ok(finished(self, text, progress, anew));
             }

@@ -2,14 +2,14 @@ ghost use Rattle.std.specs.Prelude.{◌≡◌, ◌+◌, ◌^◌, ◌<◌, ◌≤
 ghost use Rattle.regex.specs.Patterns.{SameCaptures};
 ghost use Rattle.regex.specs.Strings.{matcher_pattern};
 ghost use Rattle.lrlex_rules.specs.Patterns.{match_length, pattern_of};
-ghost use Rattle.lrlex.specs.Active.{active_count, is_state};
+ghost use Rattle.lrlex.specs.Active.{active_count};
 ghost use Rattle.lrlex.specs.Tiling.{Wins, IsStuck};
 ghost use Rattle.lrlex.specs.Decided.{IsDecided};
 ghost use Rattle.lrlex_rules.specs.Parts.{as_rule};
-ghost use Rattle.lrlex.specs.Tables.{IsMatcherOf, AreMatchers};
+ghost use Rattle.lrlex.specs.Tables.{IsMatcherOf, AreMatchers, AreOf};
 ghost use Rattle.lrlex.specs.Views.{definition_of};
 
-use crate::lexer::definition::LRNonStreamingLexerDef;
+use crate::lexer::definition::{LRNonStreamingLexerDef, RulesIn};
 use lrlex_base::{Id, LexerTypes};
 use lrlex_rules::Rule;
 use regex::Matcher;
@@ -109,11 +109,12 @@ pub(crate) fn winner<'d, L: LexerTypes>(
     alloc: Global,
     definition: &'d LRNonStreamingLexerDef<L>,
     state: usize,
+    here: RulesIn<'d>,
     matchers: &mut [Option<Box<Matcher<'d>>>],
     text: &str,
     asked: &mut u128,
 ) -> Result<Sight, AllocError>
-    requires state { is_state (definition_of L.StorageT.number definition.now) state ≡ true }
+    requires here { AreOf (definition_of L.StorageT.number definition.now) state here }
     requires matchers { AreMatchers definition.now.table.rules.items matchers.old }
     requires room { asked.old + vec_len definition.now.table.rules < 2 ^ 128 }
     ensures winner { IfOk result (λ s. MatchOption s.tile (IsStuck (definition_of L.StorageT.number definition.now) state text.now)
@@ -124,8 +125,8 @@ pub(crate) fn winner<'d, L: LexerTypes>(
     ensures counted { IfOk result (λ _. asked.new ≤ asked.old + active_count (definition_of L.StorageT.number definition.now) state) }
     ensures matchers { IfOk result (λ _. AreMatchers definition.now.table.rules.items matchers.new) }
 {
-    let active = definition.active_in(state);
-    let tables = definition.tables_in(state);
+    let active = here.active;
+    let tables = here.tables;
     let sight = tables.look(text);
     let mut best = match sight.tile {
         Some(tile) => Tile {

@@ -20,8 +20,8 @@ others-init g c =
     let d = definition_of g.L.StorageT.Id.number c.args.definition.now in
     let q = c.args.state in
     let text = c.args.text.now in
-    let places = c.active_in-active.result.now in
-    let t = c.tables_in-tables.result.now in
+    let places = c.args.here.active.now in
+    let t = c.args.here.tables.now in
     let told = λ (b : Tile). IsBestAmong (patterns_on d.rules places) (looked_at t.parts.items t.asked.items 0) text b.rule b.len in
     record {
       matchers = c.requires.matchers;
@@ -29,77 +29,80 @@ others-init g c =
       best = elim c.match-sight.branch [
         | in-Some w ↦
             subst told (sym w.best-is)
-            (told_some d q text places t.asked.items c.active_in-active.ensures t refl c.tables_in-tables.ensures c.look-sight.result.tile c.look-sight.ensures.winner w.in-Some.tile w.in-Some.is)
+            (told_some d q text places t.asked.items c.requires.here.active t refl c.requires.here.tables c.look-sight.result.tile c.look-sight.ensures.winner w.in-Some.tile w.in-Some.is)
         | in-None w ↦
             subst told (sym w.best-is)
-            (told_none d q text places t.asked.items c.active_in-active.ensures t refl c.tables_in-tables.ensures c.look-sight.result.tile c.look-sight.ensures.winner w.in-None.is)
+            (told_none d q text places t.asked.items c.requires.here.active t refl c.requires.here.tables c.look-sight.result.tile c.look-sight.ensures.winner w.in-None.is)
       ];
     }
 
 pub bounds-active-number : goal.bounds-active-number
 bounds-active-number g c =
     let d = definition_of g.L.StorageT.Id.number c.args.definition.now in
-    let t = c.tables_in-tables.result.now in
-    other_within d c.args.state c.args.text.now c.active_in-active.result.now c.asked.result.now c.active_in-active.ensures t c.asked.ensures c.tables_in-tables.ensures c.others.index
+    let t = c.args.here.tables.now in
+    other_within d c.args.state c.args.text.now c.args.here.active.now c.asked.result.now c.requires.here.active t c.asked.ensures c.requires.here.tables c.others.index
     (omega (arith, ap length c.asked.ensures, ap length c.asked-index-end.ensures))
 
 pub offset_bounds-active-number : goal.offset_bounds-active-number
 offset_bounds-active-number g c =
     let d = definition_of g.L.StorageT.Id.number c.args.definition.now in
-    let t = c.tables_in-tables.result.now in
-    let within = other_within d c.args.state c.args.text.now c.active_in-active.result.now c.asked.result.now c.active_in-active.ensures t c.asked.ensures c.tables_in-tables.ensures c.others.index
+    let t = c.args.here.tables.now in
+    let within = other_within d c.args.state c.args.text.now c.args.here.active.now c.asked.result.now c.requires.here.active t c.asked.ensures c.requires.here.tables c.others.index
     (omega (arith, ap length c.asked.ensures, ap length c.asked-index-end.ensures)) in
-    omega (arith, c.active_in-active.type_inv)
+    let places = c.args.here.active.now in
+    let rules_len = length-map c.args.definition.now.table.rules.items (as_rule g.L.StorageT.Id.number) in
+    let few = length-places_of d c.args.state places c.requires.here.active in
+    omega (arith, few, active_count-le d c.args.state, rules_len, c.args.definition.now.table.rules.ok.0, c.args.definition.now.table.rules.ok.1, c.args.definition.now.table.rules.small)
 
 pub index-rule-requires : goal.index-rule-requires
 index-rule-requires g c =
     let d = definition_of g.L.StorageT.Id.number c.args.definition.now in
-    let t = c.tables_in-tables.result.now in
-    let places = c.active_in-active.result.now in
-    let within = other_within d c.args.state c.args.text.now places c.asked.result.now c.active_in-active.ensures t c.asked.ensures c.tables_in-tables.ensures c.others.index
+    let t = c.args.here.tables.now in
+    let places = c.args.here.active.now in
+    let within = other_within d c.args.state c.args.text.now places c.asked.result.now c.requires.here.active t c.asked.ensures c.requires.here.tables c.others.index
     (omega (arith, ap length c.asked.ensures, ap length c.asked-index-end.ensures)) in
     let rules_len = length-map c.args.definition.now.table.rules.items (as_rule g.L.StorageT.Id.number) in
-    omega (arith, c.args.definition.now.table.rules.ok.0, rules_len, active_within d c.args.state places c.active_in-active.ensures (get_or c.asked.result.now c.others.index 0) within)
+    omega (arith, c.args.definition.now.table.rules.ok.0, rules_len, active_within d c.args.state places c.requires.here.active (get_or c.asked.result.now c.others.index 0) within)
 
 pub bounds-matchers-place : goal.bounds-matchers-place
 bounds-matchers-place g c =
     let rules = c.args.definition.now.table.rules.items in
     let d = definition_of g.L.StorageT.Id.number c.args.definition.now in
-    let t = c.tables_in-tables.result.now in
-    let places = c.active_in-active.result.now in
-    let within = other_within d c.args.state c.args.text.now places c.asked.result.now c.active_in-active.ensures t c.asked.ensures c.tables_in-tables.ensures c.others.index
+    let t = c.args.here.tables.now in
+    let places = c.args.here.active.now in
+    let within = other_within d c.args.state c.args.text.now places c.asked.result.now c.requires.here.active t c.asked.ensures c.requires.here.tables c.others.index
     (omega (arith, ap length c.asked.ensures, ap length c.asked-index-end.ensures)) in
     let rules_len = length-map rules (as_rule g.L.StorageT.Id.number) in
-    omega (arith, c.others.invariant.matchers.0, rules_len, active_within d c.args.state places c.active_in-active.ensures (get_or c.asked.result.now c.others.index 0) within)
+    omega (arith, c.others.invariant.matchers.0, rules_len, active_within d c.args.state places c.requires.here.active (get_or c.asked.result.now c.others.index 0) within)
 
 pub offset_bounds-matchers-place : goal.offset_bounds-matchers-place
 offset_bounds-matchers-place g c =
     let rules = c.args.definition.now.table.rules.items in
     let d = definition_of g.L.StorageT.Id.number c.args.definition.now in
-    let t = c.tables_in-tables.result.now in
-    let places = c.active_in-active.result.now in
-    let within = other_within d c.args.state c.args.text.now places c.asked.result.now c.active_in-active.ensures t c.asked.ensures c.tables_in-tables.ensures c.others.index
+    let t = c.args.here.tables.now in
+    let places = c.args.here.active.now in
+    let within = other_within d c.args.state c.args.text.now places c.asked.result.now c.requires.here.active t c.asked.ensures c.requires.here.tables c.others.index
     (omega (arith, ap length c.asked.ensures, ap length c.asked-index-end.ensures)) in
     let rules_len = length-map rules (as_rule g.L.StorageT.Id.number) in
-    let place = active_within d c.args.state places c.active_in-active.ensures (get_or c.asked.result.now c.others.index 0) within in
+    let place = active_within d c.args.state places c.requires.here.active (get_or c.asked.result.now c.others.index 0) within in
     omega (arith, c.args.definition.now.table.rules.ok.0, c.args.definition.now.table.rules.ok.1, c.args.definition.now.table.rules.small)
 
 pub ask_by-requires : goal.ask_by-requires
 ask_by-requires g c =
     let rules = c.args.definition.now.table.rules.items in
     let d = definition_of g.L.StorageT.Id.number c.args.definition.now in
-    let t = c.tables_in-tables.result.now in
-    let places = c.active_in-active.result.now in
-    let within = other_within d c.args.state c.args.text.now places c.asked.result.now c.active_in-active.ensures t c.asked.ensures c.tables_in-tables.ensures c.others.index
+    let t = c.args.here.tables.now in
+    let places = c.args.here.active.now in
+    let within = other_within d c.args.state c.args.text.now places c.asked.result.now c.requires.here.active t c.asked.ensures c.requires.here.tables c.others.index
     (omega (arith, ap length c.asked.ensures, ap length c.asked-index-end.ensures)) in
     let place = get_or places (get_or c.asked.result.now c.others.index 0) 0 in
     let rules_len = length-map rules (as_rule g.L.StorageT.Id.number) in
-    let below : place < length rules = omega (arith, rules_len, active_within d c.args.state places c.active_in-active.ensures (get_or c.asked.result.now c.others.index 0) within) in
-    let few = others_few d c.args.state c.args.text.now places t.asked.items c.active_in-active.ensures t refl c.tables_in-tables.ensures in
+    let below : place < length rules = omega (arith, rules_len, active_within d c.args.state places c.requires.here.active (get_or c.asked.result.now c.others.index 0) within) in
+    let few = others_few d c.args.state c.args.text.now places t.asked.items c.requires.here.active t refl c.requires.here.tables in
     let at = slice_get_read rules (length rules) place c.index-rule.result.now refl below c.index-rule.ensures in
     record {
       slot = subst (IsMatcherOf c.index-rule.result.now) c.index-matchers-place.is (matcher_at rules c.others.matchers c.others.invariant.matchers place c.index-rule.result.now at c.index-matchers-place.result c.index-matchers-place.is);
-      room = omega (arith, few, c.others.invariant.counted, c.args.definition.now.table.rules.ok.0, length-places_of d c.args.state places c.active_in-active.ensures, active_count-le d c.args.state, rules_len, ap length c.asked-index-end.ensures);
+      room = omega (arith, few, c.others.invariant.counted, c.args.definition.now.table.rules.ok.0, length-places_of d c.args.state places c.requires.here.active, active_count-le d c.args.state, rules_len, ap length c.asked-index-end.ensures);
     }
 
 pub others-preserved : goal.others-preserved
@@ -108,17 +111,17 @@ others-preserved g c =
     let d = definition_of g.L.StorageT.Id.number c.args.definition.now in
     let q = c.args.state in
     let text = c.args.text.now in
-    let places = c.active_in-active.result.now in
-    let t = c.tables_in-tables.result.now in
+    let places = c.args.here.active.now in
+    let t = c.args.here.tables.now in
     let i = c.others.index in
     let k = get_or c.asked.result.now i 0 in
     let place = get_or places k 0 in
     let r = c.index-rule.result.now in
     let inv = c.others.invariant in
     let here : i < length t.asked.items = omega (arith, ap length c.asked-index-end.ensures) in
-    let within = other_within d q text places c.asked.result.now c.active_in-active.ensures t c.asked.ensures c.tables_in-tables.ensures i (omega (arith, ap length c.asked.ensures)) in
+    let within = other_within d q text places c.asked.result.now c.requires.here.active t c.asked.ensures c.requires.here.tables i (omega (arith, ap length c.asked.ensures)) in
     let rules_len = length-map rules (as_rule g.L.StorageT.Id.number) in
-    let below : place < length rules = omega (arith, rules_len, active_within d q places c.active_in-active.ensures k within) in
+    let below : place < length rules = omega (arith, rules_len, active_within d q places c.requires.here.active k within) in
     let at = slice_get_read rules (length rules) place r refl below c.index-rule.ensures in
     let len = c.in_ok-len.len in
     let ps = patterns_on d.rules places in
@@ -151,52 +154,52 @@ others-preserved g c =
 pub returns-then-best-eq0-clause-winner : goal.returns-then-best-eq0-clause-winner
 returns-then-best-eq0-clause-winner g c =
     let d = definition_of g.L.StorageT.Id.number c.args.definition.now in
-    let t = c.tables_in-tables.result.now in
-    best_stuck d c.args.state c.args.text.now c.active_in-active.result.now t.asked.items c.active_in-active.ensures t refl c.tables_in-tables.ensures c.others.index c.others.best.rule c.others.best.len
+    let t = c.args.here.tables.now in
+    best_stuck d c.args.state c.args.text.now c.args.here.active.now t.asked.items c.requires.here.active t refl c.requires.here.tables c.others.index c.others.best.rule c.others.best.len
     (omega (arith, c.others-test.false, ap length c.asked-index-end.ensures)) c.others.invariant.best c.if-best-eq0.true
 
 pub returns-then-best-eq0-clause-counted : goal.returns-then-best-eq0-clause-counted
 returns-then-best-eq0-clause-counted g c =
     let d = definition_of g.L.StorageT.Id.number c.args.definition.now in
-    let t = c.tables_in-tables.result.now in
-    let places = c.active_in-active.result.now in
+    let t = c.args.here.tables.now in
+    let places = c.args.here.active.now in
     omega (
       arith,
       c.others.invariant.counted,
       c.others.auto.index-end,
       ap length c.asked-index-end.ensures,
-      length-places_of d c.args.state places c.active_in-active.ensures,
-      others_few d c.args.state c.args.text.now places t.asked.items c.active_in-active.ensures t refl c.tables_in-tables.ensures,
+      length-places_of d c.args.state places c.requires.here.active,
+      others_few d c.args.state c.args.text.now places t.asked.items c.requires.here.active t refl c.requires.here.tables,
     )
 
 pub returns-clause-winner : goal.returns-clause-winner
 returns-clause-winner g c =
     let d = definition_of g.L.StorageT.Id.number c.args.definition.now in
-    let t = c.tables_in-tables.result.now in
-    best_wins d c.args.state c.args.text.now c.active_in-active.result.now t.asked.items c.active_in-active.ensures t refl c.tables_in-tables.ensures c.others.index c.others.best.rule c.others.best.len
+    let t = c.args.here.tables.now in
+    best_wins d c.args.state c.args.text.now c.args.here.active.now t.asked.items c.requires.here.active t refl c.requires.here.tables c.others.index c.others.best.rule c.others.best.len
     (omega (arith, c.others-test.false, ap length c.asked-index-end.ensures)) c.others.invariant.best (omega (arith, c.if-best-eq0.false))
 
 pub returns-clause-rule : goal.returns-clause-rule
 returns-clause-rule g c =
     let d = definition_of g.L.StorageT.Id.number c.args.definition.now in
-    let places = c.active_in-active.result.now in
+    let places = c.args.here.active.now in
     let inside = c.others.invariant.best.within (omega (arith, c.if-best-eq0.false)) in
     let count = length-map places (pattern_in d.rules) in
     let rules_len = length-map c.args.definition.now.table.rules.items (as_rule g.L.StorageT.Id.number) in
-    omega (arith, c.args.definition.now.table.rules.ok.0, rules_len, active_within d c.args.state places c.active_in-active.ensures c.others.best.rule (omega (arith, inside, count)))
+    omega (arith, c.args.definition.now.table.rules.ok.0, rules_len, active_within d c.args.state places c.requires.here.active c.others.best.rule (omega (arith, inside, count)))
 
 pub returns-clause-counted : goal.returns-clause-counted
 returns-clause-counted g c =
     let d = definition_of g.L.StorageT.Id.number c.args.definition.now in
-    let t = c.tables_in-tables.result.now in
-    let places = c.active_in-active.result.now in
+    let t = c.args.here.tables.now in
+    let places = c.args.here.active.now in
     omega (
       arith,
       c.others.invariant.counted,
       c.others.auto.index-end,
       ap length c.asked-index-end.ensures,
-      length-places_of d c.args.state places c.active_in-active.ensures,
-      others_few d c.args.state c.args.text.now places t.asked.items c.active_in-active.ensures t refl c.tables_in-tables.ensures,
+      length-places_of d c.args.state places c.requires.here.active,
+      others_few d c.args.state c.args.text.now places t.asked.items c.requires.here.active t refl c.requires.here.tables,
     )
 
 pub returns-then-best-eq0-clause-decided : goal.returns-then-best-eq0-clause-decided
@@ -204,12 +207,12 @@ returns-then-best-eq0-clause-decided g c =
     let d = definition_of g.L.StorageT.Id.number c.args.definition.now in
     let q = c.args.state in
     let text = c.args.text.now in
-    let t = c.tables_in-tables.result.now in
+    let t = c.args.here.tables.now in
     elim c.if-is_empty.branch [
       | then-is_empty w ↦
           let zero : length c.asked-2.result.now ≡ 0 = search (rules, arith) in
           subst (IsDecided d q text) (sym w.reach-is)
-          (decided_look d q text c.active_in-active.result.now t.asked.items c.active_in-active.ensures t refl c.tables_in-tables.ensures c.others.index c.others.best.rule c.others.best.len
+          (decided_look d q text c.args.here.active.now t.asked.items c.requires.here.active t refl c.requires.here.tables c.others.index c.others.best.rule c.others.best.len
           (omega (arith, c.others-test.false, ap length c.asked-index-end.ensures)) c.others.invariant.best c.look-sight.result.reach
           (nil_from_length t.asked.items (omega (arith, zero, ap length c.asked-2.ensures))) c.look-sight.ensures.decided)
       | else-is_empty w ↦ subst (IsDecided d q text) (sym w.reach-is) (decided_whole d q text)
@@ -220,12 +223,12 @@ returns-clause-decided g c =
     let d = definition_of g.L.StorageT.Id.number c.args.definition.now in
     let q = c.args.state in
     let text = c.args.text.now in
-    let t = c.tables_in-tables.result.now in
+    let t = c.args.here.tables.now in
     elim c.if-is_empty.branch [
       | then-is_empty w ↦
           let zero : length c.asked-2.result.now ≡ 0 = search (rules, arith) in
           subst (IsDecided d q text) (sym w.reach-is)
-          (decided_look d q text c.active_in-active.result.now t.asked.items c.active_in-active.ensures t refl c.tables_in-tables.ensures c.others.index c.others.best.rule c.others.best.len
+          (decided_look d q text c.args.here.active.now t.asked.items c.requires.here.active t refl c.requires.here.tables c.others.index c.others.best.rule c.others.best.len
           (omega (arith, c.others-test.false, ap length c.asked-index-end.ensures)) c.others.invariant.best c.look-sight.result.reach
           (nil_from_length t.asked.items (omega (arith, zero, ap length c.asked-2.ensures))) c.look-sight.ensures.decided)
       | else-is_empty w ↦ subst (IsDecided d q text) (sym w.reach-is) (decided_whole d q text)
