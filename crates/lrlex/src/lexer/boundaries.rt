@@ -5,6 +5,7 @@ ghost use Rattle.lrlex.specs.Ranges.{AreBegun, AreRising, IsRange, runs_of, stre
 ghost use Rattle.lrlex.specs.Runs.{Stay};
 
 use crate::lexer::boundary::{Stretch, last_of, stored};
+use crate::lexer::room::append;
 use std::alloc::{AllocError, Global};
 use std::marker::Model;
 
@@ -130,7 +131,7 @@ impl Boundaries {
     pub(crate) fn repeat(&mut self, place: usize) -> Result<(), AllocError>
         ensures { OnOk result (self.new ≡ self.old ++ record { place = place; runs = last_runs self.old } ∷ []) }
     {
-        self.places.push(place)?;
+        append(&mut self.places, place)?;
         Ok(())
     }
 

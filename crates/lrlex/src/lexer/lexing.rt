@@ -13,6 +13,7 @@ use crate::errors::LRLexError;
 use crate::lexer::active::{lacks_id, lexeme_id};
 use crate::lexer::boundaries::Boundaries;
 use crate::lexer::definition::{LRNonStreamingLexerDef, RulesIn};
+use crate::lexer::room::append;
 use crate::lexer::searching::winner;
 use crate::lexer::stack::{step, top_of};
 use lrlex_base::{Lexeme, LexerTypes, Span};
@@ -87,7 +88,7 @@ fn give<L: LexerTypes>(
         ++ lexeme_of (lexeme_id (as_rule L.StorageT.number rule.now)) place len) }
 {
     if let Some(id) = lexeme_id(rule) {
-        items.push(Ok(Lexeme::new(id, place, len)))?;
+        append(items, Ok(Lexeme::new(id, place, len)))?;
     }
     Ok(())
 }
@@ -143,7 +144,7 @@ fn enter<L: LexerTypes>(
 {
     progress.place = place;
     progress.over = over;
-    progress.ahead.push(capped(over))?;
+    append(&mut progress.ahead, capped(over))?;
     match target {
         None => progress.boundaries.repeat(place)?,
         Some(_) => {

@@ -2,7 +2,7 @@ use Rattle.std.proofs.Common.{◌≡◌, ◌≤◌, true, false, length, drop, s
 use Rattle.std.proofs.lemmas.Str.{IsCharBoundary-start}
 use Rattle.lrlex.specs.Tiling.{Done}
 use Rattle.lrlex.specs.Reach.{IsRun, searches}
-use Rattle.lrlex.specs.Tables.{AreMatchers}
+use Rattle.lrlex.specs.Tables.{AreMatchers, AreOf}
 use Rattle.lrlex.specs.Views.{definition_of, items_by}
 use Rattle.lrlex.proofs.ViewLemmas.{taken_back}
 use Rattle.lrlex.proofs.ReachLemmas.{ended, nothing_left, asked_now, few_searches, run_of}
@@ -10,6 +10,7 @@ use Rattle.lrlex.proofs.lexer.definition.LRNonStreamingLexerDef.run.Goals as goa
 
 pub tiles-init : goal.tiles-init
 tiles-init g c = record {
+  here = subst (λ q. AreOf (definition_of g.L.StorageT.Id.number c.args.self.now) q c.rules_in-here.result) (sym c.rules_in-here.ensures.state) c.rules_in-here.ensures.rules;
   matchers = rw c.deref.ensures.value at c.in_ok-matchers.ensures;
   boundary = subst (IsCharBoundary c.args.text.now) (sym c.in_ok-progress.ensures.start) (IsCharBoundary-start c.args.text.now c.utf8.text);
   reached = c.in_ok-progress.ensures.reached;
@@ -20,6 +21,7 @@ pub tiles-preserved : goal.tiles-preserved
 tiles-preserved g c =
     let on : c.in_ok-advance.field-0 ≡ true = c.if-not-branch.false in
     record {
+      here = c.in_ok-advance.ensures.here;
       matchers = subst (λ ms. AreMatchers c.args.self.now.table.rules.items ms)
           (sym (taken_back c.advance.new.matchers (drop (length c.advance.new.matchers) c.tiles.matchers.items) c.tiles.matchers.len
           (omega (arith, c.tiles.matchers.ok.0, c.in_ok-advance.ensures.matchers.0, c.tiles.invariant.matchers.0))))
@@ -83,6 +85,9 @@ finished-requires-clause-run g c =
     let d = definition_of g.L.StorageT.Id.number c.args.self.now in
     let p = c.advance.new.progress in
     run_of d c.args.text.now (items_by g.L.StorageT.Id.number g.L.LexemeT.Lexeme.id_of g.L.LexemeT.Lexeme.start_of g.L.LexemeT.Lexeme.len_of g.L.LexemeT.Lexeme.is_faulty p.items.items) p.boundaries c.tiles.invariant.reached.initial (c.in_ok-advance.ensures.ends c.if-not-branch.true)
+
+pub advance-requires-clause-here : goal.advance-requires-clause-here
+advance-requires-clause-here g c = c.tiles.invariant.here
 
 pub advance-requires-clause-matchers : goal.advance-requires-clause-matchers
 advance-requires-clause-matchers g c = subst (AreMatchers c.args.self.now.table.rules.items) (sym c.deref_mut.ensures.value) c.tiles.invariant.matchers

@@ -4,7 +4,7 @@ use Rattle.lrlex.specs.Runs.{plain, AreRuns}
 use Rattle.lrlex.specs.Marks.{mark_at}
 use Rattle.lrlex.specs.Edits.{Meets, items_from, moved_mark}
 use Rattle.lrlex.specs.Reach.{IsLexed, IsRun}
-use Rattle.lrlex.specs.Tables.{AreMatchers}
+use Rattle.lrlex.specs.Tables.{AreMatchers, AreOf}
 use Rattle.lrlex.specs.Views.{definition_of, items_by}
 use Rattle.std.proofs.Props.{props}
 use Rattle.std.proofs.Math.Logic.{∥∥₁_elim}
@@ -25,6 +25,7 @@ tiles-init g c =
     let p = c.in_ok-progress.progress in
     let e = c.in_ok-progress.ensures in
     record {
+      here = subst (λ q. AreOf (definition_of g.L.StorageT.Id.number c.args.self.now.definition.now) q c.rules_in-here.result) (sym c.rules_in-here.ensures.state) c.rules_in-here.ensures.rules;
       matchers = rw c.deref.ensures.value at c.in_ok-matchers.ensures;
       boundary = e.boundary;
       reached = e.reached;
@@ -212,6 +213,7 @@ tiles-preserved g c =
     let more = c.in_ok-advance.ensures.more on in
     let grows = c.in_ok-advance.ensures.grows on in
     record {
+      here = c.in_ok-advance.ensures.here;
       matchers = subst (λ ms. AreMatchers def.table.rules.items ms)
           (sym (taken_back c.advance.new.matchers (drop (length c.advance.new.matchers) c.tiles.matchers.items) c.tiles.matchers.len
           (omega (arith, c.tiles.matchers.ok.0, c.in_ok-advance.ensures.matchers.0, c.tiles.invariant.matchers.0))))
@@ -292,6 +294,9 @@ returns-clause-few g c =
     let p = c.tiles.progress in
     few_met (definition_of g.L.StorageT.Id.number c.args.self.now.definition.now) c.args.new.now p.place p.stack.items (items_by g.L.StorageT.Id.number g.L.LexemeT.Lexeme.id_of g.L.LexemeT.Lexeme.start_of g.L.LexemeT.Lexeme.len_of g.L.LexemeT.Lexeme.is_faulty p.items.items) p.boundaries [] c.finished-2.result.boundaries p.asked c.finished-2.result.asked c.tiles.invariant.reached
     (c.finished-2.ensures.boundaries ∙ sym (append-nil p.boundaries)) (omega (arith, c.finished-2.ensures.asked))
+
+pub advance-requires-clause-here : goal.advance-requires-clause-here
+advance-requires-clause-here g c = c.tiles.invariant.here
 
 pub advance-requires-clause-matchers : goal.advance-requires-clause-matchers
 advance-requires-clause-matchers g c = subst (AreMatchers c.args.self.now.definition.now.table.rules.items) (sym c.deref_mut.ensures.value) c.tiles.invariant.matchers
