@@ -17,7 +17,7 @@ use crate::lexer::room::append;
 use crate::lexer::searching::winner;
 use crate::lexer::stack::{step, top_of};
 use lrlex_base::{Lexeme, LexerTypes, Span};
-use lrlex_rules::{Rule, StartStateId, StartStateOperation};
+use lrlex_rules::{Rule, StartStateId};
 use regex::Matcher;
 use std::alloc::{AllocError, Global};
 
@@ -120,12 +120,12 @@ pub(crate) fn capped(over: usize) -> u8
     if over < 255 { over as u8 } else { 255 }
 }
 
-/// Enters the next boundary: moves the stack by a rule's target. The tiles looked `over` bytes past its place.
+/// Enters the next boundary: moves the stack by the rule's target. The tiles looked `over` bytes past its place.
 #[inline(always)]
 #[tactic(auto, unfolding(crate::specs::Tiling::stack_after))]
 fn enter<L: LexerTypes>(
     progress: &mut Progress<L>,
-    target: Option<(usize, StartStateOperation)>,
+    rule: &Rule<L::StorageT>,
     place: usize,
     over: usize,
 ) -> Result<(), AllocError>
@@ -134,7 +134,7 @@ fn enter<L: LexerTypes>(
     requires last { last_runs progress.old.boundaries ≡ progress.old.stack.items }
     ensures place { OnOk result (progress.new.place ≡ place) }
     ensures runs { OnOk result (AreRuns progress.new.stack.items) }
-    ensures moved { OnOk result (plain progress.new.stack.items ≡ stack_after (plain progress.old.stack.items) target) }
+    ensures moved { OnOk result (plain progress.new.stack.items ≡ stack_after (plain progress.old.stack.items) (as_rule L.StorageT.number rule.now).target) }
     ensures items { OnOk result (progress.new.items.items ≡ progress.old.items.items) }
     ensures asked { OnOk result (progress.new.asked ≡ progress.old.asked) }
     ensures over { OnOk result (progress.new.over ≡ over) }
@@ -145,12 +145,11 @@ fn enter<L: LexerTypes>(
     progress.place = place;
     progress.over = over;
     append(&mut progress.ahead, capped(over))?;
-    match target {
-        None => progress.boundaries.repeat(place)?,
-        Some(_) => {
-            let kept = step(&mut progress.stack, target)?;
-            progress.boundaries.push(place, &progress.stack, kept)?;
-        }
+    if rule.target_state().is_none() {
+        progress.boundaries.repeat(place)?;
+    } else {
+        let kept = step(&mut progress.stack, rule.target_state())?;
+        progress.boundaries.push(place, &progress.stack, kept)?;
     }
     Ok(())
 }
@@ -215,6 +214,6 @@ pub(crate) fn advance<'d, L: LexerTypes>(
         return Ok(false);
     }
     let over = progress.over.max(sight.reach).saturating_sub(tile.len);
-    enter(progress, rule.target_state(), place + tile.len, over)?;
+    enter(progress, rule, place + tile.len, over)?;
     Ok(true)
 }

@@ -3,26 +3,13 @@ ghost use Rattle.std.specs.Prelude.{◌≡◌, [], ◌∷◌, ◌++◌, OnOk, On
 
 use std::alloc::AllocError;
 
-/// Appends the value, and makes room first. Out of line, since it is seldom needed.
-#[inline(never)]
-fn append_growing<T: Copy>(list: &mut Vec<T>, value: T) -> Result<(), AllocError>
-    ensures items { OnOk result (list.new.items ≡ list.old.items ++ value ∷ []) }
-    ensures same { OnErr result (list.new.items ≡ list.old.items) }
-{
-    list.push(value)?;
-    Ok(())
-}
-
-/// Appends the value: a store in line, where there is room.
+/// Appends the value. Where there is room that is a store in line, which `push` isn't: that can hand the value back.
 #[inline(always)]
 pub(crate) fn append<T: Copy>(list: &mut Vec<T>, value: T) -> Result<(), AllocError>
     ensures items { OnOk result (list.new.items ≡ list.old.items ++ value ∷ []) }
     ensures same { OnErr result (list.new.items ≡ list.old.items) }
 {
-    if list.len() < list.capacity() {
-        list.push_reserved(value);
-        Ok(())
-    } else {
-        append_growing(list, value)
-    }
+    list.reserve(1)?;
+    list.push_reserved(value);
+    Ok(())
 }
