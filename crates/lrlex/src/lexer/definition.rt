@@ -45,6 +45,7 @@ impl<L: LexerTypes> LRNonStreamingLexerDef<L> {
     ghost use Rattle.std.specs.Prelude.{Some, option_map, IfOk};
     ghost use Rattle.lrlex_table.specs.Tables.{AreTablesOf};
     ghost use Rattle.lrlex.specs.Tables.{patterns_on};
+    ghost use Rattle.lrlex.specs.Asked.{untabled_count};
 
     /// Just these start states, rules and flags, in order.
     pub(crate) fn of_parts(
@@ -167,8 +168,9 @@ impl<L: LexerTypes> LRNonStreamingLexerDef<L> {
     #[inline(always)]
     pub(crate) fn tables_in(&self, id: usize) -> &Tables
         requires { is_state (definition_of L.StorageT.number self.now) id ≡ true }
-        ensures { ∥ AreTablesOf (patterns_on (definition_of L.StorageT.number self.now).rules
+        ensures served { ∥ AreTablesOf (patterns_on (definition_of L.StorageT.number self.now).rules
             (active_places (definition_of L.StorageT.number self.now).states (definition_of L.StorageT.number self.now).rules id)) result.now ∥₁ }
+        ensures untabled { length result.now.asked.items ≡ untabled_count self.now id }
     {
         let index = position_of(&self.table.start_states, self.table.placed, id).unwrap_or(0);
         &self.table.tables[self.table.tables_at[index]]

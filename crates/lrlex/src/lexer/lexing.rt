@@ -1,7 +1,8 @@
 ghost use Rattle.std.specs.Prelude.{◌≡◌, ◌+◌, ◌-◌, ◌^◌, ◌<◌, ◌≤◌, true, false, [], ◌∷◌, ◌++◌, length, map, IfOk, OnOk, IsCharBoundary};
 ghost use Rattle.lrlex.specs.Active.{is_state, lexeme_id};
 ghost use Rattle.lrlex_rules.specs.Parts.{as_rule};
-ghost use Rattle.lrlex.specs.Tiling.{Error, stack_after, lexeme_of};
+ghost use Rattle.lrlex.specs.Asked.{untabled_count};
+ghost use Rattle.lrlex.specs.Tiling.{Error, top, stack_after, lexeme_of};
 ghost use Rattle.lrlex.specs.Runs.{plain, AreRuns};
 ghost use Rattle.lrlex.specs.Marks.{Mark, last_runs};
 ghost use Rattle.lrlex.specs.Reach.{Reached, IsLexed, searches};
@@ -53,6 +54,7 @@ pub(crate) fn begin<L: LexerTypes>(
     ensures looked { IfOk result (λ p. HasLooked (definition_of L.StorageT.number definition.now) text.now p.boundaries p.ahead.items p.place p.over) }
     ensures start { IfOk result (λ p. p.place ≡ 0) }
     ensures one { IfOk result (λ p. length p.boundaries ≡ 1) }
+    ensures none { IfOk result (λ p. p.asked ≡ 0) }
 {
     let room = tiles_expected(text);
     let mut stack = Vec::new(alloc);
@@ -181,6 +183,7 @@ pub(crate) fn advance<'d, L: LexerTypes>(
     ensures same { IfOk result (λ on. on ≡ false → progress.new.boundaries ≡ progress.old.boundaries) }
     ensures ahead { IfOk result (λ on. on ≡ false → progress.new.ahead.items ≡ progress.old.ahead.items) }
     ensures asked { IfOk result (λ _. progress.new.asked ≤ searches (definition_of L.StorageT.number definition.now) text.now progress.old.boundaries) }
+    ensures exact { IfOk result (λ _. progress.new.asked ≡ progress.old.asked + untabled_count definition.now (top (plain progress.old.stack.items))) }
 {
     let place = progress.place;
     let state = top_of(&progress.stack);

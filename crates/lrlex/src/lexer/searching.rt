@@ -3,6 +3,7 @@ ghost use Rattle.regex.specs.Patterns.{SameCaptures};
 ghost use Rattle.regex.specs.Strings.{matcher_pattern};
 ghost use Rattle.lrlex_rules.specs.Patterns.{match_length, pattern_of};
 ghost use Rattle.lrlex.specs.Active.{active_count, is_state};
+ghost use Rattle.lrlex.specs.Asked.{untabled_count};
 ghost use Rattle.lrlex.specs.Tiling.{Wins, IsStuck};
 ghost use Rattle.lrlex.specs.Decided.{IsDecided};
 ghost use Rattle.lrlex_rules.specs.Parts.{as_rule};
@@ -122,6 +123,7 @@ pub(crate) fn winner<'d, L: LexerTypes>(
     ensures rule { IfOk result (λ s. IfSome s.tile (λ t. t.rule < vec_len definition.now.table.rules)) }
     ensures decided { IfOk result (λ s. IsDecided (definition_of L.StorageT.number definition.now) state text.now s.reach) }
     ensures counted { IfOk result (λ _. asked.new ≤ asked.old + active_count (definition_of L.StorageT.number definition.now) state) }
+    ensures exact { IfOk result (λ _. asked.new ≡ asked.old + untabled_count definition.now state) }
     ensures matchers { IfOk result (λ _. AreMatchers definition.now.table.rules.items matchers.new) }
 {
     let active = definition.active_in(state);

@@ -29,10 +29,10 @@ others-init g c =
       best = elim c.match-sight.branch [
         | in-Some w ↦
             subst told (sym w.best-is)
-            (told_some d q text places t.asked.items c.active_in-active.ensures t refl c.tables_in-tables.ensures c.look-sight.result.tile c.look-sight.ensures.winner w.in-Some.tile w.in-Some.is)
+            (told_some d q text places t.asked.items c.active_in-active.ensures t refl c.tables_in-tables.ensures.served c.look-sight.result.tile c.look-sight.ensures.winner w.in-Some.tile w.in-Some.is)
         | in-None w ↦
             subst told (sym w.best-is)
-            (told_none d q text places t.asked.items c.active_in-active.ensures t refl c.tables_in-tables.ensures c.look-sight.result.tile c.look-sight.ensures.winner w.in-None.is)
+            (told_none d q text places t.asked.items c.active_in-active.ensures t refl c.tables_in-tables.ensures.served c.look-sight.result.tile c.look-sight.ensures.winner w.in-None.is)
       ];
     }
 
@@ -40,14 +40,14 @@ pub bounds-active-number : goal.bounds-active-number
 bounds-active-number g c =
     let d = definition_of g.L.StorageT.Id.number c.args.definition.now in
     let t = c.tables_in-tables.result.now in
-    other_within d c.args.state c.args.text.now c.active_in-active.result.now c.asked.result.now c.active_in-active.ensures t c.asked.ensures c.tables_in-tables.ensures c.others.index
+    other_within d c.args.state c.args.text.now c.active_in-active.result.now c.asked.result.now c.active_in-active.ensures t c.asked.ensures c.tables_in-tables.ensures.served c.others.index
     (omega (arith, ap length c.asked.ensures, ap length c.asked-index-end.ensures))
 
 pub offset_bounds-active-number : goal.offset_bounds-active-number
 offset_bounds-active-number g c =
     let d = definition_of g.L.StorageT.Id.number c.args.definition.now in
     let t = c.tables_in-tables.result.now in
-    let within = other_within d c.args.state c.args.text.now c.active_in-active.result.now c.asked.result.now c.active_in-active.ensures t c.asked.ensures c.tables_in-tables.ensures c.others.index
+    let within = other_within d c.args.state c.args.text.now c.active_in-active.result.now c.asked.result.now c.active_in-active.ensures t c.asked.ensures c.tables_in-tables.ensures.served c.others.index
     (omega (arith, ap length c.asked.ensures, ap length c.asked-index-end.ensures)) in
     omega (arith, c.active_in-active.type_inv)
 
@@ -56,7 +56,7 @@ index-rule-requires g c =
     let d = definition_of g.L.StorageT.Id.number c.args.definition.now in
     let t = c.tables_in-tables.result.now in
     let places = c.active_in-active.result.now in
-    let within = other_within d c.args.state c.args.text.now places c.asked.result.now c.active_in-active.ensures t c.asked.ensures c.tables_in-tables.ensures c.others.index
+    let within = other_within d c.args.state c.args.text.now places c.asked.result.now c.active_in-active.ensures t c.asked.ensures c.tables_in-tables.ensures.served c.others.index
     (omega (arith, ap length c.asked.ensures, ap length c.asked-index-end.ensures)) in
     let rules_len = length-map c.args.definition.now.table.rules.items (as_rule g.L.StorageT.Id.number) in
     omega (arith, c.args.definition.now.table.rules.ok.0, rules_len, active_within d c.args.state places c.active_in-active.ensures (get_or c.asked.result.now c.others.index 0) within)
@@ -67,7 +67,7 @@ bounds-matchers-place g c =
     let d = definition_of g.L.StorageT.Id.number c.args.definition.now in
     let t = c.tables_in-tables.result.now in
     let places = c.active_in-active.result.now in
-    let within = other_within d c.args.state c.args.text.now places c.asked.result.now c.active_in-active.ensures t c.asked.ensures c.tables_in-tables.ensures c.others.index
+    let within = other_within d c.args.state c.args.text.now places c.asked.result.now c.active_in-active.ensures t c.asked.ensures c.tables_in-tables.ensures.served c.others.index
     (omega (arith, ap length c.asked.ensures, ap length c.asked-index-end.ensures)) in
     let rules_len = length-map rules (as_rule g.L.StorageT.Id.number) in
     omega (arith, c.others.invariant.matchers.0, rules_len, active_within d c.args.state places c.active_in-active.ensures (get_or c.asked.result.now c.others.index 0) within)
@@ -78,7 +78,7 @@ offset_bounds-matchers-place g c =
     let d = definition_of g.L.StorageT.Id.number c.args.definition.now in
     let t = c.tables_in-tables.result.now in
     let places = c.active_in-active.result.now in
-    let within = other_within d c.args.state c.args.text.now places c.asked.result.now c.active_in-active.ensures t c.asked.ensures c.tables_in-tables.ensures c.others.index
+    let within = other_within d c.args.state c.args.text.now places c.asked.result.now c.active_in-active.ensures t c.asked.ensures c.tables_in-tables.ensures.served c.others.index
     (omega (arith, ap length c.asked.ensures, ap length c.asked-index-end.ensures)) in
     let rules_len = length-map rules (as_rule g.L.StorageT.Id.number) in
     let place = active_within d c.args.state places c.active_in-active.ensures (get_or c.asked.result.now c.others.index 0) within in
@@ -90,12 +90,12 @@ ask_by-requires g c =
     let d = definition_of g.L.StorageT.Id.number c.args.definition.now in
     let t = c.tables_in-tables.result.now in
     let places = c.active_in-active.result.now in
-    let within = other_within d c.args.state c.args.text.now places c.asked.result.now c.active_in-active.ensures t c.asked.ensures c.tables_in-tables.ensures c.others.index
+    let within = other_within d c.args.state c.args.text.now places c.asked.result.now c.active_in-active.ensures t c.asked.ensures c.tables_in-tables.ensures.served c.others.index
     (omega (arith, ap length c.asked.ensures, ap length c.asked-index-end.ensures)) in
     let place = get_or places (get_or c.asked.result.now c.others.index 0) 0 in
     let rules_len = length-map rules (as_rule g.L.StorageT.Id.number) in
     let below : place < length rules = omega (arith, rules_len, active_within d c.args.state places c.active_in-active.ensures (get_or c.asked.result.now c.others.index 0) within) in
-    let few = others_few d c.args.state c.args.text.now places t.asked.items c.active_in-active.ensures t refl c.tables_in-tables.ensures in
+    let few = others_few d c.args.state c.args.text.now places t.asked.items c.active_in-active.ensures t refl c.tables_in-tables.ensures.served in
     let at = slice_get_read rules (length rules) place c.index-rule.result.now refl below c.index-rule.ensures in
     record {
       slot = subst (IsMatcherOf c.index-rule.result.now) c.index-matchers-place.is (matcher_at rules c.others.matchers c.others.invariant.matchers place c.index-rule.result.now at c.index-matchers-place.result c.index-matchers-place.is);
@@ -116,7 +116,7 @@ others-preserved g c =
     let r = c.index-rule.result.now in
     let inv = c.others.invariant in
     let here : i < length t.asked.items = omega (arith, ap length c.asked-index-end.ensures) in
-    let within = other_within d q text places c.asked.result.now c.active_in-active.ensures t c.asked.ensures c.tables_in-tables.ensures i (omega (arith, ap length c.asked.ensures)) in
+    let within = other_within d q text places c.asked.result.now c.active_in-active.ensures t c.asked.ensures c.tables_in-tables.ensures.served i (omega (arith, ap length c.asked.ensures)) in
     let rules_len = length-map rules (as_rule g.L.StorageT.Id.number) in
     let below : place < length rules = omega (arith, rules_len, active_within d q places c.active_in-active.ensures k within) in
     let at = slice_get_read rules (length rules) place r refl below c.index-rule.ensures in
@@ -152,7 +152,7 @@ pub returns-then-best-eq0-clause-winner : goal.returns-then-best-eq0-clause-winn
 returns-then-best-eq0-clause-winner g c =
     let d = definition_of g.L.StorageT.Id.number c.args.definition.now in
     let t = c.tables_in-tables.result.now in
-    best_stuck d c.args.state c.args.text.now c.active_in-active.result.now t.asked.items c.active_in-active.ensures t refl c.tables_in-tables.ensures c.others.index c.others.best.rule c.others.best.len
+    best_stuck d c.args.state c.args.text.now c.active_in-active.result.now t.asked.items c.active_in-active.ensures t refl c.tables_in-tables.ensures.served c.others.index c.others.best.rule c.others.best.len
     (omega (arith, c.others-test.false, ap length c.asked-index-end.ensures)) c.others.invariant.best c.if-best-eq0.true
 
 pub returns-then-best-eq0-clause-counted : goal.returns-then-best-eq0-clause-counted
@@ -166,14 +166,14 @@ returns-then-best-eq0-clause-counted g c =
       c.others.auto.index-end,
       ap length c.asked-index-end.ensures,
       length-places_of d c.args.state places c.active_in-active.ensures,
-      others_few d c.args.state c.args.text.now places t.asked.items c.active_in-active.ensures t refl c.tables_in-tables.ensures,
+      others_few d c.args.state c.args.text.now places t.asked.items c.active_in-active.ensures t refl c.tables_in-tables.ensures.served,
     )
 
 pub returns-clause-winner : goal.returns-clause-winner
 returns-clause-winner g c =
     let d = definition_of g.L.StorageT.Id.number c.args.definition.now in
     let t = c.tables_in-tables.result.now in
-    best_wins d c.args.state c.args.text.now c.active_in-active.result.now t.asked.items c.active_in-active.ensures t refl c.tables_in-tables.ensures c.others.index c.others.best.rule c.others.best.len
+    best_wins d c.args.state c.args.text.now c.active_in-active.result.now t.asked.items c.active_in-active.ensures t refl c.tables_in-tables.ensures.served c.others.index c.others.best.rule c.others.best.len
     (omega (arith, c.others-test.false, ap length c.asked-index-end.ensures)) c.others.invariant.best (omega (arith, c.if-best-eq0.false))
 
 pub returns-clause-rule : goal.returns-clause-rule
@@ -196,7 +196,7 @@ returns-clause-counted g c =
       c.others.auto.index-end,
       ap length c.asked-index-end.ensures,
       length-places_of d c.args.state places c.active_in-active.ensures,
-      others_few d c.args.state c.args.text.now places t.asked.items c.active_in-active.ensures t refl c.tables_in-tables.ensures,
+      others_few d c.args.state c.args.text.now places t.asked.items c.active_in-active.ensures t refl c.tables_in-tables.ensures.served,
     )
 
 pub returns-then-best-eq0-clause-decided : goal.returns-then-best-eq0-clause-decided
@@ -209,7 +209,7 @@ returns-then-best-eq0-clause-decided g c =
       | then-is_empty w ↦
           let zero : length c.asked-2.result.now ≡ 0 = search (rules, arith) in
           subst (IsDecided d q text) (sym w.reach-is)
-          (decided_look d q text c.active_in-active.result.now t.asked.items c.active_in-active.ensures t refl c.tables_in-tables.ensures c.others.index c.others.best.rule c.others.best.len
+          (decided_look d q text c.active_in-active.result.now t.asked.items c.active_in-active.ensures t refl c.tables_in-tables.ensures.served c.others.index c.others.best.rule c.others.best.len
           (omega (arith, c.others-test.false, ap length c.asked-index-end.ensures)) c.others.invariant.best c.look-sight.result.reach
           (nil_from_length t.asked.items (omega (arith, zero, ap length c.asked-2.ensures))) c.look-sight.ensures.decided)
       | else-is_empty w ↦ subst (IsDecided d q text) (sym w.reach-is) (decided_whole d q text)
@@ -225,8 +225,30 @@ returns-clause-decided g c =
       | then-is_empty w ↦
           let zero : length c.asked-2.result.now ≡ 0 = search (rules, arith) in
           subst (IsDecided d q text) (sym w.reach-is)
-          (decided_look d q text c.active_in-active.result.now t.asked.items c.active_in-active.ensures t refl c.tables_in-tables.ensures c.others.index c.others.best.rule c.others.best.len
+          (decided_look d q text c.active_in-active.result.now t.asked.items c.active_in-active.ensures t refl c.tables_in-tables.ensures.served c.others.index c.others.best.rule c.others.best.len
           (omega (arith, c.others-test.false, ap length c.asked-index-end.ensures)) c.others.invariant.best c.look-sight.result.reach
           (nil_from_length t.asked.items (omega (arith, zero, ap length c.asked-2.ensures))) c.look-sight.ensures.decided)
       | else-is_empty w ↦ subst (IsDecided d q text) (sym w.reach-is) (decided_whole d q text)
     ]
+
+pub returns-then-best-eq0-clause-exact : goal.returns-then-best-eq0-clause-exact
+returns-then-best-eq0-clause-exact g c =
+    omega (
+      arith,
+      c.others.invariant.counted,
+      c.others.auto.index-end,
+      c.others-test.false,
+      ap length c.asked-index-end.ensures,
+      c.tables_in-tables.ensures.untabled,
+    )
+
+pub returns-clause-exact : goal.returns-clause-exact
+returns-clause-exact g c =
+    omega (
+      arith,
+      c.others.invariant.counted,
+      c.others.auto.index-end,
+      c.others-test.false,
+      ap length c.asked-index-end.ensures,
+      c.tables_in-tables.ensures.untabled,
+    )
