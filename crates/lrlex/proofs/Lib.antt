@@ -26,3 +26,4 @@ pub mod DecidedLemmas
 pub mod AheadLemmas
 pub mod RaisedLemmas
 pub mod GoingLemmas
+pub mod AskedLemmas

@@ -76,7 +76,7 @@ module _ (d : Definition) (old new : List ℕ) (low high : ℕ) (put : List ℕ)
 
 -- ---- what a meeting says of the searches
 
-front_at : {A : Type 0} (xs ys : List A) (k : ℕ) → k < length xs → slice_get (xs ++ ys) k ≡ slice_get xs k
+pub front_at : {A : Type 0} (xs ys : List A) (k : ℕ) → k < length xs → slice_get (xs ++ ys) k ≡ slice_get xs k
 front_at [] ys k h = absurd (omega arith)
 front_at (x ∷ xs) ys zero h = refl
 front_at (x ∷ xs) ys (suc k) h = front_at xs ys k (omega arith)
@@ -128,7 +128,7 @@ few_met d text place stack found marks tail all asked now r e few =
     let most : length r.before * length d.rules ≤ length all * length d.rules = mul-le-mul_right (length d.rules) n in
     omega (arith, few, r.asks, searches-few d text r.before, most)
 
-last_at : (xs : List Mark) (x : Mark) (k : ℕ) → length xs ≡ k → slice_get (xs ++ x ∷ []) k ≡ Some x
+pub last_at : (xs : List Mark) (x : Mark) (k : ℕ) → length xs ≡ k → slice_get (xs ++ x ∷ []) k ≡ Some x
 last_at [] x zero e = refl
 last_at [] x (suc k) e = absurd (omega arith)
 last_at (y ∷ xs) x zero e = absurd (omega arith)

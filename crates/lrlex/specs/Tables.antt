@@ -4,15 +4,14 @@ use Rattle.std.specs.Prelude.{Box, ◌≡◌, ℕ, List, [], length, map, Option
 use Rattle.regex.specs.Patterns.{Re, SameCaptures}
 use Rattle.regex.specs.Strings.{matcher_pattern}
 use Rattle.regex.specs.declared.string.matcher.Matcher.{Matcher}
-use Rattle.lrlex_rules.specs.Definition.{Definition, Rule}
+use Rattle.lrlex_rules.specs.Definition.{Rule}
 use Rattle.lrlex_rules.specs.Parts.{as_rule, as_state}
 use Rattle.lrlex_rules.specs.Patterns.{pattern_of}
 use Rattle.lrlex_rules.specs.declared.rules.Rule as code
 use Rattle.lrlex_rules.specs.declared.states.StartState as start
 use Rattle.lrlex_table.specs.Tables.{AreTablesOf}
 use Rattle.lrlex_table.specs.declared.tables.Tables.{Tables}
-use Rattle.lrlex.specs.Active.{no_rule, active_places}
-use Rattle.lrlex.specs.declared.lexer.definition.RulesIn.{RulesIn}
+use Rattle.lrlex.specs.Active.{no_rule}
 
 -- the id of each state is its place
 abbrev pub ArePlaced : List start.StartState → Type 0
@@ -31,11 +30,6 @@ abbrev pub AreServed : {S : Type 0} → List (code.Rule S) → List (List ℕ) �
 AreServed rules active tables at =
     (i j : ℕ) (t : Tables) → slice_get at i ≡ Some j → slice_get tables j ≡ Some t →
     AreTablesOf (patterns_on (map (as_rule (λ _. 0)) rules) (slice_index_or active i [])) t
-
--- these are the rules that are active in state q, and their tables
-pub record AreOf (d : Definition) (q : ℕ) (here : RulesIn) : Type 0 where
-  pub active : here.active.now ≡ active_places d.states d.rules q
-  pub tables : ∥ AreTablesOf (patterns_on d.rules (active_places d.states d.rules q)) here.tables.now ∥₁
 
 -- a matcher, where there is one, is that of the rule
 abbrev pub IsMatcherOf : {S : Type 0} → code.Rule S → Option (Box Matcher Global) → Type 0

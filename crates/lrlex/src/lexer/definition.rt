@@ -52,7 +52,9 @@ impl<L: LexerTypes> LRNonStreamingLexerDef<L> {
     ghost use Rattle.lrlex.specs.Views.{definition_of};
     ghost use Rattle.std.specs.Prelude.{Some, option_map, IfOk};
     ghost use Rattle.lrlex_table.specs.Tables.{AreTablesOf};
-    ghost use Rattle.lrlex.specs.Tables.{patterns_on, AreOf};
+    ghost use Rattle.lrlex.specs.Tables.{patterns_on};
+    ghost use Rattle.lrlex.specs.AtHand.{AreOf};
+    ghost use Rattle.lrlex.specs.Asked.{untabled_count};
 
     /// Just these start states, rules and flags, in order.
     pub(crate) fn of_parts(
@@ -175,8 +177,9 @@ impl<L: LexerTypes> LRNonStreamingLexerDef<L> {
     #[inline(always)]
     pub(crate) fn tables_in(&self, id: usize) -> &Tables
         requires { is_state (definition_of L.StorageT.number self.now) id ≡ true }
-        ensures { ∥ AreTablesOf (patterns_on (definition_of L.StorageT.number self.now).rules
+        ensures served { ∥ AreTablesOf (patterns_on (definition_of L.StorageT.number self.now).rules
             (active_places (definition_of L.StorageT.number self.now).states (definition_of L.StorageT.number self.now).rules id)) result.now ∥₁ }
+        ensures untabled { length result.now.asked.items ≡ untabled_count self.now id }
     {
         let index = position_of(&self.table.start_states, self.table.placed, id).unwrap_or(0);
         &self.table.tables[self.table.tables_at[index]]
@@ -187,7 +190,7 @@ impl<L: LexerTypes> LRNonStreamingLexerDef<L> {
     pub(crate) fn rules_in(&self, id: usize) -> RulesIn<'_>
         requires { is_state (definition_of L.StorageT.number self.now) id ≡ true }
         ensures state { result.state ≡ id }
-        ensures rules { AreOf (definition_of L.StorageT.number self.now) id result }
+        ensures rules { AreOf L.StorageT.number self.now id result }
     {
         RulesIn {
             state: id,
@@ -201,9 +204,9 @@ impl<L: LexerTypes> LRNonStreamingLexerDef<L> {
     #[inline(always)]
     pub(crate) fn rules_at<'d>(&'d self, here: RulesIn<'d>, id: usize) -> RulesIn<'d>
         requires id { is_state (definition_of L.StorageT.number self.now) id ≡ true }
-        requires here { AreOf (definition_of L.StorageT.number self.now) here.state here }
+        requires here { AreOf L.StorageT.number self.now here.state here }
         ensures state { result.state ≡ id }
-        ensures rules { AreOf (definition_of L.StorageT.number self.now) id result }
+        ensures rules { AreOf L.StorageT.number self.now id result }
     {
         if here.state == id {
             here

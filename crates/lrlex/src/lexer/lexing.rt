@@ -1,12 +1,14 @@
 ghost use Rattle.std.specs.Prelude.{◌≡◌, ◌+◌, ◌-◌, ◌^◌, ◌<◌, ◌≤◌, true, false, [], ◌∷◌, ◌++◌, length, map, IfOk, OnOk, IsCharBoundary};
 ghost use Rattle.lrlex.specs.Active.{is_state, lexeme_id};
 ghost use Rattle.lrlex_rules.specs.Parts.{as_rule};
-ghost use Rattle.lrlex.specs.Tiling.{Error, stack_after, lexeme_of};
+ghost use Rattle.lrlex.specs.Asked.{untabled_count};
+ghost use Rattle.lrlex.specs.Tiling.{Error, top, stack_after, lexeme_of};
 ghost use Rattle.lrlex.specs.Runs.{plain, AreRuns};
 ghost use Rattle.lrlex.specs.Marks.{Mark, last_runs};
 ghost use Rattle.lrlex.specs.Reach.{Reached, IsLexed, searches};
 ghost use Rattle.lrlex.specs.Decided.{HasLooked, capped};
-ghost use Rattle.lrlex.specs.Tables.{AreMatchers, AreOf};
+ghost use Rattle.lrlex.specs.Tables.{AreMatchers};
+ghost use Rattle.lrlex.specs.AtHand.{AreOf};
 ghost use Rattle.lrlex.specs.Views.{definition_of, item_of, items_by};
 
 use crate::errors::LRLexError;
@@ -54,6 +56,7 @@ pub(crate) fn begin<L: LexerTypes>(
     ensures looked { IfOk result (λ p. HasLooked (definition_of L.StorageT.number definition.now) text.now p.boundaries p.ahead.items p.place p.over) }
     ensures start { IfOk result (λ p. p.place ≡ 0) }
     ensures one { IfOk result (λ p. length p.boundaries ≡ 1) }
+    ensures none { IfOk result (λ p. p.asked ≡ 0) }
 {
     let room = tiles_expected(text);
     let mut stack = Vec::new(alloc);
@@ -165,14 +168,14 @@ pub(crate) fn advance<'d, L: LexerTypes>(
     matchers: &mut [Option<Box<Matcher<'d>>>],
     progress: &mut Progress<L>,
 ) -> Result<bool, AllocError>
-    requires here { AreOf (definition_of L.StorageT.number definition.now) here.old.state here.old }
+    requires here { AreOf L.StorageT.number definition.now here.old.state here.old }
     requires inside { progress.old.place < length text.now }
     requires boundary { IsCharBoundary text.now progress.old.place }
     requires matchers { AreMatchers definition.now.table.rules.items matchers.old }
     requires reached { Reached (definition_of L.StorageT.number definition.now) text.now progress.old.place progress.old.stack.items
         (items_by L.StorageT.number L.LexemeT.id_of L.LexemeT.start_of L.LexemeT.len_of L.LexemeT.is_faulty progress.old.items.items) progress.old.boundaries progress.old.asked }
     requires looked { HasLooked (definition_of L.StorageT.number definition.now) text.now progress.old.boundaries progress.old.ahead.items progress.old.place progress.old.over }
-    ensures here { IfOk result (λ _. AreOf (definition_of L.StorageT.number definition.now) here.new.state here.new) }
+    ensures here { IfOk result (λ _. AreOf L.StorageT.number definition.now here.new.state here.new) }
     ensures matchers { IfOk result (λ _. AreMatchers definition.now.table.rules.items matchers.new) }
     ensures goes_on { IfOk result (λ on. on ≡ true → Reached (definition_of L.StorageT.number definition.now) text.now progress.new.place progress.new.stack.items
         (items_by L.StorageT.number L.LexemeT.id_of L.LexemeT.start_of L.LexemeT.len_of L.LexemeT.is_faulty progress.new.items.items) progress.new.boundaries progress.new.asked) }
@@ -185,6 +188,7 @@ pub(crate) fn advance<'d, L: LexerTypes>(
     ensures same { IfOk result (λ on. on ≡ false → progress.new.boundaries ≡ progress.old.boundaries) }
     ensures ahead { IfOk result (λ on. on ≡ false → progress.new.ahead.items ≡ progress.old.ahead.items) }
     ensures asked { IfOk result (λ _. progress.new.asked ≤ searches (definition_of L.StorageT.number definition.now) text.now progress.old.boundaries) }
+    ensures exact { IfOk result (λ _. progress.new.asked ≡ progress.old.asked + untabled_count definition.now (top (plain progress.old.stack.items))) }
 {
     let place = progress.place;
     let state = top_of(&progress.stack);

@@ -8,6 +8,7 @@ ghost use Rattle.std.specs.List.Sorted.{IsPartitionedBy};
 ghost use Rattle.lrlex.specs.Edits.{IsMovable, IsMovableMark, begins_before, items_from, moved_mark, Meets, IsSortedRuns};
 ghost use Rattle.lrlex.specs.Runs.{plain, AreRuns};
 ghost use Rattle.lrlex.specs.Reach.{IsRun, searches};
+ghost use Rattle.lrlex.specs.Asked.{asks, WasCutAnew};
 ghost use Rattle.lrlex.specs.Decided.{AreRaised, IsSafe};
 ghost use Rattle.lrlex.specs.Views.{definition_of, items_by, item_of};
 
@@ -237,6 +238,8 @@ impl<'lexer, L: LexerTypes<LexErrorT = LRLexError>> LexRun<'lexer, '_, L> {
         ensures lexed { IfOk result (λ r. (k : ℕ) → k < length self.now.boundaries → IsSafe self.now.boundaries self.now.ahead.items (span_start edit.now.removed) k
             → (r.anew + k ≤ length r.boundaries - 1)
             × ((j : ℕ) → Meets self.now.boundaries r.boundaries (span_start edit.now.removed) (span_end edit.now.removed) (length edit.now.put.now) j → r.anew + k ≤ j)) }
+        ensures exact { IfOk result (λ r. is_state (definition_of L.StorageT.number self.now.definition.now) 0 ≡ true
+            → WasCutAnew (asks self.now.definition.now new.now) self.now.boundaries r.boundaries self.now.ahead.items (span_start edit.now.removed) (span_end edit.now.removed) (length edit.now.put.now) r.asked r.anew) }
     {
         let definition = self.definition;
         if !definition.is_state(0) {

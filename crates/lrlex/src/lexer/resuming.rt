@@ -7,6 +7,7 @@ ghost use Rattle.lrlex.specs.Active.{is_state};
 ghost use Rattle.lrlex.specs.Tiling.{Item};
 ghost use Rattle.lrlex.specs.Marks.{Mark, mark_at};
 ghost use Rattle.lrlex.specs.Reach.{IsLexed, Reached};
+ghost use Rattle.lrlex.specs.Asked.{IsLastSafe};
 ghost use Rattle.lrlex.specs.Decided.{IsDecided, IsDecidedAt, AreDecided, LooksAhead, IsSafe, GoesOn, BeginAlike, HasLooked, AreRaised};
 ghost use Rattle.lrlex.specs.Edits.{IsSortedRuns};
 ghost use Rattle.std.specs.List.Sorted.{IsPartitionedBy};
@@ -190,6 +191,8 @@ pub(crate) fn resume<L: LexerTypes<LexErrorT = LRLexError>>(
     ensures boundary { IfOk result (λ p. IsCharBoundary new.now p.place) }
     ensures before { IfOk result (λ p. (j : ℕ) → j + 1 < length p.boundaries → (mark_at p.boundaries j).place < span_start edit.now.removed) }
     ensures last { IfOk result (λ p. (j : ℕ) → j < length old.now.boundaries → IsSafe old.now.boundaries old.now.ahead.items (span_start edit.now.removed) j → j < length p.boundaries) }
+    ensures from { IfOk result (λ p. IsLastSafe old.now.boundaries old.now.ahead.items (span_start edit.now.removed) (length p.boundaries - 1)) }
+    ensures none { IfOk result (λ p. p.asked ≡ 0) }
 {
     let index = last_safe(&old.boundaries, &old.ahead, edit.removed.start());
     let progress = resumed(alloc, old, index)?;

@@ -3,6 +3,7 @@ ghost use Rattle.lrlex.specs.Active.{is_state};
 ghost use Rattle.lrlex.specs.Marks.{mark_at, most_runs};
 ghost use Rattle.lrlex.specs.Runs.{AreRuns};
 ghost use Rattle.lrlex.specs.Reach.{Reached, IsLexed, IsRun, searches};
+ghost use Rattle.lrlex.specs.Asked.{asks};
 ghost use Rattle.lrlex.specs.Decided.{LooksAhead};
 ghost use Rattle.lrlex.specs.Views.{definition_of, items_by};
 
@@ -177,6 +178,7 @@ impl<L: LexerTypes<LexErrorT = LRLexError>> LRNonStreamingLexerDef<L> {
         ensures text { IfOk result (λ r. r.text.now ≡ text.now) }
         ensures asked { IfOk result (λ r. r.asked ≤ searches (definition_of L.StorageT.number self.now) text.now r.boundaries) }
         ensures few { IfOk result (λ r. r.asked ≤ length r.boundaries * length (definition_of L.StorageT.number self.now).rules) }
+        ensures exact { IfOk result (λ r. r.asked ≡ asks self.now text.now r.boundaries) }
         ensures lexed { IfOk result (λ r. r.anew ≡ length r.boundaries - 1) }
     {
         if !self.is_state(0) {

@@ -3,10 +3,12 @@ ghost use Rattle.regex.specs.Patterns.{SameCaptures};
 ghost use Rattle.regex.specs.Strings.{matcher_pattern};
 ghost use Rattle.lrlex_rules.specs.Patterns.{match_length, pattern_of};
 ghost use Rattle.lrlex.specs.Active.{active_count};
+ghost use Rattle.lrlex.specs.Asked.{untabled_count};
 ghost use Rattle.lrlex.specs.Tiling.{Wins, IsStuck};
 ghost use Rattle.lrlex.specs.Decided.{IsDecided};
 ghost use Rattle.lrlex_rules.specs.Parts.{as_rule};
-ghost use Rattle.lrlex.specs.Tables.{IsMatcherOf, AreMatchers, AreOf};
+ghost use Rattle.lrlex.specs.Tables.{IsMatcherOf, AreMatchers};
+ghost use Rattle.lrlex.specs.AtHand.{AreOf};
 ghost use Rattle.lrlex.specs.Views.{definition_of};
 
 use crate::lexer::definition::{LRNonStreamingLexerDef, RulesIn};
@@ -114,7 +116,7 @@ pub(crate) fn winner<'d, L: LexerTypes>(
     text: &str,
     asked: &mut u128,
 ) -> Result<Sight, AllocError>
-    requires here { AreOf (definition_of L.StorageT.number definition.now) state here }
+    requires here { AreOf L.StorageT.number definition.now state here }
     requires matchers { AreMatchers definition.now.table.rules.items matchers.old }
     requires room { asked.old + vec_len definition.now.table.rules < 2 ^ 128 }
     ensures winner { IfOk result (λ s. MatchOption s.tile (IsStuck (definition_of L.StorageT.number definition.now) state text.now)
@@ -123,6 +125,7 @@ pub(crate) fn winner<'d, L: LexerTypes>(
     ensures rule { IfOk result (λ s. IfSome s.tile (λ t. t.rule < vec_len definition.now.table.rules)) }
     ensures decided { IfOk result (λ s. IsDecided (definition_of L.StorageT.number definition.now) state text.now s.reach) }
     ensures counted { IfOk result (λ _. asked.new ≤ asked.old + active_count (definition_of L.StorageT.number definition.now) state) }
+    ensures exact { IfOk result (λ _. asked.new ≡ asked.old + untabled_count definition.now state) }
     ensures matchers { IfOk result (λ _. AreMatchers definition.now.table.rules.items matchers.new) }
 {
     let active = here.active;

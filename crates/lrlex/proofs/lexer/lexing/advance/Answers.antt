@@ -3,6 +3,7 @@ use Rattle.std.proofs.lemmas.List.{length-map}
 use Rattle.std.proofs.lemmas.Str.{IsCharBoundary-from_rest}
 use Rattle.lrlex_rules.specs.Definition.{Rule}
 use Rattle.lrlex.specs.Active.{active_count, lacks_id, lacks_target, lexeme_id}
+use Rattle.lrlex.specs.Asked.{untabled_count}
 use Rattle.lrlex.specs.Tiling.{Tile, Item, Error, top, IsStuck, IsTaken, stack_after, lexeme_of, tile_items, NoMatch, NoId, NoTarget}
 use Rattle.lrlex_rules.specs.Parts.{as_rule}
 use Rattle.lrlex.specs.Runs.{plain}
@@ -180,3 +181,27 @@ returns-clause-looked g c on =
     let decided = subst (λ q. IsDecided d q (drop p.place text) reach) on_top (subst (λ xs. IsDecided d c.top_of-state.result xs reach) c.range_from-rest.ensures.value c.in_ok-sight.ensures.decided) in
     looked_more d text r.before p.boundaries p.ahead.items p.place p.stack.items p.over r.kept c.requires.looked reach c.in-Some.tile.len decided n.stack.items n.place n.over n.boundaries n.ahead.items
     e.place (omega (arith, e.over, c.saturating_sub-over.ensures, c.max.ensures)) (e.kept ∙ ap (λ i. p.boundaries ++ record { place = i; runs = n.stack.items } ∷ []) (sym e.place)) (e.ahead ∙ ap (λ i. p.ahead.items ++ capped i ∷ []) (sym e.over))
+
+pub returns-in_default-clause-exact : goal.returns-in_default-clause-exact
+returns-in_default-clause-exact g c =
+    let p = c.args.progress.now in
+    let on_top : c.top_of-state.result ≡ top (plain p.stack.items) = c.top_of-state.ensures ∙ ap (λ s. top (plain s)) c.deref.ensures.value in
+    subst (λ q. c.winner.new.asked ≡ p.asked + untabled_count c.args.definition.now q) on_top (c.in_ok-sight.ensures.exact)
+
+pub returns-then-lacks_id-clause-exact : goal.returns-then-lacks_id-clause-exact
+returns-then-lacks_id-clause-exact g c =
+    let p = c.args.progress.now in
+    let on_top : c.top_of-state.result ≡ top (plain p.stack.items) = c.top_of-state.ensures ∙ ap (λ s. top (plain s)) c.deref.ensures.value in
+    subst (λ q. c.winner.new.asked ≡ p.asked + untabled_count c.args.definition.now q) on_top (c.in_ok-sight.ensures.exact)
+
+pub returns-then-lacks_target-clause-exact : goal.returns-then-lacks_target-clause-exact
+returns-then-lacks_target-clause-exact g c =
+    let p = c.args.progress.now in
+    let on_top : c.top_of-state.result ≡ top (plain p.stack.items) = c.top_of-state.ensures ∙ ap (λ s. top (plain s)) c.deref.ensures.value in
+    subst (λ q. c.winner.new.asked ≡ p.asked + untabled_count c.args.definition.now q) on_top (c.in_ok-sight.ensures.exact)
+
+pub returns-clause-exact : goal.returns-clause-exact
+returns-clause-exact g c =
+    let p = c.args.progress.now in
+    let on_top : c.top_of-state.result ≡ top (plain p.stack.items) = c.top_of-state.ensures ∙ ap (λ s. top (plain s)) c.deref.ensures.value in
+    subst (λ q. c.enter.new.progress.asked ≡ p.asked + untabled_count c.args.definition.now q) on_top (omega (arith, c.in_ok-enter.ensures.asked, c.in_ok-sight.ensures.exact))

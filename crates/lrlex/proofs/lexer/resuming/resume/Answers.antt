@@ -1,4 +1,4 @@
-use Rattle.std.proofs.Common.{◌≡◌, ◌+◌, ◌≤◌, length, take, sym, ap, ◌∙◌, subst, inl, inr, arith, IsCharBoundary}
+use Rattle.std.proofs.Common.{◌≡◌, ◌+◌, ◌-◌, ◌≤◌, length, take, sym, ap, ◌∙◌, subst, inl, inr, arith, IsCharBoundary}
 use Rattle.std.proofs.lemmas.Bool.{cases_lt}
 use Rattle.std.proofs.lemmas.List.{length-take-le, get_or-take}
 use Rattle.lrlex_table.specs.Decided.{IsText}
@@ -10,6 +10,7 @@ use Rattle.lrlex.specs.Views.{definition_of, items_by}
 use Rattle.lrlex.proofs.KnownLemmas.{known, sorted}
 use Rattle.lrlex.proofs.AheadLemmas.{looks_known}
 use Rattle.lrlex.proofs.GoingLemmas.{some_boundary, order_at, first_safe, going, going_looked}
+use Rattle.lrlex.specs.Asked.{IsLastSafe}
 use Rattle.lrlex.proofs.lexer.resuming.resume.Goals as goal
 
 pub last_safe-index-requires-clause-sorted : goal.last_safe-index-requires-clause-sorted
@@ -169,3 +170,28 @@ returns-clause-last g c =
           (subst (λ n. IsSafe o.boundaries c.deref.result.now n j) (sym c.start.ensures) (subst (λ ns. IsSafe o.boundaries ns low j) (sym c.deref.ensures.value) is)))
       | inr here ↦ omega (arith, count)
     ]
+
+pub returns-clause-from : goal.returns-clause-from
+returns-clause-from g c =
+    let d = definition_of g.L.StorageT.Id.number c.args.old.now.definition.now in
+    let o = c.args.old.now in
+    let found = items_by g.L.StorageT.Id.number g.L.LexemeT.Lexeme.id_of g.L.LexemeT.Lexeme.start_of g.L.LexemeT.Lexeme.len_of g.L.LexemeT.Lexeme.is_faulty o.items.items in
+    let h = known d o.text.now found o.boundaries c.requires.initial o.lexed in
+    let looks = looks_known d o.text.now o.boundaries o.ahead.items o.looks in
+    let new = c.args.new.now in
+    let is : IsText new = record { bytes = are_bytes new c.type_inv.new; utf8 = c.utf8.new } in
+    let edit = c.args.edit.now in
+    let low = edit.removed.start in
+    let le : low ≤ length o.text.now = omega (arith, edit.removed.in_order, c.requires.fits.1.0) in
+    let k = c.last_safe-index.result in
+    let safe : IsSafe o.boundaries o.ahead.items low k = subst (λ n. IsSafe o.boundaries o.ahead.items n k) c.start.ensures (subst (λ ns. IsSafe o.boundaries ns c.start.result k) c.deref.ensures.value c.last_safe-index.ensures.safe) in
+    let p = c.in_ok-progress.progress in
+    let e = c.in_ok-progress.ensures in
+    let count : length p.boundaries ≡ k + 1 = ap length e.boundaries ∙ length-take-le (k + 1) o.boundaries (omega (arith, c.last_safe-index.ensures.within)) in
+    let at : k ≡ length p.boundaries - 1 = omega (arith, count) in
+    subst (IsLastSafe o.boundaries o.ahead.items low) at (record {
+      within = c.last_safe-index.ensures.within;
+      safe = safe;
+      last = λ j later lt is. c.last_safe-index.ensures.last j later lt
+          (subst (λ n. IsSafe o.boundaries c.deref.result.now n j) (sym c.start.ensures) (subst (λ ns. IsSafe o.boundaries ns low j) (sym c.deref.ensures.value) is));
+    })

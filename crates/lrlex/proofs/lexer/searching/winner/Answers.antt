@@ -233,3 +233,25 @@ returns-clause-decided g c =
           (nil_from_length t.asked.items (omega (arith, zero, ap length c.asked-2.ensures))) c.look-sight.ensures.decided)
       | else-is_empty w ↦ subst (IsDecided d q text) (sym w.reach-is) (decided_whole d q text)
     ]
+
+pub returns-then-best-eq0-clause-exact : goal.returns-then-best-eq0-clause-exact
+returns-then-best-eq0-clause-exact g c =
+    omega (
+      arith,
+      c.others.invariant.counted,
+      c.others.auto.index-end,
+      c.others-test.false,
+      ap length c.asked-index-end.ensures,
+      c.requires.here.untabled,
+    )
+
+pub returns-clause-exact : goal.returns-clause-exact
+returns-clause-exact g c =
+    omega (
+      arith,
+      c.others.invariant.counted,
+      c.others.auto.index-end,
+      c.others-test.false,
+      ap length c.asked-index-end.ensures,
+      c.requires.here.untabled,
+    )

@@ -1,4 +1,4 @@
-use Rattle.std.proofs.Common.{◌+◌, ◌≤◌}
+use Rattle.std.proofs.Common.{◌≡◌, ◌+◌}
 use Rattle.lrlex.specs.Views.{definition_of}
 use Rattle.lrlex.specs.Tables.{AreMatchers, patterns_on}
 use Rattle.lrlex_table.specs.Tables.{IsBestAmong}
@@ -8,6 +8,6 @@ use Rattle.lrlex.proofs.lexer.searching.winner.Given as goal
 abbrev pub invariant-others : goal.invariant-others
 invariant-others g l = record {
   matchers : AreMatchers l.definition.table.rules.items l.matchers;
-  counted : l.asked ≤ l.fn.asked + l.index;
+  counted : l.asked ≡ l.fn.asked + l.index;
   best : IsBestAmong (patterns_on (definition_of g.L.StorageT.Id.number l.definition).rules l.active) (looked_at l.tables.parts.items l.tables.asked.items l.index) l.text l.best.rule l.best.len;
 }

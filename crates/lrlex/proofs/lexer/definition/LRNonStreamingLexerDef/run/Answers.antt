@@ -1,25 +1,35 @@
-use Rattle.std.proofs.Common.{◌≡◌, ◌≤◌, true, false, length, drop, sym, ◌∙◌, subst, arith, append-nil, IsCharBoundary}
+use Rattle.std.proofs.Common.{◌≡◌, ◌-◌, ◌<◌, ◌≤◌, true, false, length, drop, sym, ap, ◌∙◌, subst, arith, append-nil, IsCharBoundary}
 use Rattle.std.proofs.lemmas.Str.{IsCharBoundary-start}
 use Rattle.lrlex.specs.Tiling.{Done}
 use Rattle.lrlex.specs.Reach.{IsRun, searches}
-use Rattle.lrlex.specs.Tables.{AreMatchers, AreOf}
+use Rattle.lrlex.specs.Tables.{AreMatchers}
+use Rattle.lrlex.specs.AtHand.{AreOf}
 use Rattle.lrlex.specs.Views.{definition_of, items_by}
 use Rattle.lrlex.proofs.ViewLemmas.{taken_back}
-use Rattle.lrlex.proofs.ReachLemmas.{ended, nothing_left, asked_now, few_searches, run_of}
+use Rattle.lrlex.proofs.ReachLemmas.{ended, nothing_left, asked_now, few_searches, run_of, length_now}
+use Rattle.lrlex.specs.Asked.{asks}
+use Rattle.lrlex.proofs.AskedLemmas.{asks_nowhere, more_asked, all_asked, next_asked}
 use Rattle.lrlex.proofs.lexer.definition.LRNonStreamingLexerDef.run.Goals as goal
 
 pub tiles-init : goal.tiles-init
 tiles-init g c = record {
-  here = subst (λ q. AreOf (definition_of g.L.StorageT.Id.number c.args.self.now) q c.rules_in-here.result) (sym c.rules_in-here.ensures.state) c.rules_in-here.ensures.rules;
+  here = subst (λ q. AreOf g.L.StorageT.Id.number c.args.self.now q c.rules_in-here.result) (sym c.rules_in-here.ensures.state) c.rules_in-here.ensures.rules;
   matchers = rw c.deref.ensures.value at c.in_ok-matchers.ensures;
   boundary = subst (IsCharBoundary c.args.text.now) (sym c.in_ok-progress.ensures.start) (IsCharBoundary-start c.args.text.now c.utf8.text);
   reached = c.in_ok-progress.ensures.reached;
   looked = c.in_ok-progress.ensures.looked;
+  exact = c.in_ok-progress.ensures.none ∙ sym (asks_nowhere c.args.self.now c.args.text.now c.in_ok-progress.progress.boundaries 0 (length c.in_ok-progress.progress.boundaries - 1) (omega (arith, c.in_ok-progress.ensures.one)));
 }
 
 pub tiles-preserved : goal.tiles-preserved
 tiles-preserved g c =
     let on : c.in_ok-advance.field-0 ≡ true = c.if-not-branch.false in
+    let p = c.tiles.progress in
+    let d = definition_of g.L.StorageT.Id.number c.args.self.now in
+    let found = items_by g.L.StorageT.Id.number g.L.LexemeT.Lexeme.id_of g.L.LexemeT.Lexeme.start_of g.L.LexemeT.Lexeme.len_of g.L.LexemeT.Lexeme.is_faulty p.items.items in
+    let r = c.tiles.invariant.reached in
+    let some : 0 < length p.boundaries = omega (arith, length_now d c.args.text.now p.place p.stack.items found p.boundaries p.asked r) in
+    let more = c.in_ok-advance.ensures.more on in
     record {
       here = c.in_ok-advance.ensures.here;
       matchers = subst (λ ms. AreMatchers c.args.self.now.table.rules.items ms)
@@ -29,6 +39,8 @@ tiles-preserved g c =
       boundary = c.in_ok-advance.ensures.boundary on;
       reached = c.in_ok-advance.ensures.goes_on on;
       looked = c.in_ok-advance.ensures.looked on;
+      exact = next_asked c.args.self.now c.args.text.now d p.place p.stack.items found p.boundaries p.asked r 0 some c.tiles.invariant.exact c.advance.new.progress.asked more.0 c.advance.new.progress.boundaries
+          c.tiles-test.true c.in_ok-advance.ensures.exact more.1;
     }
 
 pub finished-requires-2-clause-run : goal.finished-requires-2-clause-run
@@ -91,3 +103,24 @@ advance-requires-clause-here g c = c.tiles.invariant.here
 
 pub advance-requires-clause-matchers : goal.advance-requires-clause-matchers
 advance-requires-clause-matchers g c = subst (AreMatchers c.args.self.now.table.rules.items) (sym c.deref_mut.ensures.value) c.tiles.invariant.matchers
+
+pub returns-clause-exact : goal.returns-clause-exact
+returns-clause-exact g c =
+    let p = c.tiles.progress in
+    let d = definition_of g.L.StorageT.Id.number c.args.self.now in
+    let found = items_by g.L.StorageT.Id.number g.L.LexemeT.Lexeme.id_of g.L.LexemeT.Lexeme.start_of g.L.LexemeT.Lexeme.len_of g.L.LexemeT.Lexeme.is_faulty p.items.items in
+    let r = c.tiles.invariant.reached in
+    let some : 0 < length p.boundaries = omega (arith, length_now d c.args.text.now p.place p.stack.items found p.boundaries p.asked r) in
+    c.finished-2.ensures.asked ∙ all_asked c.args.self.now c.args.text.now d p.place p.stack.items found p.boundaries p.asked r 0 some c.tiles.invariant.exact c.tiles-test.false
+    ∙ ap (asks c.args.self.now c.args.text.now) (sym c.finished-2.ensures.boundaries)
+
+pub returns-then-not-branch-clause-exact : goal.returns-then-not-branch-clause-exact
+returns-then-not-branch-clause-exact g c =
+    let p = c.tiles.progress in
+    let d = definition_of g.L.StorageT.Id.number c.args.self.now in
+    let found = items_by g.L.StorageT.Id.number g.L.LexemeT.Lexeme.id_of g.L.LexemeT.Lexeme.start_of g.L.LexemeT.Lexeme.len_of g.L.LexemeT.Lexeme.is_faulty p.items.items in
+    let r = c.tiles.invariant.reached in
+    let some : 0 < length p.boundaries = omega (arith, length_now d c.args.text.now p.place p.stack.items found p.boundaries p.asked r) in
+    c.finished.ensures.asked
+    ∙ more_asked c.args.self.now c.args.text.now d p.place p.stack.items found p.boundaries p.asked r 0 some c.tiles.invariant.exact c.advance.new.progress.asked c.tiles-test.true c.in_ok-advance.ensures.exact
+    ∙ ap (asks c.args.self.now c.args.text.now) (sym (c.finished.ensures.boundaries ∙ c.in_ok-advance.ensures.same c.if-not-branch.true))

@@ -1,17 +1,20 @@
-use Rattle.std.proofs.Common.{◌-◌, length, IsCharBoundary}
+use Rattle.std.proofs.Common.{◌≡◌, ◌-◌, length, slice_range, IsCharBoundary}
 use Rattle.lrlex.specs.Reach.{Reached}
 use Rattle.lrlex.specs.Decided.{HasLooked}
-use Rattle.lrlex.specs.Tables.{AreMatchers, AreOf}
+use Rattle.lrlex.specs.Tables.{AreMatchers}
+use Rattle.lrlex.specs.AtHand.{AreOf}
+use Rattle.lrlex.specs.Asked.{asks}
 use Rattle.lrlex.specs.Views.{definition_of, items_by}
 use Rattle.lrlex.proofs.lexer.definition.LRNonStreamingLexerDef.run.Given as goal
 
 abbrev pub invariant-tiles : goal.invariant-tiles
 invariant-tiles g l = record {
   matchers : AreMatchers l.self.table.rules.items l.matchers.items;
-  here : AreOf (definition_of g.L.StorageT.Id.number l.self) l.here.state l.here;
+  here : AreOf g.L.StorageT.Id.number l.self l.here.state l.here;
   boundary : IsCharBoundary l.text l.progress.place;
   reached : Reached (definition_of g.L.StorageT.Id.number l.self) l.text l.progress.place l.progress.stack.items (items_by g.L.StorageT.Id.number g.L.LexemeT.Lexeme.id_of g.L.LexemeT.Lexeme.start_of g.L.LexemeT.Lexeme.len_of g.L.LexemeT.Lexeme.is_faulty l.progress.items.items) l.progress.boundaries l.progress.asked;
   looked : HasLooked (definition_of g.L.StorageT.Id.number l.self) l.text l.progress.boundaries l.progress.ahead.items l.progress.place l.progress.over;
+  exact : l.progress.asked ≡ asks l.self l.text (slice_range l.progress.boundaries 0 (length l.progress.boundaries - 1));
 }
 
 abbrev pub decreases-tiles : goal.decreases-tiles

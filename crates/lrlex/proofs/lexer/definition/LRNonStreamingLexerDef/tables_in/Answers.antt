@@ -4,6 +4,7 @@ use Rattle.std.specs.List.{position}
 use Rattle.lrlex_rules.specs.Parts.{as_state}
 use Rattle.lrlex.proofs.ViewLemmas.{position_within, list_any-map}
 use Rattle.lrlex.proofs.TableLemmas.{tables_at_state, first_place}
+use Rattle.lrlex.proofs.AskedLemmas.{untabled_here}
 use Rattle.lrlex.proofs.lexer.definition.LRNonStreamingLexerDef.tables_in.Goals as goal
 
 pub returns : goal.returns
@@ -18,7 +19,10 @@ returns g c =
     let within = position_within (λ s. (as_state s).id == c.args.id) d.table.start_states.items i found in
     let has : i < length d.table.tables_at.items = omega (arith, d.table.each) in
     let inside : j < length d.table.tables.items = subst (λ n. n < length d.table.tables.items) (sym c.index.ensures) (d.table.within i j has) in
-    tables_at_state g.L.StorageT.Id.number d.table.active.items d.table.tables.items d.table.tables_at.items d.table.start_states.items d.table.rules.items i j c.args.id c.index-2.result.now
-    d.table.lists d.table.served found
-    (slice_get_read d.table.tables_at.items (length d.table.tables_at.items) i j refl has c.index.ensures)
-    (slice_get_read d.table.tables.items (length d.table.tables.items) j c.index-2.result.now refl inside c.index-2.ensures)
+    let at = slice_get_read d.table.tables_at.items (length d.table.tables_at.items) i j refl has c.index.ensures in
+    let are = slice_get_read d.table.tables.items (length d.table.tables.items) j c.index-2.result.now refl inside c.index-2.ensures in
+    record {
+      served = tables_at_state g.L.StorageT.Id.number d.table.active.items d.table.tables.items d.table.tables_at.items d.table.start_states.items d.table.rules.items i j c.args.id c.index-2.result.now
+          d.table.lists d.table.served found at are;
+      untabled = untabled_here d c.args.id i j c.index-2.result.now found at are;
+    }

@@ -1,10 +1,11 @@
-use Rattle.std.proofs.Common.{◌≡◌, ◌+◌, [], ◌∷◌, ◌++◌, length, map, drop, sym, ap, ◌∙◌, subst, arith, append-nil, length-append}
+use Rattle.std.proofs.Common.{◌≡◌, ℕ, ◌+◌, ◌-◌, ◌<◌, [], ◌∷◌, ◌++◌, length, map, drop, sym, ap, ◌∙◌, subst, arith, append-nil, length-append}
 use Rattle.lrlex.specs.Tiling.{Done, rebased}
 use Rattle.lrlex.specs.Runs.{plain, AreRuns}
 use Rattle.lrlex.specs.Marks.{mark_at}
 use Rattle.lrlex.specs.Edits.{Meets, items_from, moved_mark}
 use Rattle.lrlex.specs.Reach.{IsLexed, IsRun}
-use Rattle.lrlex.specs.Tables.{AreMatchers, AreOf}
+use Rattle.lrlex.specs.Tables.{AreMatchers}
+use Rattle.lrlex.specs.AtHand.{AreOf}
 use Rattle.lrlex.specs.Views.{definition_of, items_by}
 use Rattle.std.proofs.Props.{props}
 use Rattle.std.proofs.Math.Logic.{∥∥₁_elim}
@@ -13,9 +14,11 @@ use Rattle.lrlex.specs.Decided.{LooksAhead}
 use Rattle.lrlex.proofs.AheadLemmas.{looks_known}
 use Rattle.lrlex.proofs.RaisedLemmas.{looks_taken_over}
 use Rattle.lrlex.proofs.ViewLemmas.{taken_back}
-use Rattle.lrlex.proofs.ReachLemmas.{ended, nothing_left, run_of, runs_now, last_now, few_searches}
+use Rattle.lrlex.proofs.ReachLemmas.{ended, nothing_left, run_of, runs_now, last_now, few_searches, length_now}
 use Rattle.lrlex.proofs.KnownLemmas.{known, sorted}
 use Rattle.lrlex.proofs.MeetLemmas.{whole, olds_in_order, items_movable, marks_movable, met, few_met, none_met, meets_front, rest_same, few_anew, unmet_before}
+use Rattle.lrlex.specs.Asked.{IsLastSafe}
+use Rattle.lrlex.proofs.AskedLemmas.{asks_nowhere, next_asked, cut_to_meeting, cut_to_stop, cut_to_end}
 use Rattle.lrlex.proofs.lexer.run.LexRun.relex.Goals as goal
 
 pub tiles-init : goal.tiles-init
@@ -25,12 +28,13 @@ tiles-init g c =
     let p = c.in_ok-progress.progress in
     let e = c.in_ok-progress.ensures in
     record {
-      here = subst (λ q. AreOf (definition_of g.L.StorageT.Id.number c.args.self.now.definition.now) q c.rules_in-here.result) (sym c.rules_in-here.ensures.state) c.rules_in-here.ensures.rules;
+      here = subst (λ q. AreOf g.L.StorageT.Id.number c.args.self.now.definition.now q c.rules_in-here.result) (sym c.rules_in-here.ensures.state) c.rules_in-here.ensures.rules;
       matchers = rw c.deref.ensures.value at c.in_ok-matchers.ensures;
       boundary = e.boundary;
       reached = e.reached;
       looked = e.looked;
       kept = omega (arith, c.len-kept.ensures);
+      exact = e.none ∙ sym (asks_nowhere s.definition.now c.args.new.now p.boundaries (c.len-kept.result - 1) (length p.boundaries - 1) (omega (arith, c.len-kept.ensures)));
       cursor = c.behind-cursor.ensures.within;
       behind = λ j lt. omega (arith, c.behind-cursor.ensures.before j lt);
       unmet = unmet_before s.boundaries p.boundaries edit.removed.start edit.removed.end (length edit.put.now) e.before;
@@ -212,6 +216,7 @@ tiles-preserved g c =
     let on = c.if-not-branch.false in
     let more = c.in_ok-advance.ensures.more on in
     let grows = c.in_ok-advance.ensures.grows on in
+    let from_within : c.len-kept.result - 1 < length p.boundaries = omega (arith, c.tiles.invariant.kept, length_now d new p.place p.stack.items found p.boundaries p.asked r) in
     record {
       here = c.in_ok-advance.ensures.here;
       matchers = subst (λ ms. AreMatchers def.table.rules.items ms)
@@ -222,6 +227,8 @@ tiles-preserved g c =
       reached = c.in_ok-advance.ensures.goes_on on;
       looked = c.in_ok-advance.ensures.looked on;
       kept = omega (arith, c.tiles.invariant.kept, ap length more.1, length-append p.boundaries (more.0 ∷ []));
+      exact = next_asked def new d p.place p.stack.items found p.boundaries p.asked r (c.len-kept.result - 1) from_within c.tiles.invariant.exact c.advance.new.progress.asked more.0 c.advance.new.progress.boundaries
+          c.tiles-test.true c.in_ok-advance.ensures.exact more.1;
       cursor = c.meets.ensures.cursor;
       behind = λ j lt. omega (arith, c.meets.ensures.behind j lt, grows);
       unmet = λ k lt m. none k (meets_front s.boundaries p.boundaries (more.0 ∷ []) c.advance.new.progress.boundaries edit.removed.start edit.removed.end (length edit.put.now) k more.1 (omega (arith, lt, ap length more.1, length-append p.boundaries (more.0 ∷ []))) m);
@@ -409,3 +416,67 @@ returns-clause-lexed g c =
     few_anew s.boundaries p.boundaries [] c.finished-2.result.boundaries s.ahead.items edit.removed.start edit.removed.end (length edit.put.now) c.len-kept.result c.finished-2.result.anew c.tiles.invariant.unmet
     (c.finished-2.ensures.boundaries ∙ sym (append-nil p.boundaries)) (λ k within safe. omega (arith, c.in_ok-progress.ensures.last k within safe, c.len-kept.ensures)) c.tiles.invariant.kept
     (omega (arith, c.finished-2.ensures.anew, c.len-2.ensures))
+
+pub returns-then-meets-clause-exact : goal.returns-then-meets-clause-exact
+returns-then-meets-clause-exact g c z =
+    let def = c.args.self.now.definition.now in
+    let d = definition_of g.L.StorageT.Id.number def in
+    let new = c.args.new.now in
+    let s = c.args.self.now in
+    let edit = c.args.edit.now in
+    let p = c.tiles.progress in
+    let found = items_by g.L.StorageT.Id.number g.L.LexemeT.Lexeme.id_of g.L.LexemeT.Lexeme.start_of g.L.LexemeT.Lexeme.len_of g.L.LexemeT.Lexeme.is_faulty p.items.items in
+    let r = c.tiles.invariant.reached in
+    let q = c.in_ok-progress.progress in
+    let was = items_by g.L.StorageT.Id.number g.L.LexemeT.Lexeme.id_of g.L.LexemeT.Lexeme.start_of g.L.LexemeT.Lexeme.len_of g.L.LexemeT.Lexeme.is_faulty q.items.items in
+    let k : ℕ = c.len-kept.result - 1 in
+    let some : 0 < c.len-kept.result = omega (arith, c.len-kept.ensures, length_now d new q.place q.stack.items was q.boundaries q.asked c.in_ok-progress.ensures.reached) in
+    let resumed : IsLastSafe s.boundaries s.ahead.items edit.removed.start k = subst (λ n. IsLastSafe s.boundaries s.ahead.items edit.removed.start (n - 1)) (sym c.len-kept.ensures) c.in_ok-progress.ensures.from in
+    let within : k < length p.boundaries = omega (arith, c.tiles.invariant.kept, length_now d new p.place p.stack.items found p.boundaries p.asked r) in
+    cut_to_meeting def d new s.boundaries s.ahead.items edit.removed.start edit.removed.end (length edit.put.now) p.place p.stack.items found p.boundaries p.asked r k resumed within c.tiles.invariant.exact c.tiles.invariant.unmet
+    c.finished.result.boundaries c.finished.result.asked c.finished.result.anew (omega (arith, c.finished.ensures.anew, c.len.ensures, c.tiles.invariant.kept, some)) _ (c.finished.ensures.boundaries ∙ c.in_ok-take_over.ensures.boundaries)
+    (c.finished.ensures.asked ∙ c.in_ok-take_over.ensures.asked) (c.meets.ensures.past c.if-meets.true) c.meets.new.cursor (c.meets.ensures.within c.if-meets.true) (c.meets.ensures.place c.if-meets.true)
+    (c.meets.ensures.stack c.if-meets.true ∙ c.deref-in-tiles.ensures.value)
+
+pub returns-then-not-branch-clause-exact : goal.returns-then-not-branch-clause-exact
+returns-then-not-branch-clause-exact g c z =
+    let def = c.args.self.now.definition.now in
+    let d = definition_of g.L.StorageT.Id.number def in
+    let new = c.args.new.now in
+    let s = c.args.self.now in
+    let edit = c.args.edit.now in
+    let p = c.tiles.progress in
+    let found = items_by g.L.StorageT.Id.number g.L.LexemeT.Lexeme.id_of g.L.LexemeT.Lexeme.start_of g.L.LexemeT.Lexeme.len_of g.L.LexemeT.Lexeme.is_faulty p.items.items in
+    let r = c.tiles.invariant.reached in
+    let q = c.in_ok-progress.progress in
+    let was = items_by g.L.StorageT.Id.number g.L.LexemeT.Lexeme.id_of g.L.LexemeT.Lexeme.start_of g.L.LexemeT.Lexeme.len_of g.L.LexemeT.Lexeme.is_faulty q.items.items in
+    let k : ℕ = c.len-kept.result - 1 in
+    let some : 0 < c.len-kept.result = omega (arith, c.len-kept.ensures, length_now d new q.place q.stack.items was q.boundaries q.asked c.in_ok-progress.ensures.reached) in
+    let resumed : IsLastSafe s.boundaries s.ahead.items edit.removed.start k = subst (λ n. IsLastSafe s.boundaries s.ahead.items edit.removed.start (n - 1)) (sym c.len-kept.ensures) c.in_ok-progress.ensures.from in
+    let within : k < length p.boundaries = omega (arith, c.tiles.invariant.kept, length_now d new p.place p.stack.items found p.boundaries p.asked r) in
+    let none = none_met d new s.boundaries edit.removed.start edit.removed.end (length edit.put.now) p.place p.stack.items found p.boundaries p.asked r c.tiles.invariant.unmet
+    (λ past j within at same. c.meets.ensures.none c.if-meets.false past j within at (same ∙ ap (λ xs. plain xs) (sym c.deref-in-tiles.ensures.value))) in
+    let same = c.in_ok-advance.ensures.same c.if-not-branch.true in
+    cut_to_stop def d new s.boundaries s.ahead.items edit.removed.start edit.removed.end (length edit.put.now) p.place p.stack.items found p.boundaries p.asked r k resumed within c.tiles.invariant.exact c.tiles.invariant.unmet
+    c.finished-then-not-branch.result.boundaries c.finished-then-not-branch.result.asked c.finished-then-not-branch.result.anew
+    (omega (arith, c.finished-then-not-branch.ensures.anew, c.len-then-not-branch.ensures, ap length same, c.tiles.invariant.kept, some)) (c.finished-then-not-branch.ensures.boundaries ∙ same) none c.tiles-test.true
+    (c.finished-then-not-branch.ensures.asked ∙ c.in_ok-advance.ensures.exact)
+
+pub returns-clause-exact : goal.returns-clause-exact
+returns-clause-exact g c z =
+    let def = c.args.self.now.definition.now in
+    let d = definition_of g.L.StorageT.Id.number def in
+    let new = c.args.new.now in
+    let s = c.args.self.now in
+    let edit = c.args.edit.now in
+    let p = c.tiles.progress in
+    let found = items_by g.L.StorageT.Id.number g.L.LexemeT.Lexeme.id_of g.L.LexemeT.Lexeme.start_of g.L.LexemeT.Lexeme.len_of g.L.LexemeT.Lexeme.is_faulty p.items.items in
+    let r = c.tiles.invariant.reached in
+    let q = c.in_ok-progress.progress in
+    let was = items_by g.L.StorageT.Id.number g.L.LexemeT.Lexeme.id_of g.L.LexemeT.Lexeme.start_of g.L.LexemeT.Lexeme.len_of g.L.LexemeT.Lexeme.is_faulty q.items.items in
+    let k : ℕ = c.len-kept.result - 1 in
+    let some : 0 < c.len-kept.result = omega (arith, c.len-kept.ensures, length_now d new q.place q.stack.items was q.boundaries q.asked c.in_ok-progress.ensures.reached) in
+    let resumed : IsLastSafe s.boundaries s.ahead.items edit.removed.start k = subst (λ n. IsLastSafe s.boundaries s.ahead.items edit.removed.start (n - 1)) (sym c.len-kept.ensures) c.in_ok-progress.ensures.from in
+    let within : k < length p.boundaries = omega (arith, c.tiles.invariant.kept, length_now d new p.place p.stack.items found p.boundaries p.asked r) in
+    cut_to_end def d new s.boundaries s.ahead.items edit.removed.start edit.removed.end (length edit.put.now) p.place p.stack.items found p.boundaries p.asked r k resumed within c.tiles.invariant.exact c.tiles.invariant.unmet
+    c.finished-2.result.boundaries c.finished-2.result.asked c.finished-2.result.anew (omega (arith, c.finished-2.ensures.anew, c.len-2.ensures, c.tiles.invariant.kept, some)) c.finished-2.ensures.boundaries c.tiles-test.false c.finished-2.ensures.asked

@@ -1,20 +1,23 @@
-use Rattle.std.proofs.Common.{ℕ, ◌+◌, ◌-◌, ◌<◌, ◌≤◌, max, length, IsCharBoundary}
+use Rattle.std.proofs.Common.{◌≡◌, ℕ, ◌+◌, ◌-◌, ◌<◌, ◌≤◌, max, length, slice_range, IsCharBoundary}
 use Rattle.lrlex.specs.Reach.{Reached}
 use Rattle.lrlex.specs.Marks.{mark_at}
 use Rattle.lrlex.specs.Edits.{Meets}
+use Rattle.lrlex.specs.Asked.{asks}
 use Rattle.lrlex.specs.Decided.{HasLooked}
-use Rattle.lrlex.specs.Tables.{AreMatchers, AreOf}
+use Rattle.lrlex.specs.Tables.{AreMatchers}
+use Rattle.lrlex.specs.AtHand.{AreOf}
 use Rattle.lrlex.specs.Views.{definition_of, items_by}
 use Rattle.lrlex.proofs.lexer.run.LexRun.relex.Given as goal
 
 abbrev pub invariant-tiles : goal.invariant-tiles
 invariant-tiles g l = record {
   matchers : AreMatchers l.definition.table.rules.items l.matchers.items;
-  here : AreOf (definition_of g.L.StorageT.Id.number l.definition) l.here.state l.here;
+  here : AreOf g.L.StorageT.Id.number l.definition l.here.state l.here;
   boundary : IsCharBoundary l.new l.progress.place;
   reached : Reached (definition_of g.L.StorageT.Id.number l.definition) l.new l.progress.place l.progress.stack.items (items_by g.L.StorageT.Id.number g.L.LexemeT.Lexeme.id_of g.L.LexemeT.Lexeme.start_of g.L.LexemeT.Lexeme.len_of g.L.LexemeT.Lexeme.is_faulty l.progress.items.items) l.progress.boundaries l.progress.asked;
   looked : HasLooked (definition_of g.L.StorageT.Id.number l.definition) l.new l.progress.boundaries l.progress.ahead.items l.progress.place l.progress.over;
   kept : l.kept ≤ length l.progress.boundaries;
+  exact : l.progress.asked ≡ asks l.definition l.new (slice_range l.progress.boundaries (l.kept - 1) (length l.progress.boundaries - 1));
   cursor : l.cursor ≤ length l.self.boundaries;
   behind : (j : ℕ) → j < l.cursor → (mark_at l.self.boundaries j).place + (l.edit.removed.start + length l.edit.put.now) < max l.progress.place (l.edit.removed.start + length l.edit.put.now) + l.edit.removed.end;
   unmet : (k : ℕ) → k + 1 < length l.progress.boundaries → Meets l.self.boundaries l.progress.boundaries l.edit.removed.start l.edit.removed.end (length l.edit.put.now) k → ⊥;
