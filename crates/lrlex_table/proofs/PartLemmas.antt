@@ -185,13 +185,3 @@ none_tabled ps n asked rises all = record {
   rises = rises;
   each = λ k ge lt none. all k lt;
 }
-
--- a table of these rows serves what they serve
-pub table_of_rows : (ps : List Re) (next : List ℕ) (wins : List (Option ℕ)) (start : ℕ) (t : Table) → next_rows t ≡ next → t.wins.items ≡ wins → t.start ≡ start →
-    Serves next wins start ps → IsTableOf ps t
-table_of_rows ps next wins start t rows won first is =
-    subst (λ xs. Serves xs t.wins.items t.start ps) (sym rows) (subst (λ ws. Serves next ws t.start ps) (sym won) (subst (λ s. Serves next wins s ps) (sym first) is))
-
--- a copy serves the same patterns
-pub same_table : (ps : List Re) (a b : Table) → b.cells.items ≡ a.cells.items → b.wins.items ≡ a.wins.items → b.start ≡ a.start → IsTableOf ps a → IsTableOf ps b
-same_table ps a b cells wins start is = table_of_rows ps (next_rows a) a.wins.items a.start b (ap rows_in cells) wins start is
