@@ -1,13 +1,11 @@
 -- The parts of a list of rules: their rules rise, and each rule has a table or is asked.
-use Rattle.std.proofs.Common.{◌≡◌, ℕ, zero, suc, ◌+◌, ◌-◌, ◌<◌, ◌≤◌, ◌==◌, true, false, List, All, [], ◌∷◌, ◌++◌, length, map, set, get_or, Option, refl, sym, ap, ◌∙◌, subst, inl, inr, arith}
+use Rattle.std.proofs.Common.{◌≡◌, ℕ, zero, suc, ◌+◌, ◌-◌, ◌<◌, ◌≤◌, ◌==◌, true, false, List, All, [], ◌∷◌, ◌++◌, length, map, set, get_or, refl, sym, ap, ◌∙◌, subst, inl, inr, arith}
 use Rattle.std.proofs.lemmas.Bool.{cases_lt, or_cases, or_parts, or_from, or_left, or_right, eqb-true, eq-eqb}
 use Rattle.std.proofs.lemmas.List.{map-append, get_or_at, length-append}
 use Rattle.std.proofs.lemmas.List.Elements.{All-nil, All-push, All-get_or, All-weaker}
 use Rattle.std.proofs.lemmas.List.Folds.{list_any-append}
 use Rattle.regex.specs.Patterns.{Re}
-use Rattle.lrlex_table.specs.Merged.{next_rows, pattern_at, IsTableOf, Serves}
-use Rattle.lrlex_table.specs.Sound.{rows_in}
-use Rattle.lrlex_table.specs.declared.table.Table.{Table}
+use Rattle.lrlex_table.specs.Merged.{pattern_at, IsTableOf}
 use Rattle.lrlex_table.specs.declared.tables.Part.{Part}
 use Rattle.lrlex_table.specs.Tables.{is_among, is_tabled, AreRising, IsPartOf, AreParts, Covers, ArePartsOf}
 

@@ -6,7 +6,6 @@ use Rattle.lrlex_rules.specs.Patterns.{match_length}
 use Rattle.lrlex_table.specs.Merged.{pattern_at, IsTableOf}
 use Rattle.lrlex_table.specs.Decided.{IsText, BeginsAlike}
 use Rattle.lrlex_table.specs.declared.single.Single.{Single}
-use Rattle.lrlex_table.specs.declared.table.Table.{Table}
 use Rattle.lrlex_table.specs.declared.tables.Part.{Part}
 use Rattle.lrlex_table.specs.declared.tables.Tables.{Tables}
 use Rattle.lrlex_table.specs.declared.walk.Sight.{Sight}

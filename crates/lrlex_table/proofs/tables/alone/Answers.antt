@@ -1,4 +1,4 @@
-use Rattle.std.proofs.Common.{◌≡◌, ◌+◌, ◌++◌, ◌∷◌, [], sym, ap, ◌∙◌, subst}
+use Rattle.std.proofs.Common.{◌+◌, ◌++◌, ◌∷◌, [], sym, ap, ◌∙◌, subst}
 use Rattle.lrlex_table.specs.Merged.{IsTableOf}
 use Rattle.lrlex_table.specs.declared.tables.Part.{Part}
 use Rattle.lrlex_table.specs.Tables.{ArePartsOf}
