@@ -1,13 +1,13 @@
 -- What the tables of a state and the answers of the other rules say together: the best of them wins.
-use Rattle.std.proofs.Common.{◌≡◌, ℕ, zero, suc, ◌+◌, ◌-◌, ◌<◌, ◌≤◌, ◌⊎◌, ◌||◌, Bool, true, false, List, All, [], ◌∷◌, ◌++◌, length, map, take, get_or, Option, None, Some, IfSome, option_map, unwrap_or, slice_get, Vec, MatchOption, IsCharBoundary, ◌==◌, refl, sym, ap, ap₂, ◌∙◌, subst, inl, inr, arith}
+use Rattle.std.proofs.Common.{◌≡◌, ℕ, zero, suc, ◌+◌, ◌-◌, ◌<◌, ◌≤◌, ◌⊎◌, ◌||◌, Bool, true, false, List, All, [], ◌∷◌, ◌++◌, length, map, take, drop, get_or, set, Option, None, Some, IfSome, option_map, unwrap_or, slice_get, Vec, MatchOption, IsCharBoundary, ◌==◌, refl, sym, ap, ap₂, ◌∙◌, subst, inl, inr, arith}
 use Rattle.std.proofs.Props.{props}
 use Rattle.std.proofs.Math.Logic.{∥∥₁_elim}
 use mathlib.Core.Logic.{∥∥₁_map}
 use Rattle.std.specs.declared.alloc.Global.{Global}
 use Rattle.std.specs.List.{list_any, position}
-use Rattle.std.proofs.lemmas.Bool.{cases_lt, eqb-true}
+use Rattle.std.proofs.lemmas.Bool.{cases_lt, cases_eq, eqb-true}
 use Rattle.std.proofs.lemmas.Option.{none-some, same_Some, MatchOption-at_some, MatchOption-at_none, slice_get-map, slice_get-get_or, slice_get_past, slice_get_within, get_or_from_slice_get}
-use Rattle.std.proofs.lemmas.List.{length-map, length_push, get_or_append_left, get_or_push, take_all}
+use Rattle.std.proofs.lemmas.List.{length-map, length-set, length-take, length-drop, length-append, length_push, get_or-take, get_or-drop, get_or-append_right, get_or_append_left, get_or_push, get_or-set_same, get_or-set_other, take_all}
 use Rattle.std.proofs.lemmas.List.Folds.{list_any_more}
 use Rattle.std.proofs.lemmas.List.Elements.{All-push}
 use Rattle.regex_hir.specs.Text.{is_some_and}
@@ -19,6 +19,7 @@ use Rattle.lrlex_rules.specs.declared.states.StartState as start
 use Rattle.lrlex_rules.specs.declared.rules.Rule as code
 use Rattle.lrlex_table.specs.Merged.{next_rows, pattern_at, IsTableOf, IsLongest, NoneMatches}
 use Rattle.lrlex_table.specs.Tables.{AreSingle, is_among, is_tabled, AreRising, AreTablesOf, IsBestAmong}
+use Rattle.lrlex_table.specs.declared.single.Single.{Single}
 use Rattle.lrlex_table.specs.declared.table.Table.{Table}
 use Rattle.lrlex_table.specs.declared.tables.Part.{Part}
 use Rattle.lrlex_table.specs.declared.tables.Tables.{Tables}
@@ -354,31 +355,64 @@ active_at active states rules i id lists at =
 
 -- ---- which state has which tables
 
-pub single_none : (pattern : ℕ → Re) → AreSingle pattern []
-single_none pattern k t is = absurd (none-some _ is)
-
 alike_one : (p r : Re) → SameCaptures p r → (k : ℕ) → k < length (p ∷ []) → SameCaptures (pattern_at (p ∷ []) k) (pattern_at (r ∷ []) k)
 alike_one p r same zero lt = same
 alike_one p r same (suc k) lt = absurd (omega arith)
 
--- one more table of a rule alone
-pub single_more : {S : Type 0} (number : S → ℕ) (rules : List (code.Rule S)) (tables : List (Option Table)) (i : ℕ) (o : Option Table) (p : Re) (r : code.Rule S) →
-    length tables ≡ i → AreSingle (pattern_in (map (as_rule (λ _. 0)) rules)) tables → slice_get rules i ≡ Some r → SameCaptures p (pattern_of (as_rule number r)) →
-    IfSome o (IsTableOf (p ∷ [])) → AreSingle (pattern_in (map (as_rule (λ _. 0)) rules)) (tables ++ o ∷ [])
-single_more number rules tables i o p r len old at same new k t is = elim (cases_lt k i) [
+-- the table of a rule's compiled pattern is that of its pattern
+pub alone_serves : {S : Type 0} (number : S → ℕ) (o : Option Table) (p : Re) (r : code.Rule S) → SameCaptures p (pattern_of (as_rule number r)) →
+    IfSome o (IsTableOf (p ∷ [])) → IfSome o (IsTableOf (pattern_of (as_rule (λ _. 0) r) ∷ []))
+alone_serves number None p r same is = tt
+alone_serves number (Some t) p r same is =
+    let own = pattern_of (as_rule (λ _. 0) r) in
+    serves_alike (next_rows t) t.wins.items t.start (p ∷ []) (own ∷ []) refl (alike_one p own (subst (SameCaptures p) (pattern_here number (λ _. 0) r) same)) is
+
+pub pattern_in_at : {S : Type 0} (rules : List (code.Rule S)) (i : ℕ) (r : code.Rule S) → slice_get rules i ≡ Some r →
+    pattern_in (map (as_rule (λ _. 0)) rules) i ≡ pattern_of (as_rule (λ _. 0) r)
+pattern_in_at rules i r at = ap (λ u. pattern_of (unwrap_or u no_rule)) (slice_get-map (as_rule (λ _. 0)) rules i ∙ ap (option_map (as_rule (λ _. 0))) at)
+
+-- one more rule without a table yet
+pub single_more : (pattern : ℕ → Re) (singles : List Single) (s : Single) → AreSingle pattern singles → s.table ≡ None → AreSingle pattern (singles ++ s ∷ [])
+single_more pattern singles s old none k other is = elim (cases_lt k (length singles)) [
   | inl low ↦
-      old k t (slice_get-get_or tables k None (omega arith) ∙ ap Some (sym (get_or_append_left tables (o ∷ []) None k (omega arith)))
-      ∙ sym (slice_get-get_or (tables ++ o ∷ []) k None (omega (arith, length_push tables o))) ∙ is)
+      old k other (slice_get-get_or singles k s low ∙ ap Some (sym (get_or_append_left singles (s ∷ []) s k low))
+      ∙ sym (slice_get-get_or (singles ++ s ∷ []) k s (omega (arith, length_push singles s))) ∙ is)
   | inr high ↦
-      let within : k < length (tables ++ o ∷ []) = slice_get_within (tables ++ o ∷ []) k (Some t) is in
-      let e : i ≡ k = omega (arith, length_push tables o) in
-      let now : o ≡ Some t = sym (get_or_push tables o None k (len ∙ e)) ∙ get_or_from_slice_get (tables ++ o ∷ []) k (Some t) None is in
-      let own : pattern_in (map (as_rule (λ _. 0)) rules) k ≡ pattern_of (as_rule number r) =
-      ap (λ j. pattern_in (map (as_rule (λ _. 0)) rules) j) (sym e) ∙ ap (λ u. pattern_of (unwrap_or u no_rule)) (slice_get-map (as_rule (λ _. 0)) rules i ∙ ap (option_map (as_rule (λ _. 0))) at) ∙ pattern_here (λ _. 0) number r in
-      serves_alike (next_rows t) t.wins.items t.start (p ∷ []) (pattern_in (map (as_rule (λ _. 0)) rules) k ∷ []) refl
-      (alike_one p (pattern_in (map (as_rule (λ _. 0)) rules) k) (subst (SameCaptures p) (sym own) same))
-      (subst (λ u. IfSome u (IsTableOf (p ∷ []))) now new)
+      let within : k < length (singles ++ s ∷ []) = slice_get_within (singles ++ s ∷ []) k other is in
+      let now : s ≡ other = sym (get_or_push singles s s k (omega (arith, length_push singles s))) ∙ get_or_from_slice_get (singles ++ s ∷ []) k other s is in
+      subst (λ (u : Single). IfSome u.table (IsTableOf (pattern k ∷ []))) now (subst (λ o. IfSome o (IsTableOf (pattern k ∷ []))) (sym none) tt)
 ]
+
+-- what came of trying one
+pub single_set : (pattern : ℕ → Re) (singles : List Single) (i : ℕ) (s : Single) → AreSingle pattern singles → i < length singles →
+    IfSome s.table (IsTableOf (pattern i ∷ [])) → AreSingle pattern (set singles i s)
+single_set pattern singles i s old lt new k other is =
+    let within : k < length (set singles i s) = slice_get_within (set singles i s) k other is in
+    let here : get_or (set singles i s) k s ≡ other = get_or_from_slice_get (set singles i s) k other s is in
+    elim (cases_eq k i) [
+      | inl e ↦
+          let now : s ≡ other = sym (get_or-set_same singles i s s lt) ∙ sym (ap (λ j. get_or (set singles i s) j s) e) ∙ here in
+          subst (λ (u : Single). IfSome u.table (IsTableOf (pattern k ∷ []))) now (subst (λ j. IfSome s.table (IsTableOf (pattern j ∷ []))) (sym e) new)
+      | inr ne ↦
+          old k other (slice_get-get_or singles k s (omega (arith, length-set singles i s)) ∙ ap Some (sym (get_or-set_other singles i k s s ne) ∙ here))
+    ]
+
+-- what a call leaves of the rules that it was lent
+pub single_back : (pattern : ℕ → Re) (new old : List Single) (n : ℕ) → AreSingle pattern new → AreSingle pattern old → AreSingle pattern (take n (new ++ drop (length new) old))
+single_back pattern new old n made kept k s is =
+    let rest = drop (length new) old in
+    let within : k < length (take n (new ++ rest)) = slice_get_within (take n (new ++ rest)) k s is in
+    let low : k < n = omega (arith, length-take n (new ++ rest)) in
+    let here : get_or (new ++ rest) k s ≡ s = sym (get_or-take n (new ++ rest) k s low) ∙ get_or_from_slice_get (take n (new ++ rest)) k s s is in
+    elim (cases_lt k (length new)) [
+      | inl lt ↦ made k s (slice_get-get_or new k s lt ∙ ap Some (sym (get_or_append_left new rest s k lt) ∙ here))
+      | inr ge ↦
+          let bound : k < length old = omega (arith, length-take n (new ++ rest), length-append new rest, length-drop (length new) old) in
+          let place : length new + (k - length new) ≡ k = omega arith in
+          let there : get_or (new ++ rest) k s ≡ get_or old k s =
+          get_or-append_right new rest (length new) k s refl ge ∙ get_or-drop (length new) old (k - length new) s ∙ ap (λ j. get_or old j s) place in
+          kept k s (slice_get-get_or old k s bound ∙ ap Some (sym there ∙ here))
+    ]
 
 module _ {S : Type 0} (rules : List (code.Rule S)) (active : List (List ℕ)) where
   pub served_none : (tables : List Tables) → AreServed rules active tables []

@@ -1,6 +1,7 @@
 -- Start states by their places, the tables of each, and the matchers of the rules that have none.
 use Rattle.std.specs.declared.alloc.Global.{Global}
-use Rattle.std.specs.Prelude.{Box, ◌≡◌, ℕ, List, [], length, map, Option, Some, unwrap_or, slice_get, slice_index_or}
+use Rattle.std.specs.Prelude.{Box, ◌≡◌, ℕ, List, [], length, map, Option, Some, unwrap_or, vec_len, slice_get, slice_index_or}
+use Rattle.std.specs.List.{sum_by}
 use Rattle.regex.specs.Patterns.{Re, SameCaptures}
 use Rattle.regex.specs.Strings.{matcher_pattern}
 use Rattle.regex.specs.declared.string.matcher.Matcher.{Matcher}
@@ -9,7 +10,7 @@ use Rattle.lrlex_rules.specs.Parts.{as_rule, as_state}
 use Rattle.lrlex_rules.specs.Patterns.{pattern_of}
 use Rattle.lrlex_rules.specs.declared.rules.Rule as code
 use Rattle.lrlex_rules.specs.declared.states.StartState as start
-use Rattle.lrlex_table.specs.Tables.{AreTablesOf}
+use Rattle.lrlex_table.specs.Tables.{AreTablesOf, rows_of}
 use Rattle.lrlex_table.specs.declared.tables.Tables.{Tables}
 use Rattle.lrlex.specs.Active.{no_rule}
 
@@ -40,3 +41,13 @@ abbrev pub AreMatchers : {S : Type 0} → List (code.Rule S) → List (Option (B
 AreMatchers rules made =
     (length made ≡ length rules)
     × ((i : ℕ) (r : code.Rule _) (o : Option (Box Matcher Global)) → slice_get rules i ≡ Some r → slice_get made i ≡ Some o → IsMatcherOf r o)
+
+-- how many tables these have, how many rows in all, and how many rules without a table
+abbrev pub count_of_tables : List Tables → ℕ
+count_of_tables tables = sum_by (λ t. vec_len t.parts) tables
+
+abbrev pub count_of_rows : List Tables → ℕ
+count_of_rows tables = sum_by (λ t. rows_of t.parts.items) tables
+
+abbrev pub count_of_asked : List Tables → ℕ
+count_of_asked tables = sum_by (λ t. vec_len t.asked) tables

@@ -2,6 +2,7 @@
 use Rattle.std.specs.Prelude.{ℕ, Bool, List, option_map, Result, Ok, Err, map}
 use Rattle.lrlex_base.specs.Spans.{span_start, span_end}
 use Rattle.lrlex_rules.specs.Definition.{Definition}
+use Rattle.lrlex_table.specs.declared.tables.Tables.{Tables}
 use Rattle.lrlex.specs.Faults.{lex_error_span, lex_error_state}
 use Rattle.lrlex_rules.specs.Parts.{as_rule, as_state, state_number}
 use Rattle.lrlex.specs.Tiling.{Item, Lexeme, Error}
@@ -24,6 +25,10 @@ definition_rules d = d.table.rules.items
 
 abbrev pub definition_states : {L X S E P Q : Type 0} → LRNonStreamingLexerDef L X S E P Q → List start.StartState
 definition_states d = d.table.start_states.items
+
+-- the tables of each list of rules that are active in a state
+abbrev pub definition_tables : {L X S E P Q : Type 0} → LRNonStreamingLexerDef L X S E P Q → List Tables
+definition_tables d = d.table.tables.items
 
 -- an item of the program, by what the functions say of an id and a lexeme
 abbrev pub item_of : {S X : Type 0} → (S → ℕ) → (X → S) → (X → ℕ) → (X → ℕ) → (X → Bool) → Result X LRLexError → Item

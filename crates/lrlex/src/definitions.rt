@@ -2,13 +2,14 @@ ghost use Rattle.std.specs.Prelude.{◌≡◌, IfOk};
 ghost use Rattle.lrlex_rules.specs.Answer.{IsAnswer, AreOwnRefusals};
 
 use crate::ids::{names_without_id, names_without_rule, places_without_id};
-use crate::lexer::LRNonStreamingLexerDef;
+use crate::lexer::{LRNonStreamingLexerDef, usual_budget};
 use crate::lookups::{first_named, first_with_id};
 use lrlex_base::{Id, LexerTypes, Span};
 use lrlex_rules::{
     DEFAULT_LEX_FLAGS, LexBuildResult, LexFlags, Rule, RuleFile, StartState, UNSPECIFIED_LEX_FLAGS,
     read_rules,
 };
+use lrlex_table::Budget;
 use std::alloc::{AllocError, Global};
 use std::collections::{HashMap, HashSet};
 use std::slice::Iter;
@@ -205,6 +206,23 @@ impl<L: LexerTypes> LRNonStreamingLexerDef<L> {
         ensures lawful { IfOk result (λ built. IfOk built (λ d. IsLawful text.now (definition_of L.StorageT.number d))) }
         ensures initial { IfOk result (λ built. IfOk built (λ d. is_state (definition_of L.StorageT.number d) 0 ≡ true)) }
     {
+        LRNonStreamingLexerDef::new_with_budget(alloc, text, flags, usual_budget())
+    }
+
+    /// The same, with tables that cost no more than this. Under a budget of nothing each rule is asked by itself. No
+    /// answer depends on it.
+    pub fn new_with_budget(
+        alloc: Global,
+        text: &str,
+        flags: LexFlags,
+        budget: Budget,
+    ) -> Result<LexBuildResult<LRNonStreamingLexerDef<L>>, AllocError>
+        ensures answer { IfOk result (IsAnswer (definition_of L.StorageT.number) flags L.StorageT.greatest text.now) }
+        ensures refusals { IfOk result (AreOwnRefusals flags L.StorageT.greatest text.now) }
+        ensures placed { IfOk result (λ built. IfErr built (λ faults. All (IsPlaced text.now) faults.items)) }
+        ensures lawful { IfOk result (λ built. IfOk built (λ d. IsLawful text.now (definition_of L.StorageT.number d))) }
+        ensures initial { IfOk result (λ built. IfOk built (λ d. is_state (definition_of L.StorageT.number d) 0 ≡ true)) }
+    {
         match read_rules::<L::StorageT>(alloc, text, flags)? {
             Ok(file) => {
                 let RuleFile {
@@ -212,7 +230,9 @@ impl<L: LexerTypes> LRNonStreamingLexerDef<L> {
                     rules,
                     flags,
                 } = file;
-                let definition = LRNonStreamingLexerDef::of_parts(alloc, states, rules, flags)?;
+                let definition = LRNonStreamingLexerDef::within_budget(
+                    alloc, states, rules, flags, budget,
+                )?;
                 Ok(Ok(definition))
             }
             Err(faults) => Ok(Err(faults)),

@@ -1,13 +1,11 @@
 -- The parts of a list of rules: their rules rise, and each rule has a table or is asked.
-use Rattle.std.proofs.Common.{◌≡◌, ℕ, zero, suc, ◌+◌, ◌-◌, ◌<◌, ◌≤◌, ◌==◌, true, false, List, All, [], ◌∷◌, ◌++◌, length, map, set, get_or, Option, refl, sym, ap, ◌∙◌, subst, inl, inr, arith}
+use Rattle.std.proofs.Common.{◌≡◌, ℕ, zero, suc, ◌+◌, ◌-◌, ◌<◌, ◌≤◌, ◌==◌, true, false, List, All, [], ◌∷◌, ◌++◌, length, map, set, get_or, refl, sym, ap, ◌∙◌, subst, inl, inr, arith}
 use Rattle.std.proofs.lemmas.Bool.{cases_lt, or_cases, or_parts, or_from, or_left, or_right, eqb-true, eq-eqb}
 use Rattle.std.proofs.lemmas.List.{map-append, get_or_at, length-append}
 use Rattle.std.proofs.lemmas.List.Elements.{All-nil, All-push, All-get_or, All-weaker}
 use Rattle.std.proofs.lemmas.List.Folds.{list_any-append}
 use Rattle.regex.specs.Patterns.{Re}
-use Rattle.lrlex_table.specs.Merged.{next_rows, pattern_at, IsTableOf, Serves}
-use Rattle.lrlex_table.specs.Sound.{rows_in}
-use Rattle.lrlex_table.specs.declared.table.Table.{Table}
+use Rattle.lrlex_table.specs.Merged.{pattern_at, IsTableOf}
 use Rattle.lrlex_table.specs.declared.tables.Part.{Part}
 use Rattle.lrlex_table.specs.Tables.{is_among, is_tabled, AreRising, IsPartOf, AreParts, Covers, ArePartsOf}
 
@@ -185,13 +183,3 @@ none_tabled ps n asked rises all = record {
   rises = rises;
   each = λ k ge lt none. all k lt;
 }
-
--- a table of these rows serves what they serve
-pub table_of_rows : (ps : List Re) (next : List ℕ) (wins : List (Option ℕ)) (start : ℕ) (t : Table) → next_rows t ≡ next → t.wins.items ≡ wins → t.start ≡ start →
-    Serves next wins start ps → IsTableOf ps t
-table_of_rows ps next wins start t rows won first is =
-    subst (λ xs. Serves xs t.wins.items t.start ps) (sym rows) (subst (λ ws. Serves next ws t.start ps) (sym won) (subst (λ s. Serves next wins s ps) (sym first) is))
-
--- a copy serves the same patterns
-pub same_table : (ps : List Re) (a b : Table) → b.cells.items ≡ a.cells.items → b.wins.items ≡ a.wins.items → b.start ≡ a.start → IsTableOf ps a → IsTableOf ps b
-same_table ps a b cells wins start is = table_of_rows ps (next_rows a) a.wins.items a.start b (ap rows_in cells) wins start is

@@ -1,19 +1,19 @@
 -- The tables of a list of rules: each serves some of the rules, and what has no table is asked by itself.
-use Rattle.std.specs.Prelude.{◌≡◌, ℕ, ◌+◌, ◌<◌, ◌≤◌, Bool, true, false, ◌==◌, List, All, [], ◌∷◌, length, map, Option, Some, vec_len, IsCharBoundary, MatchOption, slice_get}
+use Rattle.std.specs.Prelude.{◌≡◌, ℕ, ◌+◌, ◌<◌, ◌≤◌, Bool, true, false, ◌==◌, List, All, [], ◌∷◌, length, map, Option, Some, vec_len, IfSome, IsCharBoundary, MatchOption, slice_get}
 use Rattle.std.specs.List.{list_any, sum_by}
 use Rattle.regex.specs.Patterns.{Re}
 use Rattle.lrlex_rules.specs.Patterns.{match_length}
 use Rattle.lrlex_table.specs.Merged.{pattern_at, IsTableOf}
 use Rattle.lrlex_table.specs.Decided.{IsText, BeginsAlike}
-use Rattle.lrlex_table.specs.declared.table.Table.{Table}
+use Rattle.lrlex_table.specs.declared.single.Single.{Single}
 use Rattle.lrlex_table.specs.declared.tables.Part.{Part}
 use Rattle.lrlex_table.specs.declared.tables.Tables.{Tables}
 use Rattle.lrlex_table.specs.declared.walk.Sight.{Sight}
 use Rattle.lrlex_table.specs.declared.walk.Tile.{Tile}
 
 -- a table at place k is that of pattern k alone
-abbrev pub AreSingle : (ℕ → Re) → List (Option Table) → Type 0
-AreSingle pattern tables = (k : ℕ) (t : Table) → slice_get tables k ≡ Some (Some t) → IsTableOf (pattern k ∷ []) t
+abbrev pub AreSingle : (ℕ → Re) → List Single → Type 0
+AreSingle pattern singles = (k : ℕ) (s : Single) → slice_get singles k ≡ Some s → IfSome s.table (IsTableOf (pattern k ∷ []))
 
 -- how many rows the tables have
 abbrev pub rows_of : List Part → ℕ

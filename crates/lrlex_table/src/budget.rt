@@ -1,4 +1,4 @@
-ghost use Rattle.std.specs.Prelude.{◌≡◌, ◌+◌, ◌-◌, ◌^◌, ◌<◌, ◌≤◌, ◌↔◌, IsTrue};
+ghost use Rattle.std.specs.Prelude.{◌≡◌, ◌+◌, ◌-◌, ◌/◌, ◌^◌, ◌<◌, ◌≤◌, ◌↔◌, IsTrue};
 
 /// What building the tables of a definition may still cost: so many rows held at once, of some 512 bytes each, and so
 /// much work, in units of about a nanosecond. Once it is spent, rules go without a table.
@@ -53,21 +53,28 @@ impl Budget {
         enough
     }
 
-    /// Sets half of the work aside, and answers how much that is.
-    pub fn set_aside(&mut self) -> usize
-        ensures all { self.new.work + result ≡ self.old.work }
-        ensures rows { self.new.rows ≡ self.old.rows }
+    /// Sets half of the rows and of the work aside, and answers them.
+    pub fn set_aside(&mut self) -> Budget
+        ensures half_rows { result.rows ≡ self.old.rows / 2 }
+        ensures half_work { result.work ≡ self.old.work / 2 }
+        ensures rows { self.new.rows + result.rows ≡ self.old.rows }
+        ensures work { self.new.work + result.work ≡ self.old.work }
     {
-        let half = self.work / 2;
-        self.work -= half;
+        let half = Budget {
+            rows: self.rows / 2,
+            work: self.work / 2,
+        };
+        self.rows -= half.rows;
+        self.work -= half.work;
         half
     }
 
-    /// Puts work back that was set aside.
-    pub fn put_back(&mut self, work: usize)
-        ensures left { self.old.work + work < 2 ^ 64 → self.new.work ≡ self.old.work + work }
-        ensures rows { self.new.rows ≡ self.old.rows }
+    /// Puts back what was set aside.
+    pub fn put_back(&mut self, aside: Budget)
+        ensures rows { self.old.rows + aside.rows < 2 ^ 64 → self.new.rows ≡ self.old.rows + aside.rows }
+        ensures work { self.old.work + aside.work < 2 ^ 64 → self.new.work ≡ self.old.work + aside.work }
     {
-        self.work = self.work.saturating_add(work);
+        self.rows = self.rows.saturating_add(aside.rows);
+        self.work = self.work.saturating_add(aside.work);
     }
 }

@@ -8,6 +8,7 @@ mod marking;
 mod merging;
 mod nfa;
 mod product;
+mod single;
 mod source;
 mod step;
 mod table;
@@ -16,6 +17,7 @@ mod walk;
 
 pub use budget::Budget;
 pub use merging::table_of;
+pub use single::Single;
 pub use source::Source;
 pub use table::Table;
 pub use tables::{Part, Tables, tables_of};

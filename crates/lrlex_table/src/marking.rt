@@ -42,6 +42,7 @@ pub(crate) fn marked_table(mut next: Vec<u16>, wins: Vec<Option<u16>>, start: u1
     if start == 0 || wins.len() > MARK as usize || win_in(&wins, 0).is_some() {
         return None;
     }
+    next.shrink_to_fit();
     mark(&mut next, &wins);
     Some(Table {
         cells: next,

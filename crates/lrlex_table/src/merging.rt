@@ -15,6 +15,9 @@ use std::alloc::{AllocError, Global};
 /// The most rows that the table of one pattern has.
 const MOST_ROWS_ALONE: u16 = 2_000;
 
+/// No table has fewer rows, unless its pattern matches no byte.
+const FEWEST_ROWS: usize = 3;
+
 /// What it costs to read a pattern, and more for each of its bytes, in the budget's units of work.
 const WORK_OF_A_PATTERN: usize = 5_000;
 
@@ -35,7 +38,7 @@ pub fn table_of(
     let reading = bytes
         .saturating_mul(WORK_OF_A_BYTE)
         .saturating_add(WORK_OF_A_PATTERN);
-    if !budget.pay_work(reading) {
+    if budget.rows() < FEWEST_ROWS || !budget.pay_work(reading) {
         return Ok(None);
     }
     let made = nfa_of(alloc, source.regex, source.config)?;

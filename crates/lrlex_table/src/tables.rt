@@ -1,12 +1,13 @@
 //! The tables of a list of rules: as few as can be had, joined in pairs.
 ghost use Rattle.std.specs.Prelude.{◌≡◌, ℕ, Bool, ◌||◌, ◌+◌, ◌^◌, ◌<◌, ◌≤◌, List, [], ◌∷◌, ◌++◌, length, map, vec_len, slice_index_or, IfOk, OnOk, IfSome, MatchOption, IsTrue, IsFalse, IsUtf8};
 ghost use Rattle.regex.specs.Patterns.{Re};
-ghost use Rattle.lrlex_table.specs.Merged.{pattern_at, IsLongest, NoneMatches};
+ghost use Rattle.lrlex_table.specs.Merged.{pattern_at, IsTableOf, IsLongest, NoneMatches};
 ghost use Rattle.lrlex_table.specs.Decided.{IsDecidedBy};
 ghost use Rattle.lrlex_table.specs.Tables.{AreSingle, rows_of, is_among, is_tabled, IsPartOf, AreParts, Covers, ArePartsOf, AreTablesOf, IsBestAmong, IsWinnerAmong, IsSightOf};
 
 use crate::budget::Budget;
 use crate::product::product;
+use crate::single::Single;
 use crate::table::Table;
 use crate::walk::{Sight, Tile};
 use std::alloc::{AllocError, Global};
@@ -16,9 +17,6 @@ const MOST_ROWS: usize = 65_534;
 
 /// What it costs to try whether two parts can be joined, in the budget's units of work.
 const WORK_OF_A_TRY: usize = 500;
-
-/// What it costs to look at a rule of a list, in the budget's units of work.
-const WORK_OF_A_RULE: usize = 100;
 
 /// The table of some of the rules, with their places in the list.
 #[derive(Drop)]
@@ -99,28 +97,44 @@ fn put(
     Ok(())
 }
 
+/// The table of the rule at this place for one of its lists.
+fn hand_out_at(
+    alloc: Global,
+    singles: &mut [Single],
+    place: usize,
+    budget: &mut Budget,
+) -> Result<Option<Table>, AllocError>
+    ensures given { (pattern : ℕ → Re) → AreSingle pattern singles.old → IfOk result (λ o. IfSome o (IsTableOf (pattern place ∷ []))) }
+    ensures kept { (pattern : ℕ → Re) → AreSingle pattern singles.old → OnOk result (AreSingle pattern singles.new) }
+{
+    if place < singles.len() {
+        singles[place].hand_out(alloc, budget)
+    } else {
+        Ok(None)
+    }
+}
+
 /// The tables of one rule.
 fn alone(
     alloc: Global,
-    single: &[Option<Table>],
+    singles: &mut [Single],
     place: usize,
     rule: usize,
     budget: &mut Budget,
 ) -> Result<Tables, AllocError>
-    ensures { (pattern : ℕ → Re) (ps : List Re) → AreSingle pattern single.now → pattern_at ps rule ≡ pattern place →
+    ensures tables { (pattern : ℕ → Re) (ps : List Re) → AreSingle pattern singles.old → pattern_at ps rule ≡ pattern place →
         IfOk result (λ t. ArePartsOf ps rule (rule + 1) t.parts.items t.asked.items) }
+    ensures kept { (pattern : ℕ → Re) → AreSingle pattern singles.old → OnOk result (AreSingle pattern singles.new) }
 {
     let mut parts = Vec::new(alloc);
     let mut asked = Vec::new(alloc);
-    if let Some(Some(table)) = single.get(place)
-        && budget.pay_rows(table.rows())
-    {
-        let mut rules = Vec::new(alloc);
-        rules.push(rule)?;
-        let table = table.copy(alloc)?;
-        parts.push(Part { table, rules })?;
-    } else {
-        asked.push(rule)?;
+    match hand_out_at(alloc, singles, place, budget)? {
+        Some(table) => {
+            let mut rules = Vec::new(alloc);
+            rules.push(rule)?;
+            parts.push(Part { table, rules })?;
+        }
+        None => asked.push(rule)?,
     }
     Ok(Tables { parts, asked })
 }
@@ -144,37 +158,37 @@ fn both(
 }
 
 /// How many rows the table of the rule at this place has by itself.
-fn rows_at(single: &[Option<Table>], place: usize) -> usize {
-    match single.get(place) {
-        Some(Some(table)) => table.rows(),
-        _ => 1,
+fn rows_at(singles: &[Single], place: usize) -> usize {
+    match singles.get(place) {
+        Some(single) => single.rows(),
+        None => 1,
     }
 }
 
 /// How many rows the tables of the rules from `from` on and below `to` have, each by itself.
-fn rows_between(single: &[Option<Table>], places: &[usize], from: usize, to: usize) -> usize
+fn rows_between(singles: &[Single], places: &[usize], from: usize, to: usize) -> usize
     requires from { from ≤ to }
     requires to { to ≤ length places.now }
 {
     let mut rows = 0usize;
     for place in &places[from..to] {
-        rows = rows.saturating_add(rows_at(single, *place));
+        rows = rows.saturating_add(rows_at(singles, *place));
     }
     rows
 }
 
 /// Where to part these rules, so that the tables of both sides have about as many rows: each join goes through all rows
 /// of both tables, and so a big table is to take part in few.
-fn middle_of(single: &[Option<Table>], places: &[usize], from: usize, to: usize) -> usize
+fn middle_of(singles: &[Single], places: &[usize], from: usize, to: usize) -> usize
     requires two { from + 1 < to }
     requires to { to ≤ length places.now }
     ensures after { from < result }
     ensures before { result < to }
 {
-    let all = rows_between(single, places, from, to);
-    let mut left = rows_at(single, places[from]);
+    let all = rows_between(singles, places, from, to);
+    let mut left = rows_at(singles, places[from]);
     'places: for middle in from + 1..to - 1 {
-        let rows = rows_at(single, places[middle]);
+        let rows = rows_at(singles, places[middle]);
         let more = left.saturating_add(rows);
         if left.saturating_add(more) >= all {
             return middle;
@@ -187,7 +201,7 @@ fn middle_of(single: &[Option<Table>], places: &[usize], from: usize, to: usize)
 /// The tables of the rules from `from` on and below `to`.
 fn tables_between(
     alloc: Global,
-    single: &[Option<Table>],
+    singles: &mut [Single],
     places: &[usize],
     from: usize,
     to: usize,
@@ -195,33 +209,34 @@ fn tables_between(
 ) -> Result<Tables, AllocError>
     requires from { from < to }
     requires to { to ≤ length places.now }
-    ensures { (pattern : ℕ → Re) → AreSingle pattern single.now →
+    ensures tables { (pattern : ℕ → Re) → AreSingle pattern singles.old →
         IfOk result (λ t. ArePartsOf (map pattern places.now) from to t.parts.items t.asked.items) }
+    ensures kept { (pattern : ℕ → Re) → AreSingle pattern singles.old → OnOk result (AreSingle pattern singles.new) }
 {
     if to - from == 1 {
-        return alone(alloc, single, places[from], from, budget);
+        return alone(alloc, singles, places[from], from, budget);
     }
-    let middle = middle_of(single, places, from, to);
-    let left = tables_between(alloc, single, places, from, middle, budget)?;
-    let right = tables_between(alloc, single, places, middle, to, budget)?;
+    let middle = middle_of(singles, places, from, to);
+    let left = tables_between(alloc, singles, places, from, middle, budget)?;
+    let right = tables_between(alloc, singles, places, middle, to, budget)?;
     both(alloc, left, right, budget)
 }
 
-/// Tables for the rules at these places, as few as can be had; `single` has the table of each rule alone. A rule that
-/// has none stays asked, and so do all that the budget doesn't reach.
+/// Tables for the rules at these places, as few as can be had; `singles` has the table of each rule alone, and hands it
+/// out for this list. A rule that has none stays asked, and so do all that the budget doesn't reach.
 pub fn tables_of(
     alloc: Global,
-    single: &[Option<Table>],
+    singles: &mut [Single],
     places: &[usize],
     budget: &mut Budget,
 ) -> Result<Tables, AllocError>
-    ensures { (pattern : ℕ → Re) → AreSingle pattern single.now → IfOk result (AreTablesOf (map pattern places.now)) }
+    ensures tables { (pattern : ℕ → Re) → AreSingle pattern singles.old → IfOk result (AreTablesOf (map pattern places.now)) }
+    ensures kept { (pattern : ℕ → Re) → AreSingle pattern singles.old → OnOk result (AreSingle pattern singles.new) }
 {
-    let looking = places.len().saturating_mul(WORK_OF_A_RULE);
-    if places.is_empty() || !budget.pay_work(looking) {
-        return Tables::none(alloc, places.len());
+    if places.is_empty() {
+        return Tables::none(alloc, 0);
     }
-    tables_between(alloc, single, places, 0, places.len(), budget)
+    tables_between(alloc, singles, places, 0, places.len(), budget)
 }
 
 /// Whether a tile is better than another: it has more bytes, or as many by an earlier rule.
@@ -317,17 +332,6 @@ impl Tables {
         &self.asked
     }
 
-    /// Of the rules that have a table, the one that matches most bytes of the text from its beginning on, the first of
-    /// several, and how many. None where none matches a byte.
-    #[inline(always)]
-    pub fn winner(&self, text: &str) -> Option<Tile>
-        ensures { (ps : List Re) → AreTablesOf ps self.now →
-            MatchOption result (IsBestAmong ps (is_tabled self.now.parts.items) text.now 0 0)
-            (λ t. (0 < t.len) × IsBestAmong ps (is_tabled self.now.parts.items) text.now t.rule t.len) }
-    {
-        self.look(text).tile
-    }
-
     /// What all tables see. Out of line, since most lists of rules have one, and its look shall stay short.
     #[inline(never)]
     fn look_at_each(&self, text: &str) -> Sight
@@ -344,8 +348,9 @@ impl Tables {
         sight
     }
 
-    /// The winner, and how many bytes decide it, where all rules have a table: each text with the same first bytes has
-    /// the same winner.
+    /// Of the rules that have a table, the one that wins: it matches most bytes of the text from its beginning on, and is
+    /// the first of several. None where none matches a byte. With it, how many bytes decide that, where all rules have a
+    /// table: in each text with the same first bytes the same rule wins.
     #[inline(always)]
     pub fn look(&self, text: &str) -> Sight
         ensures winner { (ps : List Re) → AreTablesOf ps self.now →

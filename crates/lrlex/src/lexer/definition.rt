@@ -15,6 +15,11 @@ const MOST_ROWS: usize = 7_000;
 
 const MOST_WORK: usize = 40_000_000;
 
+/// The usual budget.
+pub(crate) fn usual_budget() -> Budget {
+    Budget::new(MOST_ROWS, MOST_WORK)
+}
+
 /// Rules and start states, with the places of the rules that are active in each state, and their tables.
 #[derive(Drop)]
 pub(crate) struct RuleTable<S> {
@@ -49,10 +54,10 @@ pub struct LRNonStreamingLexerDef<L: LexerTypes> {
 }
 
 impl<L: LexerTypes> LRNonStreamingLexerDef<L> {
-    ghost use Rattle.lrlex.specs.Views.{definition_of};
-    ghost use Rattle.std.specs.Prelude.{Some, option_map, IfOk};
+    ghost use Rattle.lrlex.specs.Views.{definition_of, definition_tables};
+    ghost use Rattle.std.specs.Prelude.{Some, option_map, IfOk, ◌^◌};
     ghost use Rattle.lrlex_table.specs.Tables.{AreTablesOf};
-    ghost use Rattle.lrlex.specs.Tables.{patterns_on};
+    ghost use Rattle.lrlex.specs.Tables.{patterns_on, count_of_tables, count_of_rows, count_of_asked};
     ghost use Rattle.lrlex.specs.AtHand.{AreOf};
     ghost use Rattle.lrlex.specs.Asked.{untabled_count};
 
@@ -67,12 +72,11 @@ impl<L: LexerTypes> LRNonStreamingLexerDef<L> {
         ensures states { IfOk result (λ d. d.table.start_states ≡ start_states) }
         ensures flags { IfOk result (λ d. d.flags ≡ flags) }
     {
-        let budget = Budget::new(MOST_ROWS, MOST_WORK);
-        Self::within_budget(alloc, start_states, rules, flags, budget)
+        Self::within_budget(alloc, start_states, rules, flags, usual_budget())
     }
 
     /// The same, with tables that cost no more than this.
-    fn within_budget(
+    pub(crate) fn within_budget(
         alloc: Global,
         start_states: Vec<StartState>,
         rules: Vec<Rule<L::StorageT>>,
@@ -102,7 +106,7 @@ impl<L: LexerTypes> LRNonStreamingLexerDef<L> {
     }
 
     /// The same definition, with tables that cost no more than this. Under a budget of nothing each rule is asked by
-    /// itself. No answer changes.
+    /// itself. No answer changes. `new_with_budget` makes such a definition at once.
     pub fn with_budget(self, alloc: Global, budget: Budget) -> Result<Self, AllocError>
         ensures { IfOk result (λ d. definition_of L.StorageT.number d ≡ definition_of L.StorageT.number self) }
     {
@@ -120,28 +124,34 @@ impl<L: LexerTypes> LRNonStreamingLexerDef<L> {
     }
 
     /// How many tables the start states have: states with the same rules share theirs.
-    pub fn tables(&self) -> usize {
+    pub fn tables(&self) -> usize
+        ensures { count_of_tables (definition_tables self.now) < 2 ^ 64 → result ≡ count_of_tables (definition_tables self.now) }
+    {
         let mut tables = 0usize;
-        for of_state in &self.table.tables {
-            tables = tables.saturating_add(of_state.count());
+        'lists: for of_list in &self.table.tables {
+            tables = tables.saturating_add(of_list.count());
         }
         tables
     }
 
     /// How many rows all tables have, of some 512 bytes each.
-    pub fn table_rows(&self) -> usize {
+    pub fn table_rows(&self) -> usize
+        ensures { count_of_rows (definition_tables self.now) < 2 ^ 64 → result ≡ count_of_rows (definition_tables self.now) }
+    {
         let mut rows = 0usize;
-        for of_state in &self.table.tables {
-            rows = rows.saturating_add(of_state.rows());
+        'lists: for of_list in &self.table.tables {
+            rows = rows.saturating_add(of_list.rows());
         }
         rows
     }
 
     /// How many rules have no table, in all lists of rules that are active in a state.
-    pub fn asked_rules(&self) -> usize {
+    pub fn asked_rules(&self) -> usize
+        ensures { count_of_asked (definition_tables self.now) < 2 ^ 64 → result ≡ count_of_asked (definition_tables self.now) }
+    {
         let mut asked = 0usize;
-        for of_state in &self.table.tables {
-            asked = asked.saturating_add(of_state.asked().len());
+        'lists: for of_list in &self.table.tables {
+            asked = asked.saturating_add(of_list.asked().len());
         }
         asked
     }

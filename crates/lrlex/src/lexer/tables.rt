@@ -1,42 +1,135 @@
 //! Which tables serve which start state.
-ghost use Rattle.std.specs.Prelude.{◌≡◌, ◌<◌, ℕ, List, All, [], map, length, IfOk, IfSome, slice_index_or};
-ghost use Rattle.lrlex_table.specs.Tables.{AreSingle};
+ghost use Rattle.std.specs.Prelude.{◌≡◌, ◌<◌, ℕ, List, All, [], ◌∷◌, map, length, IfOk, OnOk, IfSome, slice_index_or};
+ghost use Rattle.regex.specs.Patterns.{Re};
+ghost use Rattle.lrlex_table.specs.Merged.{IsTableOf};
+ghost use Rattle.lrlex_table.specs.Tables.{AreSingle, AreTablesOf};
 ghost use Rattle.lrlex_rules.specs.Parts.{as_rule};
-ghost use Rattle.lrlex.specs.Tables.{pattern_in, AreServed};
+ghost use Rattle.lrlex_rules.specs.Patterns.{pattern_of};
+ghost use Rattle.lrlex.specs.Tables.{pattern_in, patterns_on, AreServed};
 
 use lrlex_base::Id;
 use lrlex_rules::Rule;
-use lrlex_table::{Budget, Source, Table, Tables, table_of, tables_of};
+use lrlex_table::{Budget, Single, Source, Table, Tables, table_of, tables_of};
 use std::alloc::{AllocError, Global};
-use std::collections::HashMap;
+use std::collections::{HashMap, HashSet};
 
-/// The table of each rule alone, where it can be had.
-fn single_tables<S: Id>(
+/// What it costs to look at a rule of a list, in the budget's units of work.
+const WORK_OF_A_RULE: usize = 100;
+
+/// The table of the rule alone, where it can be had.
+fn table_alone<S: Id>(
+    alloc: Global,
+    rule: &Rule<S>,
+    budget: &mut Budget,
+) -> Result<Option<Table>, AllocError>
+    ensures { IfOk result (λ o. IfSome o (IsTableOf (pattern_of (as_rule (λ _. 0) rule.now) ∷ []))) }
+{
+    let source = Source {
+        regex: rule.regex(),
+        config: rule.config(),
+    };
+    let table = table_of(alloc, source, budget)?;
+    Ok(table)
+}
+
+/// Tries the table of the rule at this place alone, unless it was tried before.
+fn try_single<S: Id>(
     alloc: Global,
     rules: &[Rule<S>],
+    place: usize,
+    singles: &mut [Single],
     budget: &mut Budget,
-) -> Result<Vec<Option<Table>>, AllocError>
-    ensures { IfOk result (λ tables. AreSingle (pattern_in (map (as_rule (λ _. 0)) rules.now)) tables.items) }
+) -> Result<(), AllocError>
+    ensures { AreSingle (pattern_in (map (as_rule (λ _. 0)) rules.now)) singles.old →
+        OnOk result (AreSingle (pattern_in (map (as_rule (λ _. 0)) rules.now)) singles.new) }
 {
-    let mut tables = Vec::with_capacity(alloc, rules.len())?;
-    'rules: for index in 0..rules.len() {
-        let rule = &rules[index];
-        let source = Source {
-            regex: rule.regex(),
-            config: rule.config(),
-        };
-        tables.push(table_of(alloc, source, budget)?)?;
+    if place < rules.len() && place < singles.len() && !singles[place].is_tried() {
+        let table = table_alone(alloc, &rules[place], budget)?;
+        singles[place].tried(table);
     }
-    Ok(tables)
+    Ok(())
+}
+
+/// Tries the tables of the rules at these places, each alone.
+fn try_singles<S: Id>(
+    alloc: Global,
+    rules: &[Rule<S>],
+    places: &[usize],
+    singles: &mut [Single],
+    budget: &mut Budget,
+) -> Result<(), AllocError>
+    ensures { AreSingle (pattern_in (map (as_rule (λ _. 0)) rules.now)) singles.old →
+        OnOk result (AreSingle (pattern_in (map (as_rule (λ _. 0)) rules.now)) singles.new) }
+{
+    'places: for place in places {
+        try_single(alloc, rules, *place, singles, budget)?;
+    }
+    Ok(())
+}
+
+/// Tables for the rules at these places. At most half of what is left of the budget goes into the table of each rule
+/// alone, so that as much is left to join them, and for other lists.
+fn tables_on<S: Id>(
+    alloc: Global,
+    rules: &[Rule<S>],
+    places: &[usize],
+    singles: &mut [Single],
+    budget: &mut Budget,
+) -> Result<Tables, AllocError>
+    ensures tables { AreSingle (pattern_in (map (as_rule (λ _. 0)) rules.now)) singles.old →
+        IfOk result (AreTablesOf (patterns_on (map (as_rule (λ _. 0)) rules.now) places.now)) }
+    ensures kept { AreSingle (pattern_in (map (as_rule (λ _. 0)) rules.now)) singles.old →
+        OnOk result (AreSingle (pattern_in (map (as_rule (λ _. 0)) rules.now)) singles.new) }
+{
+    let looking = places.len().saturating_mul(WORK_OF_A_RULE);
+    if !budget.pay_work(looking) {
+        return Tables::none(alloc, places.len());
+    }
+    let joining = budget.set_aside();
+    try_singles(alloc, rules, places, singles, budget)?;
+    budget.put_back(joining);
+    tables_of(alloc, singles, places, budget)
 }
 
 /// A number that lists of the same places have in common.
 fn hash_of(places: &[usize]) -> u64 {
-    let mut hash = 0u64;
+    let mut hash = places.len() as u64;
     for place in places {
         hash = hash.rotate_left(5) ^ (*place as u64).wrapping_mul(0x9E37_79B9_7F4A_7C15);
     }
     hash
+}
+
+/// In how many of the lists each of so many rules stands. Lists with one hash count as one: a rule's table is given away
+/// with the last of its lists, and where two lists have one hash by chance, the rule is asked in the second.
+fn lists_with(
+    alloc: Global,
+    rules: usize,
+    active: &[Vec<usize>],
+) -> Result<Vec<usize>, AllocError> {
+    let mut lists = vec![in alloc; 0usize; rules]?;
+    let mut known = HashSet::new(alloc);
+    for places in active {
+        if known.insert(hash_of(places))? {
+            for place in places {
+                if let Some(count) = lists.get_mut(*place) {
+                    *count = count.saturating_add(1);
+                }
+            }
+        }
+    }
+    Ok(lists)
+}
+
+/// Room for the table of each rule alone, which stands in so many lists.
+fn singles_in(alloc: Global, lists: &[usize]) -> Result<Vec<Single>, AllocError>
+    ensures { (pattern : ℕ → Re) → IfOk result (λ singles. AreSingle pattern singles.items) }
+{
+    let mut singles = Vec::with_capacity(alloc, lists.len())?;
+    'lists: for count in lists {
+        singles.push(Single::new(*count))?;
+    }
+    Ok(singles)
 }
 
 /// An earlier state with the same active rules as the one at `index`, if it is the one that stands under the hash.
@@ -59,7 +152,7 @@ fn same_before(
 }
 
 /// Tables for the states, whose active rules stand at these places, and which state has which. States with the same
-/// rules share theirs. At most half of the work goes into the table of each rule alone, so that some is left to join them.
+/// rules share theirs.
 pub(crate) fn tables_for<S: Id>(
     alloc: Global,
     rules: &[Rule<S>],
@@ -70,9 +163,8 @@ pub(crate) fn tables_for<S: Id>(
     ensures each { IfOk result (λ r. length r.1.items ≡ length active.now) }
     ensures within { IfOk result (λ r. All (λ j. j < length r.0.items) r.1.items) }
 {
-    let joining = budget.set_aside();
-    let single = single_tables(alloc, rules, &mut budget)?;
-    budget.put_back(joining);
+    let lists = lists_with(alloc, rules.len(), active)?;
+    let mut singles = singles_in(alloc, &lists)?;
     let mut tables = Vec::new(alloc);
     let mut at = Vec::with_capacity(alloc, active.len())?;
     let mut known = HashMap::new(alloc);
@@ -86,7 +178,8 @@ pub(crate) fn tables_for<S: Id>(
             }
             None => {
                 at.push(tables.len())?;
-                tables.push(tables_of(alloc, &single, places, &mut budget)?)?;
+                let made = tables_on(alloc, rules, places, &mut singles, &mut budget)?;
+                tables.push(made)?;
                 known.insert(hash, index)?;
             }
         }

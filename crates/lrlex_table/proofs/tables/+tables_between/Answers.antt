@@ -4,15 +4,15 @@ use Rattle.regex.specs.Patterns.{empty}
 use Rattle.lrlex_table.specs.Tables.{ArePartsOf}
 use Rattle.lrlex_table.proofs.tables.+tables_between.Goals as goal
 
-pub returns-then-to-from-eq1 : goal.returns-then-to-from-eq1
-returns-then-to-from-eq1 t c pattern single =
+pub returns-then-to-from-eq1-clause-tables : goal.returns-then-to-from-eq1-clause-tables
+returns-then-to-from-eq1-clause-tables t c pattern single =
     let places = c.args.places.now in
     let one : c.args.to ≡ c.args.from + 1 = omega arith in
     subst (λ to. IfOk c.alone.result (λ r. ArePartsOf (map pattern places) c.args.from to r.parts.items r.asked.items)) (sym one)
-    (c.alone.ensures pattern (map pattern places) single (get_or-map pattern places c.args.from 0 empty (omega arith)))
+    (c.alone.ensures.tables pattern (map pattern places) single (get_or-map pattern places c.args.from 0 empty (omega arith)))
 
-pub returns : goal.returns
-returns t c pattern single =
-    let left = c.in_ok-left.ensures pattern single in
-    let right = c.in_ok-right.ensures pattern single in
+pub returns-clause-tables : goal.returns-clause-tables
+returns-clause-tables t c pattern single =
+    let left = c.in_ok-left.ensures.tables pattern single in
+    let right = c.in_ok-right.ensures.tables pattern (c.in_ok-left.ensures.kept pattern single) in
     c.both.ensures (map pattern c.args.places.now) _ _ _ left right

@@ -7,7 +7,7 @@ use Rattle.lrlex_rules.specs.Laws.{IsLawful}
 use Rattle.lrlex_rules.specs.Reading.{as_definition}
 use Rattle.lrlex.specs.Views.{definition_of}
 use Rattle.lrlex.proofs.Parted.{definition_of-parts, has_initial}
-use Rattle.lrlex.proofs.lexer.definition.LRNonStreamingLexerDef.new_with_options.Goals as goal
+use Rattle.lrlex.proofs.lexer.definition.LRNonStreamingLexerDef.new_with_budget.Goals as goal
 
 pub returns-in_ok-definition-in-Ok-clause-answer : goal.returns-in_ok-definition-in-Ok-clause-answer
 returns-in_ok-definition-in-Ok-clause-answer g c =
