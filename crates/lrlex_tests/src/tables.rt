@@ -1,8 +1,9 @@
 //! Which rules have a table, and that lexing by tables and by asking each rule answer alike.
 use crate::shown::{DefinitionOver, items_text};
-use lrlex::{Budget, LexerDef};
+use lrlex::{Budget, LexerDef, UNSPECIFIED_LEX_FLAGS};
 use lrlex_base::Id;
 use std::alloc::{AllocError, Global};
+use std::fmt::Write;
 use std::test::Fail;
 
 /// How many tables the states have, and how many rules of them have none. None where the rules are refused.
@@ -37,6 +38,42 @@ fn rules_with_and_without_a_table(rt: HostRuntime) -> Result<(), Fail> {
     Ok(())
 }
 
+/// A rule text of so many exclusive states, each with one rule, whose table has three rows.
+fn small_states(alloc: Global, states: usize) -> Result<String, AllocError> {
+    let mut rules = String::from_str(alloc, "%x")?;
+    for state in 0..states {
+        write!(rules, " s{state}")?;
+    }
+    rules.push_str("\n%%\n")?;
+    for state in 0..states {
+        write!(rules, "<s{state}>a 'R{state}'\n")?;
+    }
+    Ok(rules)
+}
+
+#[test]
+fn small_states_share_the_rows(rt: HostRuntime) -> Result<(), Fail> {
+    // rows; tables, rows that they have, rules that are asked
+    let rows = [(0, 0, 0, 40), (60, 19, 57, 21), (200, 40, 120, 0)];
+    let rules = small_states(rt.alloc(), 40)?;
+    for (most, tables, held, asked) in rows {
+        let budget = Budget::new(most, 40_000_000);
+        let Ok(definition) = DefinitionOver::<u32>::new_with_budget(
+            rt.alloc(),
+            rules.as_str(),
+            UNSPECIFIED_LEX_FLAGS,
+            budget,
+        )?
+        else {
+            panic!(rt; "the rules are refused");
+        };
+        assert_eq!(rt; definition.tables(), tables, "{most}");
+        assert_eq!(rt; definition.table_rows(), held, "{most}");
+        assert_eq!(rt; definition.asked_rules(), asked, "{most}");
+    }
+    Ok(())
+}
+
 /// What lexing gives by tables within this budget, and how many there are. None where the rules are refused.
 fn items_within<T: Id>(
     alloc: Global,
@@ -44,10 +81,10 @@ fn items_within<T: Id>(
     input: &str,
     budget: Budget,
 ) -> Result<Option<(String, usize)>, AllocError> {
-    let Ok(built) = DefinitionOver::<T>::from_str(alloc, rules)? else {
+    let built = DefinitionOver::<T>::new_with_budget(alloc, rules, UNSPECIFIED_LEX_FLAGS, budget)?;
+    let Ok(definition) = built else {
         return Ok(None);
     };
-    let definition = built.with_budget(alloc, budget)?;
     let run = definition.run(alloc, input)?;
     Ok(Some((
         items_text::<T>(alloc, definition.rules(), run.items())?,
