@@ -20,5 +20,5 @@ pub use merging::table_of;
 pub use single::Single;
 pub use source::Source;
 pub use table::Table;
-pub use tables::{Part, Tables, tables_of};
+pub use tables::{Part, Tables, joined_tables, tables_between};
 pub use walk::{Sight, Tile};

@@ -139,8 +139,9 @@ fn alone(
     Ok(Tables { parts, asked })
 }
 
-/// The tables of the rules of two, where those of the second stand later in the list.
-fn both(
+/// The tables of the rules of two, where those of the second stand later in the list: as few as can be had within the
+/// budget.
+pub fn joined_tables(
     alloc: Global,
     mut left: Tables,
     right: Tables,
@@ -198,8 +199,10 @@ fn middle_of(singles: &[Single], places: &[usize], from: usize, to: usize) -> us
     to - 1
 }
 
-/// The tables of the rules from `from` on and below `to`.
-fn tables_between(
+/// Tables for those of the rules at these places that stand from `from` on and below `to` in the list, as few as can be
+/// had; `singles` has the table of each rule alone, and hands it out for this list. A rule that has none stays asked, and
+/// so do all that the budget doesn't reach.
+pub fn tables_between(
     alloc: Global,
     singles: &mut [Single],
     places: &[usize],
@@ -219,24 +222,7 @@ fn tables_between(
     let middle = middle_of(singles, places, from, to);
     let left = tables_between(alloc, singles, places, from, middle, budget)?;
     let right = tables_between(alloc, singles, places, middle, to, budget)?;
-    both(alloc, left, right, budget)
-}
-
-/// Tables for the rules at these places, as few as can be had; `singles` has the table of each rule alone, and hands it
-/// out for this list. A rule that has none stays asked, and so do all that the budget doesn't reach.
-pub fn tables_of(
-    alloc: Global,
-    singles: &mut [Single],
-    places: &[usize],
-    budget: &mut Budget,
-) -> Result<Tables, AllocError>
-    ensures tables { (pattern : ℕ → Re) → AreSingle pattern singles.old → IfOk result (AreTablesOf (map pattern places.now)) }
-    ensures kept { (pattern : ℕ → Re) → AreSingle pattern singles.old → OnOk result (AreSingle pattern singles.new) }
-{
-    if places.is_empty() {
-        return Tables::none(alloc, 0);
-    }
-    tables_between(alloc, singles, places, 0, places.len(), budget)
+    joined_tables(alloc, left, right, budget)
 }
 
 /// Whether a tile is better than another: it has more bytes, or as many by an earlier rule.

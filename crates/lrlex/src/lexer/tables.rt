@@ -1,15 +1,15 @@
 //! Which tables serve which start state.
-ghost use Rattle.std.specs.Prelude.{◌≡◌, ◌<◌, ℕ, List, All, [], ◌∷◌, map, length, IfOk, OnOk, IfSome, slice_index_or};
+ghost use Rattle.std.specs.Prelude.{◌≡◌, ◌<◌, ◌≤◌, ℕ, List, All, [], ◌∷◌, map, length, IfOk, OnOk, IfSome, slice_index_or};
 ghost use Rattle.regex.specs.Patterns.{Re};
 ghost use Rattle.lrlex_table.specs.Merged.{IsTableOf};
-ghost use Rattle.lrlex_table.specs.Tables.{AreSingle, AreTablesOf};
+ghost use Rattle.lrlex_table.specs.Tables.{AreSingle, ArePartsOf, AreTablesOf};
 ghost use Rattle.lrlex_rules.specs.Parts.{as_rule};
 ghost use Rattle.lrlex_rules.specs.Patterns.{pattern_of};
 ghost use Rattle.lrlex.specs.Tables.{pattern_in, patterns_on, AreServed};
 
 use lrlex_base::Id;
 use lrlex_rules::Rule;
-use lrlex_table::{Budget, Single, Source, Table, Tables, table_of, tables_of};
+use lrlex_table::{Budget, Single, Source, Table, Tables, joined_tables, table_of, tables_between};
 use std::alloc::{AllocError, Global};
 use std::collections::{HashMap, HashSet};
 
@@ -67,8 +67,41 @@ fn try_singles<S: Id>(
     Ok(())
 }
 
-/// Tables for the rules at these places. At most half of what is left of the budget goes into the table of each rule
-/// alone, so that as much is left to join them, and for other lists.
+/// For how many rules the table of each alone is made before they are joined.
+const RULES_AT_ONCE: usize = 128;
+
+/// Tables for those of the rules at these places that stand from `from` on and below `to` in the list. The tables of rules
+/// alone have many more rows than one for all, so of a long list one part is joined before the next is begun. In a part at
+/// most half of what is left of the budget goes into these, so that as much is left to join them, and for other lists.
+fn tables_from<S: Id>(
+    alloc: Global,
+    rules: &[Rule<S>],
+    places: &[usize],
+    from: usize,
+    to: usize,
+    singles: &mut [Single],
+    budget: &mut Budget,
+) -> Result<Tables, AllocError>
+    requires from { from < to }
+    requires to { to ≤ length places.now }
+    ensures tables { AreSingle (pattern_in (map (as_rule (λ _. 0)) rules.now)) singles.old →
+        IfOk result (λ t. ArePartsOf (patterns_on (map (as_rule (λ _. 0)) rules.now) places.now) from to t.parts.items t.asked.items) }
+    ensures kept { AreSingle (pattern_in (map (as_rule (λ _. 0)) rules.now)) singles.old →
+        OnOk result (AreSingle (pattern_in (map (as_rule (λ _. 0)) rules.now)) singles.new) }
+{
+    if to - from <= RULES_AT_ONCE {
+        let joining = budget.set_aside();
+        try_singles(alloc, rules, &places[from..to], singles, budget)?;
+        budget.put_back(joining);
+        return tables_between(alloc, singles, places, from, to, budget);
+    }
+    let middle = from + (to - from) / 2;
+    let left = tables_from(alloc, rules, places, from, middle, singles, budget)?;
+    let right = tables_from(alloc, rules, places, middle, to, singles, budget)?;
+    joined_tables(alloc, left, right, budget)
+}
+
+/// Tables for the rules at these places. A list is paid for before it is looked at.
 fn tables_on<S: Id>(
     alloc: Global,
     rules: &[Rule<S>],
@@ -82,13 +115,10 @@ fn tables_on<S: Id>(
         OnOk result (AreSingle (pattern_in (map (as_rule (λ _. 0)) rules.now)) singles.new) }
 {
     let looking = places.len().saturating_mul(WORK_OF_A_RULE);
-    if !budget.pay_work(looking) {
+    if places.is_empty() || !budget.pay_work(looking) {
         return Tables::none(alloc, places.len());
     }
-    let joining = budget.set_aside();
-    try_singles(alloc, rules, places, singles, budget)?;
-    budget.put_back(joining);
-    tables_of(alloc, singles, places, budget)
+    tables_from(alloc, rules, places, 0, places.len(), singles, budget)
 }
 
 /// A number that lists of the same places have in common.

@@ -15,4 +15,4 @@ pub returns-clause-tables : goal.returns-clause-tables
 returns-clause-tables t c pattern single =
     let left = c.in_ok-left.ensures.tables pattern single in
     let right = c.in_ok-right.ensures.tables pattern (c.in_ok-left.ensures.kept pattern single) in
-    c.both.ensures (map pattern c.args.places.now) _ _ _ left right
+    c.joined_tables.ensures (map pattern c.args.places.now) _ _ _ left right

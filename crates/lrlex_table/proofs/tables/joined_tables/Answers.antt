@@ -2,7 +2,7 @@ use Rattle.std.proofs.Common.{◌≡◌, ◌∷◌, [], ◌++◌, List, length, 
 use Rattle.std.specs.Vec.Iter.{into_iter_items}
 use Rattle.lrlex_table.specs.Tables.{IsPartOf, ArePartsOf}
 use Rattle.lrlex_table.proofs.PartLemmas.{Neither, neither_more, all_at, parts_wider, parts_both, rising_bounds}
-use Rattle.lrlex_table.proofs.tables.both.Goals as goal
+use Rattle.lrlex_table.proofs.tables.joined_tables.Goals as goal
 
 nothing_left : {X : Type 0} (l : List X) → length l ≡ 0 → l ≡ []
 nothing_left [] h = refl

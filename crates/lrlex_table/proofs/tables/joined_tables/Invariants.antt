@@ -3,7 +3,7 @@ use Rattle.std.specs.Vec.Iter.{into_iter_items, into_iter_len}
 use Rattle.regex.specs.Patterns.{Re}
 use Rattle.lrlex_table.specs.Tables.{is_tabled, AreParts}
 use Rattle.lrlex_table.proofs.PartLemmas.{Neither}
-use Rattle.lrlex_table.proofs.tables.both.Given as goal
+use Rattle.lrlex_table.proofs.tables.joined_tables.Given as goal
 
 abbrev pub invariant-parts : goal.invariant-parts
 invariant-parts l =
