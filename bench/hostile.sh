@@ -12,8 +12,9 @@ here=$(CDPATH='' cd -- "$(dirname -- "$0")" && pwd) || exit 1
 other=${1:-}
 ulimit -v 4194304
 
-# rules N PATTERN: a rule text of N rules, each with this pattern, in which WORD and NUMBER stand for the rule's own
-rules() {
+# lines N PATTERN: N rules, each with this pattern, in which WORD or NUMBER stands for the rule's own. The pattern is cut
+# once: mawk keeps each text that `gsub` has put in.
+lines() {
     PATTERN=$2 awk -v n="$1" '
         function word(i, w) {
             w = ""
@@ -21,30 +22,33 @@ rules() {
             return w
         }
         BEGIN {
-            print "%%"
+            by_word = index(ENVIRON["PATTERN"], "WORD")
+            parts = split(ENVIRON["PATTERN"], part, /WORD|NUMBER/)
             for (i = 0; i < n; i++) {
-                line = ENVIRON["PATTERN"]
-                gsub(/WORD/, word(i), line)
-                gsub(/NUMBER/, i, line)
+                own = by_word ? word(i) : i
+                line = part[1]
+                for (j = 2; j <= parts; j++) line = line own part[j]
                 print line " \047R" i "\047"
             }
         }'
 }
 
-# states N KIND PATTERN: N states of a kind (x or s), and as many rules, in which NUMBER stands for the rule's own
+# rules N PATTERN: a rule text of N rules
+rules() {
+    echo '%%'
+    lines "$1" "$2"
+}
+
+# states N KIND PATTERN: N states of a kind (x or s), and as many rules
 states() {
-    PATTERN=$3 awk -v n="$1" -v kind="$2" '
+    awk -v n="$1" -v kind="$2" '
         BEGIN {
             line = "%" kind
             for (i = 0; i < n; i++) line = line " s" i
             print line
             print "%%"
-            for (i = 0; i < n; i++) {
-                line = ENVIRON["PATTERN"]
-                gsub(/NUMBER/, i, line)
-                print line " \047R" i "\047"
-            }
         }'
+    lines "$1" "$3"
 }
 
 # one PIECE BYTES: a rule text of one rule, whose pattern is so many bytes of the piece; then a letter
