@@ -157,8 +157,8 @@ fn enter<L: LexerTypes>(
     Ok(())
 }
 
-/// Takes the tile at the place, and answers whether lexing goes on after it. `here` are the rules of a state, and of the
-/// stack's top once the tile is taken.
+/// Takes the tile at the place, and answers whether lexing goes on after it. `here` are the rules of some state, and then
+/// those of the state that the tile was looked for in.
 #[inline(always)]
 pub(crate) fn advance<'d, L: LexerTypes>(
     alloc: Global,
