@@ -1,5 +1,5 @@
 //! The table of one rule alone, which serves as many lists of rules as have the rule.
-ghost use Rattle.std.specs.Prelude.{◌≡◌, true, List, None, IfOk, IfSome};
+ghost use Rattle.std.specs.Prelude.{◌≡◌, true, false, List, None, IfOk, IfSome};
 ghost use Rattle.regex.specs.Patterns.{Re};
 ghost use Rattle.lrlex_table.specs.Merged.{IsTableOf};
 
@@ -19,6 +19,7 @@ impl Single {
     /// Not tried yet, and for so many lists.
     pub fn new(lists: usize) -> Single
         ensures table { result.table ≡ None }
+        ensures is_tried { result.is_tried ≡ false }
         ensures lists { result.lists ≡ lists }
     {
         Single {
