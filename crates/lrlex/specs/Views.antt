@@ -1,6 +1,7 @@
 -- What a definition of the program says, and what a run of it answers.
-use Rattle.std.specs.Prelude.{ℕ, Bool, List, option_map, Result, Ok, Err, map}
+use Rattle.std.specs.Prelude.{ℕ, List, option_map, Result, Ok, Err, map}
 use Rattle.lrlex_base.specs.Spans.{span_start, span_end}
+use Rattle.lrlex_base.specs.Seen.{Seen}
 use Rattle.lrlex_rules.specs.Definition.{Definition}
 use Rattle.lrlex_table.specs.declared.tables.Tables.{Tables}
 use Rattle.lrlex.specs.Faults.{lex_error_span, lex_error_state}
@@ -30,12 +31,12 @@ definition_states d = d.table.start_states.items
 abbrev pub definition_tables : {L X S E P Q : Type 0} → LRNonStreamingLexerDef L X S E P Q → List Tables
 definition_tables d = d.table.tables.items
 
--- an item of the program, by what the functions say of an id and a lexeme
-abbrev pub item_of : {S X : Type 0} → (S → ℕ) → (X → S) → (X → ℕ) → (X → ℕ) → (X → Bool) → Result X LRLexError → Item
-item_of number id start len is_faulty (Ok x) = Lexeme (number (id x)) (start x) (len x) (is_faulty x)
-item_of number id start len is_faulty (Err e) =
+-- an item of the program, by the number that an id stands for and what can be seen of a lexeme
+abbrev pub item_of : {S X : Type 0} → (S → ℕ) → (X → Seen S) → Result X LRLexError → Item
+item_of number seen (Ok x) = Lexeme (number (seen x).id) (seen x).start (seen x).len (seen x).faulty
+item_of number seen (Err e) =
     Error (span_start (lex_error_span e)) (span_end (lex_error_span e)) (option_map state_number (lex_error_state e))
 
 -- the items of the program
-abbrev pub items_by : {S X : Type 0} → (S → ℕ) → (X → S) → (X → ℕ) → (X → ℕ) → (X → Bool) → List (Result X LRLexError) → List Item
-items_by number id start len is_faulty xs = map (item_of number id start len is_faulty) xs
+abbrev pub items_by : {S X : Type 0} → (S → ℕ) → (X → Seen S) → List (Result X LRLexError) → List Item
+items_by number seen xs = map (item_of number seen) xs

@@ -27,15 +27,9 @@ impl<StorageT: Copy> Clone for DefaultLexeme<StorageT> {
 }
 
 impl<StorageT: Id> Lexeme<StorageT> for DefaultLexeme<StorageT> {
-    ghost use Rattle.lrlex_base.specs.Lexemes.{lexeme_id, lexeme_start, lexeme_len, lexeme_faulty};
+    ghost use Rattle.lrlex_base.specs.Lexemes.{lexeme_seen};
 
-    ghost id_of = { lexeme_id };
-
-    ghost start_of = { lexeme_start };
-
-    ghost len_of = { lexeme_len };
-
-    ghost is_faulty = { lexeme_faulty };
+    ghost seen = { lexeme_seen };
 
     fn new(tok_id: StorageT, start: usize, len: usize) -> DefaultLexeme<StorageT> {
         DefaultLexeme {

@@ -1,7 +1,7 @@
 // What no single call's contract states: each law is the contract of a function that needs no caller.
 ghost use Rattle.std.specs.Prelude.{◌≡◌, ◌↔◌, IsTrue, length};
 ghost use Rattle.lrlex_base.specs.Spans.{as_span};
-ghost use Rattle.lrlex_base.specs.Lexemes.{lexeme_id, lexeme_start, lexeme_len, lexeme_faulty};
+ghost use Rattle.lrlex_base.specs.Lexemes.{lexeme_seen};
 ghost use Rattle.lrlex_base.specs.declared.spans.Span.{Span};
 ghost use Rattle.lrlex_base.specs.declared.defaults.DefaultLexeme.{DefaultLexeme};
 
@@ -20,7 +20,7 @@ pub fn span_laws()
 /// Two lexemes are equal exactly where ids, spans and faultiness are, and equal lexemes hash alike.
 pub fn lexeme_laws<StorageT: Id>()
     ensures equal { (a b : DefaultLexeme StorageT) → IsTrue (⟦<DefaultLexeme<StorageT> as PartialEq>⟧.eq a b)
-        ↔ ((lexeme_id a ≡ lexeme_id b) × (lexeme_start a ≡ lexeme_start b) × (lexeme_len a ≡ lexeme_len b) × (lexeme_faulty a ≡ lexeme_faulty b)) }
+        ↔ (lexeme_seen a ≡ lexeme_seen b) }
     ensures hash { (a b : DefaultLexeme StorageT) → IsTrue (⟦<DefaultLexeme<StorageT> as PartialEq>⟧.eq a b)
         → ⟦<DefaultLexeme<StorageT> as Hash>⟧.hash_input a ≡ ⟦<DefaultLexeme<StorageT> as Hash>⟧.hash_input b }
 {}

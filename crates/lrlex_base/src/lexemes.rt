@@ -1,5 +1,6 @@
-ghost use Rattle.std.specs.Prelude.{◌≡◌, ◌<◌, ◌+◌, ◌^◌, ℕ, Bool, true, false};
+ghost use Rattle.std.specs.Prelude.{◌≡◌, ◌<◌, ◌+◌, ◌^◌, true, false};
 ghost use Rattle.lrlex_base.specs.Spans.{span_start, span_end};
+ghost use Rattle.lrlex_base.specs.Seen.{Seen};
 ghost use Rattle.lrlex_base.specs.declared.spans.Span.{Span};
 
 use crate::spans::Span;
@@ -10,45 +11,31 @@ use std::hash::Hash;
 /// A lexeme: the id of its token and the part of the input that it was found in.
 /// Each maker's numbers are given back by the other calls.
 pub trait Lexeme<StorageT>: Copy + Debug + Display + Eq + Hash + Error {
-    // The id of its token.
-    ghost id_of: { Self → StorageT };
-
-    // The offset of its first byte, and how many bytes it has.
-    ghost start_of: { Self → ℕ };
-
-    ghost len_of: { Self → ℕ };
-
-    // Whether error recovery made it up.
-    ghost is_faulty: { Self → Bool };
+    // Its id, its first byte, how many bytes it has, and whether error recovery made it up.
+    ghost seen: { Self → Seen StorageT };
 
     /// A lexeme of `len` bytes from the byte at `start` on. The sum fits `usize`.
     fn new(tok_id: StorageT, start: usize, len: usize) -> Self
         requires { start + len < 2 ^ 64 }
-        ensures id { id_of result ≡ tok_id }
-        ensures start { start_of result ≡ start }
-        ensures len { len_of result ≡ len }
-        ensures faulty { is_faulty result ≡ false };
+        ensures { seen result ≡ record { id = tok_id; start = start; len = len; faulty = false } };
 
     /// The same, marked as one that error recovery made up.
     fn new_faulty(tok_id: StorageT, start: usize, len: usize) -> Self
         requires { start + len < 2 ^ 64 }
-        ensures id { id_of result ≡ tok_id }
-        ensures start { start_of result ≡ start }
-        ensures len { len_of result ≡ len }
-        ensures faulty { is_faulty result ≡ true };
+        ensures { seen result ≡ record { id = tok_id; start = start; len = len; faulty = true } };
 
     /// The id of its token.
     fn tok_id(&self) -> StorageT
-        ensures { result ≡ id_of self.now };
+        ensures { result ≡ (seen self.now).id };
 
     /// The part of the input that it was found in.
     fn span(&self) -> Span
-        ensures start { span_start result ≡ start_of self.now }
-        ensures end { span_end result ≡ start_of self.now + len_of self.now };
+        ensures start { span_start result ≡ (seen self.now).start }
+        ensures end { span_end result ≡ (seen self.now).start + (seen self.now).len };
 
     /// Whether error recovery made it up.
     fn faulty(&self) -> bool
-        ensures { result ≡ is_faulty self.now };
+        ensures { result ≡ (seen self.now).faulty };
 }
 
 /// Why a lexer stopped, and where.

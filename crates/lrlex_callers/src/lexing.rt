@@ -72,7 +72,7 @@ pub fn lexer_after<'d, 't, L: LexerTypes<LexErrorT = LRLexError>>(
     ensures text { IfOk result (λ made. IfSome made (λ lexer. lexer_text lexer ≡ text_after text.now (map (λ s. s.0) steps.now))) }
     ensures run { IfOk result (λ made. IfSome made (λ lexer. (marks : List Mark)
         × IsRun (definition_of L.StorageT.number definition.now) (text_after text.now (map (λ s. s.0) steps.now))
-        (items_by L.StorageT.number L.LexemeT.id_of L.LexemeT.start_of L.LexemeT.len_of L.LexemeT.is_faulty (lexer_items lexer)) marks)) }
+        (items_by L.StorageT.number L.LexemeT.seen (lexer_items lexer)) marks)) }
 {
     let mut now = text;
     let mut run = definition.run(alloc, now)?;

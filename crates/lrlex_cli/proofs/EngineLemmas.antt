@@ -14,6 +14,7 @@ use Rattle.lrlex_rules.specs.Outcome.{outcome}
 use Rattle.lrlex.specs.Reach.{IsRun}
 use Rattle.lrlex_rules.specs.Answer.{seen, settings, refused_by, as_faults}
 use Rattle.lrlex.specs.Tiling.{Tile, Item, Lexeme, Error, End, Done, NoMatch, NoId, NoTarget, items, tile_items, lexeme_of}
+use Rattle.lrlex_base.specs.Seen.{Seen}
 use Rattle.lrlex.specs.Views.{item_of, items_by}
 use Rattle.lrlex_cli.specs.Engine.{Request, Lexing, lines_in, IsEngineRun, EndsWriting}
 use Rattle.lrlex_cli.specs.Lines.{lines}
@@ -50,11 +51,11 @@ error_at_end d place [] (NoTarget t) = behind d place t (Error place place None 
 error_at_end d place (t ∷ ts) e = behind d place t (items d (place + t.len) ts e) ∙ error_at_end d (place + t.len) ts e
 
 -- the same of the items of the program
-errors_seen : {S X : Type 0} (number : S → ℕ) (id : X → S) (start len : X → ℕ) (faulty : X → Bool) (xs : List (Result X LRLexError))
-    → list_any (λ x. is_err x) xs ≡ list_any is_error (map (item_of number id start len faulty) xs)
-errors_seen number id start len faulty [] = refl
-errors_seen number id start len faulty (Ok x ∷ xs) = errors_seen number id start len faulty xs
-errors_seen number id start len faulty (Err e ∷ xs) = refl
+errors_seen : {S X : Type 0} (number : S → ℕ) (see : X → Seen S) (xs : List (Result X LRLexError))
+    → list_any (λ x. is_err x) xs ≡ list_any is_error (map (item_of number see) xs)
+errors_seen number see [] = refl
+errors_seen number see (Ok x ∷ xs) = errors_seen number see xs
+errors_seen number see (Err e ∷ xs) = refl
 
 done : (e : End) → stops e ≡ false → e ≡ Done
 done Done h = refl
@@ -85,18 +86,18 @@ ended q x old new (Err Memory) text stopped same ends h = h
 ended q x old new (Err (Write e)) text stopped same ends h = (x, subst (AppendsFront old new) same h)
 
 -- A run of the definition that the rule text says has found these items, and their lines were written.
-pub ran : {D S X : Type 0} (number : S → ℕ) (id : X → S) (start len : X → ℕ) (faulty : X → Bool) (view : D → Definition)
+pub ran : {D S X : Type 0} (number : S → ℕ) (see : X → Seen S) (view : D → Definition)
     (q : Request) (built : Result D (Vec LexBuildError Global)) (def : D) (xs : List (Result X LRLexError)) (marks : List Mark)
     (rules : List Rule) (old new : Option (List ℕ)) (r : Result Ended EngineFault)
     → built ≡ Ok def → seen view as_faults built ≡ outcome (settings q.flags q.greatest (refused_by built)) q.rules
-    → IfOk built (λ d. is_state (view d) 0 ≡ true) → IsRun (view def) q.input (items_by number id start len faulty xs) marks
-    → rules ≡ (view def).rules → EndsWriting old new r (lines rules q.input (items_by number id start len faulty xs)) (list_any (λ x. is_err x) xs)
+    → IfOk built (λ d. is_state (view d) 0 ≡ true) → IsRun (view def) q.input (items_by number see xs) marks
+    → rules ≡ (view def).rules → EndsWriting old new r (lines rules q.input (items_by number see xs)) (list_any (λ x. is_err x) xs)
     → IsEngineRun q old new r
-ran number id start len faulty view q built def xs marks rules old new r is says initial run same wrote =
+ran number see view q built def xs marks rules old new r is says initial run same wrote =
     let P : Result _ (Vec LexBuildError Global) → Type 0 = λ b. seen view as_faults b ≡ outcome (settings q.flags q.greatest (refused_by b)) q.rules in
     let I : Result _ (Vec LexBuildError Global) → Type 0 = λ b. IfOk b (λ d. is_state (view d) 0 ≡ true) in
     let l = run.lexed (subst I is initial) in
     let x : Lexing q = record { definition = view def; says = sym (subst P is says); cut = l.cut; end = l.end; tiling = l.tiling; only = l.only } in
-    let text = ap (λ (rs : List Rule). lines rs q.input (items_by number id start len faulty xs)) same ∙ ap (λ (is : List Item). lines (view def).rules q.input is) l.items_are in
-    let ends = errors_seen number id start len faulty xs ∙ ap (λ (is : List Item). list_any is_error is) l.items_are ∙ error_at_end (view def) 0 l.cut l.end in
+    let text = ap (λ (rs : List Rule). lines rs q.input (items_by number see xs)) same ∙ ap (λ (is : List Item). lines (view def).rules q.input is) l.items_are in
+    let ends = errors_seen number see xs ∙ ap (λ (is : List Item). list_any is_error is) l.items_are ∙ error_at_end (view def) 0 l.cut l.end in
     ended q x old new r _ _ text ends wrote

@@ -64,7 +64,7 @@ fn write_items<L: LexerTypes<LexErrorT = LRLexError>, W: Write>(
     out: &mut W,
 ) -> Result<Ended, EngineFault>
     ensures { EndsWriting (W.contents out.old) (W.contents out.new) result
-        (lines (map (as_rule L.StorageT.number) rules.now) input.now (items_by L.StorageT.number L.LexemeT.id_of L.LexemeT.start_of L.LexemeT.len_of L.LexemeT.is_faulty items.now))
+        (lines (map (as_rule L.StorageT.number) rules.now) input.now (items_by L.StorageT.number L.LexemeT.seen items.now))
         (list_any (λ item. is_err item) items.now) }
 {
     let text = lines::<L>(alloc, rules, input.as_bytes(), items)?;

@@ -128,7 +128,7 @@ fn push_line<L: LexerTypes>(
 ) -> Result<(), AllocError>
     requires { IsTrue placed → HaveOwnIds L.StorageT.number rules.now }
     ensures { OnOk result (bytes.new.items ≡ bytes.old.items ++ line (map (as_rule L.StorageT.number) rules.now) text.now
-        (item_of L.StorageT.number L.LexemeT.id_of L.LexemeT.start_of L.LexemeT.len_of L.LexemeT.is_faulty item.now)) }
+        (item_of L.StorageT.number L.LexemeT.seen item.now)) }
 {
     match item {
         Ok(lexeme) => {
@@ -147,7 +147,7 @@ pub(crate) fn lines<L: LexerTypes>(
     items: &[Result<L::LexemeT, LRLexError>],
 ) -> Result<Vec<u8>, AllocError>
     ensures { IfOk result (λ bytes. bytes.items ≡ lines (map (as_rule L.StorageT.number) rules.now) text.now
-        (map (item_of L.StorageT.number L.LexemeT.id_of L.LexemeT.start_of L.LexemeT.len_of L.LexemeT.is_faulty) items.now)) }
+        (map (item_of L.StorageT.number L.LexemeT.seen) items.now)) }
 {
     let placed = have_own_ids(rules);
     let mut bytes = Vec::with_capacity(alloc, text.len())?;

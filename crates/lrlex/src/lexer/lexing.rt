@@ -52,7 +52,7 @@ pub(crate) fn begin<L: LexerTypes>(
     text: &str,
 ) -> Result<Progress<L>, AllocError>
     requires { is_state (definition_of L.StorageT.number definition.now) 0 ≡ true }
-    ensures reached { IfOk result (λ p. Reached (definition_of L.StorageT.number definition.now) text.now p.place p.stack.items (items_by L.StorageT.number L.LexemeT.id_of L.LexemeT.start_of L.LexemeT.len_of L.LexemeT.is_faulty p.items.items) p.boundaries p.asked) }
+    ensures reached { IfOk result (λ p. Reached (definition_of L.StorageT.number definition.now) text.now p.place p.stack.items (items_by L.StorageT.number L.LexemeT.seen p.items.items) p.boundaries p.asked) }
     ensures looked { IfOk result (λ p. HasLooked (definition_of L.StorageT.number definition.now) text.now p.boundaries p.ahead.items p.place p.over) }
     ensures start { IfOk result (λ p. p.place ≡ 0) }
     ensures one { IfOk result (λ p. length p.boundaries ≡ 1) }
@@ -86,8 +86,8 @@ fn give<L: LexerTypes>(
     len: usize,
 ) -> Result<(), AllocError>
     requires { place + len < 2 ^ 64 }
-    ensures { OnOk result (map (item_of L.StorageT.number L.LexemeT.id_of L.LexemeT.start_of L.LexemeT.len_of L.LexemeT.is_faulty) items.new.items
-        ≡ map (item_of L.StorageT.number L.LexemeT.id_of L.LexemeT.start_of L.LexemeT.len_of L.LexemeT.is_faulty) items.old.items
+    ensures { OnOk result (map (item_of L.StorageT.number L.LexemeT.seen) items.new.items
+        ≡ map (item_of L.StorageT.number L.LexemeT.seen) items.old.items
         ++ lexeme_of (lexeme_id (as_rule L.StorageT.number rule.now)) place len) }
 {
     if let Some(id) = lexeme_id(rule) {
@@ -103,8 +103,8 @@ pub(crate) fn give_error<L: LexerTypes>(
     place: usize,
     state: Option<usize>,
 ) -> Result<(), AllocError>
-    ensures { OnOk result (items_by L.StorageT.number L.LexemeT.id_of L.LexemeT.start_of L.LexemeT.len_of L.LexemeT.is_faulty items.new.items
-        ≡ items_by L.StorageT.number L.LexemeT.id_of L.LexemeT.start_of L.LexemeT.len_of L.LexemeT.is_faulty items.old.items ++ Error place place state ∷ []) }
+    ensures { OnOk result (items_by L.StorageT.number L.LexemeT.seen items.new.items
+        ≡ items_by L.StorageT.number L.LexemeT.seen items.old.items ++ Error place place state ∷ []) }
 {
     let span = Span::new(place, place);
     let error = match state {
@@ -173,18 +173,18 @@ pub(crate) fn advance<'d, L: LexerTypes>(
     requires boundary { IsCharBoundary text.now progress.old.place }
     requires matchers { AreMatchers definition.now.table.rules.items matchers.old }
     requires reached { Reached (definition_of L.StorageT.number definition.now) text.now progress.old.place progress.old.stack.items
-        (items_by L.StorageT.number L.LexemeT.id_of L.LexemeT.start_of L.LexemeT.len_of L.LexemeT.is_faulty progress.old.items.items) progress.old.boundaries progress.old.asked }
+        (items_by L.StorageT.number L.LexemeT.seen progress.old.items.items) progress.old.boundaries progress.old.asked }
     requires looked { HasLooked (definition_of L.StorageT.number definition.now) text.now progress.old.boundaries progress.old.ahead.items progress.old.place progress.old.over }
     ensures here { IfOk result (λ _. AreOf L.StorageT.number definition.now here.new.state here.new) }
     ensures matchers { IfOk result (λ _. AreMatchers definition.now.table.rules.items matchers.new) }
     ensures goes_on { IfOk result (λ on. on ≡ true → Reached (definition_of L.StorageT.number definition.now) text.now progress.new.place progress.new.stack.items
-        (items_by L.StorageT.number L.LexemeT.id_of L.LexemeT.start_of L.LexemeT.len_of L.LexemeT.is_faulty progress.new.items.items) progress.new.boundaries progress.new.asked) }
+        (items_by L.StorageT.number L.LexemeT.seen progress.new.items.items) progress.new.boundaries progress.new.asked) }
     ensures looked { IfOk result (λ on. on ≡ true → HasLooked (definition_of L.StorageT.number definition.now) text.now progress.new.boundaries progress.new.ahead.items progress.new.place progress.new.over) }
     ensures boundary { IfOk result (λ on. on ≡ true → IsCharBoundary text.now progress.new.place) }
     ensures grows { IfOk result (λ on. on ≡ true → progress.old.place < progress.new.place) }
     ensures more { IfOk result (λ on. on ≡ true → (m : Mark) × (progress.new.boundaries ≡ progress.old.boundaries ++ m ∷ [])) }
     ensures ends { IfOk result (λ on. on ≡ false → IsLexed (definition_of L.StorageT.number definition.now) text.now
-        (items_by L.StorageT.number L.LexemeT.id_of L.LexemeT.start_of L.LexemeT.len_of L.LexemeT.is_faulty progress.new.items.items) progress.new.boundaries) }
+        (items_by L.StorageT.number L.LexemeT.seen progress.new.items.items) progress.new.boundaries) }
     ensures same { IfOk result (λ on. on ≡ false → progress.new.boundaries ≡ progress.old.boundaries) }
     ensures ahead { IfOk result (λ on. on ≡ false → progress.new.ahead.items ≡ progress.old.ahead.items) }
     ensures asked { IfOk result (λ _. progress.new.asked ≤ searches (definition_of L.StorageT.number definition.now) text.now progress.old.boundaries) }

@@ -113,9 +113,9 @@ impl<'lexer, 'input, L: LexerTypes<LexErrorT = LRLexError>> LexRun<'lexer, 'inpu
         ensures items { IfOk result (λ lexer. lexer_items lexer ≡ self.entry.items.items) }
         ensures text { IfOk result (λ lexer. lexer_text lexer ≡ self.entry.text.now) }
         ensures run { IfOk result (λ lexer. IsRun (definition_of L.StorageT.number self.entry.definition.now) (lexer_text lexer)
-            (items_by L.StorageT.number L.LexemeT.id_of L.LexemeT.start_of L.LexemeT.len_of L.LexemeT.is_faulty (lexer_items lexer)) self.entry.boundaries) }
+            (items_by L.StorageT.number L.LexemeT.seen (lexer_items lexer)) self.entry.boundaries) }
         ensures fit { IfOk result (λ lexer. All (FitsText (lexer_text lexer))
-            (items_by L.StorageT.number L.LexemeT.id_of L.LexemeT.start_of L.LexemeT.len_of L.LexemeT.is_faulty (lexer_items lexer))) }
+            (items_by L.StorageT.number L.LexemeT.seen (lexer_items lexer))) }
     {
         let LexRun { text, items, .. } = self;
         let input = Input::new(alloc, text)?;
@@ -138,9 +138,9 @@ impl<L: LexerTypes<LexErrorT = LRLexError>> LRNonStreamingLexerDef<L> {
     ) -> Result<LRNonStreamingLexer<'lexer, 'input, L>, AllocError>
         ensures text { IfOk result (λ lexer. lexer_text lexer ≡ input.now) }
         ensures run { IfOk result (λ lexer. (marks : List Mark) × IsRun (definition_of L.StorageT.number self.now) input.now
-            (items_by L.StorageT.number L.LexemeT.id_of L.LexemeT.start_of L.LexemeT.len_of L.LexemeT.is_faulty (lexer_items lexer)) marks) }
+            (items_by L.StorageT.number L.LexemeT.seen (lexer_items lexer)) marks) }
         ensures fit { IfOk result (λ lexer. All (FitsText input.now)
-            (items_by L.StorageT.number L.LexemeT.id_of L.LexemeT.start_of L.LexemeT.len_of L.LexemeT.is_faulty (lexer_items lexer))) }
+            (items_by L.StorageT.number L.LexemeT.seen (lexer_items lexer))) }
     {
         self.run(alloc, input)?.into_lexer(alloc)
     }

@@ -27,9 +27,9 @@ fn moved<L: LexerTypes<LexErrorT = LRLexError>>(
     from: usize,
     to: usize,
 ) -> Result<L::LexemeT, LRLexError>
-    requires { IsMovable from to (item_of L.StorageT.number L.LexemeT.id_of L.LexemeT.start_of L.LexemeT.len_of L.LexemeT.is_faulty item.now) }
-    ensures { item_of L.StorageT.number L.LexemeT.id_of L.LexemeT.start_of L.LexemeT.len_of L.LexemeT.is_faulty result
-        ≡ rebased from to (item_of L.StorageT.number L.LexemeT.id_of L.LexemeT.start_of L.LexemeT.len_of L.LexemeT.is_faulty item.now) }
+    requires { IsMovable from to (item_of L.StorageT.number L.LexemeT.seen item.now) }
+    ensures { item_of L.StorageT.number L.LexemeT.seen result
+        ≡ rebased from to (item_of L.StorageT.number L.LexemeT.seen item.now) }
 {
     match item {
         Ok(lexeme) => {
@@ -58,7 +58,7 @@ pub(crate) fn begins_before<L: LexerTypes<LexErrorT = LRLexError>>(
     item: &Result<L::LexemeT, LRLexError>,
     place: usize,
 ) -> bool
-    ensures { result ≡ begins_before place (item_of L.StorageT.number L.LexemeT.id_of L.LexemeT.start_of L.LexemeT.len_of L.LexemeT.is_faulty item.now) }
+    ensures { result ≡ begins_before place (item_of L.StorageT.number L.LexemeT.seen item.now) }
 {
     match item {
         Ok(lexeme) => lexeme.span().start() < place,
@@ -71,12 +71,12 @@ fn items_from<'a, L: LexerTypes<LexErrorT = LRLexError>>(
     items: &'a [Result<L::LexemeT, LRLexError>],
     place: usize,
 ) -> &'a [Result<L::LexemeT, LRLexError>]
-    requires { IsPartitionedBy (begins_before place) (map (item_of L.StorageT.number L.LexemeT.id_of L.LexemeT.start_of L.LexemeT.len_of L.LexemeT.is_faulty) items.now) }
-    ensures { map (item_of L.StorageT.number L.LexemeT.id_of L.LexemeT.start_of L.LexemeT.len_of L.LexemeT.is_faulty) result.now ≡ items_from place (map (item_of L.StorageT.number L.LexemeT.id_of L.LexemeT.start_of L.LexemeT.len_of L.LexemeT.is_faulty) items.now) }
+    requires { IsPartitionedBy (begins_before place) (map (item_of L.StorageT.number L.LexemeT.seen) items.now) }
+    ensures { map (item_of L.StorageT.number L.LexemeT.seen) result.now ≡ items_from place (map (item_of L.StorageT.number L.LexemeT.seen) items.now) }
 {
     let before = items.partition_point(
         |item: &Result<L::LexemeT, LRLexError>| -> bool
-            ensures { result ≡ begins_before place (item_of L.StorageT.number L.LexemeT.id_of L.LexemeT.start_of L.LexemeT.len_of L.LexemeT.is_faulty item.now) }
+            ensures { result ≡ begins_before place (item_of L.StorageT.number L.LexemeT.seen item.now) }
         { begins_before::<L>(item, place) },
     );
     &items[before..]
@@ -89,10 +89,10 @@ fn append_moved<L: LexerTypes<LexErrorT = LRLexError>>(
     from: usize,
     to: usize,
 ) -> Result<(), AllocError>
-    requires { All (IsMovable from to) (map (item_of L.StorageT.number L.LexemeT.id_of L.LexemeT.start_of L.LexemeT.len_of L.LexemeT.is_faulty) tail.now) }
-    ensures { OnOk result (map (item_of L.StorageT.number L.LexemeT.id_of L.LexemeT.start_of L.LexemeT.len_of L.LexemeT.is_faulty) items.new.items
-        ≡ map (item_of L.StorageT.number L.LexemeT.id_of L.LexemeT.start_of L.LexemeT.len_of L.LexemeT.is_faulty) items.old.items
-        ++ map (rebased from to) (map (item_of L.StorageT.number L.LexemeT.id_of L.LexemeT.start_of L.LexemeT.len_of L.LexemeT.is_faulty) tail.now)) }
+    requires { All (IsMovable from to) (map (item_of L.StorageT.number L.LexemeT.seen) tail.now) }
+    ensures { OnOk result (map (item_of L.StorageT.number L.LexemeT.seen) items.new.items
+        ≡ map (item_of L.StorageT.number L.LexemeT.seen) items.old.items
+        ++ map (rebased from to) (map (item_of L.StorageT.number L.LexemeT.seen) tail.now)) }
 {
     items.reserve(tail.len())?;
     'tail: for index in 0..tail.len() {
@@ -183,18 +183,18 @@ fn take_over<L: LexerTypes<LexErrorT = LRLexError>>(
 ) -> Result<(), AllocError>
     requires within { index < length old.now.boundaries }
     requires in_order { IsPartitionedBy (begins_before (mark_at old.now.boundaries index).place)
-        (map (item_of L.StorageT.number L.LexemeT.id_of L.LexemeT.start_of L.LexemeT.len_of L.LexemeT.is_faulty) old.now.items.items) }
+        (map (item_of L.StorageT.number L.LexemeT.seen) old.now.items.items) }
     requires items { All (IsMovable (mark_at old.now.boundaries index).place progress.old.place)
-        (items_from (mark_at old.now.boundaries index).place (map (item_of L.StorageT.number L.LexemeT.id_of L.LexemeT.start_of L.LexemeT.len_of L.LexemeT.is_faulty) old.now.items.items)) }
+        (items_from (mark_at old.now.boundaries index).place (map (item_of L.StorageT.number L.LexemeT.seen) old.now.items.items)) }
     requires last { last_runs progress.old.boundaries ≡ (mark_at old.now.boundaries index).runs }
     requires boundaries { All (IsMovableMark (mark_at old.now.boundaries index).place progress.old.place)
         (drop (index + 1) old.now.boundaries) }
     requires sorted { IsSortedRuns old.now.boundaries }
     requires numbers { length old.now.ahead.items ≡ length old.now.boundaries }
-    ensures items { OnOk result (map (item_of L.StorageT.number L.LexemeT.id_of L.LexemeT.start_of L.LexemeT.len_of L.LexemeT.is_faulty) progress.new.items.items
-        ≡ map (item_of L.StorageT.number L.LexemeT.id_of L.LexemeT.start_of L.LexemeT.len_of L.LexemeT.is_faulty) progress.old.items.items
+    ensures items { OnOk result (map (item_of L.StorageT.number L.LexemeT.seen) progress.new.items.items
+        ≡ map (item_of L.StorageT.number L.LexemeT.seen) progress.old.items.items
         ++ map (rebased (mark_at old.now.boundaries index).place progress.old.place)
-        (items_from (mark_at old.now.boundaries index).place (map (item_of L.StorageT.number L.LexemeT.id_of L.LexemeT.start_of L.LexemeT.len_of L.LexemeT.is_faulty) old.now.items.items))) }
+        (items_from (mark_at old.now.boundaries index).place (map (item_of L.StorageT.number L.LexemeT.seen) old.now.items.items))) }
     ensures boundaries { OnOk result (progress.new.boundaries ≡ progress.old.boundaries
         ++ map (moved_mark (mark_at old.now.boundaries index).place progress.old.place) (drop (index + 1) old.now.boundaries)) }
     ensures asked { OnOk result (progress.new.asked ≡ progress.old.asked) }
@@ -228,7 +228,7 @@ impl<'lexer, L: LexerTypes<LexErrorT = LRLexError>> LexRun<'lexer, '_, L> {
     ) -> Result<LexRun<'lexer, 'new, L>, AllocError>
         requires fits { Fits self.now.text.now edit.now.removed }
         requires gives { new.now ≡ edited self.now.text.now (as_span edit.now.removed) edit.now.put.now }
-        ensures run { IfOk result (λ r. IsRun (definition_of L.StorageT.number self.now.definition.now) new.now (items_by L.StorageT.number L.LexemeT.id_of L.LexemeT.start_of L.LexemeT.len_of L.LexemeT.is_faulty r.items.items) r.boundaries) }
+        ensures run { IfOk result (λ r. IsRun (definition_of L.StorageT.number self.now.definition.now) new.now (items_by L.StorageT.number L.LexemeT.seen r.items.items) r.boundaries) }
         ensures definition { IfOk result (λ r. r.definition.now ≡ self.now.definition.now) }
         ensures text { IfOk result (λ r. r.text.now ≡ new.now) }
         ensures asked { IfOk result (λ r. r.asked ≤ searches (definition_of L.StorageT.number self.now.definition.now) new.now r.boundaries) }

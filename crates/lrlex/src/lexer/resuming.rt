@@ -120,12 +120,12 @@ pub(crate) fn items_before<'a, L: LexerTypes<LexErrorT = LRLexError>>(
     items: &'a [Result<L::LexemeT, LRLexError>],
     place: usize,
 ) -> &'a [Result<L::LexemeT, LRLexError>]
-    requires { IsPartitionedBy (begins_before place) (map (item_of L.StorageT.number L.LexemeT.id_of L.LexemeT.start_of L.LexemeT.len_of L.LexemeT.is_faulty) items.now) }
-    ensures { map (item_of L.StorageT.number L.LexemeT.id_of L.LexemeT.start_of L.LexemeT.len_of L.LexemeT.is_faulty) result.now ≡ items_before place (map (item_of L.StorageT.number L.LexemeT.id_of L.LexemeT.start_of L.LexemeT.len_of L.LexemeT.is_faulty) items.now) }
+    requires { IsPartitionedBy (begins_before place) (map (item_of L.StorageT.number L.LexemeT.seen) items.now) }
+    ensures { map (item_of L.StorageT.number L.LexemeT.seen) result.now ≡ items_before place (map (item_of L.StorageT.number L.LexemeT.seen) items.now) }
 {
     let before = items.partition_point(
         |item: &Result<L::LexemeT, LRLexError>| -> bool
-            ensures { result ≡ begins_before place (item_of L.StorageT.number L.LexemeT.id_of L.LexemeT.start_of L.LexemeT.len_of L.LexemeT.is_faulty item.now) }
+            ensures { result ≡ begins_before place (item_of L.StorageT.number L.LexemeT.seen item.now) }
         { begins_before::<L>(item, place) },
     );
     &items[..before]
@@ -141,11 +141,11 @@ pub(crate) fn resumed<L: LexerTypes<LexErrorT = LRLexError>>(
     index: usize,
 ) -> Result<Progress<L>, AllocError>
     requires within { index < length old.now.boundaries }
-    requires in_order { IsPartitionedBy (begins_before (mark_at old.now.boundaries index).place) (map (item_of L.StorageT.number L.LexemeT.id_of L.LexemeT.start_of L.LexemeT.len_of L.LexemeT.is_faulty) old.now.items.items) }
+    requires in_order { IsPartitionedBy (begins_before (mark_at old.now.boundaries index).place) (map (item_of L.StorageT.number L.LexemeT.seen) old.now.items.items) }
     requires numbers { length old.now.ahead.items ≡ length old.now.boundaries }
     ensures place { IfOk result (λ p. p.place ≡ (mark_at old.now.boundaries index).place) }
     ensures stack { IfOk result (λ p. p.stack.items ≡ (mark_at old.now.boundaries index).runs) }
-    ensures items { IfOk result (λ p. map (item_of L.StorageT.number L.LexemeT.id_of L.LexemeT.start_of L.LexemeT.len_of L.LexemeT.is_faulty) p.items.items ≡ items_before (mark_at old.now.boundaries index).place (map (item_of L.StorageT.number L.LexemeT.id_of L.LexemeT.start_of L.LexemeT.len_of L.LexemeT.is_faulty) old.now.items.items)) }
+    ensures items { IfOk result (λ p. map (item_of L.StorageT.number L.LexemeT.seen) p.items.items ≡ items_before (mark_at old.now.boundaries index).place (map (item_of L.StorageT.number L.LexemeT.seen) old.now.items.items)) }
     ensures boundaries { IfOk result (λ p. p.boundaries ≡ take (index + 1) old.now.boundaries) }
     ensures asked { IfOk result (λ p. p.asked ≡ 0) }
     ensures ahead { IfOk result (λ p. p.ahead.items ≡ take (index + 1) old.now.ahead.items) }
@@ -186,7 +186,7 @@ pub(crate) fn resume<L: LexerTypes<LexErrorT = LRLexError>>(
     requires initial { is_state (definition_of L.StorageT.number old.now.definition.now) 0 ≡ true }
     requires fits { Fits old.now.text.now edit.now.removed }
     requires gives { new.now ≡ edited old.now.text.now (as_span edit.now.removed) edit.now.put.now }
-    ensures reached { IfOk result (λ p. Reached (definition_of L.StorageT.number old.now.definition.now) new.now p.place p.stack.items (items_by L.StorageT.number L.LexemeT.id_of L.LexemeT.start_of L.LexemeT.len_of L.LexemeT.is_faulty p.items.items) p.boundaries p.asked) }
+    ensures reached { IfOk result (λ p. Reached (definition_of L.StorageT.number old.now.definition.now) new.now p.place p.stack.items (items_by L.StorageT.number L.LexemeT.seen p.items.items) p.boundaries p.asked) }
     ensures looked { IfOk result (λ p. HasLooked (definition_of L.StorageT.number old.now.definition.now) new.now p.boundaries p.ahead.items p.place p.over) }
     ensures boundary { IfOk result (λ p. IsCharBoundary new.now p.place) }
     ensures before { IfOk result (λ p. (j : ℕ) → j + 1 < length p.boundaries → (mark_at p.boundaries j).place < span_start edit.now.removed) }

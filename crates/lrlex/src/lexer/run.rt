@@ -28,7 +28,7 @@ pub struct LexRun<'lexer, 'input, L: LexerTypes<LexErrorT = LRLexError>> {
     /// How many tiles were cut anew.
     pub(crate) anew: usize,
     ghost looks: { ∥ LooksAhead (definition_of L.StorageT.number definition.now) text.now boundaries ahead.items ∥₁ },
-    ghost lexed: { ∥ IsRun (definition_of L.StorageT.number definition.now) text.now (items_by L.StorageT.number L.LexemeT.id_of L.LexemeT.start_of L.LexemeT.len_of L.LexemeT.is_faulty items.items) boundaries ∥₁ },
+    ghost lexed: { ∥ IsRun (definition_of L.StorageT.number definition.now) text.now (items_by L.StorageT.number L.LexemeT.seen items.items) boundaries ∥₁ },
 }
 
 impl<'lexer, 'input, L: LexerTypes<LexErrorT = LRLexError>> LexRun<'lexer, 'input, L> {
@@ -107,7 +107,7 @@ pub(crate) fn refused<'lexer, 'input, L: LexerTypes<LexErrorT = LRLexError>>(
     text: &'input str,
 ) -> Result<LexRun<'lexer, 'input, L>, AllocError>
     requires { is_state (definition_of L.StorageT.number definition.now) 0 ≡ false }
-    ensures run { IfOk result (λ r. IsRun (definition_of L.StorageT.number definition.now) text.now (items_by L.StorageT.number L.LexemeT.id_of L.LexemeT.start_of L.LexemeT.len_of L.LexemeT.is_faulty r.items.items) r.boundaries) }
+    ensures run { IfOk result (λ r. IsRun (definition_of L.StorageT.number definition.now) text.now (items_by L.StorageT.number L.LexemeT.seen r.items.items) r.boundaries) }
     ensures definition { IfOk result (λ r. r.definition.now ≡ definition.now) }
     ensures text { IfOk result (λ r. r.text.now ≡ text.now) }
     ensures asked { IfOk result (λ r. r.asked ≡ 0) }
@@ -135,7 +135,7 @@ pub(crate) fn finished<'lexer, 'input, L: LexerTypes<LexErrorT = LRLexError>>(
     anew: usize,
 ) -> LexRun<'lexer, 'input, L>
     requires looks { LooksAhead (definition_of L.StorageT.number definition.now) text.now progress.boundaries progress.ahead.items }
-    requires run { IsRun (definition_of L.StorageT.number definition.now) text.now (items_by L.StorageT.number L.LexemeT.id_of L.LexemeT.start_of L.LexemeT.len_of L.LexemeT.is_faulty progress.items.items) progress.boundaries }
+    requires run { IsRun (definition_of L.StorageT.number definition.now) text.now (items_by L.StorageT.number L.LexemeT.seen progress.items.items) progress.boundaries }
     ensures definition { result.definition.now ≡ definition.now }
     ensures text { result.text.now ≡ text.now }
     ensures items { result.items.items ≡ progress.items.items }
@@ -173,7 +173,7 @@ impl<L: LexerTypes<LexErrorT = LRLexError>> LRNonStreamingLexerDef<L> {
         alloc: Global,
         text: &'input str,
     ) -> Result<LexRun<'lexer, 'input, L>, AllocError>
-        ensures run { IfOk result (λ r. IsRun (definition_of L.StorageT.number self.now) text.now (items_by L.StorageT.number L.LexemeT.id_of L.LexemeT.start_of L.LexemeT.len_of L.LexemeT.is_faulty r.items.items) r.boundaries) }
+        ensures run { IfOk result (λ r. IsRun (definition_of L.StorageT.number self.now) text.now (items_by L.StorageT.number L.LexemeT.seen r.items.items) r.boundaries) }
         ensures definition { IfOk result (λ r. r.definition.now ≡ self.now) }
         ensures text { IfOk result (λ r. r.text.now ≡ text.now) }
         ensures asked { IfOk result (λ r. r.asked ≤ searches (definition_of L.StorageT.number self.now) text.now r.boundaries) }

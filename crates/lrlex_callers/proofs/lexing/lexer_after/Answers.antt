@@ -20,7 +20,7 @@ loop-edit-preserved g c =
         λ h. (these_steps c.args.text.now c.loop-edit.now.now c.args.steps.now c.loop-edit.edit-index step _ c.loop-edit-test.true c.loop-edit-item.is (c.loop-edit.invariant.steps.0 h)).1,
         λ h. c.loop-edit.invariant.steps.1 (more_steps c.args.text.now c.loop-edit.now.now c.args.steps.now c.loop-edit.edit-index step _ c.loop-edit-test.true c.loop-edit-item.is made h),
       );
-      run = subst (λ d. IsRun (definition_of g.L.StorageT.Id.number d) step.1.now (items_by g.L.StorageT.Id.number g.L.LexemeT.Lexeme.id_of g.L.LexemeT.Lexeme.start_of g.L.LexemeT.Lexeme.len_of g.L.LexemeT.Lexeme.is_faulty r.items.items) r.boundaries) c.loop-edit.invariant.definition c.in_ok-run-2.ensures.run;
+      run = subst (λ d. IsRun (definition_of g.L.StorageT.Id.number d) step.1.now (items_by g.L.StorageT.Id.number g.L.LexemeT.Lexeme.seen r.items.items) r.boundaries) c.loop-edit.invariant.definition c.in_ok-run-2.ensures.run;
     }
 
 pub returns-then-not-gives-clause-made : goal.returns-then-not-gives-clause-made

@@ -11,5 +11,5 @@ invariant-loop-edit g l = record {
   utf8 : IsUtf8 l.now;
   now : l.now ≡ text_after l.text (map (λ s. s.0) (take l.edit-index l.steps));
   steps : AreSteps l.text l.steps ↔ AreSteps l.now (drop l.edit-index l.steps);
-  run : IsRun (definition_of g.L.StorageT.Id.number l.definition) l.now (items_by g.L.StorageT.Id.number g.L.LexemeT.Lexeme.id_of g.L.LexemeT.Lexeme.start_of g.L.LexemeT.Lexeme.len_of g.L.LexemeT.Lexeme.is_faulty l.run.items.items) l.run.boundaries;
+  run : IsRun (definition_of g.L.StorageT.Id.number l.definition) l.now (items_by g.L.StorageT.Id.number g.L.LexemeT.Lexeme.seen l.run.items.items) l.run.boundaries;
 }

@@ -13,25 +13,25 @@ use Rattle.lrlex_callers.proofs.lexing.words.Goals as goal
 pub span_str-requires : goal.span_str-requires
 span_str-requires g c =
     let text = c.args.text.now in
-    let item = item_of g.L.StorageT.Id.number g.L.LexemeT.Lexeme.id_of g.L.LexemeT.Lexeme.start_of g.L.LexemeT.Lexeme.len_of g.L.LexemeT.Lexeme.is_faulty in
+    let item = item_of g.L.StorageT.Id.number g.L.LexemeT.Lexeme.seen in
     let first : items_left c.loop-item.item-iterator ≡ c.in-Some.item ∷ items_left c.next.new.self = c.in-Some.ensures.steps in
     let whole : lexer_items c.in_ok-lexer.lexer ≡ c.loop-item.yielded ++ c.in-Some.item ∷ items_left c.next.new.self =
     sym (ap items_left c.into_iter-item-iterator.ensures.into_iter_gives ∙ c.iter-item-items.ensures) ∙ c.loop-item.invariant.items ∙ ap (λ xs. c.loop-item.yielded ++ xs) first in
     let fits : FitsText text (item (Ok c.in-Ok.lexeme)) =
     subst (λ x. FitsText text (item x)) c.in-Ok.is (at_front (FitsText text) item (lexer_items c.in_ok-lexer.lexer) c.loop-item.yielded (items_left c.next.new.self) c.in-Some.item whole c.in_ok-lexer.ensures.fit) in
     let x = c.in-Ok.lexeme in
-    span_fits text (lexer_text c.in_ok-lexer.lexer) (g.L.LexemeT.Lexeme.start_of x) (g.L.LexemeT.Lexeme.len_of x) (span_start c.span.result) (span_end c.span.result) c.in_ok-lexer.ensures.text c.span.ensures.start c.span.ensures.end fits
+    span_fits text (lexer_text c.in_ok-lexer.lexer) (g.L.LexemeT.Lexeme.seen x).start (g.L.LexemeT.Lexeme.seen x).len (span_start c.span.result) (span_end c.span.result) c.in_ok-lexer.ensures.text c.span.ensures.start c.span.ensures.end fits
 
 pub loop-item-preserved-in-Continue-branch-2 : goal.loop-item-preserved-in-Continue-branch-2
 loop-item-preserved-in-Continue-branch-2 g c =
     let d = definition_of g.L.StorageT.Id.number c.args.definition.now in
-    let item = item_of g.L.StorageT.Id.number g.L.LexemeT.Lexeme.id_of g.L.LexemeT.Lexeme.start_of g.L.LexemeT.Lexeme.len_of g.L.LexemeT.Lexeme.is_faulty in
+    let item = item_of g.L.StorageT.Id.number g.L.LexemeT.Lexeme.seen in
     let first : items_left c.loop-item.item-iterator ≡ c.in-Some.item ∷ items_left c.next.new.self = c.in-Some.ensures.steps in
     let text = c.args.text.now in
     let x = c.in-Ok.lexeme in
     let word : word_of d.rules text (item c.in-Some.item) ≡ Some (shown (c.name_of-name.result, c.span_str.result)) =
     ap (λ y. word_of d.rules text (item y)) c.in-Ok.is ∙ word_is d.rules (map (as_rule g.L.StorageT.Id.number) c.rules.result.now) text (lexer_text c.in_ok-lexer.lexer) c.name_of-name.result.now c.span_str.result.now
-    (g.L.StorageT.Id.number (g.L.LexemeT.Lexeme.id_of x)) (g.L.LexemeT.Lexeme.start_of x) (g.L.LexemeT.Lexeme.len_of x) (g.L.LexemeT.Lexeme.is_faulty x) (g.L.StorageT.Id.number c.tok_id.result) (span_start c.span.result) (span_end c.span.result)
+    (g.L.StorageT.Id.number (g.L.LexemeT.Lexeme.seen x).id) (g.L.LexemeT.Lexeme.seen x).start (g.L.LexemeT.Lexeme.seen x).len (g.L.LexemeT.Lexeme.seen x).faulty (g.L.StorageT.Id.number c.tok_id.result) (span_start c.span.result) (span_end c.span.result)
     c.name_of-name.ensures (ap (map (as_rule g.L.StorageT.Id.number)) c.rules.ensures) (ap g.L.StorageT.Id.number c.tok_id.ensures) c.span_str.ensures c.in_ok-lexer.ensures.text c.span.ensures.start c.span.ensures.end in
     record {
       can_next = tt;
@@ -44,7 +44,7 @@ loop-item-preserved-in-Continue-branch-2 g c =
 pub loop-item-preserved : goal.loop-item-preserved
 loop-item-preserved g c =
     let d = definition_of g.L.StorageT.Id.number c.args.definition.now in
-    let item = item_of g.L.StorageT.Id.number g.L.LexemeT.Lexeme.id_of g.L.LexemeT.Lexeme.start_of g.L.LexemeT.Lexeme.len_of g.L.LexemeT.Lexeme.is_faulty in
+    let item = item_of g.L.StorageT.Id.number g.L.LexemeT.Lexeme.seen in
     let first : items_left c.loop-item.item-iterator ≡ c.in-Some.item ∷ items_left c.next.new.self = c.in-Some.ensures.steps in
     record {
       can_next = tt;

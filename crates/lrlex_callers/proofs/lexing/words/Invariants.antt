@@ -11,5 +11,5 @@ invariant-loop-item g l = record {
   finite : (goal.iterator-loop-item g).is_finite l.item-iterator;
   items : items_left l.initial.item-iterator ≡ l.yielded ++ items_left l.item-iterator;
   words : map shown l.words.items ≡ filter_map (word_of (definition_of g.L.StorageT.Id.number l.definition).rules l.text)
-      (items_by g.L.StorageT.Id.number g.L.LexemeT.Lexeme.id_of g.L.LexemeT.Lexeme.start_of g.L.LexemeT.Lexeme.len_of g.L.LexemeT.Lexeme.is_faulty l.yielded);
+      (items_by g.L.StorageT.Id.number g.L.LexemeT.Lexeme.seen l.yielded);
 }

@@ -17,7 +17,7 @@ returns-in_ok-lexed-in-Ok g c =
     let same = c.in_ok-before-in-Ok.ensures.definition in
     let wrote = rw c.items.ensures at c.write_items.ensures in
     let run = rw same at c.in_ok-lexed-in-Ok.ensures.run in
-    ran g.L.StorageT.Id.number g.L.LexemeT.Lexeme.id_of g.L.LexemeT.Lexeme.start_of g.L.LexemeT.Lexeme.len_of g.L.LexemeT.Lexeme.is_faulty _
+    ran g.L.StorageT.Id.number g.L.LexemeT.Lexeme.seen _
     q c.in_ok-definition.field-0 c.in-Ok.definition c.in_ok-lexed-in-Ok.lexed.items.items c.in_ok-lexed-in-Ok.lexed.boundaries _ _ _ _
     c.in-Ok.is c.in_ok-definition.ensures.answer c.in_ok-definition.ensures.initial run
     (ap (map (as_rule g.L.StorageT.Id.number)) c.rules.ensures) wrote

@@ -7,4 +7,4 @@ use Rattle.lrlex_cli.proofs.lines.lines.Given as goal
 
 abbrev pub invariant-loop-item : goal.invariant-loop-item
 invariant-loop-item g l = l.bytes.items ≡ lines (map (as_rule g.L.StorageT.Id.number) l.rules) l.text
-    (map (item_of g.L.StorageT.Id.number g.L.LexemeT.Lexeme.id_of g.L.LexemeT.Lexeme.start_of g.L.LexemeT.Lexeme.len_of g.L.LexemeT.Lexeme.is_faulty) (take l.item-index l.items))
+    (map (item_of g.L.StorageT.Id.number g.L.LexemeT.Lexeme.seen) (take l.item-index l.items))

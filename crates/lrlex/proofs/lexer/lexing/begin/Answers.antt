@@ -15,8 +15,8 @@ returns-clause-reached g c =
     let marks : c.push-2.new.self ≡ record { place = 0; runs = (1, 0) ∷ [] } ∷ [] =
     c.in_ok-push-2.ensures ∙ ap (λ (ms : List Mark). ms ++ record { place = 0; runs = c.deref.result.now } ∷ []) c.in_ok-boundaries.ensures
     ∙ ap (λ xs. record { place = 0; runs = xs } ∷ []) (c.deref.ensures.value ∙ stack) in
-    subst (λ s. Reached d text 0 s (items_by g.L.StorageT.Id.number g.L.LexemeT.Lexeme.id_of g.L.LexemeT.Lexeme.start_of g.L.LexemeT.Lexeme.len_of g.L.LexemeT.Lexeme.is_faulty c.in_ok-items.items.items) c.push-2.new.self 0) (sym stack)
-    (subst (λ xs. Reached d text 0 ((1, 0) ∷ []) (items_by g.L.StorageT.Id.number g.L.LexemeT.Lexeme.id_of g.L.LexemeT.Lexeme.start_of g.L.LexemeT.Lexeme.len_of g.L.LexemeT.Lexeme.is_faulty xs) c.push-2.new.self 0) (sym c.in_ok-items.ensures.items)
+    subst (λ s. Reached d text 0 s (items_by g.L.StorageT.Id.number g.L.LexemeT.Lexeme.seen c.in_ok-items.items.items) c.push-2.new.self 0) (sym stack)
+    (subst (λ xs. Reached d text 0 ((1, 0) ∷ []) (items_by g.L.StorageT.Id.number g.L.LexemeT.Lexeme.seen xs) c.push-2.new.self 0) (sym c.in_ok-items.ensures.items)
     (subst (λ ms. Reached d text 0 ((1, 0) ∷ []) [] ms 0) (sym marks) (Reached-none d text c.requires)))
 
 pub returns-clause-one : goal.returns-clause-one

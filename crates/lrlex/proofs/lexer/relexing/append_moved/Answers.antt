@@ -7,7 +7,7 @@ use Rattle.lrlex.proofs.lexer.relexing.append_moved.Goals as goal
 pub moved-requires : goal.moved-requires
 moved-requires g c =
     let x = c.index-tail-index.result in
-    let len = length-map c.args.tail.now (item_of g.L.StorageT.Id.number g.L.LexemeT.Lexeme.id_of g.L.LexemeT.Lexeme.start_of g.L.LexemeT.Lexeme.len_of g.L.LexemeT.Lexeme.is_faulty) in
+    let len = length-map c.args.tail.now (item_of g.L.StorageT.Id.number g.L.LexemeT.Lexeme.seen) in
     subst (IsMovable c.args.from c.args.to)
-    (get_or-map (item_of g.L.StorageT.Id.number g.L.LexemeT.Lexeme.id_of g.L.LexemeT.Lexeme.start_of g.L.LexemeT.Lexeme.len_of g.L.LexemeT.Lexeme.is_faulty) c.args.tail.now c.tail.index x _ (omega arith) ∙ ap (item_of g.L.StorageT.Id.number g.L.LexemeT.Lexeme.id_of g.L.LexemeT.Lexeme.start_of g.L.LexemeT.Lexeme.len_of g.L.LexemeT.Lexeme.is_faulty) (sym c.index-tail-index.is))
-    (c.requires c.tail.index (item_of g.L.StorageT.Id.number g.L.LexemeT.Lexeme.id_of g.L.LexemeT.Lexeme.start_of g.L.LexemeT.Lexeme.len_of g.L.LexemeT.Lexeme.is_faulty x) (omega arith))
+    (get_or-map (item_of g.L.StorageT.Id.number g.L.LexemeT.Lexeme.seen) c.args.tail.now c.tail.index x _ (omega arith) ∙ ap (item_of g.L.StorageT.Id.number g.L.LexemeT.Lexeme.seen) (sym c.index-tail-index.is))
+    (c.requires c.tail.index (item_of g.L.StorageT.Id.number g.L.LexemeT.Lexeme.seen x) (omega arith))

@@ -8,7 +8,7 @@ use Rattle.lrlex.proofs.lexer.relexing.items_from.Goals as goal
 
 pub returns : goal.returns
 returns g c =
-    let view = item_of g.L.StorageT.Id.number g.L.LexemeT.Lexeme.id_of g.L.LexemeT.Lexeme.start_of g.L.LexemeT.Lexeme.len_of g.L.LexemeT.Lexeme.is_faulty in
+    let view = item_of g.L.StorageT.Id.number g.L.LexemeT.Lexeme.seen in
     let xs = c.args.items.now in
     let n = c.partition_point-before.result in
     let point = IsPartitionPoint-from_clause (λ x. begins_before c.args.place (view x)) xs n c.partition_point-before.ensures.partitioned (in_order_of view c.args.place xs c.requires) (λ a r f k. search (rules, of_calls)) in

@@ -17,7 +17,7 @@ pub last_safe-index-requires-clause-sorted : goal.last_safe-index-requires-claus
 last_safe-index-requires-clause-sorted g c =
     let d = definition_of g.L.StorageT.Id.number c.args.old.now.definition.now in
     let o = c.args.old.now in
-    let found = items_by g.L.StorageT.Id.number g.L.LexemeT.Lexeme.id_of g.L.LexemeT.Lexeme.start_of g.L.LexemeT.Lexeme.len_of g.L.LexemeT.Lexeme.is_faulty o.items.items in
+    let found = items_by g.L.StorageT.Id.number g.L.LexemeT.Lexeme.seen o.items.items in
     let h = known d o.text.now found o.boundaries c.requires.initial o.lexed in
     sorted d o.text.now found o.boundaries h
 
@@ -30,7 +30,7 @@ pub last_safe-index-requires-clause-some : goal.last_safe-index-requires-clause-
 last_safe-index-requires-clause-some g c =
     let d = definition_of g.L.StorageT.Id.number c.args.old.now.definition.now in
     let o = c.args.old.now in
-    let found = items_by g.L.StorageT.Id.number g.L.LexemeT.Lexeme.id_of g.L.LexemeT.Lexeme.start_of g.L.LexemeT.Lexeme.len_of g.L.LexemeT.Lexeme.is_faulty o.items.items in
+    let found = items_by g.L.StorageT.Id.number g.L.LexemeT.Lexeme.seen o.items.items in
     let h = known d o.text.now found o.boundaries c.requires.initial o.lexed in
     some_boundary d o.text.now found o.boundaries h
 
@@ -38,7 +38,7 @@ pub last_safe-index-requires-clause-first : goal.last_safe-index-requires-clause
 last_safe-index-requires-clause-first g c =
     let d = definition_of g.L.StorageT.Id.number c.args.old.now.definition.now in
     let o = c.args.old.now in
-    let found = items_by g.L.StorageT.Id.number g.L.LexemeT.Lexeme.id_of g.L.LexemeT.Lexeme.start_of g.L.LexemeT.Lexeme.len_of g.L.LexemeT.Lexeme.is_faulty o.items.items in
+    let found = items_by g.L.StorageT.Id.number g.L.LexemeT.Lexeme.seen o.items.items in
     let h = known d o.text.now found o.boundaries c.requires.initial o.lexed in
     let looks = looks_known d o.text.now o.boundaries o.ahead.items o.looks in
     let new = c.args.new.now in
@@ -52,7 +52,7 @@ pub resumed-requires-clause-in_order : goal.resumed-requires-clause-in_order
 resumed-requires-clause-in_order g c =
     let d = definition_of g.L.StorageT.Id.number c.args.old.now.definition.now in
     let o = c.args.old.now in
-    let found = items_by g.L.StorageT.Id.number g.L.LexemeT.Lexeme.id_of g.L.LexemeT.Lexeme.start_of g.L.LexemeT.Lexeme.len_of g.L.LexemeT.Lexeme.is_faulty o.items.items in
+    let found = items_by g.L.StorageT.Id.number g.L.LexemeT.Lexeme.seen o.items.items in
     let h = known d o.text.now found o.boundaries c.requires.initial o.lexed in
     order_at d o.text.now found o.boundaries h c.last_safe-index.result c.last_safe-index.ensures.within
 
@@ -65,7 +65,7 @@ pub returns-clause-reached : goal.returns-clause-reached
 returns-clause-reached g c =
     let d = definition_of g.L.StorageT.Id.number c.args.old.now.definition.now in
     let o = c.args.old.now in
-    let found = items_by g.L.StorageT.Id.number g.L.LexemeT.Lexeme.id_of g.L.LexemeT.Lexeme.start_of g.L.LexemeT.Lexeme.len_of g.L.LexemeT.Lexeme.is_faulty o.items.items in
+    let found = items_by g.L.StorageT.Id.number g.L.LexemeT.Lexeme.seen o.items.items in
     let h = known d o.text.now found o.boundaries c.requires.initial o.lexed in
     let looks = looks_known d o.text.now o.boundaries o.ahead.items o.looks in
     let new = c.args.new.now in
@@ -79,7 +79,7 @@ returns-clause-reached g c =
     let e = c.in_ok-progress.ensures in
     let going = (going d o.text.now new edit.put.now low edit.removed.end found o.boundaries o.ahead.items c.requires.initial is le c.requires.gives h looks k c.last_safe-index.ensures.within safe).reached in
     let front = items_before (mark_at o.boundaries k).place found in
-    let now = items_by g.L.StorageT.Id.number g.L.LexemeT.Lexeme.id_of g.L.LexemeT.Lexeme.start_of g.L.LexemeT.Lexeme.len_of g.L.LexemeT.Lexeme.is_faulty p.items.items in
+    let now = items_by g.L.StorageT.Id.number g.L.LexemeT.Lexeme.seen p.items.items in
     subst (λ i. Reached d new i p.stack.items now p.boundaries p.asked) (sym e.place)
     (subst (λ s. Reached d new (mark_at o.boundaries k).place s now p.boundaries p.asked) (sym e.stack)
     (subst (λ xs. Reached d new (mark_at o.boundaries k).place (mark_at o.boundaries k).runs xs p.boundaries p.asked) (sym e.items)
@@ -90,7 +90,7 @@ pub returns-clause-looked : goal.returns-clause-looked
 returns-clause-looked g c =
     let d = definition_of g.L.StorageT.Id.number c.args.old.now.definition.now in
     let o = c.args.old.now in
-    let found = items_by g.L.StorageT.Id.number g.L.LexemeT.Lexeme.id_of g.L.LexemeT.Lexeme.start_of g.L.LexemeT.Lexeme.len_of g.L.LexemeT.Lexeme.is_faulty o.items.items in
+    let found = items_by g.L.StorageT.Id.number g.L.LexemeT.Lexeme.seen o.items.items in
     let h = known d o.text.now found o.boundaries c.requires.initial o.lexed in
     let looks = looks_known d o.text.now o.boundaries o.ahead.items o.looks in
     let new = c.args.new.now in
@@ -111,7 +111,7 @@ pub returns-clause-boundary : goal.returns-clause-boundary
 returns-clause-boundary g c =
     let d = definition_of g.L.StorageT.Id.number c.args.old.now.definition.now in
     let o = c.args.old.now in
-    let found = items_by g.L.StorageT.Id.number g.L.LexemeT.Lexeme.id_of g.L.LexemeT.Lexeme.start_of g.L.LexemeT.Lexeme.len_of g.L.LexemeT.Lexeme.is_faulty o.items.items in
+    let found = items_by g.L.StorageT.Id.number g.L.LexemeT.Lexeme.seen o.items.items in
     let h = known d o.text.now found o.boundaries c.requires.initial o.lexed in
     let looks = looks_known d o.text.now o.boundaries o.ahead.items o.looks in
     let new = c.args.new.now in
@@ -129,7 +129,7 @@ pub returns-clause-before : goal.returns-clause-before
 returns-clause-before g c =
     let d = definition_of g.L.StorageT.Id.number c.args.old.now.definition.now in
     let o = c.args.old.now in
-    let found = items_by g.L.StorageT.Id.number g.L.LexemeT.Lexeme.id_of g.L.LexemeT.Lexeme.start_of g.L.LexemeT.Lexeme.len_of g.L.LexemeT.Lexeme.is_faulty o.items.items in
+    let found = items_by g.L.StorageT.Id.number g.L.LexemeT.Lexeme.seen o.items.items in
     let h = known d o.text.now found o.boundaries c.requires.initial o.lexed in
     let looks = looks_known d o.text.now o.boundaries o.ahead.items o.looks in
     let new = c.args.new.now in
@@ -151,7 +151,7 @@ pub returns-clause-last : goal.returns-clause-last
 returns-clause-last g c =
     let d = definition_of g.L.StorageT.Id.number c.args.old.now.definition.now in
     let o = c.args.old.now in
-    let found = items_by g.L.StorageT.Id.number g.L.LexemeT.Lexeme.id_of g.L.LexemeT.Lexeme.start_of g.L.LexemeT.Lexeme.len_of g.L.LexemeT.Lexeme.is_faulty o.items.items in
+    let found = items_by g.L.StorageT.Id.number g.L.LexemeT.Lexeme.seen o.items.items in
     let h = known d o.text.now found o.boundaries c.requires.initial o.lexed in
     let looks = looks_known d o.text.now o.boundaries o.ahead.items o.looks in
     let new = c.args.new.now in
@@ -175,7 +175,7 @@ pub returns-clause-from : goal.returns-clause-from
 returns-clause-from g c =
     let d = definition_of g.L.StorageT.Id.number c.args.old.now.definition.now in
     let o = c.args.old.now in
-    let found = items_by g.L.StorageT.Id.number g.L.LexemeT.Lexeme.id_of g.L.LexemeT.Lexeme.start_of g.L.LexemeT.Lexeme.len_of g.L.LexemeT.Lexeme.is_faulty o.items.items in
+    let found = items_by g.L.StorageT.Id.number g.L.LexemeT.Lexeme.seen o.items.items in
     let h = known d o.text.now found o.boundaries c.requires.initial o.lexed in
     let looks = looks_known d o.text.now o.boundaries o.ahead.items o.looks in
     let new = c.args.new.now in

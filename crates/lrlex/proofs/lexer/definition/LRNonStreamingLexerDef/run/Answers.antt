@@ -26,7 +26,7 @@ tiles-preserved g c =
     let on : c.in_ok-advance.field-0 ≡ true = c.if-not-branch.false in
     let p = c.tiles.progress in
     let d = definition_of g.L.StorageT.Id.number c.args.self.now in
-    let found = items_by g.L.StorageT.Id.number g.L.LexemeT.Lexeme.id_of g.L.LexemeT.Lexeme.start_of g.L.LexemeT.Lexeme.len_of g.L.LexemeT.Lexeme.is_faulty p.items.items in
+    let found = items_by g.L.StorageT.Id.number g.L.LexemeT.Lexeme.seen p.items.items in
     let r = c.tiles.invariant.reached in
     let some : 0 < length p.boundaries = omega (arith, length_now d c.args.text.now p.place p.stack.items found p.boundaries p.asked r) in
     let more = c.in_ok-advance.ensures.more on in
@@ -47,7 +47,7 @@ pub finished-requires-2-clause-run : goal.finished-requires-2-clause-run
 finished-requires-2-clause-run g c =
     let p = c.tiles.progress in
     let d = definition_of g.L.StorageT.Id.number c.args.self.now in
-    let found = items_by g.L.StorageT.Id.number g.L.LexemeT.Lexeme.id_of g.L.LexemeT.Lexeme.start_of g.L.LexemeT.Lexeme.len_of g.L.LexemeT.Lexeme.is_faulty p.items.items in
+    let found = items_by g.L.StorageT.Id.number g.L.LexemeT.Lexeme.seen p.items.items in
     run_of d c.args.text.now found p.boundaries c.tiles.invariant.reached.initial
     (ended d c.args.text.now p.place p.stack.items found p.boundaries p.asked c.tiles.invariant.reached found Done (nothing_left c.args.text.now p.place c.tiles-test.false) (sym (append-nil found)))
 
@@ -55,8 +55,8 @@ pub returns-clause-run : goal.returns-clause-run
 returns-clause-run g c =
     let p = c.tiles.progress in
     let d = definition_of g.L.StorageT.Id.number c.args.self.now in
-    let found = items_by g.L.StorageT.Id.number g.L.LexemeT.Lexeme.id_of g.L.LexemeT.Lexeme.start_of g.L.LexemeT.Lexeme.len_of g.L.LexemeT.Lexeme.is_faulty p.items.items in
-    subst (λ xs. IsRun d c.args.text.now (items_by g.L.StorageT.Id.number g.L.LexemeT.Lexeme.id_of g.L.LexemeT.Lexeme.start_of g.L.LexemeT.Lexeme.len_of g.L.LexemeT.Lexeme.is_faulty xs) c.finished-2.result.boundaries) (sym c.finished-2.ensures.items)
+    let found = items_by g.L.StorageT.Id.number g.L.LexemeT.Lexeme.seen p.items.items in
+    subst (λ xs. IsRun d c.args.text.now (items_by g.L.StorageT.Id.number g.L.LexemeT.Lexeme.seen xs) c.finished-2.result.boundaries) (sym c.finished-2.ensures.items)
     (subst (IsRun d c.args.text.now found) (sym c.finished-2.ensures.boundaries)
     (run_of d c.args.text.now found p.boundaries c.tiles.invariant.reached.initial
     (ended d c.args.text.now p.place p.stack.items found p.boundaries p.asked c.tiles.invariant.reached found Done (nothing_left c.args.text.now p.place c.tiles-test.false) (sym (append-nil found)))))
@@ -66,7 +66,7 @@ returns-clause-few g c =
     let p = c.tiles.progress in
     let d = definition_of g.L.StorageT.Id.number c.args.self.now in
     few_searches d c.args.text.now p.boundaries c.finished-2.result.boundaries p.asked c.finished-2.result.asked
-    (asked_now d c.args.text.now p.place p.stack.items (items_by g.L.StorageT.Id.number g.L.LexemeT.Lexeme.id_of g.L.LexemeT.Lexeme.start_of g.L.LexemeT.Lexeme.len_of g.L.LexemeT.Lexeme.is_faulty p.items.items) p.boundaries p.asked c.tiles.invariant.reached)
+    (asked_now d c.args.text.now p.place p.stack.items (items_by g.L.StorageT.Id.number g.L.LexemeT.Lexeme.seen p.items.items) p.boundaries p.asked c.tiles.invariant.reached)
     c.finished-2.ensures.asked c.finished-2.ensures.boundaries
 
 pub returns-clause-asked : goal.returns-clause-asked
@@ -74,16 +74,16 @@ returns-clause-asked g c =
     let p = c.tiles.progress in
     let d = definition_of g.L.StorageT.Id.number c.args.self.now in
     subst (λ ms. c.finished-2.result.asked ≤ searches d c.args.text.now ms) (sym c.finished-2.ensures.boundaries)
-    (omega (arith, c.finished-2.ensures.asked, asked_now d c.args.text.now p.place p.stack.items (items_by g.L.StorageT.Id.number g.L.LexemeT.Lexeme.id_of g.L.LexemeT.Lexeme.start_of g.L.LexemeT.Lexeme.len_of g.L.LexemeT.Lexeme.is_faulty p.items.items) p.boundaries p.asked c.tiles.invariant.reached))
+    (omega (arith, c.finished-2.ensures.asked, asked_now d c.args.text.now p.place p.stack.items (items_by g.L.StorageT.Id.number g.L.LexemeT.Lexeme.seen p.items.items) p.boundaries p.asked c.tiles.invariant.reached))
 
 pub returns-then-not-branch-clause-run : goal.returns-then-not-branch-clause-run
 returns-then-not-branch-clause-run g c =
     let d = definition_of g.L.StorageT.Id.number c.args.self.now in
     let p = c.advance.new.progress in
     let off : c.in_ok-advance.field-0 ≡ false = c.if-not-branch.true in
-    subst (λ xs. IsRun d c.args.text.now (items_by g.L.StorageT.Id.number g.L.LexemeT.Lexeme.id_of g.L.LexemeT.Lexeme.start_of g.L.LexemeT.Lexeme.len_of g.L.LexemeT.Lexeme.is_faulty xs) c.finished.result.boundaries) (sym c.finished.ensures.items)
-    (subst (IsRun d c.args.text.now (items_by g.L.StorageT.Id.number g.L.LexemeT.Lexeme.id_of g.L.LexemeT.Lexeme.start_of g.L.LexemeT.Lexeme.len_of g.L.LexemeT.Lexeme.is_faulty p.items.items)) (sym c.finished.ensures.boundaries)
-    (run_of d c.args.text.now (items_by g.L.StorageT.Id.number g.L.LexemeT.Lexeme.id_of g.L.LexemeT.Lexeme.start_of g.L.LexemeT.Lexeme.len_of g.L.LexemeT.Lexeme.is_faulty p.items.items) p.boundaries c.tiles.invariant.reached.initial (c.in_ok-advance.ensures.ends off)))
+    subst (λ xs. IsRun d c.args.text.now (items_by g.L.StorageT.Id.number g.L.LexemeT.Lexeme.seen xs) c.finished.result.boundaries) (sym c.finished.ensures.items)
+    (subst (IsRun d c.args.text.now (items_by g.L.StorageT.Id.number g.L.LexemeT.Lexeme.seen p.items.items)) (sym c.finished.ensures.boundaries)
+    (run_of d c.args.text.now (items_by g.L.StorageT.Id.number g.L.LexemeT.Lexeme.seen p.items.items) p.boundaries c.tiles.invariant.reached.initial (c.in_ok-advance.ensures.ends off)))
 
 pub returns-then-not-branch-clause-few : goal.returns-then-not-branch-clause-few
 returns-then-not-branch-clause-few g c =
@@ -96,7 +96,7 @@ pub finished-requires-clause-run : goal.finished-requires-clause-run
 finished-requires-clause-run g c =
     let d = definition_of g.L.StorageT.Id.number c.args.self.now in
     let p = c.advance.new.progress in
-    run_of d c.args.text.now (items_by g.L.StorageT.Id.number g.L.LexemeT.Lexeme.id_of g.L.LexemeT.Lexeme.start_of g.L.LexemeT.Lexeme.len_of g.L.LexemeT.Lexeme.is_faulty p.items.items) p.boundaries c.tiles.invariant.reached.initial (c.in_ok-advance.ensures.ends c.if-not-branch.true)
+    run_of d c.args.text.now (items_by g.L.StorageT.Id.number g.L.LexemeT.Lexeme.seen p.items.items) p.boundaries c.tiles.invariant.reached.initial (c.in_ok-advance.ensures.ends c.if-not-branch.true)
 
 pub advance-requires-clause-here : goal.advance-requires-clause-here
 advance-requires-clause-here g c = c.tiles.invariant.here
@@ -108,7 +108,7 @@ pub returns-clause-exact : goal.returns-clause-exact
 returns-clause-exact g c =
     let p = c.tiles.progress in
     let d = definition_of g.L.StorageT.Id.number c.args.self.now in
-    let found = items_by g.L.StorageT.Id.number g.L.LexemeT.Lexeme.id_of g.L.LexemeT.Lexeme.start_of g.L.LexemeT.Lexeme.len_of g.L.LexemeT.Lexeme.is_faulty p.items.items in
+    let found = items_by g.L.StorageT.Id.number g.L.LexemeT.Lexeme.seen p.items.items in
     let r = c.tiles.invariant.reached in
     let some : 0 < length p.boundaries = omega (arith, length_now d c.args.text.now p.place p.stack.items found p.boundaries p.asked r) in
     c.finished-2.ensures.asked ∙ all_asked c.args.self.now c.args.text.now d p.place p.stack.items found p.boundaries p.asked r 0 some c.tiles.invariant.exact c.tiles-test.false
@@ -118,7 +118,7 @@ pub returns-then-not-branch-clause-exact : goal.returns-then-not-branch-clause-e
 returns-then-not-branch-clause-exact g c =
     let p = c.tiles.progress in
     let d = definition_of g.L.StorageT.Id.number c.args.self.now in
-    let found = items_by g.L.StorageT.Id.number g.L.LexemeT.Lexeme.id_of g.L.LexemeT.Lexeme.start_of g.L.LexemeT.Lexeme.len_of g.L.LexemeT.Lexeme.is_faulty p.items.items in
+    let found = items_by g.L.StorageT.Id.number g.L.LexemeT.Lexeme.seen p.items.items in
     let r = c.tiles.invariant.reached in
     let some : 0 < length p.boundaries = omega (arith, length_now d c.args.text.now p.place p.stack.items found p.boundaries p.asked r) in
     c.finished.ensures.asked

@@ -12,7 +12,7 @@ invariant-tiles g l = record {
   matchers : AreMatchers l.self.table.rules.items l.matchers.items;
   here : AreOf g.L.StorageT.Id.number l.self l.here.state l.here;
   boundary : IsCharBoundary l.text l.progress.place;
-  reached : Reached (definition_of g.L.StorageT.Id.number l.self) l.text l.progress.place l.progress.stack.items (items_by g.L.StorageT.Id.number g.L.LexemeT.Lexeme.id_of g.L.LexemeT.Lexeme.start_of g.L.LexemeT.Lexeme.len_of g.L.LexemeT.Lexeme.is_faulty l.progress.items.items) l.progress.boundaries l.progress.asked;
+  reached : Reached (definition_of g.L.StorageT.Id.number l.self) l.text l.progress.place l.progress.stack.items (items_by g.L.StorageT.Id.number g.L.LexemeT.Lexeme.seen l.progress.items.items) l.progress.boundaries l.progress.asked;
   looked : HasLooked (definition_of g.L.StorageT.Id.number l.self) l.text l.progress.boundaries l.progress.ahead.items l.progress.place l.progress.over;
   exact : l.progress.asked ≡ asks l.self l.text (slice_range l.progress.boundaries 0 (length l.progress.boundaries - 1));
 }

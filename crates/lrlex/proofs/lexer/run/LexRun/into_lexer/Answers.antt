@@ -9,13 +9,13 @@ pub returns-clause-run : goal.returns-clause-run
 returns-clause-run g c =
     let s = c.args.self in
     let d = definition_of g.L.StorageT.Id.number s.definition.now in
-    let found = items_by g.L.StorageT.Id.number g.L.LexemeT.Lexeme.id_of g.L.LexemeT.Lexeme.start_of g.L.LexemeT.Lexeme.len_of g.L.LexemeT.Lexeme.is_faulty s.items.items in
+    let found = items_by g.L.StorageT.Id.number g.L.LexemeT.Lexeme.seen s.items.items in
     subst (λ text. IsRun d text found s.boundaries) (sym c.in_ok-input.ensures.text) (known_run d s.text.now found s.boundaries s.lexed)
 
 pub returns-clause-fit : goal.returns-clause-fit
 returns-clause-fit g c =
     let s = c.args.self in
     let d = definition_of g.L.StorageT.Id.number s.definition.now in
-    let found = items_by g.L.StorageT.Id.number g.L.LexemeT.Lexeme.id_of g.L.LexemeT.Lexeme.start_of g.L.LexemeT.Lexeme.len_of g.L.LexemeT.Lexeme.is_faulty s.items.items in
+    let found = items_by g.L.StorageT.Id.number g.L.LexemeT.Lexeme.seen s.items.items in
     subst (λ text. All (FitsText text) found) (sym c.in_ok-input.ensures.text)
     (fit_the_text d s.text.now found s.boundaries c.new.ensures.utf8 (known_run d s.text.now found s.boundaries s.lexed))

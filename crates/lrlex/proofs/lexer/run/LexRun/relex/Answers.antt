@@ -48,10 +48,10 @@ meets-requires-clause-sorted g c =
     let s = c.args.self.now in
     let edit = c.args.edit.now in
     let p = c.tiles.progress in
-    let found = items_by g.L.StorageT.Id.number g.L.LexemeT.Lexeme.id_of g.L.LexemeT.Lexeme.start_of g.L.LexemeT.Lexeme.len_of g.L.LexemeT.Lexeme.is_faulty p.items.items in
+    let found = items_by g.L.StorageT.Id.number g.L.LexemeT.Lexeme.seen p.items.items in
     let r = c.tiles.invariant.reached in
-    let h = known d s.text.now (items_by g.L.StorageT.Id.number g.L.LexemeT.Lexeme.id_of g.L.LexemeT.Lexeme.start_of g.L.LexemeT.Lexeme.len_of g.L.LexemeT.Lexeme.is_faulty s.items.items) s.boundaries r.initial s.lexed in
-    sorted d s.text.now (items_by g.L.StorageT.Id.number g.L.LexemeT.Lexeme.id_of g.L.LexemeT.Lexeme.start_of g.L.LexemeT.Lexeme.len_of g.L.LexemeT.Lexeme.is_faulty s.items.items) s.boundaries h
+    let h = known d s.text.now (items_by g.L.StorageT.Id.number g.L.LexemeT.Lexeme.seen s.items.items) s.boundaries r.initial s.lexed in
+    sorted d s.text.now (items_by g.L.StorageT.Id.number g.L.LexemeT.Lexeme.seen s.items.items) s.boundaries h
 
 pub meets-requires-clause-stack : goal.meets-requires-clause-stack
 meets-requires-clause-stack g c =
@@ -61,7 +61,7 @@ meets-requires-clause-stack g c =
     let s = c.args.self.now in
     let edit = c.args.edit.now in
     let p = c.tiles.progress in
-    let found = items_by g.L.StorageT.Id.number g.L.LexemeT.Lexeme.id_of g.L.LexemeT.Lexeme.start_of g.L.LexemeT.Lexeme.len_of g.L.LexemeT.Lexeme.is_faulty p.items.items in
+    let found = items_by g.L.StorageT.Id.number g.L.LexemeT.Lexeme.seen p.items.items in
     let r = c.tiles.invariant.reached in
     subst AreRuns (sym c.deref-in-tiles.ensures.value) (runs_now d new p.place p.stack.items found p.boundaries p.asked r)
 
@@ -73,12 +73,12 @@ take_over-requires-clause-in_order g c =
     let s = c.args.self.now in
     let edit = c.args.edit.now in
     let p = c.tiles.progress in
-    let found = items_by g.L.StorageT.Id.number g.L.LexemeT.Lexeme.id_of g.L.LexemeT.Lexeme.start_of g.L.LexemeT.Lexeme.len_of g.L.LexemeT.Lexeme.is_faulty p.items.items in
+    let found = items_by g.L.StorageT.Id.number g.L.LexemeT.Lexeme.seen p.items.items in
     let r = c.tiles.invariant.reached in
-    let h = known d s.text.now (items_by g.L.StorageT.Id.number g.L.LexemeT.Lexeme.id_of g.L.LexemeT.Lexeme.start_of g.L.LexemeT.Lexeme.len_of g.L.LexemeT.Lexeme.is_faulty s.items.items) s.boundaries r.initial s.lexed in
+    let h = known d s.text.now (items_by g.L.StorageT.Id.number g.L.LexemeT.Lexeme.seen s.items.items) s.boundaries r.initial s.lexed in
     let j = c.meets.new.cursor in
     let stacks : (mark_at s.boundaries j).runs ≡ p.stack.items = c.meets.ensures.stack c.if-meets.true ∙ c.deref-in-tiles.ensures.value in
-    olds_in_order d s.text.now new edit.removed.start edit.removed.end edit.put.now (items_by g.L.StorageT.Id.number g.L.LexemeT.Lexeme.id_of g.L.LexemeT.Lexeme.start_of g.L.LexemeT.Lexeme.len_of g.L.LexemeT.Lexeme.is_faulty s.items.items) s.boundaries h p.place p.stack.items found p.boundaries p.asked r
+    olds_in_order d s.text.now new edit.removed.start edit.removed.end edit.put.now (items_by g.L.StorageT.Id.number g.L.LexemeT.Lexeme.seen s.items.items) s.boundaries h p.place p.stack.items found p.boundaries p.asked r
     j (c.meets.ensures.within c.if-meets.true) edit.removed.in_order c.requires.fits.1.0 c.requires.gives (c.meets.ensures.past c.if-meets.true) (c.meets.ensures.place c.if-meets.true) stacks
 
 pub take_over-requires-clause-items : goal.take_over-requires-clause-items
@@ -89,12 +89,12 @@ take_over-requires-clause-items g c =
     let s = c.args.self.now in
     let edit = c.args.edit.now in
     let p = c.tiles.progress in
-    let found = items_by g.L.StorageT.Id.number g.L.LexemeT.Lexeme.id_of g.L.LexemeT.Lexeme.start_of g.L.LexemeT.Lexeme.len_of g.L.LexemeT.Lexeme.is_faulty p.items.items in
+    let found = items_by g.L.StorageT.Id.number g.L.LexemeT.Lexeme.seen p.items.items in
     let r = c.tiles.invariant.reached in
-    let h = known d s.text.now (items_by g.L.StorageT.Id.number g.L.LexemeT.Lexeme.id_of g.L.LexemeT.Lexeme.start_of g.L.LexemeT.Lexeme.len_of g.L.LexemeT.Lexeme.is_faulty s.items.items) s.boundaries r.initial s.lexed in
+    let h = known d s.text.now (items_by g.L.StorageT.Id.number g.L.LexemeT.Lexeme.seen s.items.items) s.boundaries r.initial s.lexed in
     let j = c.meets.new.cursor in
     let stacks : (mark_at s.boundaries j).runs ≡ p.stack.items = c.meets.ensures.stack c.if-meets.true ∙ c.deref-in-tiles.ensures.value in
-    items_movable d s.text.now new edit.removed.start edit.removed.end edit.put.now (items_by g.L.StorageT.Id.number g.L.LexemeT.Lexeme.id_of g.L.LexemeT.Lexeme.start_of g.L.LexemeT.Lexeme.len_of g.L.LexemeT.Lexeme.is_faulty s.items.items) s.boundaries h p.place p.stack.items found p.boundaries p.asked r
+    items_movable d s.text.now new edit.removed.start edit.removed.end edit.put.now (items_by g.L.StorageT.Id.number g.L.LexemeT.Lexeme.seen s.items.items) s.boundaries h p.place p.stack.items found p.boundaries p.asked r
     j (c.meets.ensures.within c.if-meets.true) edit.removed.in_order c.requires.fits.1.0 c.requires.gives (c.meets.ensures.past c.if-meets.true) (c.meets.ensures.place c.if-meets.true) stacks c.tiles.invariant.boundary.0 (omega arith)
 
 pub take_over-requires-clause-boundaries : goal.take_over-requires-clause-boundaries
@@ -105,12 +105,12 @@ take_over-requires-clause-boundaries g c =
     let s = c.args.self.now in
     let edit = c.args.edit.now in
     let p = c.tiles.progress in
-    let found = items_by g.L.StorageT.Id.number g.L.LexemeT.Lexeme.id_of g.L.LexemeT.Lexeme.start_of g.L.LexemeT.Lexeme.len_of g.L.LexemeT.Lexeme.is_faulty p.items.items in
+    let found = items_by g.L.StorageT.Id.number g.L.LexemeT.Lexeme.seen p.items.items in
     let r = c.tiles.invariant.reached in
-    let h = known d s.text.now (items_by g.L.StorageT.Id.number g.L.LexemeT.Lexeme.id_of g.L.LexemeT.Lexeme.start_of g.L.LexemeT.Lexeme.len_of g.L.LexemeT.Lexeme.is_faulty s.items.items) s.boundaries r.initial s.lexed in
+    let h = known d s.text.now (items_by g.L.StorageT.Id.number g.L.LexemeT.Lexeme.seen s.items.items) s.boundaries r.initial s.lexed in
     let j = c.meets.new.cursor in
     let stacks : (mark_at s.boundaries j).runs ≡ p.stack.items = c.meets.ensures.stack c.if-meets.true ∙ c.deref-in-tiles.ensures.value in
-    marks_movable d s.text.now new edit.removed.start edit.removed.end edit.put.now (items_by g.L.StorageT.Id.number g.L.LexemeT.Lexeme.id_of g.L.LexemeT.Lexeme.start_of g.L.LexemeT.Lexeme.len_of g.L.LexemeT.Lexeme.is_faulty s.items.items) s.boundaries h p.place p.stack.items found p.boundaries p.asked r
+    marks_movable d s.text.now new edit.removed.start edit.removed.end edit.put.now (items_by g.L.StorageT.Id.number g.L.LexemeT.Lexeme.seen s.items.items) s.boundaries h p.place p.stack.items found p.boundaries p.asked r
     j (c.meets.ensures.within c.if-meets.true) edit.removed.in_order c.requires.fits.1.0 c.requires.gives (c.meets.ensures.past c.if-meets.true) (c.meets.ensures.place c.if-meets.true) stacks c.tiles.invariant.boundary.0 (omega arith)
 
 pub finished-requires-clause-run : goal.finished-requires-clause-run
@@ -121,19 +121,19 @@ finished-requires-clause-run g c =
     let s = c.args.self.now in
     let edit = c.args.edit.now in
     let p = c.tiles.progress in
-    let found = items_by g.L.StorageT.Id.number g.L.LexemeT.Lexeme.id_of g.L.LexemeT.Lexeme.start_of g.L.LexemeT.Lexeme.len_of g.L.LexemeT.Lexeme.is_faulty p.items.items in
+    let found = items_by g.L.StorageT.Id.number g.L.LexemeT.Lexeme.seen p.items.items in
     let r = c.tiles.invariant.reached in
-    let h = known d s.text.now (items_by g.L.StorageT.Id.number g.L.LexemeT.Lexeme.id_of g.L.LexemeT.Lexeme.start_of g.L.LexemeT.Lexeme.len_of g.L.LexemeT.Lexeme.is_faulty s.items.items) s.boundaries r.initial s.lexed in
+    let h = known d s.text.now (items_by g.L.StorageT.Id.number g.L.LexemeT.Lexeme.seen s.items.items) s.boundaries r.initial s.lexed in
     let j = c.meets.new.cursor in
     let stacks : (mark_at s.boundaries j).runs ≡ p.stack.items = c.meets.ensures.stack c.if-meets.true ∙ c.deref-in-tiles.ensures.value in
-    let items_is : items_by g.L.StorageT.Id.number g.L.LexemeT.Lexeme.id_of g.L.LexemeT.Lexeme.start_of g.L.LexemeT.Lexeme.len_of g.L.LexemeT.Lexeme.is_faulty c.take_over.new.progress.items.items ≡ found ++ map (rebased (mark_at s.boundaries j).place p.place) (items_from (mark_at s.boundaries j).place (items_by g.L.StorageT.Id.number g.L.LexemeT.Lexeme.id_of g.L.LexemeT.Lexeme.start_of g.L.LexemeT.Lexeme.len_of g.L.LexemeT.Lexeme.is_faulty s.items.items)) =
+    let items_is : items_by g.L.StorageT.Id.number g.L.LexemeT.Lexeme.seen c.take_over.new.progress.items.items ≡ found ++ map (rebased (mark_at s.boundaries j).place p.place) (items_from (mark_at s.boundaries j).place (items_by g.L.StorageT.Id.number g.L.LexemeT.Lexeme.seen s.items.items)) =
     c.in_ok-take_over.ensures.items in
     let marks_is : c.take_over.new.progress.boundaries ≡ p.boundaries ++ map (moved_mark (mark_at s.boundaries j).place p.place) (drop (j + 1) s.boundaries) =
     c.in_ok-take_over.ensures.boundaries in
-    let lexed : IsLexed d new (items_by g.L.StorageT.Id.number g.L.LexemeT.Lexeme.id_of g.L.LexemeT.Lexeme.start_of g.L.LexemeT.Lexeme.len_of g.L.LexemeT.Lexeme.is_faulty c.take_over.new.progress.items.items) c.take_over.new.progress.boundaries =
-    subst (λ xs. IsLexed d new xs c.take_over.new.progress.boundaries) (sym items_is) (subst (IsLexed d new _) (sym marks_is) (whole d s.text.now new edit.removed.start edit.removed.end edit.put.now (items_by g.L.StorageT.Id.number g.L.LexemeT.Lexeme.id_of g.L.LexemeT.Lexeme.start_of g.L.LexemeT.Lexeme.len_of g.L.LexemeT.Lexeme.is_faulty s.items.items) s.boundaries h p.place p.stack.items found p.boundaries p.asked r
+    let lexed : IsLexed d new (items_by g.L.StorageT.Id.number g.L.LexemeT.Lexeme.seen c.take_over.new.progress.items.items) c.take_over.new.progress.boundaries =
+    subst (λ xs. IsLexed d new xs c.take_over.new.progress.boundaries) (sym items_is) (subst (IsLexed d new _) (sym marks_is) (whole d s.text.now new edit.removed.start edit.removed.end edit.put.now (items_by g.L.StorageT.Id.number g.L.LexemeT.Lexeme.seen s.items.items) s.boundaries h p.place p.stack.items found p.boundaries p.asked r
     j (c.meets.ensures.within c.if-meets.true) edit.removed.in_order c.requires.fits.1.0 c.requires.gives (c.meets.ensures.past c.if-meets.true) (c.meets.ensures.place c.if-meets.true) stacks)) in
-    run_of d new (items_by g.L.StorageT.Id.number g.L.LexemeT.Lexeme.id_of g.L.LexemeT.Lexeme.start_of g.L.LexemeT.Lexeme.len_of g.L.LexemeT.Lexeme.is_faulty c.take_over.new.progress.items.items) c.take_over.new.progress.boundaries r.initial lexed
+    run_of d new (items_by g.L.StorageT.Id.number g.L.LexemeT.Lexeme.seen c.take_over.new.progress.items.items) c.take_over.new.progress.boundaries r.initial lexed
 
 pub returns-then-meets-clause-run : goal.returns-then-meets-clause-run
 returns-then-meets-clause-run g c =
@@ -143,21 +143,21 @@ returns-then-meets-clause-run g c =
     let s = c.args.self.now in
     let edit = c.args.edit.now in
     let p = c.tiles.progress in
-    let found = items_by g.L.StorageT.Id.number g.L.LexemeT.Lexeme.id_of g.L.LexemeT.Lexeme.start_of g.L.LexemeT.Lexeme.len_of g.L.LexemeT.Lexeme.is_faulty p.items.items in
+    let found = items_by g.L.StorageT.Id.number g.L.LexemeT.Lexeme.seen p.items.items in
     let r = c.tiles.invariant.reached in
-    let h = known d s.text.now (items_by g.L.StorageT.Id.number g.L.LexemeT.Lexeme.id_of g.L.LexemeT.Lexeme.start_of g.L.LexemeT.Lexeme.len_of g.L.LexemeT.Lexeme.is_faulty s.items.items) s.boundaries r.initial s.lexed in
+    let h = known d s.text.now (items_by g.L.StorageT.Id.number g.L.LexemeT.Lexeme.seen s.items.items) s.boundaries r.initial s.lexed in
     let j = c.meets.new.cursor in
     let stacks : (mark_at s.boundaries j).runs ≡ p.stack.items = c.meets.ensures.stack c.if-meets.true ∙ c.deref-in-tiles.ensures.value in
-    let items_is : items_by g.L.StorageT.Id.number g.L.LexemeT.Lexeme.id_of g.L.LexemeT.Lexeme.start_of g.L.LexemeT.Lexeme.len_of g.L.LexemeT.Lexeme.is_faulty c.take_over.new.progress.items.items ≡ found ++ map (rebased (mark_at s.boundaries j).place p.place) (items_from (mark_at s.boundaries j).place (items_by g.L.StorageT.Id.number g.L.LexemeT.Lexeme.id_of g.L.LexemeT.Lexeme.start_of g.L.LexemeT.Lexeme.len_of g.L.LexemeT.Lexeme.is_faulty s.items.items)) =
+    let items_is : items_by g.L.StorageT.Id.number g.L.LexemeT.Lexeme.seen c.take_over.new.progress.items.items ≡ found ++ map (rebased (mark_at s.boundaries j).place p.place) (items_from (mark_at s.boundaries j).place (items_by g.L.StorageT.Id.number g.L.LexemeT.Lexeme.seen s.items.items)) =
     c.in_ok-take_over.ensures.items in
     let marks_is : c.take_over.new.progress.boundaries ≡ p.boundaries ++ map (moved_mark (mark_at s.boundaries j).place p.place) (drop (j + 1) s.boundaries) =
     c.in_ok-take_over.ensures.boundaries in
-    let lexed : IsLexed d new (items_by g.L.StorageT.Id.number g.L.LexemeT.Lexeme.id_of g.L.LexemeT.Lexeme.start_of g.L.LexemeT.Lexeme.len_of g.L.LexemeT.Lexeme.is_faulty c.take_over.new.progress.items.items) c.take_over.new.progress.boundaries =
-    subst (λ xs. IsLexed d new xs c.take_over.new.progress.boundaries) (sym items_is) (subst (IsLexed d new _) (sym marks_is) (whole d s.text.now new edit.removed.start edit.removed.end edit.put.now (items_by g.L.StorageT.Id.number g.L.LexemeT.Lexeme.id_of g.L.LexemeT.Lexeme.start_of g.L.LexemeT.Lexeme.len_of g.L.LexemeT.Lexeme.is_faulty s.items.items) s.boundaries h p.place p.stack.items found p.boundaries p.asked r
+    let lexed : IsLexed d new (items_by g.L.StorageT.Id.number g.L.LexemeT.Lexeme.seen c.take_over.new.progress.items.items) c.take_over.new.progress.boundaries =
+    subst (λ xs. IsLexed d new xs c.take_over.new.progress.boundaries) (sym items_is) (subst (IsLexed d new _) (sym marks_is) (whole d s.text.now new edit.removed.start edit.removed.end edit.put.now (items_by g.L.StorageT.Id.number g.L.LexemeT.Lexeme.seen s.items.items) s.boundaries h p.place p.stack.items found p.boundaries p.asked r
     j (c.meets.ensures.within c.if-meets.true) edit.removed.in_order c.requires.fits.1.0 c.requires.gives (c.meets.ensures.past c.if-meets.true) (c.meets.ensures.place c.if-meets.true) stacks)) in
-    subst (λ xs. IsRun d new (items_by g.L.StorageT.Id.number g.L.LexemeT.Lexeme.id_of g.L.LexemeT.Lexeme.start_of g.L.LexemeT.Lexeme.len_of g.L.LexemeT.Lexeme.is_faulty xs) c.finished.result.boundaries) (sym c.finished.ensures.items)
-    (subst (IsRun d new (items_by g.L.StorageT.Id.number g.L.LexemeT.Lexeme.id_of g.L.LexemeT.Lexeme.start_of g.L.LexemeT.Lexeme.len_of g.L.LexemeT.Lexeme.is_faulty c.take_over.new.progress.items.items)) (sym c.finished.ensures.boundaries)
-    (run_of d new (items_by g.L.StorageT.Id.number g.L.LexemeT.Lexeme.id_of g.L.LexemeT.Lexeme.start_of g.L.LexemeT.Lexeme.len_of g.L.LexemeT.Lexeme.is_faulty c.take_over.new.progress.items.items) c.take_over.new.progress.boundaries r.initial lexed))
+    subst (λ xs. IsRun d new (items_by g.L.StorageT.Id.number g.L.LexemeT.Lexeme.seen xs) c.finished.result.boundaries) (sym c.finished.ensures.items)
+    (subst (IsRun d new (items_by g.L.StorageT.Id.number g.L.LexemeT.Lexeme.seen c.take_over.new.progress.items.items)) (sym c.finished.ensures.boundaries)
+    (run_of d new (items_by g.L.StorageT.Id.number g.L.LexemeT.Lexeme.seen c.take_over.new.progress.items.items) c.take_over.new.progress.boundaries r.initial lexed))
 
 pub returns-then-meets-clause-met : goal.returns-then-meets-clause-met
 returns-then-meets-clause-met g c =
@@ -167,7 +167,7 @@ returns-then-meets-clause-met g c =
     let s = c.args.self.now in
     let edit = c.args.edit.now in
     let p = c.tiles.progress in
-    let found = items_by g.L.StorageT.Id.number g.L.LexemeT.Lexeme.id_of g.L.LexemeT.Lexeme.start_of g.L.LexemeT.Lexeme.len_of g.L.LexemeT.Lexeme.is_faulty p.items.items in
+    let found = items_by g.L.StorageT.Id.number g.L.LexemeT.Lexeme.seen p.items.items in
     let r = c.tiles.invariant.reached in
     met d new s.boundaries edit.removed.start edit.removed.end (length edit.put.now) p.place p.stack.items found p.boundaries _ c.finished.result.boundaries p.asked c.finished.result.asked r c.tiles.invariant.unmet
     (c.finished.ensures.boundaries ∙ c.in_ok-take_over.ensures.boundaries) (omega (arith, c.finished.ensures.asked, c.in_ok-take_over.ensures.asked))
@@ -180,12 +180,12 @@ returns-then-not-branch-clause-run g c =
     let s = c.args.self.now in
     let edit = c.args.edit.now in
     let p = c.tiles.progress in
-    let found = items_by g.L.StorageT.Id.number g.L.LexemeT.Lexeme.id_of g.L.LexemeT.Lexeme.start_of g.L.LexemeT.Lexeme.len_of g.L.LexemeT.Lexeme.is_faulty p.items.items in
+    let found = items_by g.L.StorageT.Id.number g.L.LexemeT.Lexeme.seen p.items.items in
     let r = c.tiles.invariant.reached in
     let n = c.advance.new.progress in
-    subst (λ xs. IsRun d new (items_by g.L.StorageT.Id.number g.L.LexemeT.Lexeme.id_of g.L.LexemeT.Lexeme.start_of g.L.LexemeT.Lexeme.len_of g.L.LexemeT.Lexeme.is_faulty xs) c.finished-then-not-branch.result.boundaries) (sym c.finished-then-not-branch.ensures.items)
-    (subst (IsRun d new (items_by g.L.StorageT.Id.number g.L.LexemeT.Lexeme.id_of g.L.LexemeT.Lexeme.start_of g.L.LexemeT.Lexeme.len_of g.L.LexemeT.Lexeme.is_faulty n.items.items)) (sym c.finished-then-not-branch.ensures.boundaries)
-    (run_of d new (items_by g.L.StorageT.Id.number g.L.LexemeT.Lexeme.id_of g.L.LexemeT.Lexeme.start_of g.L.LexemeT.Lexeme.len_of g.L.LexemeT.Lexeme.is_faulty n.items.items) n.boundaries r.initial (c.in_ok-advance.ensures.ends c.if-not-branch.true)))
+    subst (λ xs. IsRun d new (items_by g.L.StorageT.Id.number g.L.LexemeT.Lexeme.seen xs) c.finished-then-not-branch.result.boundaries) (sym c.finished-then-not-branch.ensures.items)
+    (subst (IsRun d new (items_by g.L.StorageT.Id.number g.L.LexemeT.Lexeme.seen n.items.items)) (sym c.finished-then-not-branch.ensures.boundaries)
+    (run_of d new (items_by g.L.StorageT.Id.number g.L.LexemeT.Lexeme.seen n.items.items) n.boundaries r.initial (c.in_ok-advance.ensures.ends c.if-not-branch.true)))
 
 pub returns-then-not-branch-clause-met : goal.returns-then-not-branch-clause-met
 returns-then-not-branch-clause-met g c =
@@ -195,7 +195,7 @@ returns-then-not-branch-clause-met g c =
     let s = c.args.self.now in
     let edit = c.args.edit.now in
     let p = c.tiles.progress in
-    let found = items_by g.L.StorageT.Id.number g.L.LexemeT.Lexeme.id_of g.L.LexemeT.Lexeme.start_of g.L.LexemeT.Lexeme.len_of g.L.LexemeT.Lexeme.is_faulty p.items.items in
+    let found = items_by g.L.StorageT.Id.number g.L.LexemeT.Lexeme.seen p.items.items in
     let r = c.tiles.invariant.reached in
     let none = none_met d new s.boundaries edit.removed.start edit.removed.end (length edit.put.now) p.place p.stack.items found p.boundaries p.asked r c.tiles.invariant.unmet
     (λ past j within at same. c.meets.ensures.none c.if-meets.false past j within at (same ∙ ap (λ xs. plain xs) (sym c.deref-in-tiles.ensures.value))) in
@@ -209,7 +209,7 @@ tiles-preserved g c =
     let s = c.args.self.now in
     let edit = c.args.edit.now in
     let p = c.tiles.progress in
-    let found = items_by g.L.StorageT.Id.number g.L.LexemeT.Lexeme.id_of g.L.LexemeT.Lexeme.start_of g.L.LexemeT.Lexeme.len_of g.L.LexemeT.Lexeme.is_faulty p.items.items in
+    let found = items_by g.L.StorageT.Id.number g.L.LexemeT.Lexeme.seen p.items.items in
     let r = c.tiles.invariant.reached in
     let none = none_met d new s.boundaries edit.removed.start edit.removed.end (length edit.put.now) p.place p.stack.items found p.boundaries p.asked r c.tiles.invariant.unmet
     (λ past j within at same. c.meets.ensures.none c.if-meets.false past j within at (same ∙ ap (λ xs. plain xs) (sym c.deref-in-tiles.ensures.value))) in
@@ -242,7 +242,7 @@ finished-requires-2-clause-run g c =
     let s = c.args.self.now in
     let edit = c.args.edit.now in
     let p = c.tiles.progress in
-    let found = items_by g.L.StorageT.Id.number g.L.LexemeT.Lexeme.id_of g.L.LexemeT.Lexeme.start_of g.L.LexemeT.Lexeme.len_of g.L.LexemeT.Lexeme.is_faulty p.items.items in
+    let found = items_by g.L.StorageT.Id.number g.L.LexemeT.Lexeme.seen p.items.items in
     let r = c.tiles.invariant.reached in
     let lexed = ended d new p.place p.stack.items found p.boundaries p.asked r found Done (nothing_left new p.place c.tiles-test.false) (sym (append-nil found)) in
     run_of d new found p.boundaries r.initial lexed
@@ -255,10 +255,10 @@ returns-clause-run g c =
     let s = c.args.self.now in
     let edit = c.args.edit.now in
     let p = c.tiles.progress in
-    let found = items_by g.L.StorageT.Id.number g.L.LexemeT.Lexeme.id_of g.L.LexemeT.Lexeme.start_of g.L.LexemeT.Lexeme.len_of g.L.LexemeT.Lexeme.is_faulty p.items.items in
+    let found = items_by g.L.StorageT.Id.number g.L.LexemeT.Lexeme.seen p.items.items in
     let r = c.tiles.invariant.reached in
     let lexed = ended d new p.place p.stack.items found p.boundaries p.asked r found Done (nothing_left new p.place c.tiles-test.false) (sym (append-nil found)) in
-    subst (λ xs. IsRun d new (items_by g.L.StorageT.Id.number g.L.LexemeT.Lexeme.id_of g.L.LexemeT.Lexeme.start_of g.L.LexemeT.Lexeme.len_of g.L.LexemeT.Lexeme.is_faulty xs) c.finished-2.result.boundaries) (sym c.finished-2.ensures.items)
+    subst (λ xs. IsRun d new (items_by g.L.StorageT.Id.number g.L.LexemeT.Lexeme.seen xs) c.finished-2.result.boundaries) (sym c.finished-2.ensures.items)
     (subst (IsRun d new found) (sym c.finished-2.ensures.boundaries) (run_of d new found p.boundaries r.initial lexed))
 
 pub returns-clause-met : goal.returns-clause-met
@@ -269,7 +269,7 @@ returns-clause-met g c =
     let s = c.args.self.now in
     let edit = c.args.edit.now in
     let p = c.tiles.progress in
-    let found = items_by g.L.StorageT.Id.number g.L.LexemeT.Lexeme.id_of g.L.LexemeT.Lexeme.start_of g.L.LexemeT.Lexeme.len_of g.L.LexemeT.Lexeme.is_faulty p.items.items in
+    let found = items_by g.L.StorageT.Id.number g.L.LexemeT.Lexeme.seen p.items.items in
     let r = c.tiles.invariant.reached in
     met d new s.boundaries edit.removed.start edit.removed.end (length edit.put.now) p.place p.stack.items found p.boundaries [] c.finished-2.result.boundaries p.asked c.finished-2.result.asked r c.tiles.invariant.unmet
     (c.finished-2.ensures.boundaries ∙ sym (append-nil p.boundaries)) (omega (arith, c.finished-2.ensures.asked))
@@ -277,18 +277,18 @@ returns-clause-met g c =
 pub take_over-requires-clause-last : goal.take_over-requires-clause-last
 take_over-requires-clause-last g c =
     let p = c.tiles.progress in
-    last_now (definition_of g.L.StorageT.Id.number c.args.self.now.definition.now) c.args.new.now p.place p.stack.items (items_by g.L.StorageT.Id.number g.L.LexemeT.Lexeme.id_of g.L.LexemeT.Lexeme.start_of g.L.LexemeT.Lexeme.len_of g.L.LexemeT.Lexeme.is_faulty p.items.items) p.boundaries p.asked c.tiles.invariant.reached
+    last_now (definition_of g.L.StorageT.Id.number c.args.self.now.definition.now) c.args.new.now p.place p.stack.items (items_by g.L.StorageT.Id.number g.L.LexemeT.Lexeme.seen p.items.items) p.boundaries p.asked c.tiles.invariant.reached
     ∙ sym (c.meets.ensures.stack c.if-meets.true ∙ c.deref-in-tiles.ensures.value)
 
 pub finished-requires-then-not-branch-clause-run : goal.finished-requires-then-not-branch-clause-run
 finished-requires-then-not-branch-clause-run g c =
     let p = c.advance.new.progress in
-    run_of (definition_of g.L.StorageT.Id.number c.args.self.now.definition.now) c.args.new.now (items_by g.L.StorageT.Id.number g.L.LexemeT.Lexeme.id_of g.L.LexemeT.Lexeme.start_of g.L.LexemeT.Lexeme.len_of g.L.LexemeT.Lexeme.is_faulty p.items.items) p.boundaries c.tiles.invariant.reached.initial (c.in_ok-advance.ensures.ends c.if-not-branch.true)
+    run_of (definition_of g.L.StorageT.Id.number c.args.self.now.definition.now) c.args.new.now (items_by g.L.StorageT.Id.number g.L.LexemeT.Lexeme.seen p.items.items) p.boundaries c.tiles.invariant.reached.initial (c.in_ok-advance.ensures.ends c.if-not-branch.true)
 
 pub returns-then-meets-clause-few : goal.returns-then-meets-clause-few
 returns-then-meets-clause-few g c =
     let p = c.tiles.progress in
-    few_met (definition_of g.L.StorageT.Id.number c.args.self.now.definition.now) c.args.new.now p.place p.stack.items (items_by g.L.StorageT.Id.number g.L.LexemeT.Lexeme.id_of g.L.LexemeT.Lexeme.start_of g.L.LexemeT.Lexeme.len_of g.L.LexemeT.Lexeme.is_faulty p.items.items) p.boundaries _ c.finished.result.boundaries p.asked c.finished.result.asked c.tiles.invariant.reached
+    few_met (definition_of g.L.StorageT.Id.number c.args.self.now.definition.now) c.args.new.now p.place p.stack.items (items_by g.L.StorageT.Id.number g.L.LexemeT.Lexeme.seen p.items.items) p.boundaries _ c.finished.result.boundaries p.asked c.finished.result.asked c.tiles.invariant.reached
     (c.finished.ensures.boundaries ∙ c.in_ok-take_over.ensures.boundaries) (omega (arith, c.finished.ensures.asked, c.in_ok-take_over.ensures.asked))
 
 pub returns-then-not-branch-clause-few : goal.returns-then-not-branch-clause-few
@@ -299,7 +299,7 @@ returns-then-not-branch-clause-few g c =
 pub returns-clause-few : goal.returns-clause-few
 returns-clause-few g c =
     let p = c.tiles.progress in
-    few_met (definition_of g.L.StorageT.Id.number c.args.self.now.definition.now) c.args.new.now p.place p.stack.items (items_by g.L.StorageT.Id.number g.L.LexemeT.Lexeme.id_of g.L.LexemeT.Lexeme.start_of g.L.LexemeT.Lexeme.len_of g.L.LexemeT.Lexeme.is_faulty p.items.items) p.boundaries [] c.finished-2.result.boundaries p.asked c.finished-2.result.asked c.tiles.invariant.reached
+    few_met (definition_of g.L.StorageT.Id.number c.args.self.now.definition.now) c.args.new.now p.place p.stack.items (items_by g.L.StorageT.Id.number g.L.LexemeT.Lexeme.seen p.items.items) p.boundaries [] c.finished-2.result.boundaries p.asked c.finished-2.result.asked c.tiles.invariant.reached
     (c.finished-2.ensures.boundaries ∙ sym (append-nil p.boundaries)) (omega (arith, c.finished-2.ensures.asked))
 
 pub advance-requires-clause-here : goal.advance-requires-clause-here
@@ -314,7 +314,7 @@ returns-then-not-is_state-clause-lexed g c =
     let new = c.args.new.now in
     let s = c.args.self.now in
     let edit = c.args.edit.now in
-    let olds = items_by g.L.StorageT.Id.number g.L.LexemeT.Lexeme.id_of g.L.LexemeT.Lexeme.start_of g.L.LexemeT.Lexeme.len_of g.L.LexemeT.Lexeme.is_faulty s.items.items in
+    let olds = items_by g.L.StorageT.Id.number g.L.LexemeT.Lexeme.seen s.items.items in
     let none : length s.boundaries ≡ 0 = ∥∥₁_elim s.lexed (Prim.hlevel props) (λ (t : IsRun d s.text.now olds s.boundaries). ap length (t.refused (sym c.if-not-is_state.ensures)).boundaries_are) in
     IfOk-weaker c.refused.result _ _ (λ x e k lt safe. absurd (omega (arith, none, lt))) c.refused.ensures.none
 
@@ -324,7 +324,7 @@ behind-cursor-requires g c =
     let new = c.args.new.now in
     let s = c.args.self.now in
     let edit = c.args.edit.now in
-    let olds = items_by g.L.StorageT.Id.number g.L.LexemeT.Lexeme.id_of g.L.LexemeT.Lexeme.start_of g.L.LexemeT.Lexeme.len_of g.L.LexemeT.Lexeme.is_faulty s.items.items in
+    let olds = items_by g.L.StorageT.Id.number g.L.LexemeT.Lexeme.seen s.items.items in
     let r = c.in_ok-progress.ensures.reached in
     sorted d s.text.now olds s.boundaries (known d s.text.now olds s.boundaries r.initial s.lexed)
 
@@ -334,9 +334,9 @@ take_over-requires-clause-sorted g c =
     let new = c.args.new.now in
     let s = c.args.self.now in
     let edit = c.args.edit.now in
-    let olds = items_by g.L.StorageT.Id.number g.L.LexemeT.Lexeme.id_of g.L.LexemeT.Lexeme.start_of g.L.LexemeT.Lexeme.len_of g.L.LexemeT.Lexeme.is_faulty s.items.items in
+    let olds = items_by g.L.StorageT.Id.number g.L.LexemeT.Lexeme.seen s.items.items in
     let p = c.tiles.progress in
-    let found = items_by g.L.StorageT.Id.number g.L.LexemeT.Lexeme.id_of g.L.LexemeT.Lexeme.start_of g.L.LexemeT.Lexeme.len_of g.L.LexemeT.Lexeme.is_faulty p.items.items in
+    let found = items_by g.L.StorageT.Id.number g.L.LexemeT.Lexeme.seen p.items.items in
     let r = c.tiles.invariant.reached in
     let h = known d s.text.now olds s.boundaries r.initial s.lexed in
     sorted d s.text.now olds s.boundaries h
@@ -347,7 +347,7 @@ take_over-requires-clause-numbers g c =
     let new = c.args.new.now in
     let s = c.args.self.now in
     let edit = c.args.edit.now in
-    let olds = items_by g.L.StorageT.Id.number g.L.LexemeT.Lexeme.id_of g.L.LexemeT.Lexeme.start_of g.L.LexemeT.Lexeme.len_of g.L.LexemeT.Lexeme.is_faulty s.items.items in
+    let olds = items_by g.L.StorageT.Id.number g.L.LexemeT.Lexeme.seen s.items.items in
     (looks_known d s.text.now s.boundaries s.ahead.items s.looks).len
 
 pub finished-requires-clause-looks : goal.finished-requires-clause-looks
@@ -356,9 +356,9 @@ finished-requires-clause-looks g c =
     let new = c.args.new.now in
     let s = c.args.self.now in
     let edit = c.args.edit.now in
-    let olds = items_by g.L.StorageT.Id.number g.L.LexemeT.Lexeme.id_of g.L.LexemeT.Lexeme.start_of g.L.LexemeT.Lexeme.len_of g.L.LexemeT.Lexeme.is_faulty s.items.items in
+    let olds = items_by g.L.StorageT.Id.number g.L.LexemeT.Lexeme.seen s.items.items in
     let p = c.tiles.progress in
-    let found = items_by g.L.StorageT.Id.number g.L.LexemeT.Lexeme.id_of g.L.LexemeT.Lexeme.start_of g.L.LexemeT.Lexeme.len_of g.L.LexemeT.Lexeme.is_faulty p.items.items in
+    let found = items_by g.L.StorageT.Id.number g.L.LexemeT.Lexeme.seen p.items.items in
     let r = c.tiles.invariant.reached in
     let h = known d s.text.now olds s.boundaries r.initial s.lexed in
     let j = c.meets.new.cursor in
@@ -375,7 +375,7 @@ finished-requires-then-not-branch-clause-looks g c =
     let new = c.args.new.now in
     let s = c.args.self.now in
     let edit = c.args.edit.now in
-    let olds = items_by g.L.StorageT.Id.number g.L.LexemeT.Lexeme.id_of g.L.LexemeT.Lexeme.start_of g.L.LexemeT.Lexeme.len_of g.L.LexemeT.Lexeme.is_faulty s.items.items in
+    let olds = items_by g.L.StorageT.Id.number g.L.LexemeT.Lexeme.seen s.items.items in
     let p = c.tiles.progress in
     let n = c.advance.new.progress in
     subst (λ ms. LooksAhead d new ms n.ahead.items) (sym (c.in_ok-advance.ensures.same c.if-not-branch.true))
@@ -387,7 +387,7 @@ returns-then-meets-clause-lexed g c =
     let new = c.args.new.now in
     let s = c.args.self.now in
     let edit = c.args.edit.now in
-    let olds = items_by g.L.StorageT.Id.number g.L.LexemeT.Lexeme.id_of g.L.LexemeT.Lexeme.start_of g.L.LexemeT.Lexeme.len_of g.L.LexemeT.Lexeme.is_faulty s.items.items in
+    let olds = items_by g.L.StorageT.Id.number g.L.LexemeT.Lexeme.seen s.items.items in
     let p = c.tiles.progress in
     few_anew s.boundaries p.boundaries _ c.finished.result.boundaries s.ahead.items edit.removed.start edit.removed.end (length edit.put.now) c.len-kept.result c.finished.result.anew c.tiles.invariant.unmet
     (c.finished.ensures.boundaries ∙ c.in_ok-take_over.ensures.boundaries) (λ k within safe. omega (arith, c.in_ok-progress.ensures.last k within safe, c.len-kept.ensures)) c.tiles.invariant.kept
@@ -399,7 +399,7 @@ returns-then-not-branch-clause-lexed g c =
     let new = c.args.new.now in
     let s = c.args.self.now in
     let edit = c.args.edit.now in
-    let olds = items_by g.L.StorageT.Id.number g.L.LexemeT.Lexeme.id_of g.L.LexemeT.Lexeme.start_of g.L.LexemeT.Lexeme.len_of g.L.LexemeT.Lexeme.is_faulty s.items.items in
+    let olds = items_by g.L.StorageT.Id.number g.L.LexemeT.Lexeme.seen s.items.items in
     let p = c.tiles.progress in
     few_anew s.boundaries p.boundaries [] c.finished-then-not-branch.result.boundaries s.ahead.items edit.removed.start edit.removed.end (length edit.put.now) c.len-kept.result c.finished-then-not-branch.result.anew c.tiles.invariant.unmet
     (c.finished-then-not-branch.ensures.boundaries ∙ c.in_ok-advance.ensures.same c.if-not-branch.true ∙ sym (append-nil p.boundaries)) (λ k within safe. omega (arith, c.in_ok-progress.ensures.last k within safe, c.len-kept.ensures)) c.tiles.invariant.kept
@@ -411,7 +411,7 @@ returns-clause-lexed g c =
     let new = c.args.new.now in
     let s = c.args.self.now in
     let edit = c.args.edit.now in
-    let olds = items_by g.L.StorageT.Id.number g.L.LexemeT.Lexeme.id_of g.L.LexemeT.Lexeme.start_of g.L.LexemeT.Lexeme.len_of g.L.LexemeT.Lexeme.is_faulty s.items.items in
+    let olds = items_by g.L.StorageT.Id.number g.L.LexemeT.Lexeme.seen s.items.items in
     let p = c.tiles.progress in
     few_anew s.boundaries p.boundaries [] c.finished-2.result.boundaries s.ahead.items edit.removed.start edit.removed.end (length edit.put.now) c.len-kept.result c.finished-2.result.anew c.tiles.invariant.unmet
     (c.finished-2.ensures.boundaries ∙ sym (append-nil p.boundaries)) (λ k within safe. omega (arith, c.in_ok-progress.ensures.last k within safe, c.len-kept.ensures)) c.tiles.invariant.kept
@@ -425,10 +425,10 @@ returns-then-meets-clause-exact g c z =
     let s = c.args.self.now in
     let edit = c.args.edit.now in
     let p = c.tiles.progress in
-    let found = items_by g.L.StorageT.Id.number g.L.LexemeT.Lexeme.id_of g.L.LexemeT.Lexeme.start_of g.L.LexemeT.Lexeme.len_of g.L.LexemeT.Lexeme.is_faulty p.items.items in
+    let found = items_by g.L.StorageT.Id.number g.L.LexemeT.Lexeme.seen p.items.items in
     let r = c.tiles.invariant.reached in
     let q = c.in_ok-progress.progress in
-    let was = items_by g.L.StorageT.Id.number g.L.LexemeT.Lexeme.id_of g.L.LexemeT.Lexeme.start_of g.L.LexemeT.Lexeme.len_of g.L.LexemeT.Lexeme.is_faulty q.items.items in
+    let was = items_by g.L.StorageT.Id.number g.L.LexemeT.Lexeme.seen q.items.items in
     let k : ℕ = c.len-kept.result - 1 in
     let some : 0 < c.len-kept.result = omega (arith, c.len-kept.ensures, length_now d new q.place q.stack.items was q.boundaries q.asked c.in_ok-progress.ensures.reached) in
     let resumed : IsLastSafe s.boundaries s.ahead.items edit.removed.start k = subst (λ n. IsLastSafe s.boundaries s.ahead.items edit.removed.start (n - 1)) (sym c.len-kept.ensures) c.in_ok-progress.ensures.from in
@@ -446,10 +446,10 @@ returns-then-not-branch-clause-exact g c z =
     let s = c.args.self.now in
     let edit = c.args.edit.now in
     let p = c.tiles.progress in
-    let found = items_by g.L.StorageT.Id.number g.L.LexemeT.Lexeme.id_of g.L.LexemeT.Lexeme.start_of g.L.LexemeT.Lexeme.len_of g.L.LexemeT.Lexeme.is_faulty p.items.items in
+    let found = items_by g.L.StorageT.Id.number g.L.LexemeT.Lexeme.seen p.items.items in
     let r = c.tiles.invariant.reached in
     let q = c.in_ok-progress.progress in
-    let was = items_by g.L.StorageT.Id.number g.L.LexemeT.Lexeme.id_of g.L.LexemeT.Lexeme.start_of g.L.LexemeT.Lexeme.len_of g.L.LexemeT.Lexeme.is_faulty q.items.items in
+    let was = items_by g.L.StorageT.Id.number g.L.LexemeT.Lexeme.seen q.items.items in
     let k : ℕ = c.len-kept.result - 1 in
     let some : 0 < c.len-kept.result = omega (arith, c.len-kept.ensures, length_now d new q.place q.stack.items was q.boundaries q.asked c.in_ok-progress.ensures.reached) in
     let resumed : IsLastSafe s.boundaries s.ahead.items edit.removed.start k = subst (λ n. IsLastSafe s.boundaries s.ahead.items edit.removed.start (n - 1)) (sym c.len-kept.ensures) c.in_ok-progress.ensures.from in
@@ -470,10 +470,10 @@ returns-clause-exact g c z =
     let s = c.args.self.now in
     let edit = c.args.edit.now in
     let p = c.tiles.progress in
-    let found = items_by g.L.StorageT.Id.number g.L.LexemeT.Lexeme.id_of g.L.LexemeT.Lexeme.start_of g.L.LexemeT.Lexeme.len_of g.L.LexemeT.Lexeme.is_faulty p.items.items in
+    let found = items_by g.L.StorageT.Id.number g.L.LexemeT.Lexeme.seen p.items.items in
     let r = c.tiles.invariant.reached in
     let q = c.in_ok-progress.progress in
-    let was = items_by g.L.StorageT.Id.number g.L.LexemeT.Lexeme.id_of g.L.LexemeT.Lexeme.start_of g.L.LexemeT.Lexeme.len_of g.L.LexemeT.Lexeme.is_faulty q.items.items in
+    let was = items_by g.L.StorageT.Id.number g.L.LexemeT.Lexeme.seen q.items.items in
     let k : ℕ = c.len-kept.result - 1 in
     let some : 0 < c.len-kept.result = omega (arith, c.len-kept.ensures, length_now d new q.place q.stack.items was q.boundaries q.asked c.in_ok-progress.ensures.reached) in
     let resumed : IsLastSafe s.boundaries s.ahead.items edit.removed.start k = subst (λ n. IsLastSafe s.boundaries s.ahead.items edit.removed.start (n - 1)) (sym c.len-kept.ensures) c.in_ok-progress.ensures.from in

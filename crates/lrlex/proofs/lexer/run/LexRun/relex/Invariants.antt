@@ -14,7 +14,7 @@ invariant-tiles g l = record {
   matchers : AreMatchers l.definition.table.rules.items l.matchers.items;
   here : AreOf g.L.StorageT.Id.number l.definition l.here.state l.here;
   boundary : IsCharBoundary l.new l.progress.place;
-  reached : Reached (definition_of g.L.StorageT.Id.number l.definition) l.new l.progress.place l.progress.stack.items (items_by g.L.StorageT.Id.number g.L.LexemeT.Lexeme.id_of g.L.LexemeT.Lexeme.start_of g.L.LexemeT.Lexeme.len_of g.L.LexemeT.Lexeme.is_faulty l.progress.items.items) l.progress.boundaries l.progress.asked;
+  reached : Reached (definition_of g.L.StorageT.Id.number l.definition) l.new l.progress.place l.progress.stack.items (items_by g.L.StorageT.Id.number g.L.LexemeT.Lexeme.seen l.progress.items.items) l.progress.boundaries l.progress.asked;
   looked : HasLooked (definition_of g.L.StorageT.Id.number l.definition) l.new l.progress.boundaries l.progress.ahead.items l.progress.place l.progress.over;
   kept : l.kept ≤ length l.progress.boundaries;
   exact : l.progress.asked ≡ asks l.definition l.new (slice_range l.progress.boundaries (l.kept - 1) (length l.progress.boundaries - 1));

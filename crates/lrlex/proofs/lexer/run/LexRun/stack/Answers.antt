@@ -7,4 +7,4 @@ use Rattle.lrlex.proofs.lexer.run.LexRun.stack.Goals as goal
 pub returns-clause-runs : goal.returns-clause-runs
 returns-clause-runs g c =
     let s = c.args.self.now in
-    subst AreRuns (sym c.stack.ensures) (stack_runs (definition_of g.L.StorageT.Id.number s.definition.now) s.text.now (items_by g.L.StorageT.Id.number g.L.LexemeT.Lexeme.id_of g.L.LexemeT.Lexeme.start_of g.L.LexemeT.Lexeme.len_of g.L.LexemeT.Lexeme.is_faulty s.items.items) s.boundaries s.lexed c.args.index c.requires)
+    subst AreRuns (sym c.stack.ensures) (stack_runs (definition_of g.L.StorageT.Id.number s.definition.now) s.text.now (items_by g.L.StorageT.Id.number g.L.LexemeT.Lexeme.seen s.items.items) s.boundaries s.lexed c.args.index c.requires)
