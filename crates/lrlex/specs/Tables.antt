@@ -7,7 +7,7 @@ use Rattle.regex.specs.Strings.{matcher_pattern}
 use Rattle.regex.specs.declared.string.matcher.Matcher.{Matcher}
 use Rattle.lrlex_rules.specs.Definition.{Rule}
 use Rattle.lrlex_rules.specs.Parts.{as_rule, as_state}
-use Rattle.lrlex_rules.specs.Patterns.{pattern_of}
+use Rattle.lrlex_rules.specs.Patterns.{pattern_of, rule_pattern}
 use Rattle.lrlex_rules.specs.declared.rules.Rule as code
 use Rattle.lrlex_rules.specs.declared.states.StartState as start
 use Rattle.lrlex_table.specs.Tables.{AreTablesOf, rows_of}
@@ -34,7 +34,7 @@ AreServed rules active tables at =
 
 -- a matcher, where there is one, is that of the rule
 abbrev pub IsMatcherOf : {S : Type 0} → code.Rule S → Option (Box Matcher Global) → Type 0
-IsMatcherOf r o = (m : Box Matcher Global) → o ≡ Some m → SameCaptures (matcher_pattern m.value) (pattern_of (as_rule (λ _. 0) r))
+IsMatcherOf r o = (m : Box Matcher Global) → o ≡ Some m → SameCaptures (matcher_pattern m.value) (rule_pattern r)
 
 -- room for a matcher of each rule, and each that was made is that of the rule at its place
 abbrev pub AreMatchers : {S : Type 0} → List (code.Rule S) → List (Option (Box Matcher Global)) → Type 0

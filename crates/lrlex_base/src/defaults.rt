@@ -62,7 +62,7 @@ impl<StorageT: Id> Lexeme<StorageT> for DefaultLexeme<StorageT> {
     }
 }
 
-impl<StorageT: Id> fmt::Display for DefaultLexeme<StorageT> {
+impl<StorageT> fmt::Display for DefaultLexeme<StorageT> {
     ghost use Rattle.std.specs.Prelude.{Some};
     ghost use Rattle.lrlex_base.specs.Lexemes.{lexeme_text};
 

@@ -8,22 +8,43 @@ use Rattle.std.specs.Str.{bytes_eq}
 use Rattle.std.specs.BTreeMap.{BTreeMap, get_by}
 use denote.Ref.{Bor}
 use Rattle.regex.specs.Strings.{regex_config}
-use Rattle.lrlex_base.specs.Spans.{as_span}
+use Rattle.regex.specs.Patterns.{Config}
+use Rattle.lrlex_base.specs.Spans.{Span, as_span}
 use Rattle.lrlex_rules.specs.Definition.{Rule, StartState}
 use Rattle.lrlex_rules.specs.declared.rules.Rule as code
 use Rattle.lrlex_rules.specs.declared.states.StartState as start
+use Rattle.lrlex_rules.specs.declared.states.StartStateOperation.{StartStateOperation}
 use Rattle.lrlex_rules.specs.declared.states.StartStateId.{StartStateId}
 
--- a rule, where `number` gives the number that an id stands for
+-- what a rule says, part by part
+abbrev pub rule_name : {S : Type 0} → code.Rule S → Option (List ℕ)
+rule_name r = option_map string_bytes r.name
+
+abbrev pub rule_name_span : {S : Type 0} → code.Rule S → Span
+rule_name_span r = as_span r.name_span
+
+abbrev pub rule_re_str : {S : Type 0} → code.Rule S → List ℕ
+rule_re_str r = string_bytes r.re_str
+
+abbrev pub rule_start_states : {S : Type 0} → code.Rule S → List ℕ
+rule_start_states r = r.start_states.items
+
+abbrev pub rule_target : {S : Type 0} → code.Rule S → Option (ℕ × StartStateOperation)
+rule_target r = r.target_state
+
+abbrev pub rule_config : {S : Type 0} → code.Rule S → Config
+rule_config r = regex_config r.re.value
+
+-- the whole rule, where `number` gives the number that an id stands for
 abbrev pub as_rule : {S : Type 0} → (S → ℕ) → code.Rule S → Rule
 as_rule number r = record {
   id = option_map number r.tok_id;
-  name = option_map string_bytes r.name;
-  name_span = as_span r.name_span;
-  re_str = string_bytes r.re_str;
-  start_states = r.start_states.items;
-  target = r.target_state;
-  config = regex_config r.re.value;
+  name = rule_name r;
+  name_span = rule_name_span r;
+  re_str = rule_re_str r;
+  start_states = rule_start_states r;
+  target = rule_target r;
+  config = rule_config r;
 }
 
 abbrev pub as_state : start.StartState → StartState
@@ -35,9 +56,6 @@ state_number s = s.number
 -- ---- names
 abbrev pub state_name : start.StartState → Option (List ℕ)
 state_name s = Some (string_bytes s.name)
-
-abbrev pub rule_name : {S : Type 0} → code.Rule S → Option (List ℕ)
-rule_name r = option_map string_bytes r.name
 
 -- whether a name, if there is one, is this
 abbrev pub is_name : List ℕ → Option (List ℕ) → Bool

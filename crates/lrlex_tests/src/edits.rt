@@ -1,12 +1,12 @@
 //! Lexing again after an edit: items, searches and boundaries, against worked answers and against lexing anew.
 ghost use Rattle.std.specs.Prelude.{◌≡◌, IfOk, IfSome};
 
-use crate::shown::{DefinitionOver, items_text};
+use crate::shown::{Definition, items_text};
 use lrlex::{
     Budget, DEFAULT_LEX_FLAGS, DefaultLexeme, DefaultLexerTypes, LRLexError, LexRun, LexerDef,
     Rule, StartState, StartStateOperation,
 };
-use lrlex_base::{Edit, Id, LexError, Lexeme, Span};
+use lrlex_base::{Edit, LexError, Lexeme, Span};
 use std::alloc::{AllocError, Global};
 use std::fmt::Write;
 use std::process::Abort;
@@ -34,9 +34,9 @@ struct Told {
 }
 
 /// The boundaries of a run by place and stack, from bottom to top, joined by blanks: `0:0 1:0,1 2:0,1*2`.
-fn boundaries_text<T: Id>(
+fn boundaries_text(
     alloc: Global,
-    run: &LexRun<'_, '_, DefaultLexerTypes<T>>,
+    run: &LexRun<'_, '_, DefaultLexerTypes<u32>>,
 ) -> Result<String, AllocError> {
     let mut text = String::new(alloc);
     for k in 0..run.boundaries() {
@@ -58,10 +58,10 @@ fn boundaries_text<T: Id>(
     Ok(text)
 }
 
-fn tell<T: Id>(
+fn tell(
     alloc: Global,
-    rules: &[Rule<T>],
-    run: &LexRun<'_, '_, DefaultLexerTypes<T>>,
+    rules: &[Rule<u32>],
+    run: &LexRun<'_, '_, DefaultLexerTypes<u32>>,
 ) -> Result<Told, AllocError> {
     Ok(Told {
         items: items_text(alloc, rules, run.items())?,
@@ -73,9 +73,9 @@ fn tell<T: Id>(
 }
 
 /// Lexes the old text, then again after the edit. None where the edit doesn't fit.
-fn relexed_by<T: Id>(
+fn relexed_by(
     alloc: Global,
-    definition: &DefinitionOver<T>,
+    definition: &Definition,
     old: &str,
     change: Change<'_>,
 ) -> Result<Option<Told>, AllocError> {
@@ -97,21 +97,21 @@ fn relexed_by<T: Id>(
 }
 
 /// The same by the rules of a text. None also where it is refused.
-fn relexed<T: Id>(
+fn relexed(
     alloc: Global,
     rules: &str,
     old: &str,
     change: Change<'_>,
 ) -> Result<Option<Told>, AllocError> {
-    match DefinitionOver::<T>::from_str(alloc, rules)? {
+    match Definition::from_str(alloc, rules)? {
         Ok(definition) => relexed_by(alloc, &definition, old, change),
         Err(_) => Ok(None),
     }
 }
 
 /// What lexing a text tells.
-fn lexed<T: Id>(alloc: Global, rules: &str, text: &str) -> Result<Option<Told>, AllocError> {
-    match DefinitionOver::<T>::from_str(alloc, rules)? {
+fn lexed(alloc: Global, rules: &str, text: &str) -> Result<Option<Told>, AllocError> {
+    match Definition::from_str(alloc, rules)? {
         Ok(definition) => {
             let run = definition.run(alloc, text)?;
             Ok(Some(tell(alloc, definition.rules(), &run)?))
@@ -242,10 +242,10 @@ fn items_and_searches_after_an_edit(rt: HostRuntime) -> Result<(), Fail> {
         ),
     ];
     for (rules, old, change, (items, boundaries, asked)) in rows {
-        let got = relexed::<u32>(rt.alloc(), rules, old, change)?;
+        let got = relexed(rt.alloc(), rules, old, change)?;
         expects(&rt, got, items, boundaries, asked);
     }
-    let old = lexed::<u32>(rt.alloc(), NESTED, "(b)d")?;
+    let old = lexed(rt.alloc(), NESTED, "(b)d")?;
     expects(
         &rt,
         old,
@@ -276,13 +276,13 @@ fn edits_that_fit_and_give(rt: HostRuntime) {
     }
 }
 
-fn rule<T: Id>(
+fn rule(
     alloc: Global,
-    id: Option<T>,
+    id: Option<u32>,
     name: &str,
     pattern: &str,
     target: Option<(usize, StartStateOperation)>,
-) -> Result<Option<Rule<T>>, AllocError> {
+) -> Result<Option<Rule<u32>>, AllocError> {
     let made = Rule::new(
         alloc,
         id,
@@ -300,19 +300,16 @@ fn rule<T: Id>(
 }
 
 /// With state 0 or without, the rules A, B with a target that is no state, and C without an id.
-fn from_parts<T: Id>(
-    alloc: Global,
-    with_state: bool,
-) -> Result<Option<DefinitionOver<T>>, AllocError> {
+fn from_parts(alloc: Global, with_state: bool) -> Result<Option<Definition>, AllocError> {
     let mut states = Vec::new(alloc);
     if with_state {
         states.push(StartState::new(alloc, 0, "INITIAL", false, Span::new(0, 0))?)?;
     }
-    let Some(a) = rule(alloc, T::from_count(0), "A", "a", None)? else {
+    let Some(a) = rule(alloc, Some(0), "A", "a", None)? else {
         return Ok(None);
     };
     let target = Some((7, StartStateOperation::Push));
-    let Some(b) = rule(alloc, T::from_count(1), "B", "b", target)? else {
+    let Some(b) = rule(alloc, Some(1), "B", "b", target)? else {
         return Ok(None);
     };
     let Some(c) = rule(alloc, None, "C", "c", None)? else {
@@ -322,16 +319,16 @@ fn from_parts<T: Id>(
     rules.push(a)?;
     rules.push(b)?;
     rules.push(c)?;
-    Ok(Some(DefinitionOver::<T>::from_rules(alloc, states, rules)?))
+    Ok(Some(Definition::from_rules(alloc, states, rules)?))
 }
 
-fn relexed_from_parts<T: Id>(
+fn relexed_from_parts(
     alloc: Global,
     with_state: bool,
     old: &str,
     change: Change<'_>,
 ) -> Result<Option<Told>, AllocError> {
-    match from_parts::<T>(alloc, with_state)? {
+    match from_parts(alloc, with_state)? {
         Some(definition) => relexed_by(alloc, &definition, old, change),
         None => Ok(None),
     }
@@ -346,7 +343,7 @@ fn definitions_from_parts(rt: HostRuntime) -> Result<(), Fail> {
         ("ab", (0, 2, "")),
         ("aa", (1, 1, "b")),
     ] {
-        let got = relexed_from_parts::<u32>(alloc, false, old, change)?;
+        let got = relexed_from_parts(alloc, false, old, change)?;
         expects(&rt, got, "error 0..0", "", 0);
     }
     // The old end comes along: a target that isn't there, and a rule without an id.
@@ -368,7 +365,7 @@ fn definitions_from_parts(rt: HostRuntime) -> Result<(), Fail> {
         ),
     ];
     for (old, change, (items, boundaries, asked)) in rows {
-        let got = relexed_from_parts::<u32>(alloc, true, old, change)?;
+        let got = relexed_from_parts(alloc, true, old, change)?;
         expects(&rt, got, items, boundaries, asked);
     }
     Ok(())
@@ -467,9 +464,9 @@ fn change_by_chance(alloc: Global, random: &mut Random, text: &str) -> Result<Ch
     })
 }
 
-fn same_item<T: Id>(
-    left: &Result<DefaultLexeme<T>, LRLexError>,
-    right: &Result<DefaultLexeme<T>, LRLexError>,
+fn same_item(
+    left: &Result<DefaultLexeme<u32>, LRLexError>,
+    right: &Result<DefaultLexeme<u32>, LRLexError>,
 ) -> bool {
     match (left, right) {
         (Ok(left), Ok(right)) => {
@@ -491,9 +488,9 @@ fn same_item<T: Id>(
 }
 
 /// Whether two runs have the same items, tiles and boundaries with their stacks.
-fn same_run<T: Id>(
-    left: &LexRun<'_, '_, DefaultLexerTypes<T>>,
-    right: &LexRun<'_, '_, DefaultLexerTypes<T>>,
+fn same_run(
+    left: &LexRun<'_, '_, DefaultLexerTypes<u32>>,
+    right: &LexRun<'_, '_, DefaultLexerTypes<u32>>,
 ) -> bool {
     if left.items().len() != right.items().len()
         || left.boundaries() != right.boundaries()
@@ -525,10 +522,10 @@ struct Tally {
 }
 
 impl Tally {
-    fn compare<T: Id>(
+    fn compare(
         &mut self,
-        relexed: &LexRun<'_, '_, DefaultLexerTypes<T>>,
-        anew: &LexRun<'_, '_, DefaultLexerTypes<T>>,
+        relexed: &LexRun<'_, '_, DefaultLexerTypes<u32>>,
+        anew: &LexRun<'_, '_, DefaultLexerTypes<u32>>,
     ) {
         self.edits = self.edits.saturating_add(1);
         self.boundaries = self.boundaries.saturating_add(anew.boundaries());
@@ -564,14 +561,14 @@ fn changed(
 }
 
 /// Lexes again after the change, and compares that with lexing anew. None where the change doesn't give the new text.
-fn again<'d, 'n, T: Id>(
+fn again<'d, 'n>(
     alloc: Global,
-    run: &LexRun<'d, '_, DefaultLexerTypes<T>>,
-    definition: &DefinitionOver<T>,
+    run: &LexRun<'d, '_, DefaultLexerTypes<u32>>,
+    definition: &Definition,
     change: &Chance,
     texts: (&str, &'n str),
     tally: &mut Tally,
-) -> Result<Option<LexRun<'d, 'n, DefaultLexerTypes<T>>>, AllocError>
+) -> Result<Option<LexRun<'d, 'n, DefaultLexerTypes<u32>>>, AllocError>
     requires { run.now.text.now ≡ texts.0.now }
     ensures { IfOk result (λ found. IfSome found (λ r. r.text.now ≡ texts.entry.1.now)) }
 {
@@ -588,10 +585,10 @@ fn again<'d, 'n, T: Id>(
 }
 
 /// Makes two edits, the second on the text and run that the first left, and answers the last text.
-fn two_edits<T: Id>(
+fn two_edits(
     alloc: Global,
-    run: &LexRun<'_, '_, DefaultLexerTypes<T>>,
-    definition: &DefinitionOver<T>,
+    run: &LexRun<'_, '_, DefaultLexerTypes<u32>>,
+    definition: &Definition,
     random: &mut Random,
     text: &str,
     tally: &mut Tally,
@@ -618,9 +615,9 @@ fn two_edits<T: Id>(
 
 /// Makes four edits, each on the text and run that the one before left, and answers the last text.
 /// None where an edit doesn't fit.
-fn four_edits<T: Id>(
+fn four_edits(
     alloc: Global,
-    definition: &DefinitionOver<T>,
+    definition: &Definition,
     random: &mut Random,
     text: &str,
     tally: &mut Tally,
@@ -645,13 +642,13 @@ fn four_edits<T: Id>(
 
 /// So many times four edits, from the empty text on, by tables within this budget. None where the rules are refused or an
 /// edit doesn't fit.
-fn many_edits<T: Id>(
+fn many_edits(
     alloc: Global,
     seed: u64,
     times: u32,
     budget: Budget,
 ) -> Result<Option<Tally>, AllocError> {
-    let Ok(built) = DefinitionOver::<T>::from_str(alloc, STATES)? else {
+    let Ok(built) = Definition::from_str(alloc, STATES)? else {
         return Ok(None);
     };
     let definition = built.with_budget(alloc, budget)?;
@@ -679,7 +676,7 @@ fn edits_made_by_chance(rt: HostRuntime) -> Result<(), Fail> {
     // by tables, and by asking each rule
     for (rows, times) in [(8_000, 2_500), (0, 500)] {
         let budget = Budget::new(rows, 40_000_000);
-        let Some(tally) = many_edits::<u32>(rt.alloc(), 2024, times, budget)? else {
+        let Some(tally) = many_edits(rt.alloc(), 2024, times, budget)? else {
             panic!(rt; "the rules are refused, or an edit doesn't fit");
         };
         assert_eq!(rt; tally.edits, times as usize * 4);
@@ -691,14 +688,14 @@ fn edits_made_by_chance(rt: HostRuntime) -> Result<(), Fail> {
 
 /// How many tiles lexing again cuts anew, by tables of at most so many rows. None where the rules are refused or the edit
 /// doesn't fit.
-fn cut_anew<T: Id>(
+fn cut_anew(
     alloc: Global,
     rules: &str,
     old: &str,
     change: Change<'_>,
     rows: usize,
 ) -> Result<Option<usize>, AllocError> {
-    let Ok(built) = DefinitionOver::<T>::from_str(alloc, rules)? else {
+    let Ok(built) = Definition::from_str(alloc, rules)? else {
         return Ok(None);
     };
     let definition = built.with_budget(alloc, Budget::new(rows, 40_000_000))?;
@@ -736,12 +733,12 @@ fn tiles_cut_anew_after_an_edit(rt: HostRuntime) -> Result<(), Fail> {
     ];
     for (rules, old, change, anew, asking) in rows {
         assert_eq!(rt;
-            cut_anew::<u32>(rt.alloc(), rules, old, change, 8_000)?,
+            cut_anew(rt.alloc(), rules, old, change, 8_000)?,
             Some(anew),
             "{old}"
         );
         assert_eq!(rt;
-            cut_anew::<u32>(rt.alloc(), rules, old, change, 0)?,
+            cut_anew(rt.alloc(), rules, old, change, 0)?,
             Some(asking),
             "{old}"
         );
@@ -751,13 +748,13 @@ fn tiles_cut_anew_after_an_edit(rt: HostRuntime) -> Result<(), Fail> {
 
 /// How many tiles a run cuts, and how far past each boundary the tiles before it looked, joined by blanks. None where the
 /// rules are refused.
-fn looked_ahead<T: Id>(
+fn looked_ahead(
     alloc: Global,
     rules: &str,
     text: &str,
     rows: usize,
 ) -> Result<Option<(usize, String)>, AllocError> {
-    let Ok(built) = DefinitionOver::<T>::from_str(alloc, rules)? else {
+    let Ok(built) = Definition::from_str(alloc, rules)? else {
         return Ok(None);
     };
     let definition = built.with_budget(alloc, Budget::new(rows, 40_000_000))?;
@@ -781,7 +778,7 @@ fn how_far_the_tiles_of_a_run_looked(rt: HostRuntime) -> Result<(), Fail> {
         (WORDS, "", 8_000, 0, " 0"),
     ];
     for (rules, text, rows, lexed, ahead) in rows {
-        match looked_ahead::<u32>(rt.alloc(), rules, text, rows)? {
+        match looked_ahead(rt.alloc(), rules, text, rows)? {
             Some((tiles, numbers)) => {
                 assert_eq!(rt; tiles, lexed, "{text}");
                 assert_eq!(rt; numbers.as_str(), ahead, "{text}");

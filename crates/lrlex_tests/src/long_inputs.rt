@@ -1,8 +1,8 @@
 //! Inputs that push a million states, or that have millions of tiles: time and memory grow with the text.
 use crate::hostile::repeated;
-use crate::shown::DefinitionOver;
+use crate::shown::Definition;
 use lrlex::{Budget, DefaultLexerTypes, LexRun, LexerDef};
-use lrlex_base::{Edit, Id, Span};
+use lrlex_base::{Edit, Span};
 use std::alloc::{AllocError, Global};
 use std::fmt::Write;
 use std::test::Fail;
@@ -22,7 +22,7 @@ struct Counts {
 }
 
 impl Counts {
-    fn of<T: Id>(run: &LexRun<'_, '_, DefaultLexerTypes<T>>) -> Counts {
+    fn of(run: &LexRun<'_, '_, DefaultLexerTypes<u32>>) -> Counts {
         let boundaries = run.boundaries();
         let last = if boundaries == 0 {
             0
@@ -41,12 +41,12 @@ impl Counts {
 
 /// The counts of lexing the input, and of lexing it again with an `e` in front, where no rule has a table, so that each is
 /// asked. None where the rules are refused.
-fn lexed_and_again<T: Id>(
+fn lexed_and_again(
     alloc: Global,
     rules: &str,
     input: &str,
 ) -> Result<Option<(Counts, Counts)>, AllocError> {
-    let Ok(definition) = DefinitionOver::<T>::from_str(alloc, rules)? else {
+    let Ok(definition) = Definition::from_str(alloc, rules)? else {
         return Ok(None);
     };
     let definition = definition.with_budget(alloc, Budget::new(0, 0))?;
@@ -74,7 +74,7 @@ fn a_million_pushes(rt: HostRuntime) -> Result<(), Fail> {
     ];
     for (part, count, tail, tiles, items, peak, last) in rows {
         let input = repeated(alloc, "", part, count, tail)?;
-        let Some((run, again)) = lexed_and_again::<u32>(alloc, PUSHES, input.as_str())? else {
+        let Some((run, again)) = lexed_and_again(alloc, PUSHES, input.as_str())? else {
             panic!(rt; "the rules are refused");
         };
         assert_eq!(rt;
@@ -90,12 +90,8 @@ fn a_million_pushes(rt: HostRuntime) -> Result<(), Fail> {
 }
 
 /// The counts of lexing the input. None where the rules are refused.
-fn lexed_once<T: Id>(
-    alloc: Global,
-    rules: &str,
-    input: &str,
-) -> Result<Option<Counts>, AllocError> {
-    let Ok(definition) = DefinitionOver::<T>::from_str(alloc, rules)? else {
+fn lexed_once(alloc: Global, rules: &str, input: &str) -> Result<Option<Counts>, AllocError> {
+    let Ok(definition) = Definition::from_str(alloc, rules)? else {
         return Ok(None);
     };
     let run = definition.run(alloc, input)?;
@@ -106,7 +102,7 @@ fn lexed_once<T: Id>(
 fn twenty_million_tiles(rt: HostRuntime) -> Result<(), Fail> {
     let alloc = rt.alloc();
     let input = repeated(alloc, "", "x", 20_000_000, "")?;
-    let Some(run) = lexed_once::<u32>(alloc, "%%\nx ;", input.as_str())? else {
+    let Some(run) = lexed_once(alloc, "%%\nx ;", input.as_str())? else {
         panic!(rt; "the rules are refused");
     };
     assert_eq!(rt; run.tiles, 20_000_000);
@@ -135,7 +131,7 @@ fn four_thousand_states_with_a_rule_each(rt: HostRuntime) -> Result<(), Fail> {
     let alloc = rt.alloc();
     let rules = chain(alloc, 4_000)?;
     let input = repeated(alloc, "", "x", 10_000, "")?;
-    let Some(run) = lexed_once::<u32>(alloc, rules.as_str(), input.as_str())? else {
+    let Some(run) = lexed_once(alloc, rules.as_str(), input.as_str())? else {
         panic!(rt; "the rules are refused");
     };
     assert_eq!(rt; run.tiles, 10_000);

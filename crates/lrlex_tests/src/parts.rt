@@ -3,15 +3,15 @@ use lrlex::{
     DEFAULT_LEX_FLAGS, DefaultLexerTypes, LRNonStreamingLexerDef, LexFlags, LexerDef, Rule,
     StartState, StartStateOperation, UNSPECIFIED_LEX_FLAGS,
 };
-use lrlex_base::{Id, LexerTypes, Span};
+use lrlex_base::{LexerTypes, Span};
 use std::alloc::{AllocError, Global};
 use std::collections::{HashMap, HashSet};
 use std::test::Fail;
 
-type Definition<T> = LRNonStreamingLexerDef<DefaultLexerTypes<T>>;
+type Definition = LRNonStreamingLexerDef<DefaultLexerTypes<u32>>;
 
 /// A rule's name and id: `ID 0`, `- none`.
-fn rule_text<T: Id>(alloc: Global, rule: &Rule<T>) -> Result<String, AllocError> {
+fn rule_text(alloc: Global, rule: &Rule<u32>) -> Result<String, AllocError> {
     let name = rule.name().unwrap_or("-");
     match rule.tok_id() {
         Some(id) => format!(in alloc; "{name} {id}"),
@@ -20,7 +20,7 @@ fn rule_text<T: Id>(alloc: Global, rule: &Rule<T>) -> Result<String, AllocError>
 }
 
 /// All of them: `ID none, - 1`.
-fn rules_text<T: Id>(alloc: Global, rules: &[Rule<T>]) -> Result<String, AllocError> {
+fn rules_text(alloc: Global, rules: &[Rule<u32>]) -> Result<String, AllocError> {
     let mut text = String::new(alloc);
     for rule in rules {
         if !text.as_str().is_empty() {
@@ -86,10 +86,7 @@ fn places_text(
     in_order(alloc, Some(words))
 }
 
-fn map_of<'a, T: Id>(
-    alloc: Global,
-    ids: &[(&'a str, T)],
-) -> Result<HashMap<&'a str, T>, AllocError> {
+fn map_of<'a>(alloc: Global, ids: &[(&'a str, u32)]) -> Result<HashMap<&'a str, u32>, AllocError> {
     let mut map = HashMap::new(alloc);
     for (name, id) in ids {
         map.insert(*name, *id)?;
@@ -98,10 +95,10 @@ fn map_of<'a, T: Id>(
 }
 
 /// Sets ids, and tells both sets and then the rules: `INT | ID | ID none, - 1`.
-fn ids_set<T: Id>(
+fn ids_set(
     alloc: Global,
-    definition: &mut Definition<T>,
-    ids: &[(&str, T)],
+    definition: &mut Definition,
+    ids: &[(&str, u32)],
 ) -> Result<String, AllocError> {
     let map = map_of(alloc, ids)?;
     let (lacking, unused) = definition.set_rule_ids(alloc, &map)?;
@@ -112,10 +109,10 @@ fn ids_set<T: Id>(
 }
 
 /// The same with places.
-fn ids_set_spanned<T: Id>(
+fn ids_set_spanned(
     alloc: Global,
-    definition: &mut Definition<T>,
-    ids: &[(&str, T)],
+    definition: &mut Definition,
+    ids: &[(&str, u32)],
 ) -> Result<String, AllocError> {
     let map = map_of(alloc, ids)?;
     let (lacking, unused) = definition.set_rule_ids_spanned(alloc, &map)?;
@@ -153,12 +150,12 @@ fn found_by_name<L: LexerTypes, D: LexerDef<L>>(
 }
 
 /// A rule text's definition whose rules have these ids.
-fn with_ids<T: Id>(
+fn with_ids(
     alloc: Global,
     rules: &str,
-    ids: &[(&str, T)],
-) -> Result<Option<Definition<T>>, AllocError> {
-    let Ok(mut definition) = Definition::<T>::from_str(alloc, rules)? else {
+    ids: &[(&str, u32)],
+) -> Result<Option<Definition>, AllocError> {
+    let Ok(mut definition) = Definition::from_str(alloc, rules)? else {
         return Ok(None);
     };
     let map = map_of(alloc, ids)?;
@@ -169,7 +166,7 @@ fn with_ids<T: Id>(
 #[test]
 fn look_ups_give_the_first(rt: HostRuntime) -> Result<(), Fail> {
     let alloc = rt.alloc();
-    let Ok(definition) = Definition::<u32>::from_str(alloc, "%%\na 'A'\nb 'B'\n[ ] ;")? else {
+    let Ok(definition) = Definition::from_str(alloc, "%%\na 'A'\nb 'B'\n[ ] ;")? else {
         panic!(rt; "refused");
     };
     let by_id = [(0, "A 0 A 0"), (1, "B 1 B 1"), (2, "- 2 - 2"), (3, "none")];
@@ -205,14 +202,14 @@ fn look_ups_give_the_first(rt: HostRuntime) -> Result<(), Fail> {
 }
 
 /// A rule of these parts that lists no start states, or none where its pattern is refused.
-fn part<T: Id>(
+fn part(
     alloc: Global,
-    tok_id: Option<T>,
+    tok_id: Option<u32>,
     name: Option<(&str, Span)>,
     re_str: &str,
     target: Option<(usize, StartStateOperation)>,
     flags: &LexFlags,
-) -> Result<Option<Rule<T>>, AllocError> {
+) -> Result<Option<Rule<u32>>, AllocError> {
     let (name, name_span) = match name {
         Some((name, span)) => (Some(String::from_str(alloc, name)?), span),
         None => (None, Span::new(0, 0)),
@@ -243,7 +240,7 @@ fn parts_are_kept_as_handed_in(rt: HostRuntime) -> Result<(), Fail> {
     let alloc = rt.alloc();
     let name = Some(("A", Span::new(2, 3)));
     let target = Some((1, StartStateOperation::Pop));
-    let Some(rule) = part::<u32>(
+    let Some(rule) = part(
         alloc,
         Some(4),
         name,
@@ -262,7 +259,7 @@ fn parts_are_kept_as_handed_in(rt: HostRuntime) -> Result<(), Fail> {
     assert_eq!(rt; rule.target_state(), target);
     let mut rules = Vec::new(alloc);
     rules.push(rule)?;
-    let definition = Definition::<u32>::from_rules(alloc, initial(alloc)?, rules)?;
+    let definition = Definition::from_rules(alloc, initial(alloc)?, rules)?;
     let Some(rule) = definition.get_rule(0) else {
         panic!(rt; "no rule");
     };
@@ -277,22 +274,22 @@ fn parts_are_kept_as_handed_in(rt: HostRuntime) -> Result<(), Fail> {
 }
 
 /// Two rules named A, of which the second stands at 2..3.
-fn twins<T: Id>(alloc: Global) -> Result<Option<Definition<T>>, AllocError> {
+fn twins(alloc: Global) -> Result<Option<Definition>, AllocError> {
     let mut rules = Vec::new(alloc);
     for span in [Span::new(0, 1), Span::new(2, 3)] {
         let name = Some(("A", span));
-        match part::<T>(alloc, None, name, "a", None, &UNSPECIFIED_LEX_FLAGS)? {
+        match part(alloc, None, name, "a", None, &UNSPECIFIED_LEX_FLAGS)? {
             Some(rule) => rules.push(rule)?,
             None => return Ok(None),
         }
     }
-    Ok(Some(Definition::<T>::from_rules(alloc, initial(alloc)?, rules)?))
+    Ok(Some(Definition::from_rules(alloc, initial(alloc)?, rules)?))
 }
 
 #[test]
 fn two_rules_of_one_name(rt: HostRuntime) -> Result<(), Fail> {
     let alloc = rt.alloc();
-    let Some(mut definition) = twins::<u32>(alloc)? else {
+    let Some(mut definition) = twins(alloc)? else {
         panic!(rt; "refused");
     };
     let five = [("A", 5)];

@@ -3,7 +3,7 @@ use lrlex::{
     DefaultLexeme, DefaultLexerTypes, LRLexError, LRNonStreamingLexerDef, LexBuildError,
     LexErrorKind, LexerDef, Rule,
 };
-use lrlex_base::{Id, LexError, Lexeme, Span, Spanned};
+use lrlex_base::{LexError, Lexeme, Span, Spanned};
 use std::alloc::{AllocError, Global};
 use std::fmt::Write;
 
@@ -57,10 +57,7 @@ pub fn faults_of(alloc: Global, rules: &str) -> Result<String, AllocError> {
     }
 }
 
-/// The same with ids of any type.
-pub type DefinitionOver<T> = LRNonStreamingLexerDef<DefaultLexerTypes<T>>;
-
-fn name_of<T: Id>(rules: &[Rule<T>], id: T) -> &str {
+fn name_of(rules: &[Rule<u32>], id: u32) -> &str {
     for rule in rules {
         if rule.tok_id() == Some(id) {
             return rule.name().unwrap_or("?");
@@ -70,10 +67,10 @@ fn name_of<T: Id>(rules: &[Rule<T>], id: T) -> &str {
 }
 
 /// The items of a run: `ID 0+3, error 3..3 in 0`.
-pub fn items_text<T: Id>(
+pub fn items_text(
     alloc: Global,
-    rules: &[Rule<T>],
-    items: &[Result<DefaultLexeme<T>, LRLexError>],
+    rules: &[Rule<u32>],
+    items: &[Result<DefaultLexeme<u32>, LRLexError>],
 ) -> Result<String, AllocError> {
     let mut text = String::new(alloc);
     for item in items {

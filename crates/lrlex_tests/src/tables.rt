@@ -1,14 +1,13 @@
 //! Which rules have a table, and that lexing by tables and by asking each rule answer alike.
-use crate::shown::{DefinitionOver, items_text};
+use crate::shown::{Definition, items_text};
 use lrlex::{Budget, LexerDef, UNSPECIFIED_LEX_FLAGS};
-use lrlex_base::Id;
 use std::alloc::{AllocError, Global};
 use std::fmt::Write;
 use std::test::Fail;
 
 /// How many tables the states have, and how many rules of them have none. None where the rules are refused.
-fn counts<T: Id>(alloc: Global, rules: &str) -> Result<Option<(usize, usize)>, AllocError> {
-    let Ok(definition) = DefinitionOver::<T>::from_str(alloc, rules)? else {
+fn counts(alloc: Global, rules: &str) -> Result<Option<(usize, usize)>, AllocError> {
+    let Ok(definition) = Definition::from_str(alloc, rules)? else {
         return Ok(None);
     };
     Ok(Some((definition.tables(), definition.asked_rules())))
@@ -30,7 +29,7 @@ fn rules_with_and_without_a_table(rt: HostRuntime) -> Result<(), Fail> {
         ("%x s\n%%\na <s>'A'", 1, 0),
     ];
     for (rules, tables, asked) in rows {
-        let Some(got) = counts::<u32>(rt.alloc(), rules)? else {
+        let Some(got) = counts(rt.alloc(), rules)? else {
             panic!(rt; "refused: {rules:?}");
         };
         assert_eq!(rt; got, (tables, asked), "{rules:?}");
@@ -58,7 +57,7 @@ fn small_states_share_the_rows(rt: HostRuntime) -> Result<(), Fail> {
     let rules = small_states(rt.alloc(), 40)?;
     for (most, tables, held, asked) in rows {
         let budget = Budget::new(most, 40_000_000);
-        let Ok(definition) = DefinitionOver::<u32>::new_with_budget(
+        let Ok(definition) = Definition::new_with_budget(
             rt.alloc(),
             rules.as_str(),
             UNSPECIFIED_LEX_FLAGS,
@@ -75,19 +74,19 @@ fn small_states_share_the_rows(rt: HostRuntime) -> Result<(), Fail> {
 }
 
 /// What lexing gives by tables within this budget, and how many there are. None where the rules are refused.
-fn items_within<T: Id>(
+fn items_within(
     alloc: Global,
     rules: &str,
     input: &str,
     budget: Budget,
 ) -> Result<Option<(String, usize)>, AllocError> {
-    let built = DefinitionOver::<T>::new_with_budget(alloc, rules, UNSPECIFIED_LEX_FLAGS, budget)?;
+    let built = Definition::new_with_budget(alloc, rules, UNSPECIFIED_LEX_FLAGS, budget)?;
     let Ok(definition) = built else {
         return Ok(None);
     };
     let run = definition.run(alloc, input)?;
     Ok(Some((
-        items_text::<T>(alloc, definition.rules(), run.items())?,
+        items_text(alloc, definition.rules(), run.items())?,
         definition.tables(),
     )))
 }
@@ -117,9 +116,9 @@ fn the_same_by_tables_and_by_asking(rt: HostRuntime) -> Result<(), Fail> {
     ];
     for (rules, input) in rows {
         for most in [8_000, 20, 0] {
-            let asked = items_within::<u32>(rt.alloc(), rules, input, Budget::new(0, 0))?;
+            let asked = items_within(rt.alloc(), rules, input, Budget::new(0, 0))?;
             let budget = Budget::new(most, 40_000_000);
-            let got = items_within::<u32>(rt.alloc(), rules, input, budget)?;
+            let got = items_within(rt.alloc(), rules, input, budget)?;
             let (Some((want, none)), Some((items, _))) = (asked, got) else {
                 panic!(rt; "refused: {rules:?}");
             };

@@ -3,14 +3,14 @@ ghost use Rattle.std.specs.Prelude.{◌≡◌, IfOk};
 ghost use Rattle.lrlex.specs.Lexers.{lexer_text};
 
 use lrlex::{DefaultLexerTypes, LRNonStreamingLexer, LRNonStreamingLexerDef, LexerDef};
-use lrlex_base::{Id, Lexeme, Lexer, NonStreamingLexer, Span};
+use lrlex_base::{Lexeme, Lexer, NonStreamingLexer, Span};
 use std::alloc::{AllocError, Global};
 use std::fmt::Write;
 use std::test::Fail;
 
-type DefinitionOver<T> = LRNonStreamingLexerDef<DefaultLexerTypes<T>>;
+type Definition = LRNonStreamingLexerDef<DefaultLexerTypes<u32>>;
 
-type LexerOver<'lexer, 'input, T> = LRNonStreamingLexer<'lexer, 'input, DefaultLexerTypes<T>>;
+type LexerOver<'lexer, 'input> = LRNonStreamingLexer<'lexer, 'input, DefaultLexerTypes<u32>>;
 
 /// How a lexer is made of a definition and an input.
 #[derive(Clone, Copy, Debug)]
@@ -21,12 +21,12 @@ enum Made {
     OfItsRun,
 }
 
-fn lexer_over<'lexer, 'input, T: Id>(
+fn lexer_over<'lexer, 'input>(
     alloc: Global,
-    definition: &'lexer DefinitionOver<T>,
+    definition: &'lexer Definition,
     input: &'input str,
     made: Made,
-) -> Result<LexerOver<'lexer, 'input, T>, AllocError>
+) -> Result<LexerOver<'lexer, 'input>, AllocError>
     ensures { IfOk result (λ lexer. lexer_text lexer ≡ input.now) }
 {
     match made {
@@ -36,9 +36,9 @@ fn lexer_over<'lexer, 'input, T: Id>(
 }
 
 /// Adds what the lexer of this input says of a span: `a at 1:2-1:3 in [ a]`.
-fn push_place<T: Id>(
+fn push_place(
     text: &mut String,
-    lexer: &LexerOver<'_, '_, T>,
+    lexer: &LexerOver<'_, '_>,
     input: &str,
     span: Span,
 ) -> Result<(), AllocError>
@@ -57,23 +57,18 @@ fn push_place<T: Id>(
 }
 
 /// The lexemes of an input, each by its text, its place and its whole lines.
-fn places_over<T: Id>(
-    alloc: Global,
-    rules: &str,
-    input: &str,
-    made: Made,
-) -> Result<String, AllocError> {
+fn places_over(alloc: Global, rules: &str, input: &str, made: Made) -> Result<String, AllocError> {
     let mut text = String::new(alloc);
-    let Ok(definition) = DefinitionOver::<T>::from_str(alloc, rules)? else {
+    let Ok(definition) = Definition::from_str(alloc, rules)? else {
         return String::from_str(alloc, "refused");
     };
-    let lexer = lexer_over::<T>(alloc, &definition, input, made)?;
+    let lexer = lexer_over(alloc, &definition, input, made)?;
     for item in lexer.iter() {
         if !text.as_str().is_empty() {
             text.push_str(", ")?;
         }
         match item {
-            Ok(lexeme) => push_place::<T>(&mut text, &lexer, input, lexeme.span())?,
+            Ok(lexeme) => push_place(&mut text, &lexer, input, lexeme.span())?,
             Err(_) => text.push_str("error")?,
         }
     }
@@ -119,7 +114,7 @@ fn lines_and_columns_of_lexemes(rt: HostRuntime) -> Result<(), Fail> {
     ];
     for (rules, input, want) in rows {
         for made in [Made::AtOnce, Made::OfItsRun] {
-            let got = places_over::<u32>(rt.alloc(), rules, input, made)?;
+            let got = places_over(rt.alloc(), rules, input, made)?;
             assert_eq!(rt; got.as_str(), want, "{rules:?} on {input:?}, {made:?}");
         }
     }
@@ -151,15 +146,11 @@ fn staircase(alloc: Global, count: usize) -> Result<String, AllocError> {
 }
 
 /// How many lexemes the staircase has, and whether each first one of a line has that line as its whole lines.
-fn steps_over<T: Id>(
-    alloc: Global,
-    input: &str,
-    made: Made,
-) -> Result<Option<(usize, bool)>, AllocError> {
-    let Ok(definition) = DefinitionOver::<T>::from_str(alloc, "%%\n[a-z]+ 'ID'\n[ \\n] ;")? else {
+fn steps_over(alloc: Global, input: &str, made: Made) -> Result<Option<(usize, bool)>, AllocError> {
+    let Ok(definition) = Definition::from_str(alloc, "%%\n[a-z]+ 'ID'\n[ \\n] ;")? else {
         return Ok(None);
     };
-    let lexer = lexer_over::<T>(alloc, &definition, input, made)?;
+    let lexer = lexer_over(alloc, &definition, input, made)?;
     let mut count = 0usize;
     let mut whole = true;
     for item in lexer.iter() {
@@ -180,13 +171,13 @@ fn steps_over<T: Id>(
 }
 
 /// The whole lines of a span of the input, or none where it doesn't fit.
-fn lines_over<T: Id>(
+fn lines_over(
     alloc: Global,
     input: &str,
     start: usize,
     len: usize,
 ) -> Result<Option<String>, AllocError> {
-    let Ok(definition) = DefinitionOver::<T>::from_str(alloc, "%%\n[a-z]+ 'ID'\n[ \\n] ;")? else {
+    let Ok(definition) = Definition::from_str(alloc, "%%\n[a-z]+ 'ID'\n[ \\n] ;")? else {
         return Ok(None);
     };
     let lexer = definition.lexer(alloc, input)?;
@@ -203,7 +194,7 @@ fn whole_lines_of_many(rt: HostRuntime) -> Result<(), Fail> {
     let alloc = rt.alloc();
     let input = staircase(alloc, 71)?;
     for made in [Made::AtOnce, Made::OfItsRun] {
-        let got = steps_over::<u32>(alloc, input.as_str(), made)?;
+        let got = steps_over(alloc, input.as_str(), made)?;
         assert_eq!(rt; got, Some((2485, true)), "{made:?}");
     }
     let rows = [
@@ -214,7 +205,7 @@ fn whole_lines_of_many(rt: HostRuntime) -> Result<(), Fail> {
         (4, 3, "a a\na a a"),
     ];
     for (start, len, want) in rows {
-        let got = lines_over::<u32>(alloc, input.as_str(), start, len)?;
+        let got = lines_over(alloc, input.as_str(), start, len)?;
         let got = got.as_deref();
         assert_eq!(rt; got, Some(want), "{start}+{len}");
     }
@@ -224,14 +215,14 @@ fn whole_lines_of_many(rt: HostRuntime) -> Result<(), Fail> {
 #[test]
 fn a_span_past_the_text_fits_nothing(rt: HostRuntime) -> Result<(), Fail> {
     assert!(rt; !Span::new(100, 100).fits("a b c"));
-    assert!(rt; lines_over::<u32>(rt.alloc(), "a b c", 100, 0)?.is_none());
+    assert!(rt; lines_over(rt.alloc(), "a b c", 100, 0)?.is_none());
     Ok(())
 }
 
 /// The text of the first lexeme, which outlives the lexer that gave it.
-fn first_over<'input, T: Id>(
+fn first_over<'input>(
     alloc: Global,
-    definition: &DefinitionOver<T>,
+    definition: &Definition,
     input: &'input str,
 ) -> Result<Option<&'input str>, AllocError> {
     let lexer = definition.lexer(alloc, input)?;
@@ -250,10 +241,10 @@ fn first_over<'input, T: Id>(
 fn a_text_outlives_its_lexer(rt: HostRuntime) -> Result<(), Fail> {
     let alloc = rt.alloc();
     let input = String::from_str(alloc, "❤ b")?;
-    let Ok(definition) = DefinitionOver::<u32>::from_str(alloc, "%%\n[a-z❤]+ 'ID'\n[ ] ;")? else {
+    let Ok(definition) = Definition::from_str(alloc, "%%\n[a-z❤]+ 'ID'\n[ ] ;")? else {
         panic!(rt; "the rules build");
     };
-    let first = first_over::<u32>(alloc, &definition, input.as_str())?;
+    let first = first_over(alloc, &definition, input.as_str())?;
     assert_eq!(rt; first, Some("❤"));
     Ok(())
 }

@@ -1,7 +1,7 @@
-ghost use Rattle.std.specs.Prelude.{◌≡◌, ◌==◌, map, option_map, IfOk, IsTrue};
+ghost use Rattle.std.specs.Prelude.{◌≡◌, ◌==◌, map, IfOk, IsTrue};
 ghost use Rattle.std.specs.List.{find, list_any, position};
 ghost use Rattle.std.specs.Option.{option_copied};
-ghost use Rattle.lrlex.specs.Active.{is_inclusive, is_active_where, active_places, lacks_id, lexeme_id};
+ghost use Rattle.lrlex.specs.Active.{is_inclusive, is_active_where, active_places, lacks_id};
 ghost use Rattle.lrlex_rules.specs.Parts.{as_rule, as_state};
 ghost use Rattle.lrlex.specs.Tables.{ArePlaced};
 
@@ -14,19 +14,7 @@ use std::alloc::{AllocError, Global};
 pub(crate) fn lacks_id<S: Id>(rule: &Rule<S>) -> bool
     ensures { result ≡ lacks_id (as_rule S.number rule.now) }
 {
-    rule.name().is_some() && rule.tok_id().is_none()
-}
-
-/// The id of the rule's lexemes. An unnamed rule gives none.
-#[inline(always)]
-pub(crate) fn lexeme_id<S: Id>(rule: &Rule<S>) -> Option<S>
-    ensures { option_map S.number result ≡ lexeme_id (as_rule S.number rule.now) }
-{
-    if rule.name().is_some() {
-        rule.tok_id()
-    } else {
-        None
-    }
+    rule.name().is_some() & rule.tok_id().is_none()
 }
 
 /// Whether the id of each state is its place.
@@ -90,7 +78,7 @@ fn is_inclusive(states: &[StartState], id: usize) -> bool
 }
 
 /// Whether the rule is active in a state with the id that is inclusive, or isn't.
-fn is_active_where<S: Id>(inclusive: bool, id: usize, rule: &Rule<S>) -> bool
+fn is_active_where<S>(inclusive: bool, id: usize, rule: &Rule<S>) -> bool
     ensures { result ≡ is_active_where inclusive id (as_rule (λ _. 0) rule.now) }
 {
     if rule.start_states().is_empty() {
@@ -101,7 +89,7 @@ fn is_active_where<S: Id>(inclusive: bool, id: usize, rule: &Rule<S>) -> bool
 }
 
 /// The places of the rules that are active in the state, in order.
-pub(crate) fn active_places<S: Id>(
+pub(crate) fn active_places<S>(
     alloc: Global,
     states: &[StartState],
     rules: &[Rule<S>],

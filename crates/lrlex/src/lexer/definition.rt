@@ -38,6 +38,37 @@ pub(crate) struct RuleTable<S> {
     ghost within: { All (λ j. j < length tables.items) tables_at.items },
 }
 
+impl<S: Copy> RuleTable<S> {
+    ghost use Rattle.std.specs.Prelude.{IfOk};
+
+    /// Of these start states and rules, in order, with tables that cost no more than this.
+    fn of_parts(
+        alloc: Global,
+        start_states: Vec<StartState>,
+        rules: Vec<Rule<S>>,
+        budget: Budget,
+    ) -> Result<Self, AllocError>
+        ensures rules { IfOk result (λ t. t.rules ≡ rules) }
+        ensures states { IfOk result (λ t. t.start_states ≡ start_states) }
+    {
+        let mut active = Vec::with_capacity(alloc, start_states.len())?;
+        'states: for index in 0..start_states.len() {
+            let id = start_states[index].id();
+            active.push(active_places(alloc, &start_states, &rules, id)?)?;
+        }
+        let (tables, tables_at) = tables_for(alloc, &rules, &active, budget)?;
+        let placed = are_placed(&start_states);
+        Ok(RuleTable {
+            rules,
+            start_states,
+            placed,
+            active,
+            tables,
+            tables_at,
+        })
+    }
+}
+
 /// The rules that are active in a start state, as places, and their tables.
 #[derive(Clone, Copy)]
 pub(crate) struct RulesIn<'d> {
@@ -87,21 +118,7 @@ impl<L: LexerTypes> LRNonStreamingLexerDef<L> {
         ensures states { IfOk result (λ d. d.table.start_states ≡ start_states) }
         ensures flags { IfOk result (λ d. d.flags ≡ flags) }
     {
-        let mut active = Vec::with_capacity(alloc, start_states.len())?;
-        'states: for index in 0..start_states.len() {
-            let id = start_states[index].id();
-            active.push(active_places(alloc, &start_states, &rules, id)?)?;
-        }
-        let (tables, tables_at) = tables_for(alloc, &rules, &active, budget)?;
-        let placed = are_placed(&start_states);
-        let table = RuleTable {
-            rules,
-            start_states,
-            placed,
-            active,
-            tables,
-            tables_at,
-        };
+        let table = RuleTable::of_parts(alloc, start_states, rules, budget)?;
         Ok(LRNonStreamingLexerDef { table, flags })
     }
 

@@ -12,23 +12,24 @@ ghost use Rattle.lrlex.specs.AtHand.{AreOf};
 ghost use Rattle.lrlex.specs.Views.{definition_of, item_of, items_by};
 
 use crate::errors::LRLexError;
-use crate::lexer::active::{lacks_id, lexeme_id};
+use crate::lexer::active::lacks_id;
 use crate::lexer::boundaries::Boundaries;
 use crate::lexer::definition::{LRNonStreamingLexerDef, RulesIn};
 use crate::lexer::room::append;
 use crate::lexer::searching::winner;
 use crate::lexer::stack::{step, top_of};
 use lrlex_base::{Lexeme, LexerTypes, Span};
-use lrlex_rules::{Rule, StartStateId};
+use lrlex_rules::{Rule, StartStateId, StartStateOperation};
+use num_traits::Zero;
 use regex::Matcher;
 use std::alloc::{AllocError, Global};
 
 /// What a run has found so far. Its last boundary is its place with its stack.
 #[derive(Drop)]
-pub(crate) struct Progress<L: LexerTypes> {
+pub(crate) struct Progress<X> {
     pub(crate) place: usize,
     pub(crate) stack: Vec<(usize, usize)>,
-    pub(crate) items: Vec<Result<L::LexemeT, LRLexError>>,
+    pub(crate) items: Vec<Result<X, LRLexError>>,
     pub(crate) boundaries: Boundaries,
     pub(crate) asked: u128,
     /// For each boundary, how many bytes past its place the tiles before it looked. 255 stands for more.
@@ -46,38 +47,35 @@ fn tiles_expected(text: &str) -> usize {
 }
 
 /// Nothing found yet, in state 0.
-pub(crate) fn begin<L: LexerTypes>(
-    alloc: Global,
-    definition: &LRNonStreamingLexerDef<L>,
-    text: &str,
-) -> Result<Progress<L>, AllocError>
-    requires { is_state (definition_of L.StorageT.number definition.now) 0 ≡ true }
-    ensures reached { IfOk result (λ p. Reached (definition_of L.StorageT.number definition.now) text.now p.place p.stack.items (items_by L.StorageT.number L.LexemeT.seen p.items.items) p.boundaries p.asked) }
-    ensures looked { IfOk result (λ p. HasLooked (definition_of L.StorageT.number definition.now) text.now p.boundaries p.ahead.items p.place p.over) }
-    ensures start { IfOk result (λ p. p.place ≡ 0) }
-    ensures one { IfOk result (λ p. length p.boundaries ≡ 1) }
-    ensures none { IfOk result (λ p. p.asked ≡ 0) }
+pub(crate) fn begin<X: Copy>(alloc: Global, text: &str) -> Result<Progress<X>, AllocError>
+    ensures place { IfOk result (λ p. p.place ≡ 0) }
+    ensures stack { IfOk result (λ p. p.stack.items ≡ (1, 0) ∷ []) }
+    ensures items { IfOk result (λ p. p.items.items ≡ []) }
+    ensures boundaries { IfOk result (λ p. p.boundaries ≡ record { place = 0; runs = (1, 0) ∷ [] } ∷ []) }
+    ensures asked { IfOk result (λ p. p.asked ≡ 0) }
+    ensures ahead { IfOk result (λ p. p.ahead.items ≡ 0 ∷ []) }
+    ensures over { IfOk result (λ p. p.over ≡ 0) }
 {
     let room = tiles_expected(text);
-    let mut stack = Vec::new(alloc);
-    stack.push((1, 0))?;
-    let mut boundaries = Boundaries::with_capacity(alloc, room)?;
-    boundaries.push(0, &stack, 0)?;
-    let mut ahead = Vec::with_capacity(alloc, room)?;
-    ahead.push(0)?;
-    let items = Vec::with_capacity(alloc, room)?;
-    Ok(Progress {
+    let mut progress = Progress {
         place: 0,
-        stack,
-        items,
-        boundaries,
+        stack: Vec::new(alloc),
+        items: Vec::new(alloc),
+        boundaries: Boundaries::with_capacity(alloc, room)?,
         asked: 0,
-        ahead,
+        ahead: Vec::new(alloc),
         over: 0,
-    })
+    };
+    progress.items.reserve(room)?;
+    progress.ahead.reserve(room)?;
+    progress.ahead.push(0)?;
+    progress.stack.push((1, 0))?;
+    progress.boundaries.push(0, &progress.stack, 0)?;
+    Ok(progress)
 }
 
-/// Gives the tile's lexeme, if its rule gives one.
+/// Gives the tile's lexeme, if its rule gives one. It is stored first and taken back where the rule gives none: which rule
+/// wins can't be foretold, and a store costs less than a jump that goes the wrong way.
 #[inline(always)]
 fn give<L: LexerTypes>(
     items: &mut Vec<Result<L::LexemeT, LRLexError>>,
@@ -90,8 +88,14 @@ fn give<L: LexerTypes>(
         ≡ map (item_of L.StorageT.number L.LexemeT.seen) items.old.items
         ++ lexeme_of (lexeme_id (as_rule L.StorageT.number rule.now)) place len) }
 {
-    if let Some(id) = lexeme_id(rule) {
-        append(items, Ok(Lexeme::new(id, place, len)))?;
+    let id = rule.tok_id();
+    let gives = rule.name().is_some() & id.is_some();
+    append(
+        items,
+        Ok(Lexeme::new(id.unwrap_or(L::StorageT::zero()), place, len)),
+    )?;
+    if !gives {
+        let _ = items.take_last();
     }
     Ok(())
 }
@@ -126,9 +130,9 @@ pub(crate) fn capped(over: usize) -> u8
 /// Enters the next boundary: moves the stack by the rule's target. The tiles looked `over` bytes past its place.
 #[inline(always)]
 #[tactic(auto, unfolding(crate::specs::Tiling::stack_after))]
-fn enter<L: LexerTypes>(
-    progress: &mut Progress<L>,
-    rule: &Rule<L::StorageT>,
+fn enter<X: Copy>(
+    progress: &mut Progress<X>,
+    target: Option<(usize, StartStateOperation)>,
     place: usize,
     over: usize,
 ) -> Result<(), AllocError>
@@ -137,7 +141,7 @@ fn enter<L: LexerTypes>(
     requires last { last_runs progress.old.boundaries ≡ progress.old.stack.items }
     ensures place { OnOk result (progress.new.place ≡ place) }
     ensures runs { OnOk result (AreRuns progress.new.stack.items) }
-    ensures moved { OnOk result (plain progress.new.stack.items ≡ stack_after (plain progress.old.stack.items) (as_rule L.StorageT.number rule.now).target) }
+    ensures moved { OnOk result (plain progress.new.stack.items ≡ stack_after (plain progress.old.stack.items) target) }
     ensures items { OnOk result (progress.new.items.items ≡ progress.old.items.items) }
     ensures asked { OnOk result (progress.new.asked ≡ progress.old.asked) }
     ensures over { OnOk result (progress.new.over ≡ over) }
@@ -148,10 +152,10 @@ fn enter<L: LexerTypes>(
     progress.place = place;
     progress.over = over;
     append(&mut progress.ahead, capped(over))?;
-    if rule.target_state().is_none() {
+    if target.is_none() {
         progress.boundaries.repeat(place)?;
     } else {
-        let kept = step(&mut progress.stack, rule.target_state())?;
+        let kept = step(&mut progress.stack, target)?;
         progress.boundaries.push(place, &progress.stack, kept)?;
     }
     Ok(())
@@ -166,7 +170,7 @@ pub(crate) fn advance<'d, L: LexerTypes>(
     text: &str,
     here: &mut RulesIn<'d>,
     matchers: &mut [Option<Box<Matcher<'d>>>],
-    progress: &mut Progress<L>,
+    progress: &mut Progress<L::LexemeT>,
 ) -> Result<bool, AllocError>
     requires here { AreOf L.StorageT.number definition.now here.old.state here.old }
     requires inside { progress.old.place < length text.now }
@@ -218,6 +222,6 @@ pub(crate) fn advance<'d, L: LexerTypes>(
         return Ok(false);
     }
     let over = progress.over.max(sight.reach).saturating_sub(tile.len);
-    enter(progress, rule, place + tile.len, over)?;
+    enter(progress, rule.target_state(), place + tile.len, over)?;
     Ok(true)
 }

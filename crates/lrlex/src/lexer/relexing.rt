@@ -179,7 +179,7 @@ fn meets(
 fn take_over<L: LexerTypes<LexErrorT = LRLexError>>(
     old: &LexRun<'_, '_, L>,
     index: usize,
-    progress: &mut Progress<L>,
+    progress: &mut Progress<L::LexemeT>,
 ) -> Result<(), AllocError>
     requires within { index < length old.now.boundaries }
     requires in_order { IsPartitionedBy (begins_before (mark_at old.now.boundaries index).place)

@@ -134,45 +134,42 @@ pub(crate) fn items_before<'a, L: LexerTypes<LexErrorT = LRLexError>>(
 /// For how many tiles more than the old run had room is made.
 const SLACK: usize = 64;
 
-/// A run that stands at an old boundary, with the old boundaries up to it and the old items before it.
-pub(crate) fn resumed<L: LexerTypes<LexErrorT = LRLexError>>(
+/// What stands at an old boundary: the old boundaries up to it, and these old items, which stand before it.
+fn resumed<X: Copy>(
     alloc: Global,
-    old: &LexRun<'_, '_, L>,
+    before: &[Result<X, LRLexError>],
+    old: &Boundaries,
+    ahead: &[u8],
     index: usize,
-) -> Result<Progress<L>, AllocError>
-    requires within { index < length old.now.boundaries }
-    requires in_order { IsPartitionedBy (begins_before (mark_at old.now.boundaries index).place) (map (item_of L.StorageT.number L.LexemeT.seen) old.now.items.items) }
-    requires numbers { length old.now.ahead.items ≡ length old.now.boundaries }
-    ensures place { IfOk result (λ p. p.place ≡ (mark_at old.now.boundaries index).place) }
-    ensures stack { IfOk result (λ p. p.stack.items ≡ (mark_at old.now.boundaries index).runs) }
-    ensures items { IfOk result (λ p. map (item_of L.StorageT.number L.LexemeT.seen) p.items.items ≡ items_before (mark_at old.now.boundaries index).place (map (item_of L.StorageT.number L.LexemeT.seen) old.now.items.items)) }
-    ensures boundaries { IfOk result (λ p. p.boundaries ≡ take (index + 1) old.now.boundaries) }
+) -> Result<Progress<X>, AllocError>
+    requires within { index < length old.now }
+    requires numbers { length ahead.now ≡ length old.now }
+    ensures place { IfOk result (λ p. p.place ≡ (mark_at old.now index).place) }
+    ensures stack { IfOk result (λ p. p.stack.items ≡ (mark_at old.now index).runs) }
+    ensures items { IfOk result (λ p. p.items.items ≡ before.now) }
+    ensures boundaries { IfOk result (λ p. p.boundaries ≡ take (index + 1) old.now) }
     ensures asked { IfOk result (λ p. p.asked ≡ 0) }
-    ensures ahead { IfOk result (λ p. p.ahead.items ≡ take (index + 1) old.now.ahead.items) }
-    ensures over { IfOk result (λ p. p.over ≡ slice_index old.now.ahead.items index) }
+    ensures ahead { IfOk result (λ p. p.ahead.items ≡ take (index + 1) ahead.now) }
+    ensures over { IfOk result (λ p. p.over ≡ slice_index ahead.now index) }
 {
-    let within = index < old.boundaries.len();
-    prove!(within);
-    let place = old.boundaries.place(index);
-    let mut stack = Vec::new(alloc);
-    stack.extend_from_slice(old.boundaries.stack(index))?;
-    let mut boundaries = Boundaries::with_capacity(
-        alloc,
-        old.boundaries.len().saturating_add(SLACK),
-    )?;
-    boundaries.push(old.boundaries.place(0), old.boundaries.stack(0), 0)?;
-    boundaries.copy_front(&old.boundaries, index + 1)?;
-    let mut items = Vec::with_capacity(alloc, old.items.len().saturating_add(SLACK))?;
-    items.extend_from_slice(items_before::<L>(&old.items, place))?;
-    Ok(Progress {
-        place,
-        stack,
-        items,
-        boundaries,
+    let room = old.len().saturating_add(SLACK);
+    let mut progress = Progress {
+        place: old.place(index),
+        stack: Vec::new(alloc),
+        items: Vec::new(alloc),
+        boundaries: Boundaries::with_capacity(alloc, room)?,
         asked: 0,
-        ahead: Vec::from_slice(alloc, &old.ahead[..index + 1])?,
-        over: old.ahead[index] as usize,
-    })
+        ahead: Vec::new(alloc),
+        over: ahead[index] as usize,
+    };
+    progress.stack.extend_from_slice(old.stack(index))?;
+    progress.boundaries.push(old.place(0), old.stack(0), 0)?;
+    progress.boundaries.copy_front(old, index + 1)?;
+    progress.items.reserve(before.len().saturating_add(SLACK))?;
+    progress.items.extend_from_slice(before)?;
+    progress.ahead.reserve(room)?;
+    progress.ahead.extend_from_slice(&ahead[..index + 1])?;
+    Ok(progress)
 }
 
 /// A run of the new text that stands at the last boundary before which no tile looked at what the edit changes, as far as
@@ -182,7 +179,7 @@ pub(crate) fn resume<L: LexerTypes<LexErrorT = LRLexError>>(
     old: &LexRun<'_, '_, L>,
     edit: &Edit<'_>,
     new: &str,
-) -> Result<Progress<L>, AllocError>
+) -> Result<Progress<L::LexemeT>, AllocError>
     requires initial { is_state (definition_of L.StorageT.number old.now.definition.now) 0 ≡ true }
     requires fits { Fits old.now.text.now edit.now.removed }
     requires gives { new.now ≡ edited old.now.text.now (as_span edit.now.removed) edit.now.put.now }
@@ -195,7 +192,8 @@ pub(crate) fn resume<L: LexerTypes<LexErrorT = LRLexError>>(
     ensures none { IfOk result (λ p. p.asked ≡ 0) }
 {
     let index = last_safe(&old.boundaries, &old.ahead, edit.removed.start());
-    let progress = resumed(alloc, old, index)?;
+    let before = items_before::<L>(&old.items, old.boundaries.place(index));
+    let progress = resumed(alloc, before, &old.boundaries, &old.ahead, index)?;
     Ok(progress)
 }
 

@@ -131,7 +131,7 @@ pub(crate) fn refused<'lexer, 'input, L: LexerTypes<LexErrorT = LRLexError>>(
 pub(crate) fn finished<'lexer, 'input, L: LexerTypes<LexErrorT = LRLexError>>(
     definition: &'lexer LRNonStreamingLexerDef<L>,
     text: &'input str,
-    progress: Progress<L>,
+    progress: Progress<L::LexemeT>,
     anew: usize,
 ) -> LexRun<'lexer, 'input, L>
     requires looks { LooksAhead (definition_of L.StorageT.number definition.now) text.now progress.boundaries progress.ahead.items }
@@ -185,7 +185,7 @@ impl<L: LexerTypes<LexErrorT = LRLexError>> LRNonStreamingLexerDef<L> {
             return refused(alloc, self, text);
         }
         let mut matchers = no_matchers(alloc, &self.table.rules)?;
-        let mut progress = begin(alloc, self, text)?;
+        let mut progress = begin(alloc, text)?;
         let mut here = self.rules_in(0);
         'tiles: while progress.place < text.len() {
             if !advance(alloc, self, text, &mut here, &mut matchers, &mut progress)? {

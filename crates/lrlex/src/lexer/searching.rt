@@ -1,18 +1,17 @@
 ghost use Rattle.std.specs.Prelude.{◌≡◌, ◌+◌, ◌^◌, ◌<◌, ◌≤◌, ◌⊎◌, true, false, vec_len, IfOk, IfSome, MatchOption, IsCharBoundary};
 ghost use Rattle.regex.specs.Patterns.{SameCaptures};
 ghost use Rattle.regex.specs.Strings.{matcher_pattern};
-ghost use Rattle.lrlex_rules.specs.Patterns.{match_length, pattern_of};
+ghost use Rattle.lrlex_rules.specs.Patterns.{match_length, rule_pattern};
 ghost use Rattle.lrlex.specs.Active.{active_count};
 ghost use Rattle.lrlex.specs.Asked.{untabled_count};
 ghost use Rattle.lrlex.specs.Tiling.{Wins, IsStuck};
 ghost use Rattle.lrlex.specs.Decided.{IsDecided};
-ghost use Rattle.lrlex_rules.specs.Parts.{as_rule};
 ghost use Rattle.lrlex.specs.Tables.{IsMatcherOf, AreMatchers};
 ghost use Rattle.lrlex.specs.AtHand.{AreOf};
 ghost use Rattle.lrlex.specs.Views.{definition_of};
 
 use crate::lexer::definition::{LRNonStreamingLexerDef, RulesIn};
-use lrlex_base::{Id, LexerTypes};
+use lrlex_base::LexerTypes;
 use lrlex_rules::Rule;
 use regex::Matcher;
 use std::alloc::{AllocError, Global};
@@ -33,10 +32,10 @@ pub(crate) struct Sight {
 
 /// How many bytes of the text the rule's pattern matches. No other function searches.
 #[tactic(auto, unfolding(lrlex_rules::specs::Patterns::match_length))]
-fn ask<S: Id>(matcher: &mut Matcher<'_>, rule: &Rule<S>, text: &str, asked: &mut u128) -> usize
-    requires rule { SameCaptures (matcher_pattern matcher.old) (pattern_of (as_rule S.number rule.now)) }
+fn ask<S>(matcher: &mut Matcher<'_>, rule: &Rule<S>, text: &str, asked: &mut u128) -> usize
+    requires rule { SameCaptures (matcher_pattern matcher.old) (rule_pattern rule.now) }
     requires room { asked.old + 1 < 2 ^ 128 }
-    ensures length { result ≡ match_length (pattern_of (as_rule S.number rule.now)) text.now }
+    ensures length { result ≡ match_length (rule_pattern rule.now) text.now }
     ensures boundary { IsCharBoundary text.now result }
     ensures counted { asked.new ≡ asked.old + 1 }
     ensures same { matcher_pattern matcher.new ≡ matcher_pattern matcher.old }
@@ -54,7 +53,7 @@ fn ask<S: Id>(matcher: &mut Matcher<'_>, rule: &Rule<S>, text: &str, asked: &mut
 /// The same, by a matcher that is made where there is none yet. Out of line, since a matcher's room on the stack would cost
 /// each tile.
 #[inline(never)]
-fn ask_by<'d, S: Id>(
+fn ask_by<'d, S>(
     alloc: Global,
     slot: &mut Option<Box<Matcher<'d>>>,
     rule: &'d Rule<S>,
@@ -63,7 +62,7 @@ fn ask_by<'d, S: Id>(
 ) -> Result<usize, AllocError>
     requires slot { IsMatcherOf rule.now slot.old }
     requires room { asked.old + 1 < 2 ^ 128 }
-    ensures length { IfOk result (λ n. n ≡ match_length (pattern_of (as_rule S.number rule.now)) text.now) }
+    ensures length { IfOk result (λ n. n ≡ match_length (rule_pattern rule.now) text.now) }
     ensures boundary { IfOk result (λ n. IsCharBoundary text.now n) }
     ensures counted { IfOk result (λ _. asked.new ≡ asked.old + 1) }
     ensures slot { IsMatcherOf rule.now slot.new }
@@ -80,7 +79,7 @@ fn ask_by<'d, S: Id>(
 }
 
 /// Room for a matcher of each rule, where none is made yet.
-pub(crate) fn no_matchers<'d, S: Id>(
+pub(crate) fn no_matchers<'d, S>(
     alloc: Global,
     rules: &'d [Rule<S>],
 ) -> Result<Vec<Option<Box<Matcher<'d>>>>, AllocError>

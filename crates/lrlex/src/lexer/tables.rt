@@ -7,7 +7,6 @@ ghost use Rattle.lrlex_rules.specs.Parts.{as_rule};
 ghost use Rattle.lrlex_rules.specs.Patterns.{pattern_of};
 ghost use Rattle.lrlex.specs.Tables.{pattern_in, patterns_on, AreServed};
 
-use lrlex_base::Id;
 use lrlex_rules::Rule;
 use lrlex_table::{Budget, Single, Source, Table, Tables, joined_tables, table_of, tables_between};
 use std::alloc::{AllocError, Global};
@@ -17,7 +16,7 @@ use std::collections::{HashMap, HashSet};
 const WORK_OF_A_RULE: usize = 100;
 
 /// The table of the rule alone, where it can be had.
-fn table_alone<S: Id>(
+fn table_alone<S>(
     alloc: Global,
     rule: &Rule<S>,
     budget: &mut Budget,
@@ -33,7 +32,7 @@ fn table_alone<S: Id>(
 }
 
 /// Tries the table of the rule at this place alone, unless it was tried before.
-fn try_single<S: Id>(
+fn try_single<S>(
     alloc: Global,
     rules: &[Rule<S>],
     place: usize,
@@ -51,7 +50,7 @@ fn try_single<S: Id>(
 }
 
 /// Tries the tables of the rules at these places, each alone.
-fn try_singles<S: Id>(
+fn try_singles<S>(
     alloc: Global,
     rules: &[Rule<S>],
     places: &[usize],
@@ -73,7 +72,7 @@ const RULES_AT_ONCE: usize = 128;
 /// Tables for those of the rules at these places that stand from `from` on and below `to` in the list. The tables of rules
 /// alone have many more rows than one for all, so of a long list one part is joined before the next is begun. In a part at
 /// most half of what is left of the budget goes into these, so that as much is left to join them, and for other lists.
-fn tables_from<S: Id>(
+fn tables_from<S>(
     alloc: Global,
     rules: &[Rule<S>],
     places: &[usize],
@@ -102,7 +101,7 @@ fn tables_from<S: Id>(
 }
 
 /// Tables for the rules at these places. A list is paid for before it is looked at.
-fn tables_on<S: Id>(
+fn tables_on<S>(
     alloc: Global,
     rules: &[Rule<S>],
     places: &[usize],
@@ -183,7 +182,7 @@ fn same_before(
 
 /// Tables for the states, whose active rules stand at these places, and which state has which. States with the same
 /// rules share theirs.
-pub(crate) fn tables_for<S: Id>(
+pub(crate) fn tables_for<S>(
     alloc: Global,
     rules: &[Rule<S>],
     active: &[Vec<usize>],

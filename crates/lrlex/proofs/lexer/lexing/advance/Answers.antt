@@ -142,7 +142,7 @@ returns-clause-goes_on g c on =
     let more : items_by g.L.StorageT.Id.number g.L.LexemeT.Lexeme.seen n.items.items ≡ found ++ tile_items d p.place t = ap (items_by g.L.StorageT.Id.number g.L.LexemeT.Lexeme.seen) e.items ∙ given in
     subst (λ i. Reached d text i n.stack.items (items_by g.L.StorageT.Id.number g.L.LexemeT.Lexeme.seen n.items.items) n.boundaries n.asked) (sym e.place)
     (Reached-more d text p.place p.stack.items found p.boundaries p.asked r n.stack.items (items_by g.L.StorageT.Id.number g.L.LexemeT.Lexeme.seen n.items.items) n.boundaries n.asked t c.requires.inside taken few
-    e.runs (e.moved ∙ sym (ap (λ (x : Rule). stack_after (plain p.stack.items) x.target) rule_is)) more
+    e.runs (e.moved ∙ ap (stack_after (plain p.stack.items)) c.target_state.ensures ∙ sym (ap (λ (x : Rule). stack_after (plain p.stack.items) x.target) rule_is)) more
     e.kept)
 
 pub returns-clause-boundary : goal.returns-clause-boundary

@@ -1,4 +1,6 @@
-use Rattle.std.proofs.Common.{◌≡◌, ◌+◌, ◌-◌, ◌≤◌, length, take, sym, ap, ◌∙◌, subst, inl, inr, arith, IsCharBoundary}
+use Rattle.std.specs.List.Sorted.{IsPartitionedBy}
+use Rattle.lrlex.specs.Edits.{begins_before}
+use Rattle.std.proofs.Common.{ap₂, map, slice_index, ◌≡◌, ◌+◌, ◌-◌, ◌≤◌, length, take, sym, ap, ◌∙◌, subst, inl, inr, arith, IsCharBoundary}
 use Rattle.std.proofs.lemmas.Bool.{cases_lt}
 use Rattle.std.proofs.lemmas.List.{length-take-le, get_or-take}
 use Rattle.lrlex_table.specs.Decided.{IsText}
@@ -6,7 +8,7 @@ use Rattle.lrlex_table.proofs.ByteLemmas.{are_bytes}
 use Rattle.lrlex.specs.Marks.{Mark, no_mark, mark_at}
 use Rattle.lrlex.specs.Reach.{Reached}
 use Rattle.lrlex.specs.Decided.{IsSafe, HasLooked, items_before}
-use Rattle.lrlex.specs.Views.{definition_of, items_by}
+use Rattle.lrlex.specs.Views.{definition_of, item_of, items_by}
 use Rattle.lrlex.proofs.KnownLemmas.{known, sorted}
 use Rattle.lrlex.proofs.AheadLemmas.{looks_known}
 use Rattle.lrlex.proofs.GoingLemmas.{some_boundary, order_at, first_safe, going, going_looked}
@@ -48,18 +50,20 @@ last_safe-index-requires-clause-first g c =
     let le : low ≤ length o.text.now = omega (arith, edit.removed.in_order, c.requires.fits.1.0) in
     subst (λ n. IsSafe o.boundaries c.deref.result.now n 0) (sym c.start.ensures) (subst (λ ns. IsSafe o.boundaries ns low 0) (sym c.deref.ensures.value) (first_safe d o.text.now new edit.put.now low edit.removed.end found o.boundaries o.ahead.items c.requires.initial is le c.requires.gives h looks))
 
-pub resumed-requires-clause-in_order : goal.resumed-requires-clause-in_order
-resumed-requires-clause-in_order g c =
+pub items_before-before-requires : goal.items_before-before-requires
+items_before-before-requires g c =
     let d = definition_of g.L.StorageT.Id.number c.args.old.now.definition.now in
     let o = c.args.old.now in
+    let view = item_of g.L.StorageT.Id.number g.L.LexemeT.Lexeme.seen in
     let found = items_by g.L.StorageT.Id.number g.L.LexemeT.Lexeme.seen o.items.items in
     let h = known d o.text.now found o.boundaries c.requires.initial o.lexed in
-    order_at d o.text.now found o.boundaries h c.last_safe-index.result c.last_safe-index.ensures.within
+    subst (λ xs. IsPartitionedBy (begins_before c.place.result) (map view xs)) (sym c.deref-2.ensures.value)
+    (subst (λ i. IsPartitionedBy (begins_before i) found) (sym c.place.ensures) (order_at d o.text.now found o.boundaries h c.last_safe-index.result c.last_safe-index.ensures.within))
 
 pub resumed-requires-clause-numbers : goal.resumed-requires-clause-numbers
 resumed-requires-clause-numbers g c =
     let o = c.args.old.now in
-    (looks_known (definition_of g.L.StorageT.Id.number o.definition.now) o.text.now o.boundaries o.ahead.items o.looks).len
+    ap length c.deref-3.ensures.value ∙ (looks_known (definition_of g.L.StorageT.Id.number o.definition.now) o.text.now o.boundaries o.ahead.items o.looks).len
 
 pub returns-clause-reached : goal.returns-clause-reached
 returns-clause-reached g c =
@@ -79,10 +83,13 @@ returns-clause-reached g c =
     let e = c.in_ok-progress.ensures in
     let going = (going d o.text.now new edit.put.now low edit.removed.end found o.boundaries o.ahead.items c.requires.initial is le c.requires.gives h looks k c.last_safe-index.ensures.within safe).reached in
     let front = items_before (mark_at o.boundaries k).place found in
+    let kept : items_by g.L.StorageT.Id.number g.L.LexemeT.Lexeme.seen p.items.items ≡ front =
+    ap (items_by g.L.StorageT.Id.number g.L.LexemeT.Lexeme.seen) e.items ∙ c.items_before-before.ensures
+    ∙ ap₂ (λ i xs. items_before i (items_by g.L.StorageT.Id.number g.L.LexemeT.Lexeme.seen xs)) c.place.ensures c.deref-2.ensures.value in
     let now = items_by g.L.StorageT.Id.number g.L.LexemeT.Lexeme.seen p.items.items in
     subst (λ i. Reached d new i p.stack.items now p.boundaries p.asked) (sym e.place)
     (subst (λ s. Reached d new (mark_at o.boundaries k).place s now p.boundaries p.asked) (sym e.stack)
-    (subst (λ xs. Reached d new (mark_at o.boundaries k).place (mark_at o.boundaries k).runs xs p.boundaries p.asked) (sym e.items)
+    (subst (λ xs. Reached d new (mark_at o.boundaries k).place (mark_at o.boundaries k).runs xs p.boundaries p.asked) (sym kept)
     (subst (λ ms. Reached d new (mark_at o.boundaries k).place (mark_at o.boundaries k).runs front ms p.asked) (sym e.boundaries)
     (subst (λ n. Reached d new (mark_at o.boundaries k).place (mark_at o.boundaries k).runs front (take (k + 1) o.boundaries) n) (sym e.asked) going))))
 
@@ -102,10 +109,10 @@ returns-clause-looked g c =
     let safe : IsSafe o.boundaries o.ahead.items low k = subst (λ n. IsSafe o.boundaries o.ahead.items n k) c.start.ensures (subst (λ ns. IsSafe o.boundaries ns c.start.result k) c.deref.ensures.value c.last_safe-index.ensures.safe) in
     let p = c.in_ok-progress.progress in
     let e = c.in_ok-progress.ensures in
-    let looked = going_looked d o.text.now new edit.put.now low edit.removed.end found o.boundaries o.ahead.items c.requires.initial is le c.requires.gives h looks k c.last_safe-index.ensures.within safe p.over e.over in
+    let looked = going_looked d o.text.now new edit.put.now low edit.removed.end found o.boundaries o.ahead.items c.requires.initial is le c.requires.gives h looks k c.last_safe-index.ensures.within safe p.over (e.over ∙ ap (λ ns. slice_index ns k) c.deref-3.ensures.value) in
     subst (λ i. HasLooked d new p.boundaries p.ahead.items i p.over) (sym e.place)
     (subst (λ ms. HasLooked d new ms p.ahead.items (mark_at o.boundaries k).place p.over) (sym e.boundaries)
-    (subst (λ ns. HasLooked d new (take (k + 1) o.boundaries) ns (mark_at o.boundaries k).place p.over) (sym e.ahead) looked))
+    (subst (λ ns. HasLooked d new (take (k + 1) o.boundaries) ns (mark_at o.boundaries k).place p.over) (sym (e.ahead ∙ ap (take (k + 1)) c.deref-3.ensures.value)) looked))
 
 pub returns-clause-boundary : goal.returns-clause-boundary
 returns-clause-boundary g c =

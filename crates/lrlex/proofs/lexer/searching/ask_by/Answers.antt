@@ -5,25 +5,22 @@ use Rattle.std.proofs.lemmas.Option.{same_Some}
 use Rattle.regex.specs.Patterns.{SameCaptures}
 use Rattle.regex.specs.Strings.{matcher_pattern}
 use Rattle.regex.specs.declared.string.matcher.Matcher.{Matcher}
-use Rattle.lrlex_rules.specs.Parts.{as_rule}
-use Rattle.lrlex_rules.specs.Patterns.{pattern_of}
-use Rattle.lrlex.proofs.TableLemmas.{pattern_here}
+use Rattle.lrlex_rules.specs.Patterns.{rule_pattern}
 use Rattle.lrlex.proofs.lexer.searching.ask_by.Goals as goal
 
 pub ask-requires-clause-rule : goal.ask-requires-clause-rule
 ask-requires-clause-rule g c =
     let rule = c.args.rule.now in
     let m = c.in-Some.matcher in
-    subst (λ (x : Matcher). SameCaptures (matcher_pattern x) (pattern_of (as_rule g.S.Id.number rule))) (sym c.deref_mut.ensures.value)
-    (subst (SameCaptures (matcher_pattern m.value)) (pattern_here (λ x. 0) g.S.Id.number rule) (c.requires.slot m c.in-Some.is))
+    subst (λ (x : Matcher). SameCaptures (matcher_pattern x) (rule_pattern rule)) (sym c.deref_mut.ensures.value) (c.requires.slot m c.in-Some.is)
 
 pub returns-in_ok-matcher-in-None-2-clause-slot : goal.returns-in_ok-matcher-in-None-2-clause-slot
 returns-in_ok-matcher-in-None-2-clause-slot g c m e =
     let rule = c.args.rule.now in
-    let own = pattern_of (as_rule (λ x. 0) rule) in
+    let own = rule_pattern rule in
     let made = c.in_ok-matcher-in-None.field-0 in
     let same : matcher_pattern c.ask-len.new.matcher ≡ matcher_pattern made =
     c.ask-len.ensures.same ∙ ap matcher_pattern (c.deref_mut-in-None.ensures.value ∙ c.in_ok-matcher-in-None-2.ensures.ok) in
     let held : SameCaptures (matcher_pattern c.ask-len.new.matcher) own =
-    subst (λ p. SameCaptures p own) (sym same) (subst (SameCaptures (matcher_pattern made)) (pattern_here g.S.Id.number (λ x. 0) rule) c.in_ok-matcher-in-None.ensures) in
+    subst (λ p. SameCaptures p own) (sym same) c.in_ok-matcher-in-None.ensures in
     subst (λ (x : Box Matcher Global). SameCaptures (matcher_pattern x.value) own) (same_Some _ _ e) held

@@ -2,6 +2,7 @@ use Rattle.std.proofs.Common.{◌≡◌, ℕ, ◌+◌, ◌<◌, ◌≤◌, ◌�
 use Rattle.std.proofs.lemmas.Option.{slice_get_read}
 use Rattle.std.proofs.lemmas.List.{length-map, nil_from_length}
 use Rattle.lrlex_rules.specs.Parts.{as_rule}
+use Rattle.lrlex_rules.specs.Patterns.{match_length}
 use Rattle.lrlex_table.specs.Tables.{IsBestAmong}
 use Rattle.lrlex.specs.Tables.{IsMatcherOf, patterns_on, pattern_in}
 use Rattle.lrlex.specs.Decided.{IsDecided}
@@ -11,7 +12,7 @@ use Rattle.lrlex.proofs.CountLemmas.{active_count-le}
 use Rattle.lrlex.proofs.ScanLemmas.{length-places_of}
 use Rattle.lrlex.proofs.MatcherLemmas.{matcher_at, matchers_set}
 use Rattle.lrlex.proofs.DecidedLemmas.{decided_whole, decided_look}
-use Rattle.lrlex.proofs.TableLemmas.{active_within, looked_at, looked_more, other_within, others_few, told_none, told_some, best_kept, best_taken, best_wins, best_stuck, asked_is}
+use Rattle.lrlex.proofs.TableLemmas.{active_within, looked_at, looked_more, other_within, others_few, told_none, told_some, pattern_here, best_kept, best_taken, best_wins, best_stuck, asked_is}
 use Rattle.lrlex.proofs.lexer.searching.winner.Goals as goal
 use Rattle.lrlex.proofs.lexer.searching.winner.Goals.{in-Some, in-None, then-is_better, else-is_better, then-is_empty, else-is_empty}
 
@@ -125,7 +126,7 @@ others-preserved g c =
     let at = slice_get_read rules (length rules) place r refl below c.index-rule.ensures in
     let len = c.in_ok-len.len in
     let ps = patterns_on d.rules places in
-    let is = asked_is g.L.StorageT.Id.number d rules refl places text k place len r within refl below c.index-rule.ensures c.in_ok-len.ensures.length in
+    let is = asked_is g.L.StorageT.Id.number d rules refl places text k place len r within refl below c.index-rule.ensures (c.in_ok-len.ensures.length ∙ ap (λ re. match_length re text) (pattern_here (λ _. 0) g.L.StorageT.Id.number r)) in
     let inside : k < length ps = omega (arith, within, length-map places (pattern_in d.rules)) in
     let a = looked_at t.parts.items t.asked.items i in
     let b = looked_at t.parts.items t.asked.items (i + 1) in

@@ -10,4 +10,4 @@ use Rattle.lrlex_rules.proofs.rules.Rule.matcher.Goals as goal
 pub returns : goal.returns
 returns g c =
     let rule = c.args.self.now in
-    if_ok c.matcher.result (λ m e. subst (λ re. SameCaptures re (pattern_of (as_rule g.StorageT.Id.number rule))) (sym (e ∙ ap regex_pattern c.deref.ensures)) (rule_alike g.StorageT.Id.number rule)) c.matcher.ensures.pattern
+    if_ok c.matcher.result (λ m e. subst (λ re. SameCaptures re (pattern_of (as_rule (λ _. 0) rule))) (sym (e ∙ ap regex_pattern c.deref.ensures)) (rule_alike (λ _. 0) rule)) c.matcher.ensures.pattern

@@ -6,20 +6,24 @@ use Rattle.lrlex.specs.Tables.{AreMatchers}
 use Rattle.lrlex.specs.AtHand.{AreOf}
 use Rattle.lrlex.specs.Views.{definition_of, items_by}
 use Rattle.lrlex.proofs.ViewLemmas.{taken_back}
+use Rattle.lrlex.proofs.BegunLemmas.{begun, begun_looking}
 use Rattle.lrlex.proofs.ReachLemmas.{ended, nothing_left, asked_now, few_searches, run_of, length_now}
 use Rattle.lrlex.specs.Asked.{asks}
 use Rattle.lrlex.proofs.AskedLemmas.{asks_nowhere, more_asked, all_asked, next_asked}
 use Rattle.lrlex.proofs.lexer.definition.LRNonStreamingLexerDef.run.Goals as goal
 
 pub tiles-init : goal.tiles-init
-tiles-init g c = record {
-  here = subst (λ q. AreOf g.L.StorageT.Id.number c.args.self.now q c.rules_in-here.result) (sym c.rules_in-here.ensures.state) c.rules_in-here.ensures.rules;
-  matchers = rw c.deref.ensures.value at c.in_ok-matchers.ensures;
-  boundary = subst (IsCharBoundary c.args.text.now) (sym c.in_ok-progress.ensures.start) (IsCharBoundary-start c.args.text.now c.utf8.text);
-  reached = c.in_ok-progress.ensures.reached;
-  looked = c.in_ok-progress.ensures.looked;
-  exact = c.in_ok-progress.ensures.none ∙ sym (asks_nowhere c.args.self.now c.args.text.now c.in_ok-progress.progress.boundaries 0 (length c.in_ok-progress.progress.boundaries - 1) (omega (arith, c.in_ok-progress.ensures.one)));
-}
+tiles-init g c =
+    let p = c.in_ok-progress.progress in
+    let e = c.in_ok-progress.ensures in
+    record {
+      here = subst (λ q. AreOf g.L.StorageT.Id.number c.args.self.now q c.rules_in-here.result) (sym c.rules_in-here.ensures.state) c.rules_in-here.ensures.rules;
+      matchers = rw c.deref.ensures.value at c.in_ok-matchers.ensures;
+      boundary = subst (IsCharBoundary c.args.text.now) (sym e.place) (IsCharBoundary-start c.args.text.now c.utf8.text);
+      reached = begun (definition_of g.L.StorageT.Id.number c.args.self.now) c.args.text.now g.L.StorageT.Id.number g.L.LexemeT.Lexeme.seen p.place p.stack.items p.items.items p.boundaries p.asked e.place e.stack e.items e.boundaries e.asked (sym c.is_state.ensures ∙ c.if-not-is_state.false);
+      looked = begun_looking (definition_of g.L.StorageT.Id.number c.args.self.now) c.args.text.now p.boundaries p.ahead.items p.place p.over e.boundaries e.ahead e.place e.over;
+      exact = e.asked ∙ sym (asks_nowhere c.args.self.now c.args.text.now p.boundaries 0 (length p.boundaries - 1) (omega (arith, ap length e.boundaries)));
+    }
 
 pub tiles-preserved : goal.tiles-preserved
 tiles-preserved g c =

@@ -1,7 +1,7 @@
 use Rattle.std.proofs.Common.{◌≡◌, map, take}
 use Rattle.lrlex.specs.Active.{active_places}
 use Rattle.lrlex_rules.specs.Parts.{as_rule, as_state}
-use Rattle.lrlex.proofs.lexer.definition.LRNonStreamingLexerDef.within_budget.Given as goal
+use Rattle.lrlex.proofs.lexer.definition.RuleTable.of_parts.Given as goal
 
 abbrev pub invariant-states : goal.invariant-states
 invariant-states g l =
