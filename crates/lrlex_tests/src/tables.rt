@@ -132,3 +132,41 @@ fn the_same_by_tables_and_by_asking(rt: HostRuntime) -> Result<(), Fail> {
     }
     Ok(())
 }
+
+/// How many searches lexing makes, with tables of so many rows at most. None where the rules are refused.
+fn searches_within(
+    alloc: Global,
+    rules: &str,
+    input: &str,
+    most: usize,
+) -> Result<Option<u128>, AllocError> {
+    let budget = Budget::new(most, 40_000_000);
+    let built = Definition::new_with_budget(alloc, rules, UNSPECIFIED_LEX_FLAGS, budget)?;
+    let Ok(definition) = built else {
+        return Ok(None);
+    };
+    let run = definition.run(alloc, input)?;
+    Ok(Some(run.asked()))
+}
+
+#[test]
+fn one_search_for_each_rule_without_a_table_at_each_boundary(rt: HostRuntime) -> Result<(), Fail> {
+    let end = "%%\na$ 'X'\n[ab] 'Y'";
+    // rules, an input, the most rows, searches
+    let rows = [
+        (end, "aba", 8_000, 3),
+        (end, "", 8_000, 0),
+        // it stops at the second
+        (end, "bc", 8_000, 2),
+        ("%%\na$ 'X'\nb$ 'Z'\n[ab] 'Y'", "ab", 8_000, 4),
+        // in the start state each rule has a table
+        ("%x s\n%%\na <+s>'A'\n<s>b$ 'B'\n<s>b 'C'", "abb", 8_000, 2),
+        ("%%\n[ab] 'Y'", "aba", 8_000, 0),
+        ("%%\n[ab] 'Y'", "aba", 0, 3),
+    ];
+    for (rules, input, most, searches) in rows {
+        let got = searches_within(rt.alloc(), rules, input, most)?;
+        assert_eq!(rt; got, Some(searches), "{rules:?} on {input:?}, {most}");
+    }
+    Ok(())
+}

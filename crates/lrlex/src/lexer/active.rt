@@ -1,7 +1,7 @@
-ghost use Rattle.std.specs.Prelude.{◌≡◌, ◌==◌, map, IfOk, IsTrue};
+ghost use Rattle.std.specs.Prelude.{◌≡◌, ◌==◌, map, option_map, IfOk, IsTrue};
 ghost use Rattle.std.specs.List.{find, list_any, position};
 ghost use Rattle.std.specs.Option.{option_copied};
-ghost use Rattle.lrlex.specs.Active.{is_inclusive, is_active_where, active_places, lacks_id};
+ghost use Rattle.lrlex.specs.Active.{is_inclusive, is_active_where, active_places, lacks_id, lexeme_id};
 ghost use Rattle.lrlex_rules.specs.Parts.{as_rule, as_state};
 ghost use Rattle.lrlex.specs.Tables.{ArePlaced};
 
@@ -14,7 +14,19 @@ use std::alloc::{AllocError, Global};
 pub(crate) fn lacks_id<S: Id>(rule: &Rule<S>) -> bool
     ensures { result ≡ lacks_id (as_rule S.number rule.now) }
 {
-    rule.name().is_some() & rule.tok_id().is_none()
+    rule.name().is_some() && rule.tok_id().is_none()
+}
+
+/// The id of the rule's lexemes. An unnamed rule gives none.
+#[inline(always)]
+pub(crate) fn lexeme_id<S: Id>(rule: &Rule<S>) -> Option<S>
+    ensures { option_map S.number result ≡ lexeme_id (as_rule S.number rule.now) }
+{
+    if rule.name().is_some() {
+        rule.tok_id()
+    } else {
+        None
+    }
 }
 
 /// Whether the id of each state is its place.

@@ -12,7 +12,7 @@ ghost use Rattle.lrlex.specs.AtHand.{AreOf};
 ghost use Rattle.lrlex.specs.Views.{definition_of, item_of, items_by};
 
 use crate::errors::LRLexError;
-use crate::lexer::active::lacks_id;
+use crate::lexer::active::{lacks_id, lexeme_id};
 use crate::lexer::boundaries::Boundaries;
 use crate::lexer::definition::{LRNonStreamingLexerDef, RulesIn};
 use crate::lexer::room::append;
@@ -20,7 +20,6 @@ use crate::lexer::searching::winner;
 use crate::lexer::stack::{step, top_of};
 use lrlex_base::{Lexeme, LexerTypes, Span};
 use lrlex_rules::{Rule, StartStateId, StartStateOperation};
-use num_traits::Zero;
 use regex::Matcher;
 use std::alloc::{AllocError, Global};
 
@@ -74,8 +73,7 @@ pub(crate) fn begin<X: Copy>(alloc: Global, text: &str) -> Result<Progress<X>, A
     Ok(progress)
 }
 
-/// Gives the tile's lexeme, if its rule gives one. It is stored first and taken back where the rule gives none: which rule
-/// wins can't be foretold, and a store costs less than a jump that goes the wrong way.
+/// Gives the tile's lexeme, if its rule gives one.
 #[inline(always)]
 fn give<L: LexerTypes>(
     items: &mut Vec<Result<L::LexemeT, LRLexError>>,
@@ -88,14 +86,8 @@ fn give<L: LexerTypes>(
         ≡ map (item_of L.StorageT.number L.LexemeT.seen) items.old.items
         ++ lexeme_of (lexeme_id (as_rule L.StorageT.number rule.now)) place len) }
 {
-    let id = rule.tok_id();
-    let gives = rule.name().is_some() & id.is_some();
-    append(
-        items,
-        Ok(Lexeme::new(id.unwrap_or(L::StorageT::zero()), place, len)),
-    )?;
-    if !gives {
-        let _ = items.take_last();
+    if let Some(id) = lexeme_id(rule) {
+        append(items, Ok(Lexeme::new(id, place, len)))?;
     }
     Ok(())
 }
