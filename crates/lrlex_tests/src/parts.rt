@@ -3,7 +3,7 @@ use lrlex::{
     DEFAULT_LEX_FLAGS, DefaultLexerTypes, LRNonStreamingLexerDef, LexFlags, LexerDef, Rule,
     StartState, StartStateOperation, UNSPECIFIED_LEX_FLAGS,
 };
-use lrlex_base::{LexerTypes, Span};
+use lrlex_base::{Id, LexerTypes, Span};
 use std::alloc::{AllocError, Global};
 use std::collections::{HashMap, HashSet};
 use std::test::Fail;
@@ -11,7 +11,7 @@ use std::test::Fail;
 type Definition = LRNonStreamingLexerDef<DefaultLexerTypes<u32>>;
 
 /// A rule's name and id: `ID 0`, `- none`.
-fn rule_text(alloc: Global, rule: &Rule<u32>) -> Result<String, AllocError> {
+fn rule_text<T: Id>(alloc: Global, rule: &Rule<T>) -> Result<String, AllocError> {
     let name = rule.name().unwrap_or("-");
     match rule.tok_id() {
         Some(id) => format!(in alloc; "{name} {id}"),
