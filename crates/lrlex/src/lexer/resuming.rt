@@ -134,10 +134,12 @@ pub(crate) fn items_before<'a, L: LexerTypes<LexErrorT = LRLexError>>(
 /// For how many tiles more than the old run had room is made.
 const SLACK: usize = 64;
 
-/// What stands at an old boundary: the old boundaries up to it, and these old items, which stand before it.
+/// What stands at an old boundary: the old boundaries up to it, and these old items, which stand before it, with room for
+/// so many.
 fn resumed<X: Copy>(
     alloc: Global,
     before: &[Result<X, LRLexError>],
+    many: usize,
     old: &Boundaries,
     ahead: &[u8],
     index: usize,
@@ -165,7 +167,7 @@ fn resumed<X: Copy>(
     progress.stack.extend_from_slice(old.stack(index))?;
     progress.boundaries.push(old.place(0), old.stack(0), 0)?;
     progress.boundaries.copy_front(old, index + 1)?;
-    progress.items.reserve(before.len().saturating_add(SLACK))?;
+    progress.items.reserve(many.saturating_add(SLACK))?;
     progress.items.extend_from_slice(before)?;
     progress.ahead.reserve(room)?;
     progress.ahead.extend_from_slice(&ahead[..index + 1])?;
@@ -193,7 +195,8 @@ pub(crate) fn resume<L: LexerTypes<LexErrorT = LRLexError>>(
 {
     let index = last_safe(&old.boundaries, &old.ahead, edit.removed.start());
     let before = items_before::<L>(&old.items, old.boundaries.place(index));
-    let progress = resumed(alloc, before, &old.boundaries, &old.ahead, index)?;
+    let many = old.items.len();
+    let progress = resumed(alloc, before, many, &old.boundaries, &old.ahead, index)?;
     Ok(progress)
 }
 
