@@ -7,6 +7,7 @@ pub mod IdLemmas
 pub mod ItemLemmas
 pub mod KnownLemmas
 pub mod MeetLemmas
+pub mod NameLemmas
 pub mod Parted
 pub mod PeakLemmas
 pub mod PlaceLemmas

@@ -1,5 +1,5 @@
 -- Token ids by name: the first rule with an id or a name, and what a map of names to ids does to rules.
-use Rattle.std.specs.Prelude.{◌≡◌, ◌≢◌, ℕ, ◌==◌, Bool, false, not, ◌&&◌, List, [], map, Option, Some, None, is_some, unwrap_or, option_map, string_bytes}
+use Rattle.std.specs.Prelude.{◌≡◌, ◌≢◌, ℕ, ◌==◌, Bool, false, not, ◌&&◌, List, [], map, Option, Some, None, is_some, slice_get, option_map, string_bytes}
 use Rattle.std.specs.Option.{option_and_then, option_map_or}
 use Rattle.std.specs.List.{find, list_any}
 use Rattle.std.specs.Str.{bytes_eq}
@@ -29,9 +29,18 @@ is_named_at name place r = is_named name r && same_span r.name_span place
 abbrev pub gives : ℕ → Rule → Bool
 gives id r = has_id id r && is_some r.name
 
--- the name of the first such rule
-abbrev pub name_of : List Rule → ℕ → List ℕ
-name_of rules id = unwrap_or (option_and_then (λ (r : Rule). r.name) (find (gives id) rules)) []
+-- the name of the first such rule, if there is one
+abbrev pub name_of : List Rule → ℕ → Option (List ℕ)
+name_of rules id = option_and_then (λ (r : Rule). r.name) (find (gives id) rules)
+
+-- the rule's id, if it has one, is this place
+abbrev pub HasOwnId : {S : Type 0} → (S → ℕ) → code.Rule S → ℕ → Type 0
+HasOwnId number r i = (id : _) → r.tok_id ≡ Some id → number id ≡ i
+
+-- no two rules have the same id
+abbrev pub HaveDistinctIds : {S : Type 0} → List (code.Rule S) → Type 0
+HaveDistinctIds rules =
+    (i j : ℕ) (r s : code.Rule _) (id : _) → slice_get rules i ≡ Some r → slice_get rules j ≡ Some s → r.tok_id ≡ Some id → s.tok_id ≡ Some id → i ≡ j
 
 -- the first of the program's rules with the id, and the first with the name
 abbrev pub rule_with_id : {S : Type 0} → (S → ℕ) → List (code.Rule S) → ℕ → Option (code.Rule S)

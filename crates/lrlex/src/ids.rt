@@ -7,6 +7,7 @@ ghost use Rattle.lrlex_rules.specs.Parts.{as_rule};
 ghost use Rattle.lrlex.specs.Ids.{is_named, ids_of, with_own_id, is_lacking, is_unused, is_unused_at, HoldsNames, HoldsTexts, HoldsPlaces};
 
 use crate::lexer::RuleTable;
+use crate::names::have_own_ids;
 use lrlex_base::{Id, Span};
 use lrlex_rules::Rule;
 use std::alloc::{AllocError, Global};
@@ -118,5 +119,6 @@ impl<S: Id> RuleTable<S> {
         ensures states { self.new.start_states ≡ self.old.start_states }
     {
         take_ids(self.rules.as_mut_slice(), ids);
+        self.own_ids = have_own_ids(&self.rules);
     }
 }

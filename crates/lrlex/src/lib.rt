@@ -6,11 +6,15 @@ mod errors;
 mod ids;
 mod lexer;
 mod lookups;
+mod names;
 
 pub use crate::definitions::LexerDef;
 pub use crate::errors::LRLexError;
 pub use crate::lexer::{LRNonStreamingLexer, LRNonStreamingLexerDef, LexRun};
-pub use lrlex_base::{CTTokenMapBuilder, DefaultLexeme, TokenMapFault, ct_token_map};
+pub use lrlex_base::{
+    CTTokenMapBuilder, DefaultLexeme, Edit, Id, Items, LexError, Lexeme, Lexer, LexerTypes,
+    NewlineCache, NonStreamingLexer, Span, Spanned, SpansKind, TokenMapFault, ct_token_map,
+};
 pub use lrlex_rules::{
     DEFAULT_LEX_FLAGS, LexBuildError, LexBuildResult, LexErrorKind, LexFlags, Rule, StartState,
     StartStateId, StartStateOperation, UNSPECIFIED_LEX_FLAGS,

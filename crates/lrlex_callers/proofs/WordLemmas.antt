@@ -1,35 +1,27 @@
 -- The names and the texts of lexemes.
 use Rattle.std.proofs.Common.{◌≡◌, ◌∙◌, ap, ap₂, sym, refl, subst, arith, ℕ, ◌+◌, List, [], ◌∷◌, ◌++◌, All, Bool, IsCharBoundary, length, ◌<◌, map, slice_range, Option, Some, None, unwrap_or, length-append, append-nil}
 use Rattle.std.specs.Borrow.{Bor}
-use Rattle.std.specs.Option.{option_map, option_and_then}
-use Rattle.std.specs.List.{find, filter_map, cons_option}
+use Rattle.std.specs.Option.{option_map}
+use Rattle.std.specs.List.{filter_map, cons_option}
 use Rattle.std.proofs.lemmas.List.{get_or_at, get_or-map, length-map, map_push}
 use Rattle.std.proofs.lemmas.List.Elements.{filter_map-append}
-use Rattle.lrlex_rules.specs.Definition.{Rule}
-use Rattle.lrlex_rules.specs.Parts.{as_rule}
+use Rattle.lrlex.specs.Words.{Rule}
 use Rattle.lrlex.specs.Tiling.{Lexeme}
-use Rattle.lrlex_rules.specs.declared.rules.Rule as code
-use Rattle.lrlex.proofs.ViewLemmas.{find-map}
-use Rattle.lrlex.specs.Ids.{gives, name_of}
+use Rattle.lrlex.specs.Ids.{name_of}
 use Rattle.lrlex_callers.specs.Lexing.{word_of}
 
 -- ---- names
-
--- the name of the rule that is found
-pub name_found : {S : Type 0} (number : S → ℕ) (rules : List (code.Rule S)) (id : ℕ) (found : Option (code.Rule S)) → found ≡ find (λ r. gives id (as_rule number r)) rules
-    → unwrap_or (option_and_then (λ (r : Rule). r.name) (option_map (as_rule number) found)) [] ≡ name_of (map (as_rule number) rules) id
-name_found number rules id found e =
-    sym (ap (λ (o : Option Rule). unwrap_or (option_and_then (λ (r : Rule). r.name) o) []) (find-map (as_rule number) (gives id) rules ∙ ap (option_map (as_rule number)) (sym e)))
 
 -- the text behind a reference, or behind another
 pub text_or : (o : Option (Bor (List ℕ))) (d : Bor (List ℕ)) → (unwrap_or o d).now ≡ unwrap_or (option_map (λ (s : Bor (List ℕ)). s.now) o) d.now
 text_or None d = refl
 text_or (Some s) d = refl
 
-pub word_is : (rules own : List Rule) (text hay name matched : List ℕ) (id start len : ℕ) (faulty : Bool) (number from to : ℕ) → name ≡ name_of own number → own ≡ rules → number ≡ id
+pub word_is : (rules own : List Rule) (text hay name matched : List ℕ) (id start len : ℕ) (faulty : Bool) (number from to : ℕ) → name ≡ unwrap_or (name_of own number) [] → own ≡ rules → number ≡ id
     → matched ≡ slice_range hay from to → hay ≡ text → from ≡ start → to ≡ start + len → word_of rules text (Lexeme id start len faulty) ≡ Some (name, matched)
 word_is rules own text hay name matched id start len faulty number from to named same_rules same_id cut same_text first last =
-    let a : name_of rules id ≡ name = sym (named ∙ ap (λ (rs : List Rule). name_of rs number) same_rules ∙ ap (name_of rules) same_id) in
+    let a : unwrap_or (name_of rules id) [] ≡ name =
+    sym (named ∙ ap (λ (rs : List Rule). unwrap_or (name_of rs number) []) same_rules ∙ ap (λ (n : ℕ). unwrap_or (name_of rules n) []) same_id) in
     let b : slice_range text start (start + len) ≡ matched =
     sym (cut ∙ ap (λ (xs : List ℕ). slice_range xs from to) same_text ∙ ap (λ (i : ℕ). slice_range text i to) first ∙ ap (λ (j : ℕ). slice_range text start j) last) in
     ap₂ (λ (x y : List ℕ). Some (x, y)) a b

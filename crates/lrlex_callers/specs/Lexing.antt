@@ -1,11 +1,8 @@
 -- What callers say of a text that is lexed.
-use Rattle.std.specs.Prelude.{◌≡◌, ℕ, ◌+◌, List, [], ◌∷◌, Option, Some, None, slice_range}
+use Rattle.std.specs.Prelude.{◌≡◌, ℕ, ◌+◌, List, [], ◌∷◌, Option, Some, None, slice_range, unwrap_or}
 use Rattle.std.specs.Borrow.{Bor}
 use Rattle.std.specs.List.{filter_map}
-use Rattle.lrlex_base.specs.Spans.{Fits, as_span}
-use Rattle.lrlex_base.specs.Edits.{edited}
-use Rattle.lrlex_base.specs.declared.edits.Edit.{Edit}
-use Rattle.lrlex_rules.specs.Definition.{Definition, Rule}
+use Rattle.lrlex.specs.Words.{Definition, Rule, Edit, Fits, as_span, edited}
 use Rattle.lrlex.specs.Ids.{name_of}
 use Rattle.lrlex.specs.Tiling.{Item, Lexeme, Error}
 use Rattle.lrlex.specs.Marks.{Mark}
@@ -13,7 +10,7 @@ use Rattle.lrlex.specs.Reach.{IsRun}
 
 -- a lexeme's name and its text; an error has none
 abbrev pub word_of : List Rule → List ℕ → Item → Option (List ℕ × List ℕ)
-word_of rules text (Lexeme id start len faulty) = Some (name_of rules id, slice_range text start (start + len))
+word_of rules text (Lexeme id start len faulty) = Some (unwrap_or (name_of rules id) [], slice_range text start (start + len))
 word_of rules text (Error start end state) = None
 
 -- the names and the texts of the lexemes that the definition gives for the text, in order

@@ -1,6 +1,5 @@
 //! A run borrows its definition, so that nothing changes the definition under it.
-use lrlex::{LRLexError, LRNonStreamingLexerDef};
-use lrlex_base::LexerTypes;
+use lrlex::{LRLexError, LRNonStreamingLexerDef, LexerTypes};
 use std::alloc::{AllocError, Global};
 
 /// Lexes a text, lets the run go, and puts another definition in the place of its own. How many tiles the run had.

@@ -1,5 +1,5 @@
 //! Builds a lexer of a rule text, lexes a text and writes what it finds.
-ghost use Rattle.std.specs.Prelude.{◌≡◌, All, is_err, map};
+ghost use Rattle.std.specs.Prelude.{◌≡◌, All, is_err};
 ghost use Rattle.std.specs.List.{list_any};
 ghost use Rattle.lrlex_base.specs.Spans.{Fits, as_span};
 ghost use Rattle.lrlex_base.specs.Edits.{edited};
@@ -7,14 +7,13 @@ ghost use Rattle.lrlex_cli.specs.Engine.{IsEngineRun, EndsWriting, IsReport};
 ghost use Rattle.lrlex_cli.specs.Lines.{lines};
 ghost use Rattle.lrlex_cli.specs.declared.engine.EngineFault.TheVariants.{Memory};
 ghost use Rattle.lrlex_rules.specs.Faults.{IsPlaced};
-ghost use Rattle.lrlex_rules.specs.Parts.{as_rule};
-ghost use Rattle.lrlex.specs.Views.{items_by};
+ghost use Rattle.lrlex.specs.Views.{definition_of, items_by};
 ghost use Rattle.lrlex_cli.specs.Report.{fault_lines};
 
 use crate::lines::lines;
 use crate::report::fault_lines;
 use crate::writing::write_bytes;
-use lrlex::{LRLexError, LRNonStreamingLexerDef, LexBuildError, LexFlags, Rule};
+use lrlex::{LRLexError, LRNonStreamingLexerDef, LexBuildError, LexFlags};
 use lrlex_base::{Edit, LexerTypes};
 use std::alloc::{AllocError, Global};
 use std::io;
@@ -58,16 +57,16 @@ fn has_error<X>(items: &[Result<X, LRLexError>]) -> bool
 /// Writes the lines of a run's items, and says whether it was stopped by an error.
 fn write_items<L: LexerTypes<LexErrorT = LRLexError>, W: Write>(
     alloc: Global,
-    rules: &[Rule<L::StorageT>],
+    definition: &LRNonStreamingLexerDef<L>,
     input: &str,
     items: &[Result<L::LexemeT, LRLexError>],
     out: &mut W,
 ) -> Result<Ended, EngineFault>
     ensures { EndsWriting (W.contents out.old) (W.contents out.new) result
-        (lines (map (as_rule L.StorageT.number) rules.now) input.now (items_by L.StorageT.number L.LexemeT.seen items.now))
+        (lines (definition_of L.StorageT.number definition.now).rules input.now (items_by L.StorageT.number L.LexemeT.seen items.now))
         (list_any (λ item. is_err item) items.now) }
 {
-    let text = lines::<L>(alloc, rules, input.as_bytes(), items)?;
+    let text = lines::<L>(alloc, definition, input.as_bytes(), items)?;
     let stopped = has_error(items);
     if let Err(fault) = write_bytes(out, text.as_slice()) {
         return Err(EngineFault::Write(fault));
@@ -99,7 +98,7 @@ pub fn run<L: LexerTypes<LexErrorT = LRLexError>, W: Write>(
         Err(faults) => return Ok(Ended::Refused(faults)),
     };
     let lexed = definition.run(alloc, input)?;
-    write_items::<L, W>(alloc, definition.rules(), input, lexed.items(), out)
+    write_items::<L, W>(alloc, &definition, input, lexed.items(), out)
 }
 
 /// Answers and writes what `run` does for the new text, by lexing the old text and then again after the edit.
@@ -124,7 +123,7 @@ pub fn run_edited<L: LexerTypes<LexErrorT = LRLexError>, W: Write>(
         Ok(definition) => {
             let before = definition.run(alloc, old)?;
             let lexed = before.relex(alloc, edit, new)?;
-            write_items::<L, W>(alloc, definition.rules(), new, lexed.items(), out)
+            write_items::<L, W>(alloc, &definition, new, lexed.items(), out)
         }
         Err(faults) => Ok(Ended::Refused(faults)),
     }

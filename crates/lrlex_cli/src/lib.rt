@@ -9,3 +9,8 @@ mod report;
 mod texts;
 pub mod words;
 mod writing;
+
+pub use lrlex::{
+    DefaultLexeme, DefaultLexerTypes, Edit, Id, LRLexError, LexBuildError, LexError, LexErrorKind,
+    LexFlags, Lexeme, LexerTypes, Span, Spanned, SpansKind, StartStateId,
+};

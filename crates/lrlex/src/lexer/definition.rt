@@ -2,9 +2,11 @@ ghost use Rattle.std.specs.Prelude.{◌≡◌, ◌<◌, All, length, map, true, 
 ghost use Rattle.lrlex.specs.Active.{active_places, is_state, lacks_target};
 ghost use Rattle.lrlex_rules.specs.Parts.{as_rule, as_state};
 ghost use Rattle.lrlex.specs.Tables.{AreServed, ArePlaced};
+ghost use Rattle.lrlex.specs.Ids.{HaveDistinctIds};
 
 use crate::lexer::active::{active_places, are_placed, has_state, position_of};
 use crate::lexer::tables::tables_for;
+use crate::names::{have_own_ids, name_of};
 use lrlex_base::LexerTypes;
 use lrlex_rules::{LexFlags, Rule, StartState};
 use lrlex_table::{Budget, Tables};
@@ -25,12 +27,15 @@ pub(crate) fn usual_budget() -> Budget {
 pub(crate) struct RuleTable<S> {
     pub(crate) rules: Vec<Rule<S>>,
     pub(crate) start_states: Vec<StartState>,
+    /// Whether the id of each rule that has one is its place, as in every definition that was read.
+    pub(crate) own_ids: bool,
     /// Whether the id of each state is its place, as in every definition that was read.
     placed: bool,
     active: Vec<Vec<usize>>,
     tables: Vec<Tables>,
     /// Which of the tables each state has.
     tables_at: Vec<usize>,
+    ghost distinct: { IsTrue own_ids → HaveDistinctIds rules.items },
     ghost at_places: { IsTrue placed → ArePlaced start_states.items },
     ghost lists: { map (λ v. v.items) active.items ≡ map (λ s. active_places (map as_state start_states.items) (map (as_rule (λ _. 0)) rules.items) (as_state s).id) start_states.items },
     ghost served: { ∥ AreServed rules.items (map (λ v. v.items) active.items) tables.items tables_at.items ∥₁ },
@@ -46,8 +51,10 @@ impl<S: Copy> RuleTable<S> {
         alloc: Global,
         start_states: Vec<StartState>,
         rules: Vec<Rule<S>>,
+        own_ids: bool,
         budget: Budget,
     ) -> Result<Self, AllocError>
+        requires { IsTrue own_ids → HaveDistinctIds rules.items }
         ensures rules { IfOk result (λ t. t.rules ≡ rules) }
         ensures states { IfOk result (λ t. t.start_states ≡ start_states) }
     {
@@ -61,6 +68,7 @@ impl<S: Copy> RuleTable<S> {
         Ok(RuleTable {
             rules,
             start_states,
+            own_ids,
             placed,
             active,
             tables,
@@ -91,6 +99,7 @@ impl<L: LexerTypes> LRNonStreamingLexerDef<L> {
     ghost use Rattle.lrlex.specs.Tables.{patterns_on, count_of_tables, count_of_rows, count_of_asked};
     ghost use Rattle.lrlex.specs.AtHand.{AreOf};
     ghost use Rattle.lrlex.specs.Asked.{untabled_count};
+    ghost use Rattle.lrlex.specs.Ids.{name_of};
 
     /// Just these start states, rules and flags, in order.
     pub(crate) fn of_parts(
@@ -118,7 +127,8 @@ impl<L: LexerTypes> LRNonStreamingLexerDef<L> {
         ensures states { IfOk result (λ d. d.table.start_states ≡ start_states) }
         ensures flags { IfOk result (λ d. d.flags ≡ flags) }
     {
-        let table = RuleTable::of_parts(alloc, start_states, rules, budget)?;
+        let own_ids = have_own_ids(&rules);
+        let table = RuleTable::of_parts(alloc, start_states, rules, own_ids, budget)?;
         Ok(LRNonStreamingLexerDef { table, flags })
     }
 
@@ -131,6 +141,7 @@ impl<L: LexerTypes> LRNonStreamingLexerDef<L> {
         let RuleTable {
             rules,
             start_states,
+            own_ids: _,
             placed: _,
             active: _,
             tables: _,
@@ -138,6 +149,14 @@ impl<L: LexerTypes> LRNonStreamingLexerDef<L> {
         } = table;
         let definition = Self::within_budget(alloc, start_states, rules, flags, budget)?;
         Ok(definition)
+    }
+
+    /// The name of the first rule that has a name and this id: what a lexeme with the id is called. Where each id is its
+    /// rule's place, as in a definition that was read, in constant time; else in time linear in the rules.
+    pub fn name_of(&self, id: L::StorageT) -> Option<&str>
+        ensures { option_map (λ t. t.now) result ≡ name_of (definition_of L.StorageT.number self.now).rules (L.StorageT.number id) }
+    {
+        name_of(&self.table.rules, self.table.own_ids, id)
     }
 
     /// How many tables the start states have: states with the same rules share theirs.

@@ -39,6 +39,20 @@ impl<'lexer, 'input, L: LexerTypes<LexErrorT = LRLexError>> LexRun<'lexer, 'inpu
         &self.items
     }
 
+    /// The text that was lexed.
+    pub fn text(&self) -> &'input str
+        ensures { result.now ≡ self.now.text.now }
+    {
+        self.text
+    }
+
+    /// The definition that it was lexed by.
+    pub fn definition(&self) -> &'lexer LRNonStreamingLexerDef<L>
+        ensures { result.now ≡ self.now.definition.now }
+    {
+        self.definition
+    }
+
     /// How many tiles the text was cut into.
     pub fn tiles(&self) -> usize
         ensures { result ≡ length self.now.boundaries - 1 }

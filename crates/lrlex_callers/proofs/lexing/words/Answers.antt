@@ -1,13 +1,13 @@
-use Rattle.std.proofs.Common.{◌≡◌, ◌∙◌, ℕ, ◌∷◌, ◌++◌, [], List, Some, None, Ok, map, ap, sym, subst, rules, append_assoc}
+use Rattle.std.proofs.Common.{◌≡◌, ◌∙◌, ℕ, ◌∷◌, ◌++◌, [], List, Option, Some, None, Ok, map, ap, sym, subst, refl, rules, append_assoc, unwrap_or}
+use Rattle.std.specs.Borrow.{Bor}
 use Rattle.lrlex_base.specs.Items.{items_left}
 use Rattle.lrlex_base.specs.Spans.{span_start, span_end}
 use Rattle.std.specs.List.{filter_map}
-use Rattle.lrlex_rules.specs.Parts.{as_rule}
 use Rattle.lrlex.specs.ItemLaws.{FitsText}
 use Rattle.lrlex.specs.Lexers.{lexer_items, lexer_text}
 use Rattle.lrlex.specs.Views.{definition_of, item_of}
 use Rattle.lrlex_callers.specs.Lexing.{word_of, shown}
-use Rattle.lrlex_callers.proofs.WordLemmas.{word_is, span_fits, at_front, word_more, word_none}
+use Rattle.lrlex_callers.proofs.WordLemmas.{text_or, word_is, span_fits, at_front, word_more, word_none}
 use Rattle.lrlex_callers.proofs.lexing.words.Goals as goal
 
 pub span_str-requires : goal.span_str-requires
@@ -29,16 +29,16 @@ loop-item-preserved-in-Continue-branch-2 g c =
     let first : items_left c.loop-item.item-iterator ≡ c.in-Some.item ∷ items_left c.next.new.self = c.in-Some.ensures.steps in
     let text = c.args.text.now in
     let x = c.in-Ok.lexeme in
-    let word : word_of d.rules text (item c.in-Some.item) ≡ Some (shown (c.name_of-name.result, c.span_str.result)) =
-    ap (λ y. word_of d.rules text (item y)) c.in-Ok.is ∙ word_is d.rules (map (as_rule g.L.StorageT.Id.number) c.rules.result.now) text (lexer_text c.in_ok-lexer.lexer) c.name_of-name.result.now c.span_str.result.now
+    let word : word_of d.rules text (item c.in-Some.item) ≡ Some (shown (c.unwrap_or-name.result, c.span_str.result)) =
+    ap (λ y. word_of d.rules text (item y)) c.in-Ok.is ∙ word_is d.rules d.rules text (lexer_text c.in_ok-lexer.lexer) c.unwrap_or-name.result.now c.span_str.result.now
     (g.L.StorageT.Id.number (g.L.LexemeT.Lexeme.seen x).id) (g.L.LexemeT.Lexeme.seen x).start (g.L.LexemeT.Lexeme.seen x).len (g.L.LexemeT.Lexeme.seen x).faulty (g.L.StorageT.Id.number c.tok_id.result) (span_start c.span.result) (span_end c.span.result)
-    c.name_of-name.ensures (ap (map (as_rule g.L.StorageT.Id.number)) c.rules.ensures) (ap g.L.StorageT.Id.number c.tok_id.ensures) c.span_str.ensures c.in_ok-lexer.ensures.text c.span.ensures.start c.span.ensures.end in
+    (ap (λ (s : Bor (List ℕ)). s.now) c.unwrap_or-name.ensures ∙ text_or c.name_of.result _ ∙ ap (λ (o : Option (List ℕ)). unwrap_or o []) c.name_of.ensures) refl (ap g.L.StorageT.Id.number c.tok_id.ensures) c.span_str.ensures c.in_ok-lexer.ensures.text c.span.ensures.start c.span.ensures.end in
     record {
       can_next = tt;
       finite = tt;
       items = c.loop-item.invariant.items ∙ ap (λ xs. c.loop-item.yielded ++ xs) first ∙ sym (append_assoc c.loop-item.yielded (c.in-Some.item ∷ []) (items_left c.next.new.self));
       words = subst (λ ws. map shown ws ≡ filter_map (word_of d.rules text) (map item (c.loop-item.yielded ++ c.in-Some.item ∷ []))) (sym c.in_ok-push.ensures.items)
-          (word_more shown (word_of d.rules text) item c.loop-item.words.items c.loop-item.yielded c.in-Some.item c.loop-item.invariant.words (c.name_of-name.result, c.span_str.result) word);
+          (word_more shown (word_of d.rules text) item c.loop-item.words.items c.loop-item.yielded c.in-Some.item c.loop-item.invariant.words (c.unwrap_or-name.result, c.span_str.result) word);
     }
 
 pub loop-item-preserved : goal.loop-item-preserved

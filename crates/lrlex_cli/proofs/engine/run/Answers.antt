@@ -1,6 +1,5 @@
 -- The lines are those of the items that the run has found.
-use Rattle.std.proofs.Common.{ap, map}
-use Rattle.lrlex_rules.specs.Parts.{as_rule}
+use Rattle.std.proofs.Common.{refl}
 use Rattle.lrlex_cli.specs.Engine.{Request}
 use Rattle.lrlex_cli.proofs.EngineLemmas.{ran, without_memory}
 use Rattle.lrlex_cli.proofs.engine.run.Goals as goal
@@ -15,4 +14,4 @@ returns g c =
     ran g.L.StorageT.Id.number g.L.LexemeT.Lexeme.seen _
     q c.in_ok-built.built c.in-Ok.definition c.in_ok-lexed.lexed.items.items c.in_ok-lexed.lexed.boundaries _ _ _ _
     c.in-Ok.is c.in_ok-built.ensures.answer c.in_ok-built.ensures.initial c.in_ok-lexed.ensures.run
-    (ap (map (as_rule g.L.StorageT.Id.number)) c.rules.ensures) wrote
+    refl wrote

@@ -1,6 +1,5 @@
 -- Lexing again has found the items of the new text, and the lines are theirs.
-use Rattle.std.proofs.Common.{ap, map}
-use Rattle.lrlex_rules.specs.Parts.{as_rule}
+use Rattle.std.proofs.Common.{refl}
 use Rattle.lrlex_cli.specs.Engine.{Request}
 use Rattle.lrlex_cli.proofs.EngineLemmas.{ran, without_memory}
 use Rattle.lrlex_cli.proofs.engine.run_edited.Goals as goal
@@ -20,4 +19,4 @@ returns-in_ok-lexed-in-Ok g c =
     ran g.L.StorageT.Id.number g.L.LexemeT.Lexeme.seen _
     q c.in_ok-definition.field-0 c.in-Ok.definition c.in_ok-lexed-in-Ok.lexed.items.items c.in_ok-lexed-in-Ok.lexed.boundaries _ _ _ _
     c.in-Ok.is c.in_ok-definition.ensures.answer c.in_ok-definition.ensures.initial run
-    (ap (map (as_rule g.L.StorageT.Id.number)) c.rules.ensures) wrote
+    refl wrote

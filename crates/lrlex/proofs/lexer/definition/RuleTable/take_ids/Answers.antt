@@ -3,7 +3,7 @@ use mathlib.Core.Logic.{∥∥₁_map}
 use Rattle.lrlex.specs.Tables.{AreServed}
 use Rattle.lrlex.proofs.TableLemmas.{served_with_ids}
 use Rattle.lrlex.specs.Active.{active_places}
-use Rattle.lrlex.specs.Ids.{ids_of}
+use Rattle.lrlex.specs.Ids.{ids_of, HaveDistinctIds}
 use Rattle.lrlex_rules.specs.Parts.{as_rule, as_state}
 use Rattle.lrlex.proofs.IdLemmas.{lists_after}
 use Rattle.lrlex.proofs.ViewLemmas.{taken_back}
@@ -17,6 +17,7 @@ invariant_of-self g c =
     let back = taken_back new (drop (length new) table.rules.items) table.rules.len
     (omega (arith, c.take_ids.auto.rules, c.as_mut_slice.ensures.len)) in
     record {
+      distinct = λ is. subst HaveDistinctIds c.deref.ensures.value (c.have_own_ids-self.ensures is);
       at_places = table.at_places;
       lists = table.lists
           ∙ lists_after g.S.Id.number (ids_of g.S.Id.number c.args.ids.now) states table.rules.items new

@@ -1,7 +1,7 @@
 use Rattle.std.proofs.Common.{◌≡◌, slice_get, refl, sym, ap, ◌∙◌, inl, inr, arith}
 use Rattle.std.proofs.lemmas.Bool.{cases_lt}
 use Rattle.std.proofs.lemmas.Option.{slice_get_read, slice_get_within, same_Some}
-use Rattle.lrlex_cli.proofs.lines.have_own_ids.Goals as goal
+use Rattle.lrlex.proofs.names.have_own_ids.Goals as goal
 
 pub rules-init : goal.rules-init
 rules-init g c i r lt at = absurd (omega (arith, lt))
@@ -17,4 +17,6 @@ rules-preserved g c i r lt at = elim (cases_lt i c.rules.index) [
 ]
 
 pub returns : goal.returns
-returns g c _ i r at = c.rules.invariant i r (omega (arith, c.rules-test.false, slice_get_within c.args.rules.now i r at)) at
+returns g c _ i j r s id at other has same =
+    sym (c.rules.invariant i r (omega (arith, c.rules-test.false, slice_get_within c.args.rules.now i r at)) at id has)
+    ∙ c.rules.invariant j s (omega (arith, c.rules-test.false, slice_get_within c.args.rules.now j s other)) other id same

@@ -1,7 +1,7 @@
 use Rattle.std.proofs.Common.{refl}
 use Rattle.std.proofs.lemmas.Option.{slice_get_read}
-use Rattle.lrlex_cli.proofs.LineLemmas.{found_at_own}
-use Rattle.lrlex_cli.proofs.lines.rule_at.Goals as goal
+use Rattle.lrlex.proofs.NameLemmas.{found_alone}
+use Rattle.lrlex.proofs.names.rule_at.Goals as goal
 
 pub returns-then-gives : goal.returns-then-gives
 returns-then-gives g c =
@@ -10,4 +10,4 @@ returns-then-gives g c =
     let rule = c.in_ok-rule.rule.now in
     let found = c.in_ok-rule.ensures.lookup in
     let read = slice_get_read rules _ place rule refl found.3.0 found.1 in
-    found_at_own g.S.Id.number rules (g.S.Id.number c.args.id) place rule _ c.requires read c.gives.ensures c.if-gives.true
+    found_alone g.S.Id.number rules (g.S.Id.number c.args.id) place rule _ g.met.S.Id.same_law c.requires read c.gives.ensures c.if-gives.true

@@ -1,0 +1,14 @@
+-- The words of the crates below that clauses cite, passed on so that a caller names this crate alone.
+pub use Rattle.lrlex_base.specs.Spans.{Fits, as_span, span_start, span_end}
+pub use Rattle.lrlex_base.specs.Places.{place_of, line_of, column_of}
+pub use Rattle.lrlex_base.specs.Edits.{edited}
+pub use Rattle.lrlex_base.specs.declared.edits.Edit.{Edit}
+pub use Rattle.lrlex_base.specs.Seen.{Seen}
+pub use Rattle.lrlex_base.specs.Items.{items_left}
+pub use Rattle.lrlex_rules.specs.Definition.{Definition, Rule, StartState}
+pub use Rattle.lrlex_rules.specs.Parts.{as_rule, as_state}
+pub use Rattle.lrlex_rules.specs.Answer.{IsAnswer}
+pub use Rattle.lrlex_rules.specs.Faults.{IsPlaced, fault_kind, fault_spans}
+pub use Rattle.lrlex_rules.specs.Laws.{IsLawful}
+unfoldable pub use Rattle.lrlex_rules.specs.Patterns.{match_length}
+pub use Rattle.lrlex_rules.specs.Patterns.{rule_pattern}

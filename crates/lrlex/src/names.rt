@@ -1,0 +1,84 @@
+//! The name of a lexeme's rule.
+ghost use Rattle.std.specs.Prelude.{◌≡◌, Some, IfSome, IsTrue, map, option_map};
+ghost use Rattle.std.specs.List.{find};
+ghost use Rattle.std.specs.Option.{option_copied};
+ghost use Rattle.lrlex_rules.specs.Parts.{as_rule};
+ghost use Rattle.lrlex.specs.Ids.{gives, name_of, HasOwnId, HaveDistinctIds};
+
+use lrlex_base::Id;
+use lrlex_rules::Rule;
+
+/// Whether the rule has a name and this id.
+fn gives<S: Id>(rule: &Rule<S>, id: S) -> bool
+    ensures { result ≡ gives (S.number id) (as_rule S.number rule.now) }
+{
+    match rule.tok_id() {
+        Some(found) => found == id && rule.name().is_some(),
+        None => false,
+    }
+}
+
+/// The first such rule.
+fn first_with<S: Id>(rules: &[Rule<S>], id: S) -> Option<&Rule<S>>
+    ensures { option_copied result ≡ find (λ r. gives (S.number id) (as_rule S.number r)) rules.now }
+{
+    rules.iter().find(|rule| gives(rule, id))
+}
+
+/// Whether the rule's id, if it has one, is this place.
+fn has_own_id<S: Id>(rule: &Rule<S>, place: usize) -> bool
+    ensures { IsTrue result → HasOwnId S.number rule.now place }
+{
+    match rule.tok_id() {
+        Some(id) => match S::from_count(place) {
+            Some(own) => own == id,
+            None => false,
+        },
+        None => true,
+    }
+}
+
+/// Whether the id of each rule that has one is its place.
+pub(crate) fn have_own_ids<S: Id>(rules: &[Rule<S>]) -> bool
+    ensures { IsTrue result → HaveDistinctIds rules.now }
+{
+    'rules: for index in 0..rules.len() {
+        if !has_own_id(&rules[index], index) {
+            return false;
+        }
+    }
+    true
+}
+
+/// The rule at the place that the id stands for, if it has a name and this id. No other rule has this id.
+fn rule_at<S: Id>(rules: &[Rule<S>], id: S) -> Option<&Rule<S>>
+    requires { HaveDistinctIds rules.now }
+    ensures { IfSome result (λ rule. Some rule.now ≡ find (λ r. gives (S.number id) (as_rule S.number r)) rules.now) }
+{
+    let rule = rules.get(id.to_usize()?)?;
+    if gives(rule, id) { Some(rule) } else { None }
+}
+
+/// The first rule with a name and this id. Where ids are places, one rule is looked at.
+fn rule_of<S: Id>(rules: &[Rule<S>], own_ids: bool, id: S) -> Option<&Rule<S>>
+    requires { IsTrue own_ids → HaveDistinctIds rules.now }
+    ensures { option_copied result ≡ find (λ r. gives (S.number id) (as_rule S.number r)) rules.now }
+{
+    if own_ids {
+        if let Some(rule) = rule_at(rules, id) {
+            return Some(rule);
+        }
+    }
+    first_with(rules, id)
+}
+
+/// Its name.
+pub(crate) fn name_of<S: Id>(rules: &[Rule<S>], own_ids: bool, id: S) -> Option<&str>
+    requires { IsTrue own_ids → HaveDistinctIds rules.now }
+    ensures { option_map (λ t. t.now) result ≡ name_of (map (as_rule S.number) rules.now) (S.number id) }
+{
+    match rule_of(rules, own_ids, id) {
+        Some(rule) => rule.name(),
+        None => None,
+    }
+}
