@@ -1,53 +1,45 @@
 //! The definition that a case describes.
 use crate::reading::{
-    Trouble, counts_of, flags_of, list_in, span_of, state_of, target_of, text_in,
+    RuleParts, Trouble, count_of, flags_of, list_in, parts_of, state_of, text_in,
 };
 use lrlex::{
     DefaultLexerTypes, LRNonStreamingLexerDef, LexBuildError, LexFlags, LexerDef, Rule, StartState,
 };
 use lrlex_base::Id;
-use serde_json::Value;
+use serde_json::{Map, Value};
 use std::alloc::Global;
 use std::collections::HashMap;
 
 /// The definition that cases build, with ids of this type.
 pub type Definition<T> = LRNonStreamingLexerDef<DefaultLexerTypes<T>>;
 
-/// What came of a case's rules.
+/// Why there is no definition.
 #[derive(Drop)]
-pub enum Built<T: Id> {
-    Whole(Definition<T>),
+pub enum Refusal {
+    /// The rule text has these faults.
     Faulty(Vec<LexBuildError>),
     /// The rule at this place was refused.
-    Refused(usize),
+    Rule(usize),
 }
 
-/// The token ids that the case sets, by the names that they are for; none where it sets none.
+/// The definition, or why there is none.
+pub type Built<T> = Result<Definition<T>, Refusal>;
+
+/// The id whose number this is.
+fn id_of<T: Id>(value: &Value) -> Result<T, Trouble> {
+    T::from_count(count_of(value)?).ok_or(Trouble::Malformed)
+}
+
+/// The token ids of these members, by the names that they are for.
 pub fn ids_of<'v, T: Id>(
     alloc: Global,
-    case: &'v Value,
-) -> Result<Option<HashMap<&'v str, T>>, Trouble> {
-    let Some(members) = case.get("ids").and_then(Value::as_object) else {
-        return Ok(None);
-    };
+    members: &'v Map<String, Value>,
+) -> Result<HashMap<&'v str, T>, Trouble> {
     let mut ids = HashMap::new(alloc);
     for (name, value) in members {
-        let number = value.as_u64().ok_or(Trouble::Malformed)?;
-        let id = T::from_count(number as usize).ok_or(Trouble::Malformed)?;
-        ids.insert(name.as_str(), id)?;
+        ids.insert(name.as_str(), id_of::<T>(value)?)?;
     }
-    Ok(Some(ids))
-}
-
-/// The id of a rule, if it has one.
-fn id_of<T: Id>(value: &Value) -> Result<Option<T>, Trouble> {
-    match value.get("tok_id").and_then(Value::as_u64) {
-        None => Ok(None),
-        Some(number) => match T::from_count(number as usize) {
-            Some(id) => Ok(Some(id)),
-            None => Err(Trouble::Malformed),
-        },
-    }
+    Ok(ids)
 }
 
 /// The rule, or none where its pattern is refused.
@@ -56,21 +48,44 @@ fn rule_of<T: Id>(
     value: &Value,
     flags: &LexFlags,
 ) -> Result<Option<Rule<T>>, Trouble> {
-    let name = match value.get("name").and_then(Value::as_str) {
-        Some(name) => Some(String::from_str(alloc, name)?),
-        None => None,
+    let id = match value.get("tok_id") {
+        Some(number) if number.is_u64() => Some(id_of::<T>(number)?),
+        _ => None,
     };
+    let RuleParts {
+        name,
+        name_span,
+        re_str,
+        start_states,
+        target,
+    } = parts_of(alloc, value)?;
     let made = Rule::new(
         alloc,
-        id_of::<T>(value)?,
+        id,
         name,
-        span_of(value.get("name_span"))?,
-        String::from_str(alloc, text_in(value, "re_str")?)?,
-        counts_of(alloc, list_in(value, "start_states")?)?,
-        target_of(value.get("target"))?,
+        name_span,
+        re_str,
+        start_states,
+        target,
         flags,
     )?;
     Ok(made.ok())
+}
+
+/// The rules, or the place of the first that is refused.
+fn rules_of<T: Id>(
+    alloc: Global,
+    list: &[Value],
+    flags: &LexFlags,
+) -> Result<Result<Vec<Rule<T>>, usize>, Trouble> {
+    let mut rules = Vec::new(alloc);
+    for (place, value) in list.iter().enumerate() {
+        match rule_of::<T>(alloc, value, flags)? {
+            Some(rule) => rules.push(rule)?,
+            None => return Ok(Err(place)),
+        }
+    }
+    Ok(Ok(rules))
 }
 
 fn states_of(alloc: Global, list: &[Value]) -> Result<Vec<StartState>, Trouble> {
@@ -83,30 +98,27 @@ fn states_of(alloc: Global, list: &[Value]) -> Result<Vec<StartState>, Trouble> 
 
 /// Puts the definition together from states and rules.
 fn from_parts<T: Id>(alloc: Global, parts: &Value, flags: &LexFlags) -> Result<Built<T>, Trouble> {
+    let list = list_in(parts, "rules")?;
     let states = states_of(alloc, list_in(parts, "states")?)?;
-    let mut rules = Vec::new(alloc);
-    for (place, value) in list_in(parts, "rules")?.iter().enumerate() {
-        match rule_of::<T>(alloc, value, flags)? {
-            Some(rule) => rules.push(rule)?,
-            None => return Ok(Built::Refused(place)),
-        }
+    match rules_of::<T>(alloc, list, flags)? {
+        Ok(rules) => Ok(Ok(Definition::<T>::from_rules(alloc, states, rules)?)),
+        Err(place) => Ok(Err(Refusal::Rule(place))),
     }
-    let definition = Definition::<T>::from_rules(alloc, states, rules)?;
-    Ok(Built::Whole(definition))
+}
+
+/// Reads the definition from a rule text.
+fn from_text<T: Id>(alloc: Global, rules: &str, flags: LexFlags) -> Result<Built<T>, Trouble> {
+    match Definition::<T>::new_with_options(alloc, rules, flags)? {
+        Ok(definition) => Ok(Ok(definition)),
+        Err(faults) => Ok(Err(Refusal::Faulty(faults))),
+    }
 }
 
 /// Builds the definition of the case, from its parts where it has some, else from its rule text.
 pub fn build<T: Id>(alloc: Global, case: &Value) -> Result<Built<T>, Trouble> {
-    let flags = match case.get("flags") {
-        Some(flags) => flags_of(flags),
-        None => return Err(Trouble::Malformed),
-    };
-    if let Some(parts) = case.get("from_rules") {
-        return from_parts(alloc, parts, &flags);
-    }
-    let rules = text_in(case, "rules")?;
-    match Definition::<T>::new_with_options(alloc, rules, flags)? {
-        Ok(definition) => Ok(Built::Whole(definition)),
-        Err(faults) => Ok(Built::Faulty(faults)),
+    let flags = flags_of(case.get("flags").ok_or(Trouble::Malformed)?);
+    match case.get("from_rules") {
+        Some(parts) => from_parts(alloc, parts, &flags),
+        None => from_text(alloc, text_in(case, "rules")?, flags),
     }
 }

@@ -9,11 +9,17 @@ pub struct Findings {
     differences: Vec<String>,
 }
 
-/// The value as a text, or `nothing`.
-fn shown(alloc: Global, value: Option<&Value>) -> Result<String, AllocError> {
-    match value {
-        Some(value) => value.to_string(alloc),
-        None => String::from_str(alloc, "nothing"),
+/// What the case expects of the field.
+fn expected_of<'v>(case: &'v Value, field: &str) -> Option<&'v Value> {
+    case.get("expected")?.get(field)
+}
+
+/// The line that tells what differs.
+fn line_of(alloc: Global, case: &Value, field: &str, got: &Value) -> Result<String, AllocError> {
+    let id = case.get("id").and_then(Value::as_str).unwrap_or("?");
+    match expected_of(case, field) {
+        Some(expected) => format!(in alloc; "{id}: {field}: expected {expected}, got {got}"),
+        None => format!(in alloc; "{id}: {field}: expected nothing, got {got}"),
     }
 }
 
@@ -38,13 +44,7 @@ impl Findings {
         field: &str,
         got: &Value,
     ) -> Result<(), Trouble> {
-        let id = match case.get("id").and_then(Value::as_str) {
-            Some(id) => id,
-            None => "?",
-        };
-        let expected = shown(alloc, case.get("expected").and_then(|all| all.get(field)))?;
-        let got = shown(alloc, Some(got))?;
-        self.differences.push(format!(in alloc; "{id}: {field}: expected {expected}, got {got}")?)?;
+        self.differences.push(line_of(alloc, case, field, got)?)?;
         Ok(())
     }
 
@@ -54,11 +54,11 @@ impl Findings {
         alloc: Global,
         case: &Value,
         field: &str,
-        got: &Value,
+        got: Value,
     ) -> Result<(), Trouble> {
-        match case.get("expected").and_then(|all| all.get(field)) {
-            Some(expected) if expected == got => Ok(()),
-            _ => self.add(alloc, case, field, got),
+        match expected_of(case, field) {
+            Some(expected) if *expected == got => Ok(()),
+            _ => self.add(alloc, case, field, &got),
         }
     }
 
@@ -70,11 +70,7 @@ impl Findings {
         field: &str,
         got: u128,
     ) -> Result<(), Trouble> {
-        let most = case
-            .get("expected")
-            .and_then(|all| all.get(field))
-            .and_then(Value::as_u64);
-        match most {
+        match expected_of(case, field).and_then(Value::as_u64) {
             Some(most) if got <= most as u128 => Ok(()),
             _ => {
                 let got = Value::from(u64::try_from(got).unwrap_or(u64::MAX));

@@ -24,12 +24,19 @@ struct Tally {
     differ: u64,
 }
 
+/// The case of a line; none where the line isn't JSON.
+fn case_of(alloc: Global, line: &str) -> Result<Option<Value>, AllocError> {
+    match Value::from_str(alloc, line) {
+        Ok(case) => Ok(Some(case)),
+        Err(fault) if fault.is_memory() => Err(AllocError),
+        Err(_) => Ok(None),
+    }
+}
+
 /// What replaying the case of a line found; none where the line isn't a case.
 fn replay_line(alloc: Global, line: &str) -> Result<Option<Findings>, AllocError> {
-    let case = match Value::from_str(alloc, line) {
-        Ok(case) => case,
-        Err(fault) if fault.is_memory() => return Err(AllocError),
-        Err(_) => return Ok(None),
+    let Some(case) = case_of(alloc, line)? else {
+        return Ok(None);
     };
     match replay(alloc, &case) {
         Ok(findings) => Ok(Some(findings)),
@@ -38,23 +45,32 @@ fn replay_line(alloc: Global, line: &str) -> Result<Option<Findings>, AllocError
     }
 }
 
-/// Replays the case of a line, writes what differs, and counts it.
-fn count_line(rt: &HostRuntime, tally: Tally, line: &str) -> io::Result<Tally> {
-    let mut next = tally;
-    next.cases = tally.cases.saturating_add(1);
-    let Some(findings) = replay_line(rt.alloc(), line)? else {
-        let number = next.cases;
-        println!(rt; "line {number}: no case")?;
-        return Ok(next);
-    };
-    next.compared = tally.compared.saturating_add(1);
-    if !findings.differences().is_empty() {
-        next.differ = tally.differ.saturating_add(1);
-    }
-    for difference in findings.differences() {
+/// Writes what differs, and counts the case.
+fn tell(rt: &HostRuntime, tally: Tally, differences: &[String]) -> io::Result<Tally> {
+    for difference in differences {
         println!(rt; "{difference}")?;
     }
-    Ok(next)
+    let differ = if differences.is_empty() { 0 } else { 1 };
+    Ok(Tally {
+        cases: tally.cases.saturating_add(1),
+        compared: tally.compared.saturating_add(1),
+        differ: tally.differ.saturating_add(differ),
+    })
+}
+
+/// Writes that a line is no case, and counts it.
+fn tell_none(rt: &HostRuntime, tally: Tally) -> io::Result<Tally> {
+    let cases = tally.cases.saturating_add(1);
+    println!(rt; "line {cases}: no case")?;
+    Ok(Tally { cases, ..tally })
+}
+
+/// Replays the case of a line, writes what differs, and counts it.
+fn count_line(rt: &HostRuntime, tally: Tally, line: &str) -> io::Result<Tally> {
+    match replay_line(rt.alloc(), line)? {
+        Some(findings) => tell(rt, tally, findings.differences()),
+        None => tell_none(rt, tally),
+    }
 }
 
 fn main(rt: HostRuntime) -> io::Result<()> {

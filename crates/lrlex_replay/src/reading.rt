@@ -23,20 +23,34 @@ impl<T: Drop> From<AllocFailed<T>> for Trouble {
     }
 }
 
+/// The parts of a rule beside its id.
+#[derive(Drop)]
+pub struct RuleParts {
+    pub name: Option<String>,
+    pub name_span: Span,
+    pub re_str: String,
+    pub start_states: Vec<usize>,
+    pub target: Option<(usize, StartStateOperation)>,
+}
+
+/// The text that is this member, if it is one.
+fn str_in<'v>(value: &'v Value, member: &str) -> Option<&'v str> {
+    value.get(member)?.as_str()
+}
+
 /// The text that is this member.
 pub fn text_in<'v>(value: &'v Value, member: &str) -> Result<&'v str, Trouble> {
-    value
-        .get(member)
-        .and_then(Value::as_str)
-        .ok_or(Trouble::Malformed)
+    str_in(value, member).ok_or(Trouble::Malformed)
+}
+
+/// The elements of the list, if the value is one.
+fn elements_of(value: Option<&Value>) -> Option<&[Value]> {
+    Some(value?.as_array()?.as_slice())
 }
 
 /// The list that is this member.
 pub fn list_in<'v>(value: &'v Value, member: &str) -> Result<&'v [Value], Trouble> {
-    match value.get(member).and_then(Value::as_array) {
-        Some(list) => Ok(list.as_slice()),
-        None => Err(Trouble::Malformed),
-    }
+    elements_of(value.get(member)).ok_or(Trouble::Malformed)
 }
 
 /// The number, as a count.
@@ -47,59 +61,75 @@ pub fn count_of(value: &Value) -> Result<usize, Trouble> {
     }
 }
 
+/// The span from one place to another.
+fn span_between(start: usize, end: usize) -> Result<Span, Trouble> {
+    if start <= end {
+        Ok(Span::new(start, end))
+    } else {
+        Err(Trouble::Malformed)
+    }
+}
+
 /// The span `[start, end]`.
-pub fn span_of(value: Option<&Value>) -> Result<Span, Trouble> {
-    match value.and_then(Value::as_array).map(|list| list.as_slice()) {
-        Some([start, end]) => {
-            let start = count_of(start)?;
-            let end = count_of(end)?;
-            if start <= end {
-                Ok(Span::new(start, end))
-            } else {
-                Err(Trouble::Malformed)
-            }
-        }
+fn span_of(value: Option<&Value>) -> Result<Span, Trouble> {
+    match elements_of(value) {
+        Some([start, end]) => span_between(count_of(start)?, count_of(end)?),
         _ => Err(Trouble::Malformed),
     }
+}
+
+/// Whether the flag that is this member is set; none where it is unset.
+fn flag_in(value: &Value, member: &str) -> Option<bool> {
+    value.get(member)?.as_bool()
+}
+
+/// The limit that is this member, if it is one.
+fn limit_in(value: &Value, member: &str) -> Option<u32> {
+    u32::try_from(value.get(member)?.as_u64()?).ok()
 }
 
 /// The flags that are set.
 pub fn flags_of(value: &Value) -> LexFlags {
     LexFlags {
-        dot_matches_new_line: value.get("dot_matches_new_line").and_then(Value::as_bool),
-        multi_line: value.get("multi_line").and_then(Value::as_bool),
-        octal: value.get("octal").and_then(Value::as_bool),
-        posix_escapes: value.get("posix_escapes").and_then(Value::as_bool),
-        allow_wholeline_comments: value
-            .get("allow_wholeline_comments")
-            .and_then(Value::as_bool),
-        case_insensitive: value.get("case_insensitive").and_then(Value::as_bool),
-        swap_greed: value.get("swap_greed").and_then(Value::as_bool),
-        ignore_whitespace: value.get("ignore_whitespace").and_then(Value::as_bool),
-        unicode: value.get("unicode").and_then(Value::as_bool),
-        nest_limit: value
-            .get("nest_limit")
-            .and_then(Value::as_u64)
-            .and_then(|limit| u32::try_from(limit).ok()),
+        dot_matches_new_line: flag_in(value, "dot_matches_new_line"),
+        multi_line: flag_in(value, "multi_line"),
+        octal: flag_in(value, "octal"),
+        posix_escapes: flag_in(value, "posix_escapes"),
+        allow_wholeline_comments: flag_in(value, "allow_wholeline_comments"),
+        case_insensitive: flag_in(value, "case_insensitive"),
+        swap_greed: flag_in(value, "swap_greed"),
+        ignore_whitespace: flag_in(value, "ignore_whitespace"),
+        unicode: flag_in(value, "unicode"),
+        nest_limit: limit_in(value, "nest_limit"),
         ..UNSPECIFIED_LEX_FLAGS
     }
 }
 
-/// The start state `[id, name, exclusive, [start, end]]`.
-pub fn state_of(alloc: Global, value: &Value) -> Result<StartState, Trouble> {
-    let Some([id, name, exclusive, span]) = value.as_array().map(|list| list.as_slice()) else {
-        return Err(Trouble::Malformed);
-    };
-    let (Some(name), Some(exclusive)) = (name.as_str(), exclusive.as_bool()) else {
-        return Err(Trouble::Malformed);
-    };
+/// The start state of these parts.
+fn state_from(
+    alloc: Global,
+    id: &Value,
+    name: &Value,
+    exclusive: &Value,
+    span: &Value,
+) -> Result<StartState, Trouble> {
+    let name = name.as_str().ok_or(Trouble::Malformed)?;
+    let exclusive = exclusive.as_bool().ok_or(Trouble::Malformed)?;
     let id = count_of(id)?;
     let span = span_of(Some(span))?;
     Ok(StartState::new(alloc, id, name, exclusive, span)?)
 }
 
+/// The start state `[id, name, exclusive, [start, end]]`.
+pub fn state_of(alloc: Global, value: &Value) -> Result<StartState, Trouble> {
+    match elements_of(Some(value)) {
+        Some([id, name, exclusive, span]) => state_from(alloc, id, name, exclusive, span),
+        _ => Err(Trouble::Malformed),
+    }
+}
+
 /// The ids of a list.
-pub fn counts_of(alloc: Global, list: &[Value]) -> Result<Vec<usize>, Trouble> {
+fn counts_of(alloc: Global, list: &[Value]) -> Result<Vec<usize>, Trouble> {
     let mut counts = Vec::new(alloc);
     for value in list {
         counts.push(count_of(value)?)?;
@@ -107,19 +137,46 @@ pub fn counts_of(alloc: Global, list: &[Value]) -> Result<Vec<usize>, Trouble> {
     Ok(counts)
 }
 
+/// The operation of this name.
+fn operation_of(value: &Value) -> Result<StartStateOperation, Trouble> {
+    match value.as_str() {
+        Some("ReplaceStack") => Ok(StartStateOperation::ReplaceStack),
+        Some("Push") => Ok(StartStateOperation::Push),
+        Some("Pop") => Ok(StartStateOperation::Pop),
+        _ => Err(Trouble::Malformed),
+    }
+}
+
 /// The target `[id, operation]`, or none.
-pub fn target_of(value: Option<&Value>) -> Result<Option<(usize, StartStateOperation)>, Trouble> {
-    match value.and_then(Value::as_array).map(|list| list.as_slice()) {
+fn target_of(value: Option<&Value>) -> Result<Option<(usize, StartStateOperation)>, Trouble> {
+    match elements_of(value) {
         None => Ok(None),
-        Some([id, operation]) => {
-            let operation = match operation.as_str() {
-                Some("ReplaceStack") => StartStateOperation::ReplaceStack,
-                Some("Push") => StartStateOperation::Push,
-                Some("Pop") => StartStateOperation::Pop,
-                _ => return Err(Trouble::Malformed),
-            };
-            Ok(Some((count_of(id)?, operation)))
-        }
+        Some([id, operation]) => Ok(Some((count_of(id)?, operation_of(operation)?))),
         Some(_) => Err(Trouble::Malformed),
     }
+}
+
+/// The name of a rule, if it has one.
+fn name_of(alloc: Global, value: &Value) -> Result<Option<String>, AllocError> {
+    match str_in(value, "name") {
+        Some(name) => Ok(Some(String::from_str(alloc, name)?)),
+        None => Ok(None),
+    }
+}
+
+/// The parts of a rule beside its id.
+pub fn parts_of(alloc: Global, value: &Value) -> Result<RuleParts, Trouble> {
+    let name_span = span_of(value.get("name_span"))?;
+    let target = target_of(value.get("target"))?;
+    let pattern = text_in(value, "re_str")?;
+    let states = list_in(value, "start_states")?;
+    let start_states = counts_of(alloc, states)?;
+    let re_str = String::from_str(alloc, pattern)?;
+    Ok(RuleParts {
+        name: name_of(alloc, value)?,
+        name_span,
+        re_str,
+        start_states,
+        target,
+    })
 }

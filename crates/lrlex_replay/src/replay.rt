@@ -1,5 +1,5 @@
 //! Does what a case says and compares what comes of it.
-use crate::building::{Built, Definition, build, ids_of};
+use crate::building::{Definition, Refusal, build, ids_of};
 use crate::findings::Findings;
 use crate::reading::{Trouble, text_in};
 use crate::showing::{
@@ -7,8 +7,71 @@ use crate::showing::{
 };
 use lrlex::{Budget, LexerDef};
 use lrlex_base::Id;
-use serde_json::Value;
-use std::alloc::Global;
+use serde_json::{Map, Value};
+use std::alloc::{AllocError, Global};
+
+/// What a run counts.
+#[derive(Clone, Copy)]
+struct Counts {
+    tiles: usize,
+    entries_peak: usize,
+    asked: u128,
+}
+
+/// What a run of the input counts.
+fn counts_of<T: Id>(
+    alloc: Global,
+    definition: &Definition<T>,
+    input: &str,
+) -> Result<Counts, AllocError> {
+    let run = definition.run(alloc, input)?;
+    Ok(Counts {
+        tiles: run.tiles(),
+        entries_peak: run.entries_peak(),
+        asked: run.asked(),
+    })
+}
+
+/// Compares what a run counts.
+fn compare_counts(
+    alloc: Global,
+    case: &Value,
+    counts: Counts,
+    findings: &mut Findings,
+) -> Result<(), Trouble> {
+    let Counts {
+        tiles,
+        entries_peak,
+        asked,
+    } = counts;
+    findings.compare(alloc, case, "tiles", Value::from(tiles))?;
+    findings.compare(alloc, case, "entries_peak", Value::from(entries_peak))?;
+    findings.compare_most(alloc, case, "asked_max", asked)
+}
+
+/// The items and the places of the lexer of the input.
+fn lexed<T: Id>(
+    alloc: Global,
+    definition: &Definition<T>,
+    input: &str,
+) -> Result<(Value, Value), AllocError> {
+    let lexer = definition.lexer(alloc, input)?;
+    let items = items_value(alloc, &lexer)?;
+    let places = places_value(alloc, &lexer, input)?;
+    Ok((items, places))
+}
+
+/// Compares the items and the places of a lexer.
+fn compare_lexed(
+    alloc: Global,
+    case: &Value,
+    lexed: (Value, Value),
+    findings: &mut Findings,
+) -> Result<(), Trouble> {
+    let (items, places) = lexed;
+    findings.compare(alloc, case, "items", items)?;
+    findings.compare(alloc, case, "linecols", places)
+}
 
 /// Compares what lexing the case's input gives: the lexer's items and places, and the run's counts.
 fn compare_run<T: Id>(
@@ -18,19 +81,19 @@ fn compare_run<T: Id>(
     findings: &mut Findings,
 ) -> Result<(), Trouble> {
     let input = text_in(case, "input")?;
-    let lexer = definition.lexer(alloc, input)?;
-    findings.compare(alloc, case, "items", &items_value(alloc, &lexer)?)?;
-    let places = places_value(alloc, &lexer, input)?;
-    findings.compare(alloc, case, "linecols", &places)?;
-    let run = definition.run(alloc, input)?;
-    findings.compare(alloc, case, "tiles", &Value::from(run.tiles()))?;
-    findings.compare(
-        alloc,
-        case,
-        "entries_peak",
-        &Value::from(run.entries_peak()),
-    )?;
-    findings.compare_most(alloc, case, "asked_max", run.asked())
+    compare_lexed(alloc, case, lexed(alloc, definition, input)?, findings)?;
+    compare_counts(alloc, case, counts_of(alloc, definition, input)?, findings)
+}
+
+/// Sets the token ids of these members. Gives what that told.
+fn set_ids<T: Id>(
+    alloc: Global,
+    members: &Map<String, Value>,
+    definition: &mut Definition<T>,
+) -> Result<Value, Trouble> {
+    let ids = ids_of::<T>(alloc, members)?;
+    let sets = definition.set_rule_ids_spanned(alloc, &ids)?;
+    Ok(sets_value(alloc, sets)?)
 }
 
 /// Compares a definition, what setting the case's token ids gives, and what lexing its input gives then.
@@ -40,43 +103,68 @@ fn compare_definition<T: Id>(
     definition: &mut Definition<T>,
     findings: &mut Findings,
 ) -> Result<(), Trouble> {
-    if let Some(ids) = ids_of::<T>(alloc, case)? {
-        let (lacking, unused) = definition.set_rule_ids_spanned(alloc, &ids)?;
-        let sets = sets_value(alloc, lacking.as_ref(), unused.as_ref())?;
-        findings.compare(alloc, case, "set_ids", &sets)?;
+    if let Some(members) = case.get("ids").and_then(Value::as_object) {
+        let sets = set_ids(alloc, members, definition)?;
+        findings.compare(alloc, case, "set_ids", sets)?;
     }
     let states = states_value(alloc, definition.iter_start_states().as_slice())?;
-    findings.compare(alloc, case, "states", &states)?;
+    findings.compare(alloc, case, "states", states)?;
     let rules = rules_value(alloc, definition.rules())?;
-    findings.compare(alloc, case, "rules", &rules)?;
+    findings.compare(alloc, case, "rules", rules)?;
     compare_run(alloc, case, definition, findings)
 }
 
-/// Replays a case twice where there is a definition: by its tables, and without any, so that each rule is asked.
-fn replay_with<T: Id>(alloc: Global, case: &Value) -> Result<Findings, Trouble> {
-    let mut findings = Findings::new(alloc);
-    match build::<T>(alloc, case)? {
-        Built::Whole(mut definition) => {
-            compare_definition(alloc, case, &mut definition, &mut findings)?;
-            let asking = definition.with_budget(alloc, Budget::new(0, 0))?;
-            compare_run(alloc, case, &asking, &mut findings)?;
+/// Compares a definition twice: by its tables, and without any, so that each rule is asked.
+fn compare_both<T: Id>(
+    alloc: Global,
+    case: &Value,
+    definition: Definition<T>,
+    findings: &mut Findings,
+) -> Result<(), Trouble> {
+    let mut definition = definition;
+    compare_definition(alloc, case, &mut definition, findings)?;
+    let asking = definition.with_budget(alloc, Budget::new(0, 0))?;
+    compare_run(alloc, case, &asking, findings)
+}
+
+/// Compares why there is no definition.
+fn compare_refusal(
+    alloc: Global,
+    case: &Value,
+    refusal: Refusal,
+    findings: &mut Findings,
+) -> Result<(), Trouble> {
+    match refusal {
+        Refusal::Faulty(faults) => {
+            findings.compare(alloc, case, "faults", faults_value(alloc, &faults)?)
         }
-        Built::Faulty(faults) => {
-            findings.compare(alloc, case, "faults", &faults_value(alloc, &faults)?)?;
-        }
-        Built::Refused(place) => {
-            findings.compare(alloc, case, "rule_refused", &Value::from(place))?;
+        Refusal::Rule(place) => {
+            findings.compare(alloc, case, "rule_refused", Value::from(place))
         }
     }
-    Ok(findings)
+}
+
+/// Replays a case, with ids of this type.
+fn replay_with<T: Id>(alloc: Global, case: &Value, findings: &mut Findings) -> Result<(), Trouble> {
+    match build::<T>(alloc, case)? {
+        Ok(definition) => compare_both(alloc, case, definition, findings),
+        Err(refusal) => compare_refusal(alloc, case, refusal, findings),
+    }
 }
 
 /// Replays a case, with ids of the type that it names.
-pub fn replay(alloc: Global, case: &Value) -> Result<Findings, Trouble> {
+fn replay_by_storage(alloc: Global, case: &Value, findings: &mut Findings) -> Result<(), Trouble> {
     match text_in(case, "storage")? {
-        "u8" => replay_with::<u8>(alloc, case),
-        "u16" => replay_with::<u16>(alloc, case),
-        "u32" => replay_with::<u32>(alloc, case),
+        "u8" => replay_with::<u8>(alloc, case, findings),
+        "u16" => replay_with::<u16>(alloc, case, findings),
+        "u32" => replay_with::<u32>(alloc, case, findings),
         _ => Err(Trouble::Malformed),
     }
+}
+
+/// Replays a case. Gives what differs.
+pub fn replay(alloc: Global, case: &Value) -> Result<Findings, Trouble> {
+    let mut findings = Findings::new(alloc);
+    replay_by_storage(alloc, case, &mut findings)?;
+    Ok(findings)
 }

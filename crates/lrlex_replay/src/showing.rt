@@ -7,12 +7,32 @@ use lrlex::{
     Rule, StartState, StartStateOperation,
 };
 use lrlex_base::{Id, LexError, Lexeme, Lexer, NonStreamingLexer, Span, Spanned};
-use serde_json::{Value, json};
+use serde_json::{Map, Value};
 use std::alloc::{AllocError, Global};
 use std::collections::HashSet;
 
-/// An item of a run.
-type Item<T> = Result<DefaultLexeme<T>, LRLexError>;
+/// Line and column.
+type Place = (usize, usize);
+
+/// An item of a run, as plain numbers.
+#[derive(Clone, Copy)]
+enum Item {
+    /// A lexeme: its id and its span.
+    Lexeme(Option<u64>, Span),
+    /// An error: its span, and the state in which no rule matched.
+    Error(Span, Option<usize>),
+}
+
+/// A rule, with its id as a number.
+#[derive(Clone, Copy)]
+struct RuleSeen<'r> {
+    id: Option<u64>,
+    name: Option<&'r str>,
+    name_span: Span,
+    re_str: &'r str,
+    start_states: &'r [usize],
+    target: Option<(usize, StartStateOperation)>,
+}
 
 /// A lexer with ids of this type.
 type LexerOver<'lexer, 'input, T> = LRNonStreamingLexer<'lexer, 'input, DefaultLexerTypes<T>>;
@@ -35,45 +55,81 @@ fn kind_name(kind: &LexErrorKind) -> &'static str {
     }
 }
 
-fn span_value(alloc: Global, span: Span) -> Result<Value, AllocError> {
-    let start = span.start();
-    let end = span.end();
-    json!(in alloc; [start, end])
+fn numbers_value(alloc: Global, numbers: &[usize]) -> Result<Value, AllocError> {
+    let mut list = Vec::new(alloc);
+    for number in numbers {
+        list.push(Value::from(*number))?;
+    }
+    Ok(Value::Array(list))
 }
 
-fn id_value<T: Id>(id: T) -> Value {
-    match id.to_u64() {
-        Some(number) => Value::from(number),
-        None => Value::Null,
+fn span_value(alloc: Global, span: Span) -> Result<Value, AllocError> {
+    numbers_value(alloc, &[span.start(), span.end()])
+}
+
+fn text_value(alloc: Global, text: &str) -> Result<Value, AllocError> {
+    Ok(Value::String(String::from_str(alloc, text)?))
+}
+
+/// Puts a member into an object.
+fn put(
+    map: &mut Map<String, Value>,
+    alloc: Global,
+    name: &str,
+    value: Value,
+) -> Result<(), AllocError> {
+    map.insert(String::from_str(alloc, name)?, value)?;
+    Ok(())
+}
+
+fn fault_value(alloc: Global, fault: &LexBuildError) -> Result<Value, AllocError> {
+    let mut spans = Vec::new(alloc);
+    for span in fault.spans() {
+        spans.push(span_value(alloc, *span)?)?;
     }
+    let mut map = Map::new(alloc);
+    put(&mut map, alloc, "spans", Value::Array(spans))?;
+    put(
+        &mut map,
+        alloc,
+        "kind",
+        text_value(alloc, kind_name(fault.kind()))?,
+    )?;
+    Ok(Value::Object(map))
 }
 
 /// The faults, each by its kind and its spans.
 pub fn faults_value(alloc: Global, faults: &[LexBuildError]) -> Result<Value, AllocError> {
     let mut list = Vec::new(alloc);
     for fault in faults {
-        let mut spans = Vec::new(alloc);
-        for span in fault.spans() {
-            spans.push(span_value(alloc, *span)?)?;
-        }
-        let spans = Value::Array(spans);
-        let kind = kind_name(fault.kind());
-        list.push(json!(in alloc; {"kind": kind, "spans": spans})?)?;
+        list.push(fault_value(alloc, fault)?)?;
     }
     Ok(Value::Array(list))
+}
+
+fn state_value(alloc: Global, state: &StartState) -> Result<Value, AllocError> {
+    let id = Value::from(state.id());
+    let exclusive = Value::from(state.exclusive());
+    let name = text_value(alloc, state.name())?;
+    let span = span_value(alloc, state.name_span())?;
+    Ok(Value::Array(vec![in alloc; id, name, exclusive, span]?))
 }
 
 /// The start states, each as `[id, name, exclusive, span]`.
 pub fn states_value(alloc: Global, states: &[StartState]) -> Result<Value, AllocError> {
     let mut list = Vec::new(alloc);
     for state in states {
-        let id = state.id();
-        let name = state.name();
-        let exclusive = state.exclusive();
-        let span = span_value(alloc, state.name_span())?;
-        list.push(json!(in alloc; [id, name, exclusive, span])?)?;
+        list.push(state_value(alloc, state)?)?;
     }
     Ok(Value::Array(list))
+}
+
+fn operation_name(operation: StartStateOperation) -> &'static str {
+    match operation {
+        StartStateOperation::ReplaceStack => "ReplaceStack",
+        StartStateOperation::Push => "Push",
+        StartStateOperation::Pop => "Pop",
+    }
 }
 
 fn target_value(
@@ -83,67 +139,89 @@ fn target_value(
     let Some((state, operation)) = target else {
         return Ok(Value::Null);
     };
-    let operation = match operation {
-        StartStateOperation::ReplaceStack => "ReplaceStack",
-        StartStateOperation::Push => "Push",
-        StartStateOperation::Pop => "Pop",
-    };
-    json!(in alloc; [state, operation])
+    let operation = text_value(alloc, operation_name(operation))?;
+    Ok(Value::Array(vec![in alloc; Value::from(state), operation]?))
 }
 
-fn rule_value<T: Id>(alloc: Global, rule: &Rule<T>) -> Result<Value, AllocError> {
-    let id = match rule.tok_id() {
-        Some(id) => id_value(id),
-        None => Value::Null,
-    };
-    let name = match rule.name() {
-        Some(name) => Value::String(String::from_str(alloc, name)?),
-        None => Value::Null,
-    };
-    let span = span_value(alloc, rule.name_span())?;
-    let pattern = rule.re_str();
-    let mut states = Vec::new(alloc);
-    for state in rule.start_states() {
-        states.push(Value::from(*state))?;
+fn name_value(alloc: Global, name: Option<&str>) -> Result<Value, AllocError> {
+    match name {
+        Some(name) => text_value(alloc, name),
+        None => Ok(Value::Null),
     }
-    let states = Value::Array(states);
-    let target = target_value(alloc, rule.target_state())?;
-    json!(in alloc; {
-        "tok_id": id,
-        "name": name,
-        "name_span": span,
-        "re_str": pattern,
-        "start_states": states,
-        "target": target
-    })
+}
+
+fn rule_value(alloc: Global, rule: RuleSeen<'_>) -> Result<Value, AllocError> {
+    let mut map = Map::new(alloc);
+    put(&mut map, alloc, "tok_id", Value::from(rule.id))?;
+    put(&mut map, alloc, "name", name_value(alloc, rule.name)?)?;
+    put(
+        &mut map,
+        alloc,
+        "name_span",
+        span_value(alloc, rule.name_span)?,
+    )?;
+    put(&mut map, alloc, "re_str", text_value(alloc, rule.re_str)?)?;
+    put(
+        &mut map,
+        alloc,
+        "start_states",
+        numbers_value(alloc, rule.start_states)?,
+    )?;
+    put(&mut map, alloc, "target", target_value(alloc, rule.target)?)?;
+    Ok(Value::Object(map))
+}
+
+fn rule_seen<T: Id>(rule: &Rule<T>) -> RuleSeen<'_> {
+    let id = match rule.tok_id() {
+        Some(id) => id.to_u64(),
+        None => None,
+    };
+    RuleSeen {
+        id,
+        name: rule.name(),
+        name_span: rule.name_span(),
+        re_str: rule.re_str(),
+        start_states: rule.start_states(),
+        target: rule.target_state(),
+    }
 }
 
 /// The rules, each with all its fields.
 pub fn rules_value<T: Id>(alloc: Global, rules: &[Rule<T>]) -> Result<Value, AllocError> {
     let mut list = Vec::new(alloc);
     for rule in rules {
-        list.push(rule_value(alloc, rule)?)?;
+        list.push(rule_value(alloc, rule_seen(rule))?)?;
     }
     Ok(Value::Array(list))
 }
 
-fn item_value<T: Id>(alloc: Global, item: &Item<T>) -> Result<Value, AllocError> {
+fn item_seen<T: Id>(item: &Result<DefaultLexeme<T>, LRLexError>) -> Item {
     match item {
-        Ok(lexeme) => {
-            let id = id_value(lexeme.tok_id());
-            let start = lexeme.span().start();
-            let len = lexeme.span().len();
-            json!(in alloc; ["lex", id, start, len])
-        }
+        Ok(lexeme) => Item::Lexeme(lexeme.tok_id().to_u64(), lexeme.span()),
         Err(error) => {
-            let place = error.span().start();
             let state = match error.lexing_state() {
-                Some(state) => Value::from(state.id()),
-                None => Value::Null,
+                Some(state) => Some(state.id()),
+                None => None,
             };
-            json!(in alloc; ["err", place, state])
+            Item::Error(error.span(), state)
         }
     }
+}
+
+fn item_value(alloc: Global, item: Item) -> Result<Value, AllocError> {
+    let list = match item {
+        Item::Lexeme(id, span) => {
+            let kind = text_value(alloc, "lex")?;
+            let start = Value::from(span.start());
+            let len = Value::from(span.len());
+            vec![in alloc; kind, Value::from(id), start, len]?
+        }
+        Item::Error(span, state) => {
+            let kind = text_value(alloc, "err")?;
+            vec![in alloc; kind, Value::from(span.start()), Value::from(state)]?
+        }
+    };
+    Ok(Value::Array(list))
 }
 
 /// The items of a lexer, as `["lex", id, start, length]` or `["err", place, state]`.
@@ -153,15 +231,29 @@ pub fn items_value<T: Id>(
 ) -> Result<Value, AllocError> {
     let mut list = Vec::new(alloc);
     for item in lexer.iter() {
-        list.push(item_value(alloc, &item)?)?;
+        list.push(item_value(alloc, item_seen(&item))?)?;
     }
     Ok(Value::Array(list))
 }
 
-fn item_span<T: Id>(item: &Item<T>) -> Span {
-    match item {
-        Ok(lexeme) => lexeme.span(),
-        Err(error) => error.span(),
+/// Line and column of both ends, or null for none.
+fn ends_value(alloc: Global, ends: Option<(Place, Place)>) -> Result<Value, AllocError> {
+    let Some(((line, column), (end_line, end_column))) = ends else {
+        return Ok(Value::Null);
+    };
+    let start = numbers_value(alloc, &[line, column])?;
+    let end = numbers_value(alloc, &[end_line, end_column])?;
+    Ok(Value::Array(vec![in alloc; start, end]?))
+}
+
+/// Line and column of both ends of a span of the lexer of this input; none where the span doesn't fit it.
+fn ends_of<T: Id>(lexer: &LexerOver<'_, '_, T>, span: Span, input: &str) -> Option<(Place, Place)>
+    requires { lexer_text lexer.now ≡ input.now }
+{
+    if span.fits(input) {
+        Some(lexer.line_col(span))
+    } else {
+        None
     }
 }
 
@@ -175,22 +267,17 @@ pub fn places_value<T: Id>(
 {
     let mut list = Vec::new(alloc);
     for item in lexer.iter() {
-        let span = item_span(&item);
-        if span.fits(input) {
-            let ((line, column), (end_line, end_column)) = lexer.line_col(span);
-            list.push(json!(in alloc; [[line, column], [end_line, end_column]])?)?;
-        } else {
-            list.push(Value::Null)?;
-        }
+        let span = match item {
+            Ok(lexeme) => lexeme.span(),
+            Err(error) => error.span(),
+        };
+        list.push(ends_value(alloc, ends_of(lexer, span, input))?)?;
     }
     Ok(Value::Array(list))
 }
 
-/// The names in their order, or null for none.
-fn names_value(alloc: Global, names: Option<&HashSet<&str>>) -> Result<Value, AllocError> {
-    let Some(names) = names else {
-        return Ok(Value::Null);
-    };
+/// The names in their order.
+fn names_value(alloc: Global, names: &HashSet<&str>) -> Result<Value, AllocError> {
     let mut sorted = Vec::new(alloc);
     for name in names {
         sorted.push(*name)?;
@@ -198,39 +285,44 @@ fn names_value(alloc: Global, names: Option<&HashSet<&str>>) -> Result<Value, Al
     sorted.sort_unstable();
     let mut list = Vec::new(alloc);
     for name in sorted.as_slice() {
-        list.push(Value::String(String::from_str(alloc, name)?))?;
+        list.push(text_value(alloc, name)?)?;
     }
     Ok(Value::Array(list))
 }
 
-/// The names with their places, in the order of these, as `[name, span]`, or null for none.
-fn spanned_value(
-    alloc: Global,
-    names: Option<&HashSet<(String, Span)>>,
-) -> Result<Value, AllocError> {
-    let Some(names) = names else {
-        return Ok(Value::Null);
-    };
+fn spanned_value(alloc: Global, start: usize, end: usize, name: &str) -> Result<Value, AllocError> {
+    let span = numbers_value(alloc, &[start, end])?;
+    let name = text_value(alloc, name)?;
+    Ok(Value::Array(vec![in alloc; name, span]?))
+}
+
+/// The names with their places, in the order of these, as `[name, span]`.
+fn all_spanned_value(alloc: Global, names: &HashSet<(String, Span)>) -> Result<Value, AllocError> {
     let mut sorted = Vec::new(alloc);
     for (name, span) in names {
         sorted.push((span.start(), span.end(), name.as_str()))?;
     }
     sorted.sort_unstable();
     let mut list = Vec::new(alloc);
-    for key in sorted.as_slice() {
-        let (start, end, name) = *key;
-        list.push(json!(in alloc; [name, [start, end]])?)?;
+    for (start, end, name) in sorted.as_slice() {
+        list.push(spanned_value(alloc, *start, *end, name)?)?;
     }
     Ok(Value::Array(list))
 }
 
-/// What setting token ids gave: the names without a rule, and the rules' names without an id.
+/// What setting token ids gave: the names without a rule, and the rules' names without an id; each null for none.
 pub fn sets_value(
     alloc: Global,
-    lacking: Option<&HashSet<&str>>,
-    unused: Option<&HashSet<(String, Span)>>,
+    sets: (Option<HashSet<&str>>, Option<HashSet<(String, Span)>>),
 ) -> Result<Value, AllocError> {
-    let lacking = names_value(alloc, lacking)?;
-    let unused = spanned_value(alloc, unused)?;
-    json!(in alloc; [lacking, unused])
+    let (lacking, unused) = sets;
+    let lacking = match lacking {
+        Some(names) => names_value(alloc, &names)?,
+        None => Value::Null,
+    };
+    let unused = match unused {
+        Some(names) => all_spanned_value(alloc, &names)?,
+        None => Value::Null,
+    };
+    Ok(Value::Array(vec![in alloc; lacking, unused]?))
 }
