@@ -29,3 +29,4 @@ pub mod AheadLemmas
 pub mod RaisedLemmas
 pub mod GoingLemmas
 pub mod AskedLemmas
+pub mod RestLemmas

@@ -10,8 +10,14 @@ use Rattle.std.specs.declared.string.String.{String}
 use Rattle.lrlex_base.specs.Spans.{Span, as_span, same_span}
 use Rattle.lrlex_base.specs.declared.spans.Span.{Span as TheSpan}
 use Rattle.lrlex_rules.specs.Definition.{Definition, Rule}
-use Rattle.lrlex_rules.specs.Parts.{as_rule}
+use Rattle.lrlex_rules.specs.Parts.{as_rule, as_state}
 use Rattle.lrlex_rules.specs.declared.rules.Rule as code
+use Rattle.lrlex_rules.specs.declared.states.StartState as start
+
+-- what a definition says of its rules and its start states is what these say
+pub record IsMadeOf {S : Type 0} (number : S → ℕ) (rs : List (code.Rule S)) (ss : List start.StartState) (d : Definition) : Type 0 where
+  pub rules : d.rules ≡ map (as_rule number) rs
+  pub states : d.states ≡ map as_state ss
 
 -- the rule has the id
 abbrev pub has_id : ℕ → Rule → Bool

@@ -79,6 +79,13 @@ IsTiling d text stack [] e = IsEnd d text stack e
 IsTiling d text stack (t ∷ ts) e =
     IsTaken d text stack t × IsTiling d (drop t.len text) (stack_past d stack t) ts e
 
+-- there is one way to cut the text from the stack, and no other
+pub record HasOneTiling (d : Definition) (text stack : List ℕ) : Type 0 where
+  pub cut : List Tile
+  pub end : End
+  pub tiling : IsTiling d text stack cut end
+  pub only : (ts : List Tile) (e : End) → IsTiling d text stack ts e → (ts ≡ cut) × (e ≡ end)
+
 abbrev pub lexeme_of : Option ℕ → ℕ → ℕ → List Item
 lexeme_of None place len = []
 lexeme_of (Some id) place len = Lexeme id place len false ∷ []

@@ -26,7 +26,7 @@ pub trait LexerDef<L: LexerTypes>: Sized {
     ghost use Rattle.lrlex_rules.specs.Faults.{IsPlaced};
     ghost use Rattle.lrlex_rules.specs.Laws.{IsLawful};
     ghost use Rattle.lrlex_rules.specs.Parts.{as_rule};
-    ghost use Rattle.lrlex.specs.Ids.{rule_with_id, rule_named, ids_of, with_own_id, with_ids, is_lacking, is_unused, is_unused_at, HoldsNames, HoldsTexts, HoldsPlaces};
+    ghost use Rattle.lrlex.specs.Ids.{IsMadeOf, rule_with_id, rule_named, ids_of, with_own_id, with_ids, is_lacking, is_unused, is_unused_at, HoldsNames, HoldsTexts, HoldsPlaces};
 
     // What it says.
     ghost said: { Self → Definition };
@@ -43,14 +43,17 @@ pub trait LexerDef<L: LexerTypes>: Sized {
         rules: Vec<Rule<L::StorageT>>,
     ) -> Result<Self, AllocError>
         ensures rules { IfOk result (λ d. rules_of d ≡ rules.items) }
-        ensures states { IfOk result (λ d. states_of d ≡ start_states.items) };
+        ensures states { IfOk result (λ d. states_of d ≡ start_states.items) }
+        ensures flags { IfOk result (λ d. (said d).flags ≡ DEFAULT_LEX_FLAGS) }
+        ensures made_of { IfOk result (λ d. IsMadeOf L.StorageT.number (rules_of d) (states_of d) (said d)) };
 
     /// Reads a rule text with unset flags. The inner `Err` has each fault of the text, and there is at least one.
     fn from_str(alloc: Global, text: &str) -> Result<LexBuildResult<Self>, AllocError>
         ensures answer { IfOk result (IsAnswer said UNSPECIFIED_LEX_FLAGS L.StorageT.greatest text.now) }
         ensures refusals { IfOk result (AreOwnRefusals UNSPECIFIED_LEX_FLAGS L.StorageT.greatest text.now) }
         ensures placed { IfOk result (λ built. IfErr built (λ faults. All (IsPlaced text.now) faults.items)) }
-        ensures lawful { IfOk result (λ built. IfOk built (λ d. IsLawful text.now (said d))) };
+        ensures lawful { IfOk result (λ built. IfOk built (λ d. IsLawful text.now (said d))) }
+        ensures made_of { IfOk result (λ built. IfOk built (λ d. IsMadeOf L.StorageT.number (rules_of d) (states_of d) (said d))) };
 
     /// The rule at this place, counted from 0.
     fn get_rule(&self, idx: usize) -> Option<&Rule<L::StorageT>>
@@ -126,6 +129,7 @@ impl<L: LexerTypes> LexerDef<L> for LRNonStreamingLexerDef<L> {
     ) -> Result<LRNonStreamingLexerDef<L>, AllocError>
         ensures rules { IfOk result (λ d. definition_rules d ≡ rules.items) }
         ensures states { IfOk result (λ d. definition_states d ≡ start_states.items) }
+        ensures flags { IfOk result (λ d. (definition_of L.StorageT.number d).flags ≡ DEFAULT_LEX_FLAGS) }
     {
         LRNonStreamingLexerDef::of_parts(alloc, start_states, rules, DEFAULT_LEX_FLAGS)
     }

@@ -10,14 +10,17 @@ mod names;
 
 pub use crate::definitions::LexerDef;
 pub use crate::errors::LRLexError;
-pub use crate::lexer::{LRNonStreamingLexer, LRNonStreamingLexerDef, LexRun};
+pub use crate::lexer::{
+    LRNonStreamingLexer, LRNonStreamingLexerDef, LexRun, ahead_laws, decided_laws, item_laws,
+    resume_laws, run_laws, tiling_laws,
+};
 pub use lrlex_base::{
     CTTokenMapBuilder, DefaultLexeme, Edit, Id, Items, LexError, Lexeme, Lexer, LexerTypes,
     NewlineCache, NonStreamingLexer, Span, Spanned, SpansKind, TokenMapFault, ct_token_map,
 };
 pub use lrlex_rules::{
     DEFAULT_LEX_FLAGS, LexBuildError, LexBuildResult, LexErrorKind, LexFlags, Rule, StartState,
-    StartStateId, StartStateOperation, UNSPECIFIED_LEX_FLAGS,
+    StartStateId, StartStateOperation, UNSPECIFIED_LEX_FLAGS, flag_laws, line_laws, operation_laws,
 };
 pub use lrlex_table::Budget;
 

@@ -21,6 +21,13 @@ pub struct DefaultLexeme<StorageT = u32> {
 }
 
 impl<StorageT: Copy> Clone for DefaultLexeme<StorageT> {
+    ghost use Rattle.std.specs.Prelude.{◌≡◌, ⊤};
+
+    // The copy is its source, and never fails.
+    ghost is_clone = { λ x y. y ≡ x };
+
+    ghost is_infallible = { λ _. ⊤ };
+
     fn clone(&self) -> Result<DefaultLexeme<StorageT>, AllocError> {
         Ok(*self)
     }

@@ -5,7 +5,7 @@ use Rattle.lrlex_rules.specs.declared.flags.LexFlags.{LexFlags}
 use Rattle.lrlex_rules.specs.Definition.{Definition}
 use Rattle.lrlex_rules.specs.Faults.{IsPlaced}
 use Rattle.lrlex_rules.specs.Outcome.{outcome}
-use Rattle.lrlex_rules.specs.Answer.{settings, refused_in, as_faults}
+use Rattle.lrlex_rules.specs.Answer.{settings, refused_in, as_faults, AreByRegex}
 use Rattle.lrlex.specs.Tiling.{Tile, End, Done, IsTiling, items}
 use Rattle.lrlex_cli.specs.Lines.{lines}
 use Rattle.lrlex_cli.specs.Writing.{AppendsFront}
@@ -35,12 +35,13 @@ abbrev pub lines_in : (q : Request) → Lexing q → List ℕ
 lines_in q x = lines x.definition.rules q.input (items x.definition 0 x.cut x.end)
 
 -- `Lexed` where the whole text was cut and `Stopped` where not, with all lines written; `Refused` with the rule text's
--- faults, each at places in it, and nothing written; nothing written for want of memory, and a beginning of the lines where a write failed
+-- faults, those of patterns as `regex` gave them, each at places in it, and nothing written; nothing written for want of memory, and a beginning of the lines where a write failed
 abbrev pub IsEngineRun : Request → Option (List ℕ) → Option (List ℕ) → Result Ended EngineFault → Type 0
 IsEngineRun q old new (Ok Lexed) = (x : Lexing q) × (x.end ≡ Done) × Appends old new (lines_in q x)
 IsEngineRun q old new (Ok Stopped) = (x : Lexing q) × (x.end ≢ Done) × Appends old new (lines_in q x)
 IsEngineRun q old new (Ok (Refused faults)) =
     (outcome (settings q.flags q.greatest (refused_in (as_faults faults))) q.rules ≡ Err (as_faults faults))
+    × AreByRegex q.flags q.greatest q.rules faults
     × All (IsPlaced q.rules) faults.items
     × Keeps old new
 IsEngineRun q old new (Err Memory) = Keeps old new

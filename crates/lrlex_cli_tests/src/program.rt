@@ -111,6 +111,53 @@ fn flags_are_handed_on(rt: HostRuntime) {
     );
 }
 
+/// A rule text with a pattern of so many brackets, one in the other.
+fn nested<R: AllocGlobal + Abort>(rt: &R, levels: usize) -> String {
+    let mut text = String::new(rt.alloc());
+    assert!(rt; text.push_str("%%\n").is_ok());
+    for _level in 0..levels {
+        assert!(rt; text.push('(').is_ok());
+    }
+    assert!(rt; text.push('a').is_ok());
+    for _level in 0..levels {
+        assert!(rt; text.push(')').is_ok());
+    }
+    assert!(rt; text.push_str(" 'A'").is_ok());
+    text
+}
+
+#[test]
+fn limits_of_patterns(rt: HostRuntime) {
+    let refused = "2:1: Invalid regular expression\n";
+    let most = ["lrlex", "--nest-limit", "4294967295", "-", "-"];
+    for (levels, words, err, status) in [
+        (200, ["lrlex", "--nest-limit", "250", "-", "-"], "", 0),
+        (300, ["lrlex", "--nest-limit", "250", "-", "-"], refused, 1),
+        (900, most, "", 0),
+        (1_100, most, refused, 1),
+        (9_000, most, refused, 1),
+    ] {
+        let rules = nested(&rt, levels);
+        expects(&rt, &words, rules.as_str(), ("", err, status));
+    }
+    expects(
+        &rt,
+        &["lrlex", "--size-limit", "10", "-", "-"],
+        ROW_1,
+        ("", refused, 1),
+    );
+    let wide = [
+        "lrlex",
+        "--size-limit",
+        "100000000",
+        "--dfa-size-limit",
+        "100000000",
+        "-",
+        "-",
+    ];
+    expects(&rt, &wide, ROW_1, ("", "", 0));
+}
+
 #[test]
 fn texts_in_files(rt: HostRuntime) -> Result<(), Fail> {
     let alloc = rt.alloc();

@@ -117,3 +117,21 @@ fn a_definition_can_be_read_from_any_text(rt: HostRuntime) -> Result<(), Fail> {
     assert!(rt; built.is_ok());
     Ok(())
 }
+
+#[test]
+fn a_refused_pattern_is_told_in_words_of_regex(rt: HostRuntime) -> Result<(), Fail> {
+    let alloc = rt.alloc();
+    let built = LRNonStreamingLexerDef::<DefaultLexerTypes<u32>>::from_str(alloc, "%%\n( 'A'")?;
+    let Err(faults) = built else {
+        panic!(rt; "built")
+    };
+    for fault in &faults {
+        let told = format!(in alloc; "{fault}")?;
+        assert!(rt;
+            told.as_str().starts_with("Invalid regular expression: "),
+            "{told}"
+        );
+    }
+    assert!(rt; faults.len() == 1);
+    Ok(())
+}

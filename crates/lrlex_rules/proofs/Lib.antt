@@ -3,11 +3,13 @@ pub mod Angles
 pub mod Answer
 pub mod Blanks
 pub mod Builders
+pub mod CutLaws
 pub mod Cuts
 pub mod Declares
 pub mod Ends
 pub mod Escapes
 pub mod Extends
+pub mod FlagLemmas
 pub mod Fronts
 pub mod Initial
 pub mod Lawful

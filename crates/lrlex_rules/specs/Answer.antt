@@ -76,8 +76,12 @@ refused_by (Err v) = refused_in (as_faults v)
 abbrev pub IsAnswer : {D : Type 0} → (D → Definition) → LexFlags → ℕ → List ℕ → Result D (Vec LexBuildError Global) → Type 0
 IsAnswer view flags greatest text answer = seen view as_faults answer ≡ outcome (settings flags greatest (refused_by answer)) text
 
--- each `RegexError` is why `regex` refused the pattern of that very line, wrapped
+-- each `RegexError` of these faults is why `regex` refused the pattern of that very line, wrapped
+abbrev pub AreByRegex : LexFlags → ℕ → List ℕ → Vec LexBuildError Global → Type 0
+AreByRegex flags greatest text v =
+    AreRefusals (config_of flags) (refused_patterns (events_of (settings flags greatest (refused_in (as_faults v))) text)) (regex_errors v.items)
+
+-- so it is of the faults of a refused text
 abbrev pub AreOwnRefusals : {D : Type 0} → LexFlags → ℕ → List ℕ → Result D (Vec LexBuildError Global) → Type 0
 AreOwnRefusals flags greatest text (Ok d) = Unit {0}
-AreOwnRefusals flags greatest text (Err v) =
-    AreRefusals (config_of flags) (refused_patterns (events_of (settings flags greatest (refused_in (as_faults v))) text)) (regex_errors v.items)
+AreOwnRefusals flags greatest text (Err v) = AreByRegex flags greatest text v

@@ -1,7 +1,24 @@
 -- The settings of a rule file.
-use Rattle.std.specs.Prelude.{ℕ, ◌*◌, ◌^◌, Bool, true, false, Option, Some, unwrap_or}
+use Rattle.std.specs.Prelude.{ℕ, ◌*◌, ◌^◌, min, Bool, true, false, Option, Some, None, unwrap_or}
 use Rattle.regex.specs.Patterns.{Config}
 use Rattle.lrlex_rules.specs.declared.flags.LexFlags.{LexFlags}
+
+-- no flag is set
+abbrev pub unset : LexFlags
+unset = record {
+  dot_matches_new_line = None;
+  multi_line = None;
+  octal = None;
+  posix_escapes = None;
+  allow_wholeline_comments = None;
+  case_insensitive = None;
+  swap_greed = None;
+  ignore_whitespace = None;
+  unicode = None;
+  size_limit = None;
+  dfa_size_limit = None;
+  nest_limit = None;
+}
 
 -- what an unset flag means, and the flags with that filled in: the others are left to `regex` (lrlex's defaults)
 abbrev pub or_default : {X : Type 0} → Option X → X → Option X
@@ -23,6 +40,10 @@ has_posix_escapes flags = unwrap_or flags.posix_escapes false
 abbrev pub allows_comments : LexFlags → Bool
 allows_comments flags = unwrap_or flags.allow_wholeline_comments false
 
+-- how deep a pattern may nest: more than 1,000 levels are not to be had, since `regex` takes stack for each
+abbrev pub nest_limit_of : LexFlags → ℕ
+nest_limit_of f = min (unwrap_or f.nest_limit 250) 1_000
+
 -- the options of `regex` for these flags; what is unset and has no default of lrlex's is as `regex` has it
 abbrev pub config_of : LexFlags → Config
 config_of f = record {
@@ -37,7 +58,7 @@ config_of f = record {
   };
   octal = unwrap_or f.octal true;
   utf8 = true;
-  nest_limit = unwrap_or f.nest_limit 250;
+  nest_limit = nest_limit_of f;
 }
 
 -- the limit on a compiled pattern's size, in bytes

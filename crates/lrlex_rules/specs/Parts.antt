@@ -7,7 +7,7 @@ use Rattle.std.specs.Cmp.Lexicographic.{slice_cmp}
 use Rattle.std.specs.Str.{bytes_eq}
 use Rattle.std.specs.BTreeMap.{BTreeMap, get_by}
 use denote.Ref.{Bor}
-use Rattle.regex.specs.Strings.{regex_config}
+use Rattle.regex.specs.Strings.{regex_config, regex_size}
 use Rattle.regex.specs.Patterns.{Config}
 use Rattle.lrlex_base.specs.Spans.{Span, as_span}
 use Rattle.lrlex_rules.specs.Definition.{Rule, StartState}
@@ -34,6 +34,10 @@ rule_target r = r.target_state
 
 abbrev pub rule_config : {S : Type 0} → code.Rule S → Config
 rule_config r = regex_config r.re.value
+
+-- how many bytes its compiled pattern takes, as `regex` counts them for its limit
+abbrev pub compiled_size : {S : Type 0} → code.Rule S → ℕ
+compiled_size r = regex_size r.re.value
 
 -- the whole rule, where `number` gives the number that an id stands for
 abbrev pub as_rule : {S : Type 0} → (S → ℕ) → code.Rule S → Rule

@@ -1,9 +1,9 @@
 -- The text of a rule file: its lines, and the white space round a piece of it.
 -- A text is a list of bytes in UTF-8, and an offset counts bytes.
-use Rattle.std.specs.Prelude.{◌≡◌, ℕ, true, false, ◌+◌, ◌-◌, Bool, Option, Some, None, if◌then◌else◌, List, [], ◌∷◌, ◌++◌, length, nat_eq, ◌==◌, encode_utf8_all}
+use Rattle.std.specs.Prelude.{◌≡◌, ℕ, true, false, ◌+◌, ◌-◌, Bool, Option, Some, None, if◌then◌else◌, List, All, [], ◌∷◌, ◌++◌, length, nat_eq, ◌==◌, encode_utf8_all}
 use Rattle.std.specs.Char.{encode_utf8, len_utf8}
 use Rattle.std.specs.List.{starts_with, list_all, list_any, before_last, after_last}
-use Rattle.std.specs.Str.{chars, bytes_eq}
+use Rattle.std.specs.Str.{chars, bytes_eq, NonePass}
 use Rattle.lrlex_base.specs.Classes.{is_line_sep, is_white_space}
 
 -- a piece of a text, and the offset of its first byte
@@ -27,6 +27,19 @@ cut_chars p o (c ∷ cs) = if p c then piece o [] ∷ cut_chars p (o + len_utf8 
 -- a piece, cut at each single character that passes p
 abbrev pub cut : (ℕ → Bool) → Piece → List Piece
 cut p x = cut_chars p x.at (chars x.text)
+
+-- the pieces of characters, with these characters between them
+abbrev pub rejoined : List (List ℕ) → List ℕ → List ℕ
+rejoined [] between = []
+rejoined (t ∷ ts) [] = t
+rejoined (t ∷ ts) (c ∷ cs) = t ++ c ∷ rejoined ts cs
+
+-- The characters are these pieces with these characters between them. Each of those passes p, and none in a piece does.
+pub record IsCut (p : ℕ → Bool) (all : List ℕ) (pieces : List (List ℕ)) (between : List ℕ) : Type 0 where
+  pub joined : rejoined pieces between ≡ all
+  pub count : length pieces ≡ length between + 1
+  pub inside : All (NonePass p) pieces
+  pub between_pass : All (λ c. p c ≡ true) between
 
 -- the lines of a text, without their separators
 abbrev pub lines : Piece → List Piece

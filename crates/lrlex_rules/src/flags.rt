@@ -25,7 +25,7 @@ pub struct LexFlags {
     pub size_limit: Option<usize>,
     /// Kept and handed to nothing: `regex` has no such limit here.
     pub dfa_size_limit: Option<usize>,
-    /// How deep a pattern may nest; 250 unless set. `regex` takes about 1 KB of stack for each level.
+    /// How deep a pattern may nest; 250 unless set, and at most 1,000. `regex` takes about 1 KB of stack for each level.
     pub nest_limit: Option<u32>,
 }
 

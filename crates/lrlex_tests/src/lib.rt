@@ -1,9 +1,11 @@
 //! Rows with answers from outside, through the public calls of `lrlex` and of the callers that its page shows: nothing here
-//! but tests.
+//! but tests. The check's time goes to functions that hold a definition, a run or a lexer: they are few, and give plain data.
 #![tactic(auto)]
 
 #[cfg(test)]
 mod callers;
+#[cfg(test)]
+mod chance;
 #[cfg(test)]
 mod edits;
 #[cfg(test)]
@@ -12,6 +14,8 @@ mod hostile;
 mod long_inputs;
 #[cfg(test)]
 mod parts;
+#[cfg(test)]
+mod runs;
 #[cfg(test)]
 mod shown;
 #[cfg(test)]

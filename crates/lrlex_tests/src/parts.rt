@@ -1,89 +1,86 @@
 //! Parts as they were handed in, look-ups by id and name, and both calls that set token ids.
-use lrlex::{
-    DEFAULT_LEX_FLAGS, DefaultLexerTypes, LRNonStreamingLexerDef, LexFlags, LexerDef, Rule,
-    StartState, StartStateOperation, UNSPECIFIED_LEX_FLAGS,
-};
-use lrlex_base::{Id, LexerTypes, Span};
+use crate::runs::{Definition, Made, Part, defined, of_parts};
+use crate::shown::{push_number, same, separate};
+use lrlex::{DEFAULT_LEX_FLAGS, LexerDef, Rule, StartStateOperation};
+use lrlex_base::{LexerTypes, Span};
 use std::alloc::{AllocError, Global};
 use std::collections::{HashMap, HashSet};
 use std::test::Fail;
 
-type Definition = LRNonStreamingLexerDef<DefaultLexerTypes<u32>>;
-
-/// A rule's name and id: `ID 0`, `- none`.
-fn rule_text<T: Id>(alloc: Global, rule: &Rule<T>) -> Result<String, AllocError> {
-    let name = rule.name().unwrap_or("-");
+/// Adds a rule's name and id: `ID 0`, `- none`.
+fn push_rule(text: &mut String, rule: &Rule<u32>) -> Result<(), AllocError> {
+    separate(text, ", ")?;
+    text.push_str(rule.name().unwrap_or("-"))?;
     match rule.tok_id() {
-        Some(id) => format!(in alloc; "{name} {id}"),
-        None => format!(in alloc; "{name} none"),
+        Some(id) => push_number(text, " ", id as usize),
+        None => text.push_str(" none"),
     }
 }
 
-/// All of them: `ID none, - 1`.
-fn rules_text(alloc: Global, rules: &[Rule<u32>]) -> Result<String, AllocError> {
-    let mut text = String::new(alloc);
-    for rule in rules {
-        if !text.as_str().is_empty() {
-            text.push_str(", ")?;
-        }
-        text.push_str(rule_text(alloc, rule)?.as_str())?;
-    }
-    Ok(text)
-}
-
-/// The words in order, or `none` where there is no set.
-fn in_order(alloc: Global, words: Option<Vec<String>>) -> Result<String, AllocError> {
-    let Some(mut words) = words else {
-        return String::from_str(alloc, "none");
-    };
+/// Adds the words in order, behind those that are there, or `none` where there is no set.
+fn push_in_order(
+    text: &mut String,
+    words: &mut Vec<String>,
+    is_set: bool,
+) -> Result<(), AllocError> {
     words.sort()?;
-    let mut text = String::new(alloc);
+    let mut between = "";
     for word in words.as_slice() {
-        if !text.as_str().is_empty() {
-            text.push_str(", ")?;
-        }
+        text.push_str(between)?;
         text.push_str(word.as_str())?;
+        between = ", ";
     }
+    text.push_str(if is_set { " | " } else { "none | " })
+}
+
+fn push_names(
+    alloc: Global,
+    text: &mut String,
+    names: Option<&HashSet<&str>>,
+) -> Result<(), AllocError> {
+    let mut words = Vec::new(alloc);
+    if let Some(names) = names {
+        for name in names.iter() {
+            words.push(String::from_str(alloc, *name)?)?;
+        }
+    }
+    push_in_order(text, &mut words, names.is_some())
+}
+
+fn push_own_names(
+    alloc: Global,
+    text: &mut String,
+    names: Option<&HashSet<String>>,
+) -> Result<(), AllocError> {
+    let mut words = Vec::new(alloc);
+    if let Some(names) = names {
+        for name in names.iter() {
+            words.push(String::from_str(alloc, name.as_str())?)?;
+        }
+    }
+    push_in_order(text, &mut words, names.is_some())
+}
+
+/// A name with its place: `A 2..3`.
+fn placed(alloc: Global, name: &str, place: Span) -> Result<String, AllocError> {
+    let mut text = String::from_str(alloc, name)?;
+    push_number(&mut text, " ", place.start())?;
+    push_number(&mut text, "..", place.end())?;
     Ok(text)
 }
 
-fn names_text(alloc: Global, names: Option<HashSet<&str>>) -> Result<String, AllocError> {
-    let Some(names) = names else {
-        return in_order(alloc, None);
-    };
-    let mut words = Vec::new(alloc);
-    for name in names.iter() {
-        words.push(String::from_str(alloc, *name)?)?;
-    }
-    in_order(alloc, Some(words))
-}
-
-fn own_names_text(alloc: Global, names: Option<HashSet<String>>) -> Result<String, AllocError> {
-    let Some(names) = names else {
-        return in_order(alloc, None);
-    };
-    let mut words = Vec::new(alloc);
-    for name in names.iter() {
-        words.push(String::from_str(alloc, name.as_str())?)?;
-    }
-    in_order(alloc, Some(words))
-}
-
-fn places_text(
+fn push_places(
     alloc: Global,
-    names: Option<HashSet<(String, Span)>>,
-) -> Result<String, AllocError> {
-    let Some(names) = names else {
-        return in_order(alloc, None);
-    };
+    text: &mut String,
+    names: Option<&HashSet<(String, Span)>>,
+) -> Result<(), AllocError> {
     let mut words = Vec::new(alloc);
-    for key in names.iter() {
-        let name = key.0.as_str();
-        let start = key.1.start();
-        let end = key.1.end();
-        words.push(format!(in alloc; "{name} {start}..{end}")?)?;
+    if let Some(names) = names {
+        for key in names.iter() {
+            words.push(placed(alloc, key.0.as_str(), key.1)?)?;
+        }
     }
-    in_order(alloc, Some(words))
+    push_in_order(text, &mut words, names.is_some())
 }
 
 fn map_of<'a>(alloc: Global, ids: &[(&'a str, u32)]) -> Result<HashMap<&'a str, u32>, AllocError> {
@@ -94,214 +91,227 @@ fn map_of<'a>(alloc: Global, ids: &[(&'a str, u32)]) -> Result<HashMap<&'a str, 
     Ok(map)
 }
 
-/// Sets ids, and tells both sets and then the rules: `INT | ID | ID none, - 1`.
-fn ids_set(
+/// Sets ids, and tells both sets.
+fn push_sets(
     alloc: Global,
+    text: &mut String,
     definition: &mut Definition,
-    ids: &[(&str, u32)],
-) -> Result<String, AllocError> {
-    let map = map_of(alloc, ids)?;
-    let (lacking, unused) = definition.set_rule_ids(alloc, &map)?;
-    let lacking = names_text(alloc, lacking)?;
-    let unused = own_names_text(alloc, unused)?;
-    let rules = rules_text(alloc, definition.rules())?;
-    format!(in alloc; "{lacking} | {unused} | {rules}")
+    ids: &HashMap<&str, u32>,
+) -> Result<(), AllocError> {
+    let (lacking, unused) = definition.set_rule_ids(alloc, ids)?;
+    push_names(alloc, text, lacking.as_ref())?;
+    push_own_names(alloc, text, unused.as_ref())
 }
 
 /// The same with places.
-fn ids_set_spanned(
+fn push_spanned_sets(
+    alloc: Global,
+    text: &mut String,
+    definition: &mut Definition,
+    ids: &HashMap<&str, u32>,
+) -> Result<(), AllocError> {
+    let (lacking, unused) = definition.set_rule_ids_spanned(alloc, ids)?;
+    push_names(alloc, text, lacking.as_ref())?;
+    push_places(alloc, text, unused.as_ref())
+}
+
+/// Sets ids, with places or without, and tells both sets.
+fn sets_text(
     alloc: Global,
     definition: &mut Definition,
     ids: &[(&str, u32)],
+    spanned: bool,
 ) -> Result<String, AllocError> {
     let map = map_of(alloc, ids)?;
-    let (lacking, unused) = definition.set_rule_ids_spanned(alloc, &map)?;
-    let lacking = names_text(alloc, lacking)?;
-    let unused = places_text(alloc, unused)?;
-    let rules = rules_text(alloc, definition.rules())?;
-    format!(in alloc; "{lacking} | {unused} | {rules}")
+    let mut text = String::new(alloc);
+    if spanned {
+        push_spanned_sets(alloc, &mut text, definition, &map)?;
+    } else {
+        push_sets(alloc, &mut text, definition, &map)?;
+    }
+    Ok(text)
 }
 
-/// The rule that a look-up by id finds, by both calls: `B 0`, `none`.
-fn found_by_id<L: LexerTypes, D: LexerDef<L>>(
-    alloc: Global,
+/// All rules: `ID none, - 1`.
+fn rules_text(alloc: Global, rules: &[Rule<u32>]) -> Result<String, AllocError> {
+    let mut text = String::new(alloc);
+    for rule in rules {
+        push_rule(&mut text, rule)?;
+    }
+    Ok(text)
+}
+
+/// The rule that a look-up by id finds, by both calls.
+fn by_id<L: LexerTypes, D: LexerDef<L>>(
     definition: &D,
     id: L::StorageT,
-) -> Result<String, AllocError> {
+) -> Option<(&Rule<L::StorageT>, &Rule<L::StorageT>)> {
     match definition.find_rule_by_id(id) {
-        Some(found) => {
-            let found = rule_text(alloc, found)?;
-            let first = rule_text(alloc, definition.get_rule_by_id(id))?;
-            format!(in alloc; "{found} {first}")
-        }
-        None => String::from_str(alloc, "none"),
+        Some(found) => Some((found, definition.get_rule_by_id(id))),
+        None => None,
     }
 }
 
-fn found_by_name<L: LexerTypes, D: LexerDef<L>>(
-    alloc: Global,
-    definition: &D,
-    name: &str,
-) -> Result<String, AllocError> {
+/// The pattern of the rule that a look-up by name finds.
+fn by_name<'d, L, D>(definition: &'d D, name: &str) -> Option<&'d str>
+where
+    L: LexerTypes,
+    L::StorageT: 'd,
+    D: LexerDef<L>,
+{
     match definition.get_rule_by_name(name) {
-        Some(rule) => String::from_str(alloc, rule.re_str()),
-        None => String::from_str(alloc, "none"),
+        Some(rule) => Some(rule.re_str()),
+        None => None,
     }
 }
 
-/// A rule text's definition whose rules have these ids.
-fn with_ids(
+/// The rule that a look-up by id finds, by both calls: `B 0, B 0`, or nothing.
+fn found_text(alloc: Global, definition: &Definition, id: u32) -> Result<String, AllocError> {
+    let mut text = String::new(alloc);
+    if let Some((found, first)) = by_id(definition, id) {
+        push_rule(&mut text, found)?;
+        push_rule(&mut text, first)?;
+    }
+    Ok(text)
+}
+
+/// The rule that a look-up by id finds in a rule text's definition, once its rules have these ids.
+fn found_in(
     alloc: Global,
     rules: &str,
-    ids: &[(&str, u32)],
-) -> Result<Option<Definition>, AllocError> {
-    let Ok(mut definition) = Definition::from_str(alloc, rules)? else {
-        return Ok(None);
+    ids: Option<&[(&str, u32)]>,
+    id: u32,
+) -> Result<String, AllocError> {
+    let Some(mut definition) = defined(alloc, Made::Read(rules))? else {
+        return String::from_str(alloc, "refused");
     };
-    let map = map_of(alloc, ids)?;
-    let _ = definition.set_rule_ids(alloc, &map)?;
-    Ok(Some(definition))
+    if let Some(ids) = ids {
+        let _ = sets_text(alloc, &mut definition, ids, false)?;
+    }
+    found_text(alloc, &definition, id)
 }
+
+const THREE: &str = "%%\na 'A'\nb 'B'\n[ ] ;";
+
+/// Rules, the ids that they are given, an id, and what is found.
+const BY_ID: &[(&str, Option<&[(&str, u32)]>, u32, &str)] = &[
+    (THREE, None, 0, "A 0, A 0"),
+    (THREE, None, 1, "B 1, B 1"),
+    (THREE, None, 2, "- 2, - 2"),
+    (THREE, None, 3, ""),
+    ("%%\na ;\nb 'B'", Some(&[("B", 0)]), 0, "- 0, - 0"),
+    ("%%\na ;\nb 'B'", Some(&[("B", 0)]), 1, ""),
+    (
+        "%%\na 'A'\nb 'B'",
+        Some(&[("A", 5), ("B", 5)]),
+        5,
+        "A 5, A 5",
+    ),
+    ("%%\na 'A'\nb 'B'", Some(&[("B", 5)]), 0, ""),
+];
+
+/// A name, and the pattern of the rule that is found.
+const BY_NAME: &[(&str, &str)] = &[
+    ("A", "a"),
+    ("B", "b"),
+    ("C", "none"),
+    ("", "none"),
+    ("a", "none"),
+];
 
 #[test]
 fn look_ups_give_the_first(rt: HostRuntime) -> Result<(), Fail> {
-    let alloc = rt.alloc();
-    let Ok(definition) = Definition::from_str(alloc, "%%\na 'A'\nb 'B'\n[ ] ;")? else {
-        panic!(rt; "refused");
-    };
-    let by_id = [(0, "A 0 A 0"), (1, "B 1 B 1"), (2, "- 2 - 2"), (3, "none")];
-    for (id, want) in by_id {
-        let got = found_by_id(alloc, &definition, id)?;
-        assert_eq!(rt; got.as_str(), want, "id {id}");
-    }
-    let by_name = [
-        ("A", "a"),
-        ("B", "b"),
-        ("C", "none"),
-        ("", "none"),
-        ("a", "none"),
-    ];
-    for (name, want) in by_name {
-        let got = found_by_name(alloc, &definition, name)?;
-        assert_eq!(rt; got.as_str(), want, "name {name:?}");
-    }
-    let rows: [(&str, &[(&str, u32)], u32, &str); 4] = [
-        ("%%\na ;\nb 'B'", &[("B", 0)], 0, "- 0 - 0"),
-        ("%%\na ;\nb 'B'", &[("B", 0)], 1, "none"),
-        ("%%\na 'A'\nb 'B'", &[("A", 5), ("B", 5)], 5, "A 5 A 5"),
-        ("%%\na 'A'\nb 'B'", &[("B", 5)], 0, "none"),
-    ];
-    for (rules, ids, id, want) in rows {
-        let Some(definition) = with_ids(alloc, rules, ids)? else {
-            panic!(rt; "{rules:?} is refused");
-        };
-        let got = found_by_id(alloc, &definition, id)?;
-        assert_eq!(rt; got.as_str(), want, "{rules:?}, id {id}");
+    for row in BY_ID {
+        let (rules, ids, id, want) = *row;
+        let got = found_in(rt.alloc(), rules, ids, id)?;
+        same(&rt, got.as_str(), want, rules, "by id");
     }
     Ok(())
 }
 
-/// A rule of these parts that lists no start states, or none where its pattern is refused.
-fn part(
-    alloc: Global,
-    tok_id: Option<u32>,
-    name: Option<(&str, Span)>,
-    re_str: &str,
-    target: Option<(usize, StartStateOperation)>,
-    flags: &LexFlags,
-) -> Result<Option<Rule<u32>>, AllocError> {
-    let (name, name_span) = match name {
-        Some((name, span)) => (Some(String::from_str(alloc, name)?), span),
-        None => (None, Span::new(0, 0)),
+#[test]
+fn look_ups_by_name(rt: HostRuntime) -> Result<(), Fail> {
+    let Some(definition) = defined(rt.alloc(), Made::Read(THREE))? else {
+        panic!(rt; "refused");
     };
-    let re_str = String::from_str(alloc, re_str)?;
-    let made = Rule::new(
-        alloc,
-        tok_id,
-        name,
-        name_span,
-        re_str,
-        Vec::new(alloc),
-        target,
-        flags,
-    )?;
-    Ok(made.ok())
+    for row in BY_NAME {
+        let (name, want) = *row;
+        let got = by_name(&definition, name).unwrap_or("none");
+        same(&rt, got, want, THREE, name);
+    }
+    Ok(())
 }
 
-/// State 0, inclusive.
-fn initial(alloc: Global) -> Result<Vec<StartState>, AllocError> {
-    let mut states = Vec::new(alloc);
-    states.push(StartState::new(alloc, 0, "INITIAL", false, Span::new(0, 0))?)?;
-    Ok(states)
-}
+const POPS: Option<(usize, StartStateOperation)> = Some((1, StartStateOperation::Pop));
+
+const ONE: &[Part<'static>] = &[Part {
+    id: Some(4),
+    name: "A",
+    place: 2,
+    len: 1,
+    pattern: "a)|(b",
+    target: POPS,
+}];
 
 #[test]
 fn parts_are_kept_as_handed_in(rt: HostRuntime) -> Result<(), Fail> {
-    let alloc = rt.alloc();
-    let name = Some(("A", Span::new(2, 3)));
-    let target = Some((1, StartStateOperation::Pop));
-    let Some(rule) = part(
-        alloc,
-        Some(4),
-        name,
-        "a)|(b",
-        target,
-        &UNSPECIFIED_LEX_FLAGS,
-    )?
-    else {
-        panic!(rt; "refused");
-    };
-    assert_eq!(rt; rule.tok_id(), Some(4));
-    assert_eq!(rt; rule.name(), Some("A"));
-    assert_eq!(rt; rule.name_span(), Span::new(2, 3));
-    assert_eq!(rt; rule.re_str(), "a)|(b");
-    assert!(rt; rule.start_states().is_empty());
-    assert_eq!(rt; rule.target_state(), target);
-    let mut rules = Vec::new(alloc);
-    rules.push(rule)?;
-    let definition = Definition::from_rules(alloc, initial(alloc)?, rules)?;
+    let definition = of_parts(rt.alloc(), ONE, true, true)?;
     let Some(rule) = definition.get_rule(0) else {
         panic!(rt; "no rule");
     };
-    assert_eq!(rt; rule.re_str(), "a)|(b");
+    assert!(rt; rule.tok_id() == Some(4));
+    same(&rt, rule.name().unwrap_or("none"), "A", "name", "");
+    assert!(rt; rule.name_span() == Span::new(2, 3));
+    same(&rt, rule.re_str(), "a)|(b", "pattern", "");
+    assert!(rt; rule.start_states().is_empty());
+    assert!(rt; rule.target_state() == POPS);
     assert!(rt; definition.get_rule(1).is_none());
-    assert_eq!(rt; definition.iter_start_states().count(), 1);
+    assert!(rt; definition.iter_start_states().count() == 1);
     let Some(flags) = definition.lex_flags() else {
         panic!(rt; "no flags");
     };
-    assert_eq!(rt; *flags, DEFAULT_LEX_FLAGS);
+    assert!(rt; *flags == DEFAULT_LEX_FLAGS);
     Ok(())
 }
 
 /// Two rules named A, of which the second stands at 2..3.
-fn twins(alloc: Global) -> Result<Option<Definition>, AllocError> {
-    let mut rules = Vec::new(alloc);
-    for span in [Span::new(0, 1), Span::new(2, 3)] {
-        let name = Some(("A", span));
-        match part(alloc, None, name, "a", None, &UNSPECIFIED_LEX_FLAGS)? {
-            Some(rule) => rules.push(rule)?,
-            None => return Ok(None),
-        }
-    }
-    Ok(Some(Definition::from_rules(alloc, initial(alloc)?, rules)?))
-}
+const TWINS: &[Part<'static>] = &[
+    Part {
+        id: None,
+        name: "A",
+        place: 0,
+        len: 1,
+        pattern: "a",
+        target: None,
+    },
+    Part {
+        id: None,
+        name: "A",
+        place: 2,
+        len: 1,
+        pattern: "a",
+        target: None,
+    },
+];
+
+/// Ids that are set one after another, whether with places, both sets, and the rules.
+const IDS: &[(&[(&str, u32)], bool, &str, &str)] = &[
+    (&[("A", 5)], false, "none | none | ", "A 5, A 5"),
+    (&[], false, "none | A | ", "A none, A none"),
+    (&[("A", 5)], true, "none | none | ", "A 5, A 5"),
+    (&[], true, "none | A 0..1, A 2..3 | ", "A none, A none"),
+    (&[("A", 5), ("B", 6)], true, "B | none | ", "A 5, A 5"),
+];
 
 #[test]
 fn two_rules_of_one_name(rt: HostRuntime) -> Result<(), Fail> {
-    let alloc = rt.alloc();
-    let Some(mut definition) = twins(alloc)? else {
-        panic!(rt; "refused");
-    };
-    let five = [("A", 5)];
-    let got = ids_set(alloc, &mut definition, &five)?;
-    assert_eq!(rt; got.as_str(), "none | none | A 5, A 5");
-    let got = ids_set(alloc, &mut definition, &[])?;
-    assert_eq!(rt; got.as_str(), "none | A | A none, A none");
-    let got = ids_set_spanned(alloc, &mut definition, &five)?;
-    assert_eq!(rt; got.as_str(), "none | none | A 5, A 5");
-    let got = ids_set_spanned(alloc, &mut definition, &[])?;
-    assert_eq!(rt; got.as_str(), "none | A 0..1, A 2..3 | A none, A none");
-    let got = ids_set_spanned(alloc, &mut definition, &[("A", 5), ("B", 6)])?;
-    assert_eq!(rt; got.as_str(), "B | none | A 5, A 5");
+    let mut definition = of_parts(rt.alloc(), TWINS, true, true)?;
+    for row in IDS {
+        let (ids, spanned, sets, rules) = *row;
+        let got = sets_text(rt.alloc(), &mut definition, ids, spanned)?;
+        same(&rt, got.as_str(), sets, "two rules A", rules);
+        let got = rules_text(rt.alloc(), definition.rules())?;
+        same(&rt, got.as_str(), rules, "two rules A", sets);
+    }
     Ok(())
 }

@@ -1,38 +1,33 @@
 //! Which rules have a table, and that lexing by tables and by asking each rule answer alike.
-use crate::shown::{Definition, items_text};
-use lrlex::{Budget, LexerDef, UNSPECIFIED_LEX_FLAGS};
+use crate::runs::{Made, lexed, searches, tables_of};
+use crate::shown::{equal, push_number, same};
 use std::alloc::{AllocError, Global};
-use std::fmt::Write;
 use std::test::Fail;
 
-/// How many tables the states have, and how many rules of them have none. None where the rules are refused.
-fn counts(alloc: Global, rules: &str) -> Result<Option<(usize, usize)>, AllocError> {
-    let Ok(definition) = Definition::from_str(alloc, rules)? else {
-        return Ok(None);
-    };
-    Ok(Some((definition.tables(), definition.asked_rules())))
-}
+const WORK: usize = 40_000_000;
+
+/// Rules; tables, rules that are asked.
+const WITH_TABLES: &[(&str, usize, usize)] = &[
+    ("%%\na 'A'", 1, 0),
+    ("%%\n[a-z]+ 'ID'\n[0-9]+ 'INT'\n[ ] ;", 1, 0),
+    ("%%\n^a 'A'\nb 'B'", 1, 0),
+    ("%%\na$ 'A'\nb 'B'\nc 'C'", 1, 1),
+    ("%%\nif\\b 'IF'\n[a-z]+ 'ID'", 1, 1),
+    ("%%\na\\nb 'A'\na\\n^b 'B'", 1, 1),
+    ("%%\n[a-z] 'A'\n(a|b)*a(a|b){12} 'B'\n[0-9] 'C'", 1, 1),
+    ("%s s t\n%%\na 'A'\nb 'B'", 1, 0),
+    ("%x s\n%%\na 'A'\n<s>b 'B'", 2, 0),
+    ("%x s\n%%\na <s>'A'", 1, 0),
+];
 
 #[test]
 fn rules_with_and_without_a_table(rt: HostRuntime) -> Result<(), Fail> {
-    // rules; tables, rules that are asked
-    let rows = [
-        ("%%\na 'A'", 1, 0),
-        ("%%\n[a-z]+ 'ID'\n[0-9]+ 'INT'\n[ ] ;", 1, 0),
-        ("%%\n^a 'A'\nb 'B'", 1, 0),
-        ("%%\na$ 'A'\nb 'B'\nc 'C'", 1, 1),
-        ("%%\nif\\b 'IF'\n[a-z]+ 'ID'", 1, 1),
-        ("%%\na\\nb 'A'\na\\n^b 'B'", 1, 1),
-        ("%%\n[a-z] 'A'\n(a|b)*a(a|b){12} 'B'\n[0-9] 'C'", 1, 1),
-        ("%s s t\n%%\na 'A'\nb 'B'", 1, 0),
-        ("%x s\n%%\na 'A'\n<s>b 'B'", 2, 0),
-        ("%x s\n%%\na <s>'A'", 1, 0),
-    ];
-    for (rules, tables, asked) in rows {
-        let Some(got) = counts(rt.alloc(), rules)? else {
+    for row in WITH_TABLES {
+        let (rules, tables, asked) = *row;
+        let Some(got) = tables_of(rt.alloc(), Made::Read(rules))? else {
             panic!(rt; "refused: {rules:?}");
         };
-        assert_eq!(rt; got, (tables, asked), "{rules:?}");
+        equal(&rt, &[got[0], got[2]], &[tables, asked], rules, "");
     }
     Ok(())
 }
@@ -41,132 +36,108 @@ fn rules_with_and_without_a_table(rt: HostRuntime) -> Result<(), Fail> {
 fn small_states(alloc: Global, states: usize) -> Result<String, AllocError> {
     let mut rules = String::from_str(alloc, "%x")?;
     for state in 0..states {
-        write!(rules, " s{state}")?;
+        push_number(&mut rules, " s", state)?;
     }
     rules.push_str("\n%%\n")?;
     for state in 0..states {
-        write!(rules, "<s{state}>a 'R{state}'\n")?;
+        push_number(&mut rules, "<s", state)?;
+        push_number(&mut rules, ">a 'R", state)?;
+        rules.push_str("'\n")?;
     }
     Ok(rules)
 }
 
 #[test]
 fn small_states_share_the_rows(rt: HostRuntime) -> Result<(), Fail> {
-    // rows; tables, rows that they have, rules that are asked
-    let rows = [(0, 0, 0, 40), (60, 19, 57, 21), (200, 40, 120, 0)];
     let rules = small_states(rt.alloc(), 40)?;
-    for (most, tables, held, asked) in rows {
-        let budget = Budget::new(most, 40_000_000);
-        let Ok(definition) = Definition::new_with_budget(
-            rt.alloc(),
-            rules.as_str(),
-            UNSPECIFIED_LEX_FLAGS,
-            budget,
-        )?
-        else {
+    // rows; tables, rows that they have, rules that are asked
+    for (rows, want) in [(0, [0, 0, 40]), (60, [19, 57, 21]), (200, [40, 120, 0])] {
+        let made = Made::Within(rules.as_str(), rows, WORK);
+        let Some(got) = tables_of(rt.alloc(), made)? else {
             panic!(rt; "the rules are refused");
         };
-        assert_eq!(rt; definition.tables(), tables, "{most}");
-        assert_eq!(rt; definition.table_rows(), held, "{most}");
-        assert_eq!(rt; definition.asked_rules(), asked, "{most}");
+        equal(&rt, &got, &want, "forty states", "");
     }
     Ok(())
 }
 
-/// What lexing gives by tables within this budget, and how many there are. None where the rules are refused.
+/// Rules, and an input.
+const BOTH_WAYS: &[(&str, &str)] = &[
+    ("%%\n[a-z]+ 'ID'\nif 'IF'\n[ ] ;", "if iffy fi if"),
+    ("%%\nif 'IF'\n[a-z]+ 'ID'\n[ ] ;", "if iffy fi if"),
+    ("%%\na$ 'END'\na 'A'\n\\n 'NL'", "aa\na\naaa"),
+    (
+        "%%\n^a 'LINE'\na 'A'\nb\\n^a 'TWO'\n[b\\n] 'O'",
+        "ab\naab\na",
+    ),
+    (
+        "%%\n(a|b)*a(a|b){12} 'LONG'\na 'A'\nb 'B'",
+        "abababbabaabbabababbabb",
+    ),
+    ("%%\na*b 'B'\na 'A'", "aaaaaaaaab aaa"),
+    ("%%\n\\w+ 'W'\n[^\\w]+ 'O'", "für élan, naïve"),
+    ("%%\nx* 'X'\ny 'Y'", "xxyz"),
+    (
+        "%x s\n%%\n\" <+s>'O'\n<s>[^\"]+ 'T'\n<s>\" <-s>'C'\na 'A'",
+        "a\"abc\"a\"\"",
+    ),
+];
+
+/// The items, where tables may have so many rows.
 fn items_within(
     alloc: Global,
     rules: &str,
     input: &str,
-    budget: Budget,
-) -> Result<Option<(String, usize)>, AllocError> {
-    let built = Definition::new_with_budget(alloc, rules, UNSPECIFIED_LEX_FLAGS, budget)?;
-    let Ok(definition) = built else {
-        return Ok(None);
-    };
-    let run = definition.run(alloc, input)?;
-    Ok(Some((
-        items_text(alloc, definition.rules(), run.items())?,
-        definition.tables(),
-    )))
+    rows: usize,
+    work: usize,
+) -> Result<String, AllocError> {
+    match lexed(alloc, Made::Within(rules, rows, work), input)? {
+        Some(told) => Ok(told.items),
+        None => String::from_str(alloc, "refused"),
+    }
 }
 
 #[test]
 fn the_same_by_tables_and_by_asking(rt: HostRuntime) -> Result<(), Fail> {
-    // rules, an input
-    let rows = [
-        ("%%\n[a-z]+ 'ID'\nif 'IF'\n[ ] ;", "if iffy fi if"),
-        ("%%\nif 'IF'\n[a-z]+ 'ID'\n[ ] ;", "if iffy fi if"),
-        ("%%\na$ 'END'\na 'A'\n\\n 'NL'", "aa\na\naaa"),
-        (
-            "%%\n^a 'LINE'\na 'A'\nb\\n^a 'TWO'\n[b\\n] 'O'",
-            "ab\naab\na",
-        ),
-        (
-            "%%\n(a|b)*a(a|b){12} 'LONG'\na 'A'\nb 'B'",
-            "abababbabaabbabababbabb",
-        ),
-        ("%%\na*b 'B'\na 'A'", "aaaaaaaaab aaa"),
-        ("%%\n\\w+ 'W'\n[^\\w]+ 'O'", "für élan, naïve"),
-        ("%%\nx* 'X'\ny 'Y'", "xxyz"),
-        (
-            "%x s\n%%\n\" <+s>'O'\n<s>[^\"]+ 'T'\n<s>\" <-s>'C'\na 'A'",
-            "a\"abc\"a\"\"",
-        ),
-    ];
-    for (rules, input) in rows {
+    let alloc = rt.alloc();
+    for row in BOTH_WAYS {
+        let (rules, input) = *row;
+        let Some(asking) = tables_of(alloc, Made::Within(rules, 0, 0))? else {
+            panic!(rt; "refused: {rules:?}");
+        };
+        equal(&rt, &asking[..1], &[0], rules, "tables");
+        let want = items_within(alloc, rules, input, 0, 0)?;
         for most in [8_000, 20, 0] {
-            let asked = items_within(rt.alloc(), rules, input, Budget::new(0, 0))?;
-            let budget = Budget::new(most, 40_000_000);
-            let got = items_within(rt.alloc(), rules, input, budget)?;
-            let (Some((want, none)), Some((items, _))) = (asked, got) else {
-                panic!(rt; "refused: {rules:?}");
-            };
-            assert_eq!(rt; none, 0, "{rules:?}");
-            assert_eq!(rt;
-                items.as_str(),
-                want.as_str(),
-                "{rules:?} on {input:?}, {most}"
-            );
+            let got = items_within(alloc, rules, input, most, WORK)?;
+            same(&rt, got.as_str(), want.as_str(), rules, input);
         }
     }
     Ok(())
 }
 
-/// How many searches lexing makes, with tables of so many rows at most. None where the rules are refused.
-fn searches_within(
-    alloc: Global,
-    rules: &str,
-    input: &str,
-    most: usize,
-) -> Result<Option<u128>, AllocError> {
-    let budget = Budget::new(most, 40_000_000);
-    let built = Definition::new_with_budget(alloc, rules, UNSPECIFIED_LEX_FLAGS, budget)?;
-    let Ok(definition) = built else {
-        return Ok(None);
-    };
-    let run = definition.run(alloc, input)?;
-    Ok(Some(run.asked()))
-}
+const END: &str = "%%\na$ 'X'\n[ab] 'Y'";
+
+/// Rules, an input, the most rows, searches.
+const SEARCHES: &[(&str, &str, usize, usize)] = &[
+    (END, "aba", 8_000, 3),
+    (END, "", 8_000, 0),
+    // it stops at the second
+    (END, "bc", 8_000, 2),
+    ("%%\na$ 'X'\nb$ 'Z'\n[ab] 'Y'", "ab", 8_000, 4),
+    // in the start state each rule has a table
+    ("%x s\n%%\na <+s>'A'\n<s>b$ 'B'\n<s>b 'C'", "abb", 8_000, 2),
+    ("%%\n[ab] 'Y'", "aba", 8_000, 0),
+    ("%%\n[ab] 'Y'", "aba", 0, 3),
+];
 
 #[test]
 fn one_search_for_each_rule_without_a_table_at_each_boundary(rt: HostRuntime) -> Result<(), Fail> {
-    let end = "%%\na$ 'X'\n[ab] 'Y'";
-    // rules, an input, the most rows, searches
-    let rows = [
-        (end, "aba", 8_000, 3),
-        (end, "", 8_000, 0),
-        // it stops at the second
-        (end, "bc", 8_000, 2),
-        ("%%\na$ 'X'\nb$ 'Z'\n[ab] 'Y'", "ab", 8_000, 4),
-        // in the start state each rule has a table
-        ("%x s\n%%\na <+s>'A'\n<s>b$ 'B'\n<s>b 'C'", "abb", 8_000, 2),
-        ("%%\n[ab] 'Y'", "aba", 8_000, 0),
-        ("%%\n[ab] 'Y'", "aba", 0, 3),
-    ];
-    for (rules, input, most, searches) in rows {
-        let got = searches_within(rt.alloc(), rules, input, most)?;
-        assert_eq!(rt; got, Some(searches), "{rules:?} on {input:?}, {most}");
+    for row in SEARCHES {
+        let (rules, input, most, wanted) = *row;
+        let Some(told) = lexed(rt.alloc(), Made::Within(rules, most, WORK), input)? else {
+            panic!(rt; "refused: {rules:?}");
+        };
+        equal(&rt, &[searches(&told)], &[wanted], rules, input);
     }
     Ok(())
 }

@@ -2,120 +2,195 @@
 ghost use Rattle.std.specs.Prelude.{◌≡◌, IfOk};
 ghost use Rattle.lrlex.specs.Lexers.{lexer_text};
 
-use lrlex::{DefaultLexerTypes, LRNonStreamingLexer, LRNonStreamingLexerDef, LexerDef};
+use crate::runs::{Definition, Made, defined};
+use crate::shown::{equal, push_number, same, separate};
+use lrlex::{DefaultLexerTypes, LRNonStreamingLexer};
 use lrlex_base::{Lexeme, Lexer, NonStreamingLexer, Span};
 use std::alloc::{AllocError, Global};
-use std::fmt::Write;
 use std::test::Fail;
-
-type Definition = LRNonStreamingLexerDef<DefaultLexerTypes<u32>>;
 
 type LexerOver<'lexer, 'input> = LRNonStreamingLexer<'lexer, 'input, DefaultLexerTypes<u32>>;
 
-/// How a lexer is made of a definition and an input.
-#[derive(Clone, Copy, Debug)]
-enum Made {
-    /// By `lexer`.
-    AtOnce,
-    /// By `into_lexer` of a run.
-    OfItsRun,
-}
-
+/// The lexer of an input, made at once or of its run.
 fn lexer_over<'lexer, 'input>(
     alloc: Global,
     definition: &'lexer Definition,
     input: &'input str,
-    made: Made,
+    of_run: bool,
 ) -> Result<LexerOver<'lexer, 'input>, AllocError>
     ensures { IfOk result (λ lexer. lexer_text lexer ≡ input.now) }
 {
-    match made {
-        Made::AtOnce => definition.lexer(alloc, input),
-        Made::OfItsRun => definition.run(alloc, input)?.into_lexer(alloc),
+    if of_run {
+        definition.run(alloc, input)?.into_lexer(alloc)
+    } else {
+        definition.lexer(alloc, input)
     }
 }
 
-/// Adds what the lexer of this input says of a span: `a at 1:2-1:3 in [ a]`.
-fn push_place(
-    text: &mut String,
-    lexer: &LexerOver<'_, '_>,
-    input: &str,
-    span: Span,
-) -> Result<(), AllocError>
+/// What a lexer says of an item or a span. The texts outlive it.
+#[derive(Clone, Copy)]
+enum Place<'input> {
+    /// Its text, line and column of its start and of its end, and its whole lines.
+    At(&'input str, (usize, usize), (usize, usize), &'input str),
+    /// Why it has none.
+    Not(&'input str),
+}
+
+fn place_at<'input>(lexer: &LexerOver<'_, 'input>, input: &'input str, span: Span) -> Place<'input>
     requires { lexer_text lexer.now ≡ input.now }
 {
     if !span.fits(input) {
-        return text.push_str("past the input");
+        return Place::Not("past the input");
     }
-    let matched = lexer.span_str(span);
-    let ((line, column), (end_line, end_column)) = lexer.line_col(span);
-    let lines = lexer.span_lines_str(span);
-    write!(
-        text,
-        "{matched} at {line}:{column}-{end_line}:{end_column} in [{lines}]"
-    )
+    let (start, end) = lexer.line_col(span);
+    Place::At(lexer.span_str(span), start, end, lexer.span_lines_str(span))
 }
 
-/// The lexemes of an input, each by its text, its place and its whole lines.
-fn places_over(alloc: Global, rules: &str, input: &str, made: Made) -> Result<String, AllocError> {
-    let mut text = String::new(alloc);
-    let Ok(definition) = Definition::from_str(alloc, rules)? else {
-        return String::from_str(alloc, "refused");
-    };
-    let lexer = lexer_over(alloc, &definition, input, made)?;
+fn push_lexemes<'input>(
+    lexer: &LexerOver<'_, 'input>,
+    input: &'input str,
+    places: &mut Vec<Place<'input>>,
+) -> Result<(), AllocError>
+    requires { lexer_text lexer.now ≡ input.now }
+{
     for item in lexer.iter() {
-        if !text.as_str().is_empty() {
-            text.push_str(", ")?;
+        let place = match item {
+            Ok(lexeme) => place_at(lexer, input, lexeme.span()),
+            Err(_) => Place::Not("error"),
+        };
+        places.push(place)?;
+    }
+    Ok(())
+}
+
+/// Adds the places of spans, each by its start and length.
+fn push_spans<'input>(
+    lexer: &LexerOver<'_, 'input>,
+    input: &'input str,
+    spans: &[(usize, usize)],
+    places: &mut Vec<Place<'input>>,
+) -> Result<(), AllocError>
+    requires { lexer_text lexer.now ≡ input.now }
+{
+    for (start, len) in spans {
+        let span = Span::new(*start, start.saturating_add(*len));
+        places.push(place_at(lexer, input, span))?;
+    }
+    Ok(())
+}
+
+/// Adds the places of the lexemes, and of these spans.
+fn push_places<'input>(
+    alloc: Global,
+    definition: &Definition,
+    input: &'input str,
+    of_run: bool,
+    spans: &[(usize, usize)],
+    places: &mut Vec<Place<'input>>,
+) -> Result<(), AllocError> {
+    let lexer = lexer_over(alloc, definition, input, of_run)?;
+    push_lexemes(&lexer, input, places)?;
+    push_spans(&lexer, input, spans, places)
+}
+
+/// The places of the lexemes of an input, and of these spans.
+fn places_over<'input>(
+    alloc: Global,
+    rules: &str,
+    input: &'input str,
+    of_run: bool,
+    spans: &[(usize, usize)],
+) -> Result<Vec<Place<'input>>, AllocError> {
+    let mut places = Vec::new(alloc);
+    match defined(alloc, Made::Read(rules))? {
+        Some(definition) => {
+            push_places(alloc, &definition, input, of_run, spans, &mut places)?;
         }
-        match item {
-            Ok(lexeme) => push_place(&mut text, &lexer, input, lexeme.span())?,
-            Err(_) => text.push_str("error")?,
+        None => places.push(Place::Not("refused"))?,
+    }
+    Ok(places)
+}
+
+fn push_at(text: &mut String, before: &str, at: (usize, usize)) -> Result<(), AllocError> {
+    let (line, column) = at;
+    push_number(text, before, line)?;
+    push_number(text, ":", column)
+}
+
+fn push_place(text: &mut String, place: Place<'_>) -> Result<(), AllocError> {
+    match place {
+        Place::At(matched, start, end, lines) => {
+            text.push_str(matched)?;
+            push_at(text, " at ", start)?;
+            push_at(text, "-", end)?;
+            text.push_str(" in [")?;
+            text.push_str(lines)?;
+            text.push_str("]")
         }
+        Place::Not(why) => text.push_str(why),
+    }
+}
+
+/// The places, each as `a at 1:2-1:3 in [ a]`.
+fn places_text(alloc: Global, places: &[Place<'_>]) -> Result<String, AllocError> {
+    let mut text = String::new(alloc);
+    for place in places {
+        separate(&mut text, ", ")?;
+        push_place(&mut text, *place)?;
     }
     Ok(text)
 }
 
+const WORDS: &str = "%%\n[a-z❤]+ 'ID'\n[ \\n] ;";
+
+/// Rules, an input, and the places of its lexemes.
+const PLACES: &[(&str, &str, &str)] = &[
+    (
+        WORDS,
+        " a\n❤ b",
+        "a at 1:2-1:3 in [ a], ❤ at 2:1-2:2 in [❤ b], b at 2:3-2:4 in [❤ b]",
+    ),
+    (
+        WORDS,
+        "a b c",
+        "a at 1:1-1:2 in [a b c], b at 1:3-1:4 in [a b c], c at 1:5-1:6 in [a b c]",
+    ),
+    (
+        WORDS,
+        "a b c\n",
+        "a at 1:1-1:2 in [a b c], b at 1:3-1:4 in [a b c], c at 1:5-1:6 in [a b c]",
+    ),
+    (
+        WORDS,
+        " a\nb\n  c d",
+        "a at 1:2-1:3 in [ a], b at 2:1-2:2 in [b], c at 3:3-3:4 in [  c d], d at 3:5-3:6 in [  c d]",
+    ),
+    (
+        "%%\n'.*' 'STR'\n[ \\n] ;",
+        "'a\nb'\n",
+        "'a\nb' at 1:1-2:3 in ['a\nb']",
+    ),
+    (
+        "%%\n[a❤]+ 'ID'\n[ ] ;",
+        "a ❤ a",
+        "a at 1:1-1:2 in [a ❤ a], ❤ at 1:3-1:4 in [a ❤ a], a at 1:5-1:6 in [a ❤ a]",
+    ),
+    ("%%\n[0-9]+ 'int'", "abc", "error"),
+    ("%%", "", ""),
+];
+
+fn way(of_run: bool) -> &'static str {
+    if of_run { "of its run" } else { "at once" }
+}
+
 #[test]
 fn lines_and_columns_of_lexemes(rt: HostRuntime) -> Result<(), Fail> {
-    let words = "%%\n[a-z❤]+ 'ID'\n[ \\n] ;";
-    let rows = [
-        (
-            words,
-            " a\n❤ b",
-            "a at 1:2-1:3 in [ a], ❤ at 2:1-2:2 in [❤ b], b at 2:3-2:4 in [❤ b]",
-        ),
-        (
-            words,
-            "a b c",
-            "a at 1:1-1:2 in [a b c], b at 1:3-1:4 in [a b c], c at 1:5-1:6 in [a b c]",
-        ),
-        (
-            words,
-            "a b c\n",
-            "a at 1:1-1:2 in [a b c], b at 1:3-1:4 in [a b c], c at 1:5-1:6 in [a b c]",
-        ),
-        (
-            words,
-            " a\nb\n  c d",
-            "a at 1:2-1:3 in [ a], b at 2:1-2:2 in [b], c at 3:3-3:4 in [  c d], d at 3:5-3:6 in [  c d]",
-        ),
-        (
-            "%%\n'.*' 'STR'\n[ \\n] ;",
-            "'a\nb'\n",
-            "'a\nb' at 1:1-2:3 in ['a\nb']",
-        ),
-        (
-            "%%\n[a❤]+ 'ID'\n[ ] ;",
-            "a ❤ a",
-            "a at 1:1-1:2 in [a ❤ a], ❤ at 1:3-1:4 in [a ❤ a], a at 1:5-1:6 in [a ❤ a]",
-        ),
-        ("%%\n[0-9]+ 'int'", "abc", "error"),
-        ("%%", "", ""),
-    ];
-    for (rules, input, want) in rows {
-        for made in [Made::AtOnce, Made::OfItsRun] {
-            let got = places_over(rt.alloc(), rules, input, made)?;
-            assert_eq!(rt; got.as_str(), want, "{rules:?} on {input:?}, {made:?}");
+    for row in PLACES {
+        let (rules, input, want) = *row;
+        for of_run in [false, true] {
+            let places = places_over(rt.alloc(), rules, input, of_run, &[])?;
+            let got = places_text(rt.alloc(), places.as_slice())?;
+            same(&rt, got.as_str(), want, way(of_run), input);
         }
     }
     Ok(())
@@ -125,10 +200,7 @@ fn lines_and_columns_of_lexemes(rt: HostRuntime) -> Result<(), Fail> {
 fn letters(alloc: Global, count: usize) -> Result<String, AllocError> {
     let mut text = String::new(alloc);
     for k in 0..count {
-        if k > 0 {
-            text.push_str(" ")?;
-        }
-        text.push_str("a")?;
+        text.push_str(if k > 0 { " a" } else { "a" })?;
     }
     Ok(text)
 }
@@ -145,69 +217,53 @@ fn staircase(alloc: Global, count: usize) -> Result<String, AllocError> {
     Ok(text)
 }
 
-/// How many lexemes the staircase has, and whether each first one of a line has that line as its whole lines.
-fn steps_over(alloc: Global, input: &str, made: Made) -> Result<Option<(usize, bool)>, AllocError> {
-    let Ok(definition) = Definition::from_str(alloc, "%%\n[a-z]+ 'ID'\n[ \\n] ;")? else {
-        return Ok(None);
-    };
-    let lexer = lexer_over(alloc, &definition, input, made)?;
-    let mut count = 0usize;
-    let mut whole = true;
-    for item in lexer.iter() {
-        if let Ok(lexeme) = item {
-            count = count.saturating_add(1);
-            let span = lexeme.span();
-            if !span.fits(input) {
-                return Ok(None);
+/// How many of the places are none, or begin a line and have other whole lines than that line of the staircase.
+fn wrong_steps(alloc: Global, places: &[Place<'_>]) -> Result<usize, AllocError> {
+    let mut wrong = 0usize;
+    for place in places {
+        let right = match *place {
+            Place::At(_, (line, 1), _, lines) => {
+                letters(alloc, line.saturating_sub(1))?.as_str() == lines
             }
-            let ((line, column), _) = lexer.line_col(span);
-            if column == 1 {
-                let want = letters(alloc, line.saturating_sub(1))?;
-                whole = whole && lexer.span_lines_str(span) == want.as_str();
-            }
+            Place::At(_, _, _, _) => true,
+            Place::Not(_) => false,
+        };
+        if !right {
+            wrong = wrong.saturating_add(1);
         }
     }
-    Ok(Some((count, whole)))
+    Ok(wrong)
 }
 
-/// The whole lines of a span of the input, or none where it doesn't fit.
-fn lines_over(
-    alloc: Global,
-    input: &str,
-    start: usize,
-    len: usize,
-) -> Result<Option<String>, AllocError> {
-    let Ok(definition) = Definition::from_str(alloc, "%%\n[a-z]+ 'ID'\n[ \\n] ;")? else {
-        return Ok(None);
-    };
-    let lexer = definition.lexer(alloc, input)?;
-    let span = Span::new(start, start.saturating_add(len));
-    if span.fits(input) {
-        Ok(Some(String::from_str(alloc, lexer.span_lines_str(span))?))
-    } else {
-        Ok(None)
+fn lines_at<'input>(place: Option<&Place<'input>>) -> &'input str {
+    match place {
+        Some(Place::At(_, _, _, lines)) => *lines,
+        Some(Place::Not(why)) => *why,
+        None => "no place",
     }
 }
+
+const STEP_RULES: &str = "%%\n[a-z]+ 'ID'\n[ \\n] ;";
+
+/// Spans by their starts and lengths.
+const SPANS: &[(usize, usize)] = &[(0, 0), (0, 2), (0, 4), (0, 7), (4, 3)];
+
+/// The whole lines of each.
+const LINES: &[&str] = &["", "\na", "\na\na a", "\na\na a\na a a", "a a\na a a"];
 
 #[test]
 fn whole_lines_of_many(rt: HostRuntime) -> Result<(), Fail> {
-    let alloc = rt.alloc();
-    let input = staircase(alloc, 71)?;
-    for made in [Made::AtOnce, Made::OfItsRun] {
-        let got = steps_over(alloc, input.as_str(), made)?;
-        assert_eq!(rt; got, Some((2485, true)), "{made:?}");
-    }
-    let rows = [
-        (0, 0, ""),
-        (0, 2, "\na"),
-        (0, 4, "\na\na a"),
-        (0, 7, "\na\na a\na a a"),
-        (4, 3, "a a\na a a"),
-    ];
-    for (start, len, want) in rows {
-        let got = lines_over(alloc, input.as_str(), start, len)?;
-        let got = got.as_deref();
-        assert_eq!(rt; got, Some(want), "{start}+{len}");
+    let input = staircase(rt.alloc(), 71)?;
+    for of_run in [false, true] {
+        let places = places_over(rt.alloc(), STEP_RULES, input.as_str(), of_run, SPANS)?;
+        // the lexemes of the staircase, and five spans
+        assert_eq!(rt; places.len(), 2_490);
+        let (steps, spans) = places.as_slice().split_at(2_485);
+        let wrong = wrong_steps(rt.alloc(), steps)?;
+        equal(&rt, &[wrong], &[0], "wrong lines", way(of_run));
+        for (place, lines) in spans.iter().zip(LINES) {
+            same(&rt, lines_at(Some(place)), *lines, "lines", way(of_run));
+        }
     }
     Ok(())
 }
@@ -215,36 +271,20 @@ fn whole_lines_of_many(rt: HostRuntime) -> Result<(), Fail> {
 #[test]
 fn a_span_past_the_text_fits_nothing(rt: HostRuntime) -> Result<(), Fail> {
     assert!(rt; !Span::new(100, 100).fits("a b c"));
-    assert!(rt; lines_over(rt.alloc(), "a b c", 100, 0)?.is_none());
+    let places = places_over(rt.alloc(), STEP_RULES, "a b c", false, &[(100, 0)])?;
+    let got = lines_at(places.as_slice().last());
+    same(&rt, got, "past the input", "100..100", "a b c");
     Ok(())
-}
-
-/// The text of the first lexeme, which outlives the lexer that gave it.
-fn first_over<'input>(
-    alloc: Global,
-    definition: &Definition,
-    input: &'input str,
-) -> Result<Option<&'input str>, AllocError> {
-    let lexer = definition.lexer(alloc, input)?;
-    let mut first = None;
-    if let Some(Ok(lexeme)) = lexer.iter().next() {
-        let span = lexeme.span();
-        if span.fits(input) {
-            first = Some(lexer.span_str(span));
-        }
-    }
-    drop(lexer);
-    Ok(first)
 }
 
 #[test]
 fn a_text_outlives_its_lexer(rt: HostRuntime) -> Result<(), Fail> {
-    let alloc = rt.alloc();
-    let input = String::from_str(alloc, "❤ b")?;
-    let Ok(definition) = Definition::from_str(alloc, "%%\n[a-z❤]+ 'ID'\n[ ] ;")? else {
-        panic!(rt; "the rules build");
-    };
-    let first = first_over(alloc, &definition, input.as_str())?;
-    assert_eq!(rt; first, Some("❤"));
+    let input = String::from_str(rt.alloc(), "❤ b")?;
+    // the lexer and its definition are gone
+    let places = places_over(rt.alloc(), WORDS, input.as_str(), false, &[])?;
+    match places.as_slice().first() {
+        Some(Place::At(matched, _, _, _)) => same(&rt, *matched, "❤", "first", "❤ b"),
+        _ => panic!(rt; "no lexeme"),
+    }
     Ok(())
 }

@@ -1,9 +1,21 @@
-ghost use Rattle.std.specs.Prelude.{◌≡◌, ℕ, ◌+◌, ◌≤◌, List, [], ◌∷◌, length};
+ghost use Rattle.std.specs.Prelude.{◌≡◌, ℕ, ◌+◌, ◌≤◌, List, [], ◌∷◌, length, map, drop, Some, slice_get};
 ghost use Rattle.lrlex_rules.specs.Definition.{Definition};
-ghost use Rattle.lrlex.specs.Tiling.{Item, boundaries};
+ghost use Rattle.lrlex.specs.Tiling.{Item, IsTiling, HasOneTiling, boundaries, items, moved};
+ghost use Rattle.lrlex.specs.Runs.{plain};
 ghost use Rattle.lrlex.specs.Marks.{Mark, most_runs, most_entries};
 ghost use Rattle.lrlex.specs.Peaks.{pushes};
+ghost use Rattle.lrlex.specs.Edits.{items_from};
 ghost use Rattle.lrlex.specs.Reach.{IsLexed};
+
+/// From each stack a text is cut in one way. What a run gives from a boundary on is what the rest of the text gives from the
+/// boundary's stack, moved by its place: so it is a function of that text, that stack and the definition.
+pub fn tiling_laws()
+    ensures one { (d : Definition) (text stack : List ℕ) → HasOneTiling d text stack }
+    ensures rest { (d : Definition) (text : List ℕ) (found : List Item) (marks : List Mark) (h : IsLexed d text found marks) (k : ℕ) (m : Mark)
+        → slice_get marks k ≡ Some m → IsTiling d (drop m.place text) (plain m.runs) (drop k h.cut) h.end }
+    ensures moved { (d : Definition) (text : List ℕ) (found : List Item) (marks : List Mark) (h : IsLexed d text found marks) (k : ℕ) (m : Mark)
+        → slice_get marks k ≡ Some m → items_from m.place found ≡ map (moved m.place) (items d 0 (drop k h.cut) h.end) }
+{}
 
 /// What a run's boundaries say: one more than the tiles, the greatest number of runs of equal neighbours in a stack,
 /// and that this is at most one more than the number of tiles that push a state other than the top.

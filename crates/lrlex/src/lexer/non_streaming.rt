@@ -110,9 +110,9 @@ impl<'lexer, 'input, L: LexerTypes<LexErrorT = LRLexError>> LexRun<'lexer, 'inpu
         self,
         alloc: Global,
     ) -> Result<LRNonStreamingLexer<'lexer, 'input, L>, AllocError>
-        ensures items { IfOk result (λ lexer. lexer_items lexer ≡ self.entry.items.items) }
-        ensures text { IfOk result (λ lexer. lexer_text lexer ≡ self.entry.text.now) }
-        ensures run { IfOk result (λ lexer. IsRun (definition_of L.StorageT.number self.entry.definition.now) (lexer_text lexer)
+        ensures items { IfOk result (λ lexer. lexer_items lexer ≡ self.entry.items) }
+        ensures text { IfOk result (λ lexer. lexer_text lexer ≡ self.entry.text) }
+        ensures run { IfOk result (λ lexer. IsRun (definition_of L.StorageT.number self.entry.definition) (lexer_text lexer)
             (items_by L.StorageT.number L.LexemeT.seen (lexer_items lexer)) self.entry.boundaries) }
         ensures fit { IfOk result (λ lexer. All (FitsText (lexer_text lexer))
             (items_by L.StorageT.number L.LexemeT.seen (lexer_items lexer))) }

@@ -9,11 +9,13 @@ ghost use Rattle.lrlex.specs.Edits.{IsMovable, IsMovableMark, begins_before, ite
 ghost use Rattle.lrlex.specs.Runs.{plain, AreRuns};
 ghost use Rattle.lrlex.specs.Reach.{IsRun, searches};
 ghost use Rattle.lrlex.specs.Asked.{asks, WasCutAnew};
-ghost use Rattle.lrlex.specs.Decided.{AreRaised, IsSafe};
+ghost use Rattle.lrlex.specs.Decided.{AreRaised, IsSafe, LooksAhead};
+ghost use Rattle.lrlex.specs.Ran.{IsRunOf};
 ghost use Rattle.lrlex.specs.Views.{definition_of, items_by, item_of};
 
 use crate::errors::LRLexError;
 use crate::lexer::boundaries::Boundaries;
+use crate::lexer::definition::LRNonStreamingLexerDef;
 use crate::lexer::lexing::{Progress, advance};
 use crate::lexer::resuming::{append_raised, resume, up_to};
 use crate::lexer::run::{LexRun, finished, refused};
@@ -175,46 +177,115 @@ fn meets(
     is_at(old, *cursor, back, stack)
 }
 
+/// What lexing again reads of an old run.
+#[derive(Drop)]
+pub(crate) struct Old<'a, 'lexer, L: LexerTypes<LexErrorT = LRLexError>> {
+    pub(crate) definition: &'lexer LRNonStreamingLexerDef<L>,
+    pub(crate) text: &'a str,
+    pub(crate) items: &'a [Result<L::LexemeT, LRLexError>],
+    pub(crate) boundaries: &'a Boundaries,
+    pub(crate) ahead: &'a [u8],
+}
+
 /// Takes over what follows the old boundary, moved to the place of the new one.
 fn take_over<L: LexerTypes<LexErrorT = LRLexError>>(
-    old: &LexRun<'_, '_, L>,
+    old: &Old<'_, '_, L>,
     index: usize,
     progress: &mut Progress<L::LexemeT>,
 ) -> Result<(), AllocError>
-    requires within { index < length old.now.boundaries }
-    requires in_order { IsPartitionedBy (begins_before (mark_at old.now.boundaries index).place)
-        (map (item_of L.StorageT.number L.LexemeT.seen) old.now.items.items) }
-    requires items { All (IsMovable (mark_at old.now.boundaries index).place progress.old.place)
-        (items_from (mark_at old.now.boundaries index).place (map (item_of L.StorageT.number L.LexemeT.seen) old.now.items.items)) }
-    requires last { last_runs progress.old.boundaries ≡ (mark_at old.now.boundaries index).runs }
-    requires boundaries { All (IsMovableMark (mark_at old.now.boundaries index).place progress.old.place)
-        (drop (index + 1) old.now.boundaries) }
-    requires sorted { IsSortedRuns old.now.boundaries }
-    requires numbers { length old.now.ahead.items ≡ length old.now.boundaries }
+    requires within { index < length old.now.boundaries.now }
+    requires in_order { IsPartitionedBy (begins_before (mark_at old.now.boundaries.now index).place)
+        (map (item_of L.StorageT.number L.LexemeT.seen) old.now.items.now) }
+    requires items { All (IsMovable (mark_at old.now.boundaries.now index).place progress.old.place)
+        (items_from (mark_at old.now.boundaries.now index).place (map (item_of L.StorageT.number L.LexemeT.seen) old.now.items.now)) }
+    requires last { last_runs progress.old.boundaries ≡ (mark_at old.now.boundaries.now index).runs }
+    requires boundaries { All (IsMovableMark (mark_at old.now.boundaries.now index).place progress.old.place)
+        (drop (index + 1) old.now.boundaries.now) }
+    requires sorted { IsSortedRuns old.now.boundaries.now }
+    requires numbers { length old.now.ahead.now ≡ length old.now.boundaries.now }
     ensures items { OnOk result (map (item_of L.StorageT.number L.LexemeT.seen) progress.new.items.items
         ≡ map (item_of L.StorageT.number L.LexemeT.seen) progress.old.items.items
-        ++ map (rebased (mark_at old.now.boundaries index).place progress.old.place)
-        (items_from (mark_at old.now.boundaries index).place (map (item_of L.StorageT.number L.LexemeT.seen) old.now.items.items))) }
+        ++ map (rebased (mark_at old.now.boundaries.now index).place progress.old.place)
+        (items_from (mark_at old.now.boundaries.now index).place (map (item_of L.StorageT.number L.LexemeT.seen) old.now.items.now))) }
     ensures boundaries { OnOk result (progress.new.boundaries ≡ progress.old.boundaries
-        ++ map (moved_mark (mark_at old.now.boundaries index).place progress.old.place) (drop (index + 1) old.now.boundaries)) }
+        ++ map (moved_mark (mark_at old.now.boundaries.now index).place progress.old.place) (drop (index + 1) old.now.boundaries.now)) }
     ensures asked { OnOk result (progress.new.asked ≡ progress.old.asked) }
-    ensures ahead { OnOk result (AreRaised old.now.boundaries old.now.ahead.items index progress.old.over (length old.now.boundaries) progress.old.ahead.items progress.new.ahead.items) }
+    ensures ahead { OnOk result (AreRaised old.now.boundaries.now old.now.ahead.now index progress.old.over (length old.now.boundaries.now) progress.old.ahead.items progress.new.ahead.items) }
 {
     let to = progress.place;
     let from = old.boundaries.place(index);
-    let tail = items_from::<L>(&old.items, from);
+    let tail = items_from::<L>(old.items, from);
     append_moved::<L>(&mut progress.items, tail, from, to)?;
-    progress
-        .boundaries
-        .append_moved(&old.boundaries, index, to)?;
+    progress.boundaries.append_moved(old.boundaries, index, to)?;
     append_raised(
         &mut progress.ahead,
-        &old.boundaries,
-        &old.ahead,
+        old.boundaries,
+        old.ahead,
         index,
         progress.over,
     )?;
     Ok(())
+}
+
+/// Lexes the text after an edit of the old run's.
+fn relexed<'lexer, 'new, L: LexerTypes<LexErrorT = LRLexError>>(
+    alloc: Global,
+    old: &Old<'_, 'lexer, L>,
+    edit: &Edit<'_>,
+    new: &'new str,
+) -> Result<LexRun<'lexer, 'new, L>, AllocError>
+    requires looks { ∥ LooksAhead (definition_of L.StorageT.number old.now.definition.now) old.now.text.now old.now.boundaries.now old.now.ahead.now ∥₁ }
+    requires run { ∥ IsRun (definition_of L.StorageT.number old.now.definition.now) old.now.text.now (items_by L.StorageT.number L.LexemeT.seen old.now.items.now) old.now.boundaries.now ∥₁ }
+    requires fits { Fits old.now.text.now edit.now.removed }
+    requires gives { new.now ≡ edited old.now.text.now (as_span edit.now.removed) edit.now.put.now }
+    ensures run { IfOk result (IsRunOf L.StorageT.number L.LexemeT.seen old.now.definition.now new.now) }
+    ensures definition { IfOk result (λ r. r.definition ≡ old.now.definition.now) }
+    ensures text { IfOk result (λ r. r.text ≡ new.now) }
+    ensures asked { IfOk result (λ r. r.asked ≤ searches (definition_of L.StorageT.number old.now.definition.now) new.now r.boundaries) }
+    ensures few { IfOk result (λ r. r.asked ≤ length r.boundaries * length (definition_of L.StorageT.number old.now.definition.now).rules) }
+    ensures met { IfOk result (λ r. (k : ℕ) → Meets old.now.boundaries.now r.boundaries (span_start edit.now.removed) (span_end edit.now.removed) (length edit.now.put.now) k
+        → r.asked ≤ searches (definition_of L.StorageT.number old.now.definition.now) new.now (take k r.boundaries)) }
+    ensures lexed { IfOk result (λ r. (k : ℕ) → k < length old.now.boundaries.now → IsSafe old.now.boundaries.now old.now.ahead.now (span_start edit.now.removed) k
+        → (r.anew + k ≤ length r.boundaries - 1)
+        × ((j : ℕ) → Meets old.now.boundaries.now r.boundaries (span_start edit.now.removed) (span_end edit.now.removed) (length edit.now.put.now) j → r.anew + k ≤ j)) }
+    ensures exact { IfOk result (λ r. is_state (definition_of L.StorageT.number old.now.definition.now) 0 ≡ true
+        → WasCutAnew (asks old.now.definition.now new.now) old.now.boundaries.now r.boundaries old.now.ahead.now (span_start edit.now.removed) (span_end edit.now.removed) (length edit.now.put.now) r.asked r.anew) }
+{
+    let definition = old.definition;
+    if !definition.is_state(0) {
+        return refused(alloc, definition, new);
+    }
+    let mut matchers = no_matchers(alloc, &definition.table.rules)?;
+    let mut progress = resume(alloc, old, edit, new)?;
+    let kept = progress.boundaries.len();
+    let mut cursor = behind(old.boundaries, edit);
+    let mut here = definition.rules_in(0);
+    'tiles: while progress.place < new.len() {
+        if meets(
+            old.boundaries,
+            edit,
+            &mut cursor,
+            progress.place,
+            &progress.stack,
+        ) {
+            let anew = progress.boundaries.len() - kept;
+            take_over(old, cursor, &mut progress)?;
+            return Ok(finished(definition, new, progress, anew));
+        }
+        if !advance(
+            alloc,
+            definition,
+            new,
+            &mut here,
+            &mut matchers,
+            &mut progress,
+        )? {
+            let anew = progress.boundaries.len() - kept;
+            return Ok(finished(definition, new, progress, anew));
+        }
+    }
+    let anew = progress.boundaries.len() - kept;
+    Ok(finished(definition, new, progress, anew))
 }
 
 impl<'lexer, L: LexerTypes<LexErrorT = LRLexError>> LexRun<'lexer, '_, L> {
@@ -226,55 +297,28 @@ impl<'lexer, L: LexerTypes<LexErrorT = LRLexError>> LexRun<'lexer, '_, L> {
         edit: &Edit<'_>,
         new: &'new str,
     ) -> Result<LexRun<'lexer, 'new, L>, AllocError>
-        requires fits { Fits self.now.text.now edit.now.removed }
-        requires gives { new.now ≡ edited self.now.text.now (as_span edit.now.removed) edit.now.put.now }
-        ensures run { IfOk result (λ r. IsRun (definition_of L.StorageT.number self.now.definition.now) new.now (items_by L.StorageT.number L.LexemeT.seen r.items.items) r.boundaries) }
-        ensures definition { IfOk result (λ r. r.definition.now ≡ self.now.definition.now) }
-        ensures text { IfOk result (λ r. r.text.now ≡ new.now) }
-        ensures asked { IfOk result (λ r. r.asked ≤ searches (definition_of L.StorageT.number self.now.definition.now) new.now r.boundaries) }
-        ensures few { IfOk result (λ r. r.asked ≤ length r.boundaries * length (definition_of L.StorageT.number self.now.definition.now).rules) }
+        requires fits { Fits self.now.text edit.now.removed }
+        requires gives { new.now ≡ edited self.now.text (as_span edit.now.removed) edit.now.put.now }
+        ensures run { IfOk result (IsRunOf L.StorageT.number L.LexemeT.seen self.now.definition new.now) }
+        ensures definition { IfOk result (λ r. r.definition ≡ self.now.definition) }
+        ensures text { IfOk result (λ r. r.text ≡ new.now) }
+        ensures asked { IfOk result (λ r. r.asked ≤ searches (definition_of L.StorageT.number self.now.definition) new.now r.boundaries) }
+        ensures few { IfOk result (λ r. r.asked ≤ length r.boundaries * length (definition_of L.StorageT.number self.now.definition).rules) }
         ensures met { IfOk result (λ r. (k : ℕ) → Meets self.now.boundaries r.boundaries (span_start edit.now.removed) (span_end edit.now.removed) (length edit.now.put.now) k
-            → r.asked ≤ searches (definition_of L.StorageT.number self.now.definition.now) new.now (take k r.boundaries)) }
-        ensures lexed { IfOk result (λ r. (k : ℕ) → k < length self.now.boundaries → IsSafe self.now.boundaries self.now.ahead.items (span_start edit.now.removed) k
+            → r.asked ≤ searches (definition_of L.StorageT.number self.now.definition) new.now (take k r.boundaries)) }
+        ensures lexed { IfOk result (λ r. (k : ℕ) → k < length self.now.boundaries → IsSafe self.now.boundaries self.now.ahead (span_start edit.now.removed) k
             → (r.anew + k ≤ length r.boundaries - 1)
             × ((j : ℕ) → Meets self.now.boundaries r.boundaries (span_start edit.now.removed) (span_end edit.now.removed) (length edit.now.put.now) j → r.anew + k ≤ j)) }
-        ensures exact { IfOk result (λ r. is_state (definition_of L.StorageT.number self.now.definition.now) 0 ≡ true
-            → WasCutAnew (asks self.now.definition.now new.now) self.now.boundaries r.boundaries self.now.ahead.items (span_start edit.now.removed) (span_end edit.now.removed) (length edit.now.put.now) r.asked r.anew) }
+        ensures exact { IfOk result (λ r. is_state (definition_of L.StorageT.number self.now.definition) 0 ≡ true
+            → WasCutAnew (asks self.now.definition new.now) self.now.boundaries r.boundaries self.now.ahead (span_start edit.now.removed) (span_end edit.now.removed) (length edit.now.put.now) r.asked r.anew) }
     {
-        let definition = self.definition;
-        if !definition.is_state(0) {
-            return refused(alloc, definition, new);
-        }
-        let mut matchers = no_matchers(alloc, &definition.table.rules)?;
-        let mut progress = resume(alloc, self, edit, new)?;
-        let kept = progress.boundaries.len();
-        let mut cursor = behind(&self.boundaries, edit);
-        let mut here = definition.rules_in(0);
-        'tiles: while progress.place < new.len() {
-            if meets(
-                &self.boundaries,
-                edit,
-                &mut cursor,
-                progress.place,
-                &progress.stack,
-            ) {
-                let anew = progress.boundaries.len() - kept;
-                take_over(self, cursor, &mut progress)?;
-                return Ok(finished(definition, new, progress, anew));
-            }
-            if !advance(
-                alloc,
-                definition,
-                new,
-                &mut here,
-                &mut matchers,
-                &mut progress,
-            )? {
-                let anew = progress.boundaries.len() - kept;
-                return Ok(finished(definition, new, progress, anew));
-            }
-        }
-        let anew = progress.boundaries.len() - kept;
-        Ok(finished(definition, new, progress, anew))
+        let old = Old {
+            definition: self.definition,
+            text: self.text,
+            items: &self.items,
+            boundaries: &self.boundaries,
+            ahead: &self.ahead,
+        };
+        relexed(alloc, &old, edit, new)
     }
 }

@@ -6,7 +6,7 @@ ghost use Rattle.lrlex_table.specs.Decided.{IsText};
 ghost use Rattle.lrlex.specs.Active.{is_state};
 ghost use Rattle.lrlex.specs.Tiling.{Item};
 ghost use Rattle.lrlex.specs.Marks.{Mark, mark_at};
-ghost use Rattle.lrlex.specs.Reach.{IsLexed, Reached};
+ghost use Rattle.lrlex.specs.Reach.{IsLexed, IsRun, Reached};
 ghost use Rattle.lrlex.specs.Asked.{IsLastSafe};
 ghost use Rattle.lrlex.specs.Decided.{IsDecided, IsDecidedAt, AreDecided, LooksAhead, IsSafe, GoesOn, BeginAlike, HasLooked, AreRaised};
 ghost use Rattle.lrlex.specs.Edits.{IsSortedRuns};
@@ -18,8 +18,7 @@ ghost use Rattle.lrlex.specs.Views.{definition_of, item_of, items_by};
 use crate::errors::LRLexError;
 use crate::lexer::boundaries::Boundaries;
 use crate::lexer::lexing::{Progress, capped};
-use crate::lexer::relexing::begins_before;
-use crate::lexer::run::LexRun;
+use crate::lexer::relexing::{Old, begins_before};
 use lrlex_base::{Edit, LexerTypes};
 use std::alloc::{AllocError, Global};
 
@@ -178,25 +177,27 @@ fn resumed<X: Copy>(
 /// the old run knows.
 pub(crate) fn resume<L: LexerTypes<LexErrorT = LRLexError>>(
     alloc: Global,
-    old: &LexRun<'_, '_, L>,
+    old: &Old<'_, '_, L>,
     edit: &Edit<'_>,
     new: &str,
 ) -> Result<Progress<L::LexemeT>, AllocError>
     requires initial { is_state (definition_of L.StorageT.number old.now.definition.now) 0 ≡ true }
+    requires looks { ∥ LooksAhead (definition_of L.StorageT.number old.now.definition.now) old.now.text.now old.now.boundaries.now old.now.ahead.now ∥₁ }
+    requires run { ∥ IsRun (definition_of L.StorageT.number old.now.definition.now) old.now.text.now (items_by L.StorageT.number L.LexemeT.seen old.now.items.now) old.now.boundaries.now ∥₁ }
     requires fits { Fits old.now.text.now edit.now.removed }
     requires gives { new.now ≡ edited old.now.text.now (as_span edit.now.removed) edit.now.put.now }
     ensures reached { IfOk result (λ p. Reached (definition_of L.StorageT.number old.now.definition.now) new.now p.place p.stack.items (items_by L.StorageT.number L.LexemeT.seen p.items.items) p.boundaries p.asked) }
     ensures looked { IfOk result (λ p. HasLooked (definition_of L.StorageT.number old.now.definition.now) new.now p.boundaries p.ahead.items p.place p.over) }
     ensures boundary { IfOk result (λ p. IsCharBoundary new.now p.place) }
     ensures before { IfOk result (λ p. (j : ℕ) → j + 1 < length p.boundaries → (mark_at p.boundaries j).place < span_start edit.now.removed) }
-    ensures last { IfOk result (λ p. (j : ℕ) → j < length old.now.boundaries → IsSafe old.now.boundaries old.now.ahead.items (span_start edit.now.removed) j → j < length p.boundaries) }
-    ensures from { IfOk result (λ p. IsLastSafe old.now.boundaries old.now.ahead.items (span_start edit.now.removed) (length p.boundaries - 1)) }
+    ensures last { IfOk result (λ p. (j : ℕ) → j < length old.now.boundaries.now → IsSafe old.now.boundaries.now old.now.ahead.now (span_start edit.now.removed) j → j < length p.boundaries) }
+    ensures from { IfOk result (λ p. IsLastSafe old.now.boundaries.now old.now.ahead.now (span_start edit.now.removed) (length p.boundaries - 1)) }
     ensures none { IfOk result (λ p. p.asked ≡ 0) }
 {
-    let index = last_safe(&old.boundaries, &old.ahead, edit.removed.start());
-    let before = items_before::<L>(&old.items, old.boundaries.place(index));
+    let index = last_safe(old.boundaries, old.ahead, edit.removed.start());
+    let before = items_before::<L>(old.items, old.boundaries.place(index));
     let many = old.items.len();
-    let progress = resumed(alloc, before, many, &old.boundaries, &old.ahead, index)?;
+    let progress = resumed(alloc, before, many, old.boundaries, old.ahead, index)?;
     Ok(progress)
 }
 

@@ -6,6 +6,7 @@ ghost use Rattle.lrlex.specs.Reach.{Reached, IsLexed, IsRun, searches};
 ghost use Rattle.lrlex.specs.Asked.{asks};
 ghost use Rattle.lrlex.specs.Decided.{LooksAhead};
 ghost use Rattle.lrlex.specs.Views.{definition_of, items_by};
+ghost use Rattle.lrlex.specs.Ran.{IsRunOf};
 
 use crate::errors::LRLexError;
 use crate::lexer::boundaries::Boundaries;
@@ -14,6 +15,7 @@ use crate::lexer::lexing::{Progress, advance, begin, give_error};
 use crate::lexer::searching::no_matchers;
 use lrlex_base::LexerTypes;
 use std::alloc::{AllocError, Global};
+use std::marker::Model;
 
 /// What lexing a text gave.
 #[derive(Drop)]
@@ -27,28 +29,54 @@ pub struct LexRun<'lexer, 'input, L: LexerTypes<LexErrorT = LRLexError>> {
     pub(crate) ahead: Vec<u8>,
     /// How many tiles were cut anew.
     pub(crate) anew: usize,
-    ghost looks: { ∥ LooksAhead (definition_of L.StorageT.number definition.now) text.now boundaries ahead.items ∥₁ },
-    ghost lexed: { ∥ IsRun (definition_of L.StorageT.number definition.now) text.now (items_by L.StorageT.number L.LexemeT.seen items.items) boundaries ∥₁ },
+}
+
+impl<'lexer, 'input, L: LexerTypes<LexErrorT = LRLexError>> Model for LexRun<'lexer, 'input, L> {
+    ghost use Rattle.std.specs.Coded.{codes};
+    ghost use Rattle.regex_hir.specs.contracts.hir.Hir as hir;
+    ghost use Rattle.lrlex.specs.Reach.{IsRun};
+    ghost use Rattle.lrlex.specs.Decided.{LooksAhead};
+    ghost use Rattle.lrlex.specs.Views.{definition_of, items_by};
+    ghost use Rattle.lrlex.specs.Ran.{Ran};
+    ghost use Rattle.lrlex.specs.declared.errors.LRLexError.{LRLexError};
+    ghost use Rattle.lrlex.specs.declared.lexer.definition.LRNonStreamingLexerDef.{LRNonStreamingLexerDef};
+
+    ghost Value = { Ran (LRNonStreamingLexerDef L L.LexemeT L.StorageT LRLexError L.StorageT.FromStrRadixErr L.StorageT.Error) L.LexemeT };
+
+    ghost coded = { Prim.hlevel (codes, hir.the_row.coded) };
+
+    ghost view = { λ r. record {
+      definition = r.definition.now;
+      text = r.text.now;
+      items = r.items.items;
+      boundaries = r.boundaries;
+      ahead = r.ahead.items;
+      asked = r.asked;
+      anew = r.anew;
+    } };
+
+    ghost invariant = { λ r. ∥ LooksAhead (definition_of L.StorageT.number r.definition.now) r.text.now r.boundaries r.ahead.items ∥₁
+        × ∥ IsRun (definition_of L.StorageT.number r.definition.now) r.text.now (items_by L.StorageT.number L.LexemeT.seen r.items.items) r.boundaries ∥₁ };
 }
 
 impl<'lexer, 'input, L: LexerTypes<LexErrorT = LRLexError>> LexRun<'lexer, 'input, L> {
     /// The lexemes, and an error at the end where lexing stopped early.
     pub fn items(&self) -> &[Result<L::LexemeT, LRLexError>]
-        ensures { result.now ≡ self.now.items.items }
+        ensures { result.now ≡ self.now.items }
     {
         &self.items
     }
 
     /// The text that was lexed.
     pub fn text(&self) -> &'input str
-        ensures { result.now ≡ self.now.text.now }
+        ensures { result.now ≡ self.now.text }
     {
         self.text
     }
 
     /// The definition that it was lexed by.
     pub fn definition(&self) -> &'lexer LRNonStreamingLexerDef<L>
-        ensures { result.now ≡ self.now.definition.now }
+        ensures { result.now ≡ self.now.definition }
     {
         self.definition
     }
@@ -99,7 +127,7 @@ impl<'lexer, 'input, L: LexerTypes<LexErrorT = LRLexError>> LexRun<'lexer, 'inpu
     /// How many bytes past the boundary's place the tiles before it looked. 255 stands for more.
     pub fn ahead(&self, index: usize) -> u8
         requires { index < length self.now.boundaries }
-        ensures { result ≡ slice_index self.now.ahead.items index }
+        ensures { result ≡ slice_index self.now.ahead index }
     {
         self.ahead[index]
     }
@@ -121,9 +149,9 @@ pub(crate) fn refused<'lexer, 'input, L: LexerTypes<LexErrorT = LRLexError>>(
     text: &'input str,
 ) -> Result<LexRun<'lexer, 'input, L>, AllocError>
     requires { is_state (definition_of L.StorageT.number definition.now) 0 ≡ false }
-    ensures run { IfOk result (λ r. IsRun (definition_of L.StorageT.number definition.now) text.now (items_by L.StorageT.number L.LexemeT.seen r.items.items) r.boundaries) }
-    ensures definition { IfOk result (λ r. r.definition.now ≡ definition.now) }
-    ensures text { IfOk result (λ r. r.text.now ≡ text.now) }
+    ensures run { IfOk result (IsRunOf L.StorageT.number L.LexemeT.seen definition.now text.now) }
+    ensures definition { IfOk result (λ r. r.definition ≡ definition.now) }
+    ensures text { IfOk result (λ r. r.text ≡ text.now) }
     ensures asked { IfOk result (λ r. r.asked ≡ 0) }
     ensures none { IfOk result (λ r. r.boundaries ≡ []) }
     ensures lexed { IfOk result (λ r. r.anew ≡ 0) }
@@ -150,12 +178,12 @@ pub(crate) fn finished<'lexer, 'input, L: LexerTypes<LexErrorT = LRLexError>>(
 ) -> LexRun<'lexer, 'input, L>
     requires looks { LooksAhead (definition_of L.StorageT.number definition.now) text.now progress.boundaries progress.ahead.items }
     requires run { IsRun (definition_of L.StorageT.number definition.now) text.now (items_by L.StorageT.number L.LexemeT.seen progress.items.items) progress.boundaries }
-    ensures definition { result.definition.now ≡ definition.now }
-    ensures text { result.text.now ≡ text.now }
-    ensures items { result.items.items ≡ progress.items.items }
+    ensures definition { result.definition ≡ definition.now }
+    ensures text { result.text ≡ text.now }
+    ensures items { result.items ≡ progress.items.items }
     ensures boundaries { result.boundaries ≡ progress.boundaries }
     ensures asked { result.asked ≡ progress.asked }
-    ensures ahead { result.ahead.items ≡ progress.ahead.items }
+    ensures ahead { result.ahead ≡ progress.ahead.items }
     ensures anew { result.anew ≡ anew }
 {
     let Progress {
@@ -187,9 +215,9 @@ impl<L: LexerTypes<LexErrorT = LRLexError>> LRNonStreamingLexerDef<L> {
         alloc: Global,
         text: &'input str,
     ) -> Result<LexRun<'lexer, 'input, L>, AllocError>
-        ensures run { IfOk result (λ r. IsRun (definition_of L.StorageT.number self.now) text.now (items_by L.StorageT.number L.LexemeT.seen r.items.items) r.boundaries) }
-        ensures definition { IfOk result (λ r. r.definition.now ≡ self.now) }
-        ensures text { IfOk result (λ r. r.text.now ≡ text.now) }
+        ensures run { IfOk result (IsRunOf L.StorageT.number L.LexemeT.seen self.now text.now) }
+        ensures definition { IfOk result (λ r. r.definition ≡ self.now) }
+        ensures text { IfOk result (λ r. r.text ≡ text.now) }
         ensures asked { IfOk result (λ r. r.asked ≤ searches (definition_of L.StorageT.number self.now) text.now r.boundaries) }
         ensures few { IfOk result (λ r. r.asked ≤ length r.boundaries * length (definition_of L.StorageT.number self.now).rules) }
         ensures exact { IfOk result (λ r. r.asked ≡ asks self.now text.now r.boundaries) }

@@ -6,10 +6,10 @@ use Rattle.lrlex_callers.proofs.lexing.lexer_after.Given as goal
 
 abbrev pub invariant-loop-edit : goal.invariant-loop-edit
 invariant-loop-edit g l = record {
-  definition : l.run.definition.now ≡ l.definition;
-  text : l.run.text.now ≡ l.now;
+  definition : l.run.definition ≡ l.definition;
+  text : l.run.text ≡ l.now;
   utf8 : IsUtf8 l.now;
   now : l.now ≡ text_after l.text (map (λ s. s.0) (take l.edit-index l.steps));
   steps : AreSteps l.text l.steps ↔ AreSteps l.now (drop l.edit-index l.steps);
-  run : IsRun (definition_of g.L.StorageT.Id.number l.definition) l.now (items_by g.L.StorageT.Id.number g.L.LexemeT.Lexeme.seen l.run.items.items) l.run.boundaries;
+  run : IsRun (definition_of g.L.StorageT.Id.number l.definition) l.now (items_by g.L.StorageT.Id.number g.L.LexemeT.Lexeme.seen l.run.items) l.run.boundaries;
 }

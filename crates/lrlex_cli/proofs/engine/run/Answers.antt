@@ -12,6 +12,6 @@ returns g c =
     let q : Request = record { greatest = g.L.StorageT.Id.greatest; flags = c.args.flags; rules = c.args.rules.now; input = c.args.input.now } in
     let wrote = rw c.items.ensures at c.write_items.ensures in
     ran g.L.StorageT.Id.number g.L.LexemeT.Lexeme.seen _
-    q c.in_ok-built.built c.in-Ok.definition c.in_ok-lexed.lexed.items.items c.in_ok-lexed.lexed.boundaries _ _ _ _
+    q c.in_ok-built.built c.in-Ok.definition c.in_ok-lexed.lexed.items c.in_ok-lexed.lexed.boundaries _ _ _ _
     c.in-Ok.is c.in_ok-built.ensures.answer c.in_ok-built.ensures.initial c.in_ok-lexed.ensures.run
     refl wrote

@@ -1,5 +1,6 @@
 -- Lexing again has found the items of the new text, and the lines are theirs.
-use Rattle.std.proofs.Common.{refl}
+use Rattle.std.proofs.Common.{refl, sym, subst}
+use Rattle.lrlex_base.specs.Spans.{Fits}
 use Rattle.lrlex_cli.specs.Engine.{Request}
 use Rattle.lrlex_cli.proofs.EngineLemmas.{ran, without_memory}
 use Rattle.lrlex_cli.proofs.engine.run_edited.Goals as goal
@@ -17,6 +18,9 @@ returns-in_ok-lexed-in-Ok g c =
     let wrote = rw c.items.ensures at c.write_items.ensures in
     let run = rw same at c.in_ok-lexed-in-Ok.ensures.run in
     ran g.L.StorageT.Id.number g.L.LexemeT.Lexeme.seen _
-    q c.in_ok-definition.field-0 c.in-Ok.definition c.in_ok-lexed-in-Ok.lexed.items.items c.in_ok-lexed-in-Ok.lexed.boundaries _ _ _ _
+    q c.in_ok-definition.field-0 c.in-Ok.definition c.in_ok-lexed-in-Ok.lexed.items c.in_ok-lexed-in-Ok.lexed.boundaries _ _ _ _
     c.in-Ok.is c.in_ok-definition.ensures.answer c.in_ok-definition.ensures.initial run
     refl wrote
+
+pub relex-requires-clause-fits : goal.relex-requires-clause-fits
+relex-requires-clause-fits g c = subst (λ t. Fits t c.args.edit.now.removed) (sym c.in_ok-before-in-Ok.ensures.text) c.requires.fits

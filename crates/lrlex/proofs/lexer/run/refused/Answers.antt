@@ -6,11 +6,11 @@ use Rattle.lrlex.proofs.ReachLemmas.{refused_of}
 use Rattle.lrlex.proofs.lexer.run.refused.Goals as goal
 
 pub invariant_of-result : goal.invariant_of-result
-invariant_of-result g c = record {
-  looks = ∣ looks_none (definition_of g.L.StorageT.Id.number c.args.definition.now) c.args.text.now _ _ c.new.ensures c.new-2.ensures.items ∣₁;
-  lexed = ∣ refused_of (definition_of g.L.StorageT.Id.number c.args.definition.now) c.args.text.now _ _ c.requires
-      (c.in_ok-give_error.ensures ∙ ap (λ xs. items_by g.L.StorageT.Id.number g.L.LexemeT.Lexeme.seen xs ++ Error 0 0 None ∷ []) c.new-items.ensures.items) c.new.ensures ∣₁;
-}
+invariant_of-result g c = (
+  ∣ looks_none (definition_of g.L.StorageT.Id.number c.args.definition.now) c.args.text.now _ _ c.new.ensures c.new-2.ensures.items ∣₁,
+  ∣ refused_of (definition_of g.L.StorageT.Id.number c.args.definition.now) c.args.text.now _ _ c.requires
+      (c.in_ok-give_error.ensures ∙ ap (λ xs. items_by g.L.StorageT.Id.number g.L.LexemeT.Lexeme.seen xs ++ Error 0 0 None ∷ []) c.new-items.ensures.items) c.new.ensures ∣₁,
+)
 
 pub returns-clause-run : goal.returns-clause-run
 returns-clause-run g c =

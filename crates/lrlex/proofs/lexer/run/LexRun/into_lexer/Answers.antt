@@ -1,5 +1,6 @@
 use Rattle.std.proofs.Common.{sym, subst, All}
 use Rattle.lrlex.specs.ItemLaws.{FitsText}
+use Rattle.lrlex.specs.Ran.{Ran}
 use Rattle.lrlex.specs.Reach.{IsRun}
 use Rattle.lrlex.specs.Views.{definition_of, items_by}
 use Rattle.lrlex.proofs.ItemLemmas.{known_run, fit_the_text}
@@ -7,15 +8,16 @@ use Rattle.lrlex.proofs.lexer.run.LexRun.into_lexer.Goals as goal
 
 pub returns-clause-run : goal.returns-clause-run
 returns-clause-run g c =
-    let s = c.args.self in
+    let s = c.self.inside in
     let d = definition_of g.L.StorageT.Id.number s.definition.now in
     let found = items_by g.L.StorageT.Id.number g.L.LexemeT.Lexeme.seen s.items.items in
-    subst (λ text. IsRun d text found s.boundaries) (sym c.in_ok-input.ensures.text) (known_run d s.text.now found s.boundaries s.lexed)
+    subst (λ (v : Ran _ _). IsRun (definition_of g.L.StorageT.Id.number v.definition) c.in_ok-input.input.text.now found v.boundaries) c.self.view_is
+    (subst (λ text. IsRun d text found s.boundaries) (sym c.in_ok-input.ensures.text) (known_run d s.text.now found s.boundaries c.self.invariant.1))
 
 pub returns-clause-fit : goal.returns-clause-fit
 returns-clause-fit g c =
-    let s = c.args.self in
+    let s = c.self.inside in
     let d = definition_of g.L.StorageT.Id.number s.definition.now in
     let found = items_by g.L.StorageT.Id.number g.L.LexemeT.Lexeme.seen s.items.items in
     subst (λ text. All (FitsText text) found) (sym c.in_ok-input.ensures.text)
-    (fit_the_text d s.text.now found s.boundaries c.new.ensures.utf8 (known_run d s.text.now found s.boundaries s.lexed))
+    (fit_the_text d s.text.now found s.boundaries c.new.ensures.utf8 (known_run d s.text.now found s.boundaries c.self.invariant.1))

@@ -7,7 +7,7 @@ use Rattle.lrlex.specs.Decided.{HasLooked}
 use Rattle.lrlex.specs.Tables.{AreMatchers}
 use Rattle.lrlex.specs.AtHand.{AreOf}
 use Rattle.lrlex.specs.Views.{definition_of, items_by}
-use Rattle.lrlex.proofs.lexer.run.LexRun.relex.Given as goal
+use Rattle.lrlex.proofs.lexer.relexing.relexed.Given as goal
 
 abbrev pub invariant-tiles : goal.invariant-tiles
 invariant-tiles g l = record {
@@ -18,9 +18,9 @@ invariant-tiles g l = record {
   looked : HasLooked (definition_of g.L.StorageT.Id.number l.definition) l.new l.progress.boundaries l.progress.ahead.items l.progress.place l.progress.over;
   kept : l.kept ≤ length l.progress.boundaries;
   exact : l.progress.asked ≡ asks l.definition l.new (slice_range l.progress.boundaries (l.kept - 1) (length l.progress.boundaries - 1));
-  cursor : l.cursor ≤ length l.self.boundaries;
-  behind : (j : ℕ) → j < l.cursor → (mark_at l.self.boundaries j).place + (l.edit.removed.start + length l.edit.put.now) < max l.progress.place (l.edit.removed.start + length l.edit.put.now) + l.edit.removed.end;
-  unmet : (k : ℕ) → k + 1 < length l.progress.boundaries → Meets l.self.boundaries l.progress.boundaries l.edit.removed.start l.edit.removed.end (length l.edit.put.now) k → ⊥;
+  cursor : l.cursor ≤ length l.old.boundaries.now;
+  behind : (j : ℕ) → j < l.cursor → (mark_at l.old.boundaries.now j).place + (l.edit.removed.start + length l.edit.put.now) < max l.progress.place (l.edit.removed.start + length l.edit.put.now) + l.edit.removed.end;
+  unmet : (k : ℕ) → k + 1 < length l.progress.boundaries → Meets l.old.boundaries.now l.progress.boundaries l.edit.removed.start l.edit.removed.end (length l.edit.put.now) k → ⊥;
 }
 
 abbrev pub decreases-tiles : goal.decreases-tiles

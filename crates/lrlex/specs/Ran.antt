@@ -1,0 +1,23 @@
+-- What a run has found, as plain data.
+use Rattle.std.specs.Prelude.{ℕ, List, Result}
+use Rattle.lrlex_base.specs.Seen.{Seen}
+use Rattle.lrlex.specs.Marks.{Mark}
+use Rattle.lrlex.specs.Reach.{IsRun}
+use Rattle.lrlex.specs.Views.{definition_of, items_by}
+use Rattle.lrlex.specs.declared.errors.LRLexError.{LRLexError}
+use Rattle.lrlex.specs.declared.lexer.definition.LRNonStreamingLexerDef.{LRNonStreamingLexerDef}
+
+-- The definition that a run went by, its text, what it gave, its boundaries, for each of them how many bytes past its place
+-- the tiles before it looked (255 stands for more), and what the call that made it took: searches, and tiles cut anew.
+pub record Ran (D X : Type 0) : Type 0 where
+  pub definition : D
+  pub text : List ℕ
+  pub items : List (Result X LRLexError)
+  pub boundaries : List Mark
+  pub ahead : List ℕ
+  pub asked : ℕ
+  pub anew : ℕ
+
+-- it is the run of this definition on this text
+abbrev pub IsRunOf : {L X S E P Q : Type 0} → (S → ℕ) → (X → Seen S) → LRNonStreamingLexerDef L X S E P Q → List ℕ → Ran (LRNonStreamingLexerDef L X S E P Q) X → Type 0
+IsRunOf number seen d text r = IsRun (definition_of number d) text (items_by number seen r.items) r.boundaries

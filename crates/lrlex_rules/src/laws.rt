@@ -1,0 +1,31 @@
+// What no single call's contract states: each law is the contract of a function that needs no caller.
+ghost use Rattle.std.specs.Prelude.{◌≡◌, ℕ, ◌↔◌, Bool, IsTrue, List, map, encode_utf8_all};
+ghost use Rattle.std.specs.Str.{chars};
+ghost use Rattle.lrlex_rules.specs.Flags.{unset, resolved};
+ghost use Rattle.lrlex_rules.specs.Text.{Piece, IsCut, cut};
+ghost use Rattle.lrlex_rules.specs.declared.flags.LexFlags.{LexFlags};
+ghost use Rattle.lrlex_rules.specs.declared.states.StartStateOperation.{StartStateOperation};
+
+use crate::flags::{DEFAULT_LEX_FLAGS, LexFlags, UNSPECIFIED_LEX_FLAGS};
+use crate::states::StartStateOperation;
+
+/// Of `UNSPECIFIED_LEX_FLAGS` nothing is set, and `DEFAULT_LEX_FLAGS` are what that resolves to. Flags are equal exactly
+/// where each of them is.
+pub fn flag_laws()
+    ensures unset { UNSPECIFIED_LEX_FLAGS ≡ unset }
+    ensures defaults { DEFAULT_LEX_FLAGS ≡ resolved unset }
+    ensures equal { (a b : LexFlags) → IsTrue (⟦<LexFlags as PartialEq>⟧.eq a b) ↔ (a ≡ b) }
+{}
+
+/// An operation equals itself alone.
+pub fn operation_laws()
+    ensures { (a b : StartStateOperation) → IsTrue (⟦<StartStateOperation as PartialEq>⟧.eq a b) ↔ (a ≡ b) }
+{}
+
+/// A text is cut in one way at the characters that pass a test, as its lines are: it is the pieces with those characters
+/// between them, and no piece has such a character.
+pub fn line_laws()
+    ensures some { (p : ℕ → Bool) (x : Piece) → (pieces : List (List ℕ)) × (between : List ℕ) × IsCut p (chars x.text) pieces between }
+    ensures only { (p : ℕ → Bool) (x : Piece) (pieces : List (List ℕ)) (between : List ℕ)
+        → IsCut p (chars x.text) pieces between → map (λ y. y.text) (cut p x) ≡ map encode_utf8_all pieces }
+{}
