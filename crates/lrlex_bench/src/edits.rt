@@ -32,8 +32,8 @@ fn time_relex<T: Id>(
     edit: &Edit<'_>,
     new: &str,
 ) -> Result<(u128, u128, usize), Fault>
-    requires fits { Fits run.now.text.now edit.now.removed }
-    requires gives { new.now ≡ edited run.now.text.now (as_span edit.now.removed) edit.now.put.now }
+    requires fits { Fits run.now.text edit.now.removed }
+    requires gives { new.now ≡ edited run.now.text (as_span edit.now.removed) edit.now.put.now }
 {
     let begin = Instant::now(rt)?;
     let after = run.relex(rt.alloc(), edit, new)?;
@@ -73,7 +73,7 @@ fn tell_edit<T: Id>(
     anew: Spread,
     times: u32,
 ) -> Result<(), Fault>
-    requires { run.now.text.now ≡ text.now }
+    requires { run.now.text ≡ text.now }
 {
     let edit = Edit {
         removed: Span::new(place, place),
