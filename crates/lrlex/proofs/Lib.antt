@@ -30,3 +30,6 @@ pub mod RaisedLemmas
 pub mod GoingLemmas
 pub mod AskedLemmas
 pub mod RestLemmas
+pub mod PieceLemmas
+pub mod CountedLemmas
+pub mod DocumentLemmas

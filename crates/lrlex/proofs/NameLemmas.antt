@@ -1,5 +1,5 @@
 -- The rule that gives a lexeme, and its name.
-use Rattle.std.proofs.Common.{◌≡◌, ◌∙◌, ap, sym, subst, refl, ℕ, zero, suc, ◌+◌, ◌==◌, Bool, true, false, ◌&&◌, true≢false, List, [], ◌∷◌, map, slice_get, Option, Some, None, arith, cond}
+use Rattle.std.proofs.Common.{◌≡◌, ◌∙◌, ap, sym, refl, ℕ, zero, suc, ◌==◌, Bool, true, false, ◌&&◌, true≢false, List, [], ◌∷◌, map, slice_get, Option, Some, None, arith}
 use Rattle.std.proofs.lemmas.Bool.{cond-true, cond-false, eqb-true, false_from_ne_true, and_parts}
 use Rattle.std.proofs.lemmas.Option.{same_Some, none-some}
 use Rattle.std.specs.Option.{option_map, option_map_or, option_and_then}

@@ -1,7 +1,7 @@
 -- What an edit leaves of a run.
 use Rattle.std.proofs.Common.{◌≡◌, ℕ, zero, suc, ◌+◌, ◌-◌, ◌<◌, ◌≤◌, true, false, List, [], ◌∷◌, ◌++◌, length, map, take, drop, get_or, Some, slice_get, refl, sym, ap, ap₂, ◌∙◌, subst, inl, inr, arith, append_assoc, length-append, drop-cons, IsCharBoundary}
 use Rattle.std.proofs.lemmas.Bool.{cases_lt, cond-true, cond-false}
-use Rattle.std.proofs.lemmas.Option.{same_Some, slice_get-get_or}
+use Rattle.std.proofs.lemmas.Option.{same_Some, slice_get-get_or, get_or_from_slice_get}
 use Rattle.std.proofs.lemmas.List.{append-nil, length-drop, length-map, length-take-le, drop-drop, drop-take, get_or-take, take_more, take_at, take-map}
 use Rattle.std.proofs.lemmas.List.Elements.{All-drop, All-take, All-head, All-tail}
 use Rattle.std.proofs.lemmas.Str.{IsUtf8-drop, IsCharBoundary-start, IsCharBoundary-from_rest}
@@ -130,6 +130,10 @@ module _ (d : Definition) (old new : List ℕ) (low : ℕ) (found : List Item) (
   pub tile : ℕ → Tile
   tile n = get_or h.cut n no_tile
 
+  pub tile_is : (n : ℕ) (t : Tile) → slice_get h.cut n ≡ Some t → tile n ≡ t
+  unfolding tile
+  tile_is n t at = get_or_from_slice_get h.cut n t no_tile at
+
   within_cut : (n : ℕ) → n + 1 < length marks → n < length h.cut
   within_cut n lt = omega (arith, tiles_are d old found marks h)
 
@@ -153,7 +157,7 @@ module _ (d : Definition) (old new : List ℕ) (low : ℕ) (found : List Item) (
       }
 
   -- where it leads
-  next_mark : (n : ℕ) → n + 1 < length marks → bound (mark_at marks (n + 1)) ≡ ((mark_at marks n).place + (tile n).len, stack_past d (plain (mark_at marks n).runs) (tile n))
+  pub next_mark : (n : ℕ) → n + 1 < length marks → bound (mark_at marks (n + 1)) ≡ ((mark_at marks n).place + (tile n).len, stack_past d (plain (mark_at marks n).runs) (tile n))
   unfolding tile
   next_mark n lt =
       let m = mark_at marks n in

@@ -11,8 +11,8 @@ mod names;
 pub use crate::definitions::LexerDef;
 pub use crate::errors::LRLexError;
 pub use crate::lexer::{
-    LRNonStreamingLexer, LRNonStreamingLexerDef, LexRun, ahead_laws, decided_laws, item_laws,
-    resume_laws, run_laws, tiling_laws,
+    Document, EditError, LRNonStreamingLexer, LRNonStreamingLexerDef, LexRun, Piece, ahead_laws,
+    decided_laws, item_laws, resume_laws, run_laws, tiling_laws,
 };
 pub use lrlex_base::{
     CTTokenMapBuilder, DefaultLexeme, Edit, Id, Items, LexError, Lexeme, Lexer, LexerTypes,

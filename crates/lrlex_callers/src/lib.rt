@@ -2,5 +2,6 @@
 #![tactic(auto)]
 
 pub mod base;
+pub mod editing;
 pub mod lending;
 pub mod lexing;

@@ -7,6 +7,8 @@ mod callers;
 #[cfg(test)]
 mod chance;
 #[cfg(test)]
+mod documents;
+#[cfg(test)]
 mod edits;
 #[cfg(test)]
 mod hostile;

@@ -1,13 +1,16 @@
-ghost use Rattle.std.specs.Prelude.{◌≡◌, List, All, IfOk, IsCharBoundary, IsUtf8};
+ghost use Rattle.std.specs.Prelude.{◌≡◌, ℕ, List, [], All, IfOk, IsCharBoundary, IsUtf8, slice_range};
+ghost use Rattle.lrlex_base.specs.Spans.{Fits, span_start, span_end};
 ghost use Rattle.lrlex_base.specs.Places.{AreBreaksOf, place_of};
 ghost use Rattle.lrlex.specs.ItemLaws.{FitsText};
 ghost use Rattle.lrlex.specs.Marks.{Mark};
+ghost use Rattle.lrlex.specs.Nearest.{IsNearest};
 ghost use Rattle.lrlex.specs.Reach.{IsRun};
 ghost use Rattle.lrlex.specs.Views.{definition_of, items_by};
 
 use crate::errors::LRLexError;
 use crate::lexer::definition::LRNonStreamingLexerDef;
 use crate::lexer::run::LexRun;
+use crate::lexer::telling::{place_of, text_of};
 use lrlex_base::{Items, Lexer, LexerTypes, NewlineCache, NonStreamingLexer, Span};
 use std::alloc::{AllocError, Global};
 use std::marker::PhantomData;
@@ -68,6 +71,23 @@ impl<'lexer, 'input, L: LexerTypes<LexErrorT = LRLexError>> LRNonStreamingLexer<
             lexemes,
             phantom: PhantomData,
         }
+    }
+
+    /// The text of the span, or the empty text where the span doesn't fit the input: `span_str` without a condition.
+    pub fn text_of(&self, span: Span) -> &'input str
+        ensures fits { Fits (lexer_text self.now) span → result.now ≡ slice_range (lexer_text self.now) (span_start span) (span_end span) }
+        ensures none { ¬ (Fits (lexer_text self.now) span) → result.now ≡ [] }
+    {
+        text_of(self.input.text, span)
+    }
+
+    /// Line and column of the place before this byte, both from 1; a column counts characters. Inside a character it is the
+    /// place before that, and past the input's end the end.
+    pub fn place(&self, byte: usize) -> (usize, usize)
+        ensures fits { IsCharBoundary (lexer_text self.now) byte → result ≡ place_of (lexer_text self.now) byte }
+        ensures nearest { (at : ℕ) → IsNearest (lexer_text self.now) byte at → result ≡ place_of (lexer_text self.now) at }
+    {
+        place_of(&self.input.newlines, self.input.text, byte)
     }
 }
 

@@ -11,6 +11,7 @@ ghost use Rattle.lrlex.specs.Reach.{IsRun, searches};
 ghost use Rattle.lrlex.specs.Asked.{asks, WasCutAnew};
 ghost use Rattle.lrlex.specs.Decided.{AreRaised, IsSafe, LooksAhead};
 ghost use Rattle.lrlex.specs.Ran.{IsRunOf};
+ghost use Rattle.lrlex.specs.Relexed.{WasRelexed};
 ghost use Rattle.lrlex.specs.Views.{definition_of, items_by, item_of};
 
 use crate::errors::LRLexError;
@@ -228,7 +229,7 @@ fn take_over<L: LexerTypes<LexErrorT = LRLexError>>(
 }
 
 /// Lexes the text after an edit of the old run's.
-fn relexed<'lexer, 'new, L: LexerTypes<LexErrorT = LRLexError>>(
+pub(crate) fn relexed<'lexer, 'new, L: LexerTypes<LexErrorT = LRLexError>>(
     alloc: Global,
     old: &Old<'_, 'lexer, L>,
     edit: &Edit<'_>,
@@ -302,15 +303,7 @@ impl<'lexer, L: LexerTypes<LexErrorT = LRLexError>> LexRun<'lexer, '_, L> {
         ensures run { IfOk result (IsRunOf L.StorageT.number L.LexemeT.seen self.now.definition new.now) }
         ensures definition { IfOk result (λ r. r.definition ≡ self.now.definition) }
         ensures text { IfOk result (λ r. r.text ≡ new.now) }
-        ensures asked { IfOk result (λ r. r.asked ≤ searches (definition_of L.StorageT.number self.now.definition) new.now r.boundaries) }
-        ensures few { IfOk result (λ r. r.asked ≤ length r.boundaries * length (definition_of L.StorageT.number self.now.definition).rules) }
-        ensures met { IfOk result (λ r. (k : ℕ) → Meets self.now.boundaries r.boundaries (span_start edit.now.removed) (span_end edit.now.removed) (length edit.now.put.now) k
-            → r.asked ≤ searches (definition_of L.StorageT.number self.now.definition) new.now (take k r.boundaries)) }
-        ensures lexed { IfOk result (λ r. (k : ℕ) → k < length self.now.boundaries → IsSafe self.now.boundaries self.now.ahead (span_start edit.now.removed) k
-            → (r.anew + k ≤ length r.boundaries - 1)
-            × ((j : ℕ) → Meets self.now.boundaries r.boundaries (span_start edit.now.removed) (span_end edit.now.removed) (length edit.now.put.now) j → r.anew + k ≤ j)) }
-        ensures exact { IfOk result (λ r. is_state (definition_of L.StorageT.number self.now.definition) 0 ≡ true
-            → WasCutAnew (asks self.now.definition new.now) self.now.boundaries r.boundaries self.now.ahead (span_start edit.now.removed) (span_end edit.now.removed) (length edit.now.put.now) r.asked r.anew) }
+        ensures counts { IfOk result (WasRelexed L.StorageT.number self.now.boundaries self.now.ahead (as_span edit.now.removed) edit.now.put.now) }
     {
         let old = Old {
             definition: self.definition,

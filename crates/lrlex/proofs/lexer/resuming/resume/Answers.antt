@@ -1,6 +1,6 @@
 use Rattle.std.specs.List.Sorted.{IsPartitionedBy}
 use Rattle.lrlex.specs.Edits.{begins_before}
-use Rattle.std.proofs.Common.{ap₂, map, slice_index, ◌≡◌, ◌+◌, ◌-◌, ◌≤◌, length, take, sym, ap, ◌∙◌, subst, inl, inr, arith, IsCharBoundary}
+use Rattle.std.proofs.Common.{◌≡◌, ◌+◌, ◌-◌, ◌≤◌, length, take, sym, ap, ◌∙◌, subst, inl, inr, arith, IsCharBoundary}
 use Rattle.std.proofs.lemmas.Bool.{cases_lt}
 use Rattle.std.proofs.lemmas.List.{length-take-le, get_or-take}
 use Rattle.lrlex_table.specs.Decided.{IsText}

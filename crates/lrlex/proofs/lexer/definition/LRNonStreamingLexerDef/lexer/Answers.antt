@@ -1,5 +1,5 @@
 -- The lexer's items are those of the run, over the run's text.
-use Rattle.std.proofs.Common.{◌≡◌, ◌∙◌, subst, All, IfOk, Result, Ok, Err}
+use Rattle.std.proofs.Common.{◌∙◌, subst, All, IfOk, Result, Ok, Err}
 use Rattle.lrlex.specs.ItemLaws.{FitsText}
 use Rattle.lrlex.specs.Reach.{IsRun}
 use Rattle.lrlex.specs.Views.{definition_of, items_by}

@@ -1,16 +1,19 @@
 -- What the old run holds is what its value has.
-use Rattle.std.proofs.Common.{ℕ, ◌+◌, ◌-◌, ◌<◌, ◌≤◌, length, IfOk, List, subst}
-use Rattle.lrlex_base.specs.Spans.{span_start, span_end}
+use Rattle.std.proofs.Common.{ℕ, IfOk, List, subst}
+use Rattle.lrlex_base.specs.Spans.{as_span}
 use Rattle.lrlex.specs.Marks.{Mark}
-use Rattle.lrlex.specs.Edits.{Meets}
-use Rattle.lrlex.specs.Decided.{IsSafe}
 use Rattle.lrlex.specs.Ran.{Ran}
+use Rattle.lrlex.specs.Relexed.{WasRelexed}
+use Rattle.lrlex.proofs.CountedLemmas.{of_result}
 use Rattle.lrlex.proofs.lexer.run.LexRun.relex.Goals as goal
 
-pub returns-clause-lexed : goal.returns-clause-lexed
-returns-clause-lexed g c =
+pub returns-clause-counts : goal.returns-clause-counts
+returns-clause-counts g c =
     let edit = c.args.edit.now in
-    let P : List Mark → List ℕ → Type 0 = λ olds ahead. IfOk c.relexed.result (λ r. (k : ℕ) → k < length olds → IsSafe olds ahead (span_start edit.removed) k
-    → (r.anew + k ≤ length r.boundaries - 1)
-    × ((j : ℕ) → Meets olds r.boundaries (span_start edit.removed) (span_end edit.removed) (length edit.put.now) j → r.anew + k ≤ j)) in
-    subst (λ (v : Ran _ _). P v.boundaries v.ahead) c.self.view_is (subst (P c.self.inside.boundaries) c.deref-2.ensures.value c.relexed.ensures.lexed)
+    let number = g.L.StorageT.Id.number in
+    let s = c.self.inside in
+    let e = c.relexed.ensures in
+    let P : List Mark → List ℕ → Type 0 = λ olds ahead. IfOk c.relexed.result (WasRelexed number olds ahead (as_span edit.removed) edit.put.now) in
+    subst (λ (v : Ran _ _). P v.boundaries v.ahead) c.self.view_is
+    (subst (P s.boundaries) c.deref-2.ensures.value
+    (of_result number s.boundaries c.deref-2.result.now (as_span edit.removed) edit.put.now c.relexed.result s.definition.now c.args.new.now e.definition e.text e.asked e.few e.met e.lexed e.exact))

@@ -1,0 +1,49 @@
+use Rattle.std.proofs.Common.{◌≡◌, ℕ, List, sym, ap, ◌∙◌, subst, arith, IsCharBoundary}
+use Rattle.lrlex_base.specs.Spans.{Fits, span, as_span}
+use Rattle.lrlex.specs.Marks.{Mark}
+use Rattle.lrlex.specs.Ran.{Ran}
+use Rattle.lrlex.specs.Relexed.{WasRelexed}
+use Rattle.lrlex.proofs.CountedLemmas.{of_own, of_fields}
+use Rattle.lrlex.proofs.DocumentLemmas.{refused_by_memory}
+use Rattle.lrlex.proofs.lexer.document.Document.edit.Goals as goal
+
+pub returns-clause-fits : goal.returns-clause-fits
+returns-clause-fits g c =
+    let text : c.deref.result.now ≡ c.args.self.now.text = c.deref.ensures ∙ ap (λ (v : Ran _ _). v.text) c.self.view_is in
+    let fits : Fits c.args.self.now.text c.new.result = subst (λ t. Fits t c.new.result) text (c.fits.ensures.0 c.if-not-fits.false) in
+    record {
+      in_order = omega (arith, c.if-from-to.false);
+      begins = subst (IsCharBoundary c.args.self.now.text) c.new.ensures.start fits.0;
+      ends = subst (IsCharBoundary c.args.self.now.text) c.new.ensures.end fits.1;
+    }
+
+pub returns-clause-counts : goal.returns-clause-counts
+returns-clause-counts g c =
+    let number = g.L.StorageT.Id.number in
+    let s = c.self.inside in
+    let r = c.in_ok-run.run' in
+    let e = c.in_ok-run.ensures in
+    let removed = as_span c.new.result in
+    let put = c.args.put.now in
+    let own : WasRelexed number s.boundaries c.deref-6.result.now removed put r =
+    of_own number s.boundaries c.deref-6.result.now removed put r s.definition.now c.deref-7.result.now e.definition e.text e.asked e.few e.met e.lexed e.exact in
+    let here : WasRelexed number s.boundaries c.deref-6.result.now (span c.args.from c.args.to) put r =
+    subst (λ b. WasRelexed number s.boundaries c.deref-6.result.now (span c.args.from b) put r) c.new.ensures.end
+    (subst (λ a. WasRelexed number s.boundaries c.deref-6.result.now (span a c.new.result.end) put r) c.new.ensures.start own) in
+    let P : List Mark → List ℕ → Type 0 = λ olds ahead. WasRelexed number olds ahead (span c.args.from c.args.to) put r in
+    let olds : P c.args.self.now.boundaries c.args.self.now.ahead =
+    subst (λ (v : Ran _ _). P v.boundaries v.ahead) c.self.view_is (subst (P s.boundaries) c.deref-6.ensures.value here) in
+    of_fields number c.args.self.now.boundaries c.args.self.now.ahead (span c.args.from c.args.to) put _ r olds e.definition (e.text ∙ c.deref-7.ensures)
+    (sym (ap (λ (v : Ran _ _). v.boundaries) c.run.view_is)) (sym (ap (λ (v : Ran _ _). v.asked) c.run.view_is)) (sym (ap (λ (v : Ran _ _). v.anew) c.run.view_is))
+
+pub returns-in_err-newlines-clause-refused : goal.returns-in_err-newlines-clause-refused
+returns-in_err-newlines-clause-refused g c =
+    let text : c.deref.result.now ≡ c.args.self.now.text = c.deref.ensures ∙ ap (λ (v : Ran _ _). v.text) c.self.view_is in
+    refused_by_memory _ _ _ _ c.from_residual-in_err-newlines.ensures.1 (omega (arith, c.if-from-to.false)) c.new.result c.new.ensures.start c.new.ensures.end
+    (subst (λ t. Fits t c.new.result) text (c.fits.ensures.0 c.if-not-fits.false))
+
+pub returns-in_err-run-clause-refused : goal.returns-in_err-run-clause-refused
+returns-in_err-run-clause-refused g c =
+    let text : c.deref.result.now ≡ c.args.self.now.text = c.deref.ensures ∙ ap (λ (v : Ran _ _). v.text) c.self.view_is in
+    refused_by_memory _ _ _ _ c.from_residual-in_err-run.ensures.1 (omega (arith, c.if-from-to.false)) c.new.result c.new.ensures.start c.new.ensures.end
+    (subst (λ t. Fits t c.new.result) text (c.fits.ensures.0 c.if-not-fits.false))

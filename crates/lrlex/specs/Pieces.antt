@@ -1,0 +1,26 @@
+-- The whole text as it was cut, with what each piece is called.
+use Rattle.std.specs.Prelude.{◌≡◌, ℕ, ◌+◌, false, List, [], length, option_map, Some, slice_get, slice_range}
+use Rattle.lrlex_base.specs.Spans.{span, as_span}
+use Rattle.lrlex_rules.specs.Definition.{Definition}
+use Rattle.lrlex.specs.Active.{is_state, rule_at}
+use Rattle.lrlex.specs.Marks.{Mark, mark_at}
+use Rattle.lrlex.specs.Reach.{IsLexed}
+use Rattle.lrlex.specs.Tiling.{Item, Tile}
+use Rattle.lrlex.specs.declared.lexer.pieces.Piece.{Piece}
+
+-- the piece is this tile, which begins at the place
+pub record IsPiece (d : Definition) (text : List ℕ) (place : ℕ) (t : Tile) (p : Piece) : Type 0 where
+  pub rule : p.rule ≡ t.rule
+  pub name : option_map (λ n. n.now) p.name ≡ (rule_at d t.rule).name
+  pub span : as_span p.span ≡ span place (place + t.len)
+  pub text_is : p.text.now ≡ slice_range text place (place + t.len)
+
+-- these are the tiles, one by one: each begins at its boundary
+pub record AreTiles (d : Definition) (text : List ℕ) (marks : List Mark) (cut : List Tile) (ps : List Piece) : Type 0 where
+  pub many : length ps ≡ length cut
+  pub each : (k : ℕ) (t : Tile) (p : Piece) → slice_get cut k ≡ Some t → slice_get ps k ≡ Some p → IsPiece d text (mark_at marks k).place t p
+
+-- the pieces of a run: the tiles of its one tiling, and none without a state 0
+pub record ArePieces (d : Definition) (text : List ℕ) (marks : List Mark) (ps : List Piece) : Type 0 where
+  pub tiles : (found : List Item) (h : IsLexed d text found marks) → AreTiles d text marks h.cut ps
+  pub stateless : is_state d 0 ≡ false → ps ≡ []

@@ -1,0 +1,240 @@
+//! A text that is edited, with what lexing it gives.
+ghost use Rattle.std.specs.Prelude.{◌≡◌, ◌↔◌, ℕ, ◌-◌, [], length, IfOk, IfErr, OnOk, OnErr, IsCharBoundary, slice_range};
+ghost use Rattle.lrlex_base.specs.Edits.{edited};
+ghost use Rattle.lrlex_base.specs.Places.{place_of};
+ghost use Rattle.lrlex_base.specs.Spans.{Fits, span, span_start, span_end};
+ghost use Rattle.lrlex.specs.Nearest.{IsNearest, FitsAt};
+ghost use Rattle.lrlex.specs.Pieces.{ArePieces};
+ghost use Rattle.lrlex.specs.Ran.{IsRunOf};
+ghost use Rattle.lrlex.specs.Relexed.{WasRelexed};
+ghost use Rattle.lrlex.specs.Views.{definition_of};
+ghost use Rattle.lrlex.specs.declared.lexer.document.EditError.TheVariants.{DoesNotFit};
+
+use crate::errors::LRLexError;
+use crate::lexer::boundaries::Boundaries;
+use crate::lexer::definition::LRNonStreamingLexerDef;
+use crate::lexer::pieces::{Piece, pieces_of};
+use crate::lexer::relexing::{Old, relexed};
+use crate::lexer::run::LexRun;
+use crate::lexer::telling::{place_of, text_of};
+use lrlex_base::{Edit, LexerTypes, NewlineCache, Span};
+use std::alloc::{AllocError, Global};
+use std::marker::Model;
+
+/// Why an edit was not made.
+#[derive(Clone, Copy, Debug, PartialEq, Eq)]
+pub enum EditError {
+    /// An end of the bytes to remove is past the text's end or inside a character, or the first stands behind the second.
+    DoesNotFit,
+    OutOfMemory,
+}
+
+impl From<AllocError> for EditError {
+    ghost use Rattle.std.specs.Prelude.{◌≡◌};
+    ghost use Rattle.lrlex.specs.declared.lexer.document.EditError.TheVariants.{OutOfMemory};
+
+    ghost from_gives = { λ _ e. e ≡ OutOfMemory };
+
+    fn from(_: AllocError) -> EditError {
+        EditError::OutOfMemory
+    }
+}
+
+/// A text that it owns, with its lexemes, its boundaries and the places of its newlines. An edit lexes again what it has to.
+#[derive(Drop)]
+pub struct Document<'lexer, L: LexerTypes<LexErrorT = LRLexError>> {
+    definition: &'lexer LRNonStreamingLexerDef<L>,
+    text: String,
+    newlines: NewlineCache,
+    items: Vec<Result<L::LexemeT, LRLexError>>,
+    boundaries: Boundaries,
+    asked: u128,
+    ahead: Vec<u8>,
+    anew: usize,
+}
+
+impl<'lexer, L: LexerTypes<LexErrorT = LRLexError>> Model for Document<'lexer, L> {
+    ghost use Rattle.std.specs.Coded.{codes};
+    ghost use Rattle.std.specs.String.{string_bytes};
+    ghost use Rattle.regex_hir.specs.contracts.hir.Hir as hir;
+    ghost use Rattle.lrlex_base.specs.Places.{AreBreaksOf};
+    ghost use Rattle.lrlex.specs.Reach.{IsRun};
+    ghost use Rattle.lrlex.specs.Decided.{LooksAhead};
+    ghost use Rattle.lrlex.specs.Views.{definition_of, items_by};
+    ghost use Rattle.lrlex.specs.Ran.{Ran};
+    ghost use Rattle.lrlex.specs.declared.errors.LRLexError.{LRLexError};
+    ghost use Rattle.lrlex.specs.declared.lexer.definition.LRNonStreamingLexerDef.{LRNonStreamingLexerDef};
+
+    ghost Value = { Ran (LRNonStreamingLexerDef L L.LexemeT L.StorageT LRLexError L.StorageT.FromStrRadixErr L.StorageT.Error) L.LexemeT };
+
+    ghost coded = { Prim.hlevel (codes, hir.the_row.coded) };
+
+    ghost view = { λ d. record {
+      definition = d.definition.now;
+      text = string_bytes d.text;
+      items = d.items.items;
+      boundaries = d.boundaries;
+      ahead = d.ahead.items;
+      asked = d.asked;
+      anew = d.anew;
+    } };
+
+    ghost invariant = { λ d. AreBreaksOf (string_bytes d.text) d.newlines
+        × ∥ LooksAhead (definition_of L.StorageT.number d.definition.now) (string_bytes d.text) d.boundaries d.ahead.items ∥₁
+        × ∥ IsRun (definition_of L.StorageT.number d.definition.now) (string_bytes d.text) (items_by L.StorageT.number L.LexemeT.seen d.items.items) d.boundaries ∥₁ };
+}
+
+impl<'lexer, L: LexerTypes<LexErrorT = LRLexError>> Document<'lexer, L> {
+    /// A document that has this text.
+    pub fn new(
+        alloc: Global,
+        definition: &'lexer LRNonStreamingLexerDef<L>,
+        text: &str,
+    ) -> Result<Self, AllocError>
+        ensures run { IfOk result (IsRunOf L.StorageT.number L.LexemeT.seen definition.now text.now) }
+        ensures definition { IfOk result (λ d. d.definition ≡ definition.now) }
+        ensures text { IfOk result (λ d. d.text ≡ text.now) }
+    {
+        let newlines = NewlineCache::from_str(alloc, text)?;
+        let run = definition.run(alloc, text)?;
+        let LexRun {
+            items,
+            boundaries,
+            asked,
+            ahead,
+            anew,
+            ..
+        } = run;
+        Ok(Document {
+            definition,
+            text: String::from_str(alloc, text)?,
+            newlines,
+            items,
+            boundaries,
+            asked,
+            ahead,
+            anew,
+        })
+    }
+
+    /// Puts a text in the place of the bytes from `from` up to `to`, and lexes again what that changes. After a refusal the
+    /// document is what it was.
+    pub fn edit(
+        &mut self,
+        alloc: Global,
+        from: usize,
+        to: usize,
+        put: &str,
+    ) -> Result<(), EditError>
+        ensures definition { self.new.definition ≡ self.old.definition }
+        ensures fits { OnOk result (FitsAt self.old.text from to) }
+        ensures text { OnOk result (self.new.text ≡ edited self.old.text (span from to) put.now) }
+        ensures run { OnOk result (IsRunOf L.StorageT.number L.LexemeT.seen self.new.definition self.new.text self.new) }
+        ensures counts { OnOk result (WasRelexed L.StorageT.number self.old.boundaries self.old.ahead (span from to) put.now self.new) }
+        ensures refused { IfErr result (λ e. e ≡ DoesNotFit ↔ ¬ (FitsAt self.old.text from to)) }
+        ensures kept { OnErr result (self.new ≡ self.old) }
+    {
+        if from > to {
+            return Err(EditError::DoesNotFit);
+        }
+        let edit = Edit {
+            removed: Span::new(from, to),
+            put,
+        };
+        if !edit.fits(&self.text) {
+            return Err(EditError::DoesNotFit);
+        }
+        let text = edit.apply(alloc, &self.text)?;
+        let newlines = NewlineCache::from_str(alloc, &text)?;
+        let old = Old {
+            definition: self.definition,
+            text: &self.text,
+            items: &self.items,
+            boundaries: &self.boundaries,
+            ahead: &self.ahead,
+        };
+        let run = relexed(alloc, &old, &edit, &text)?;
+        let LexRun {
+            items,
+            boundaries,
+            asked,
+            ahead,
+            anew,
+            ..
+        } = run;
+        self.items = items;
+        self.boundaries = boundaries;
+        self.asked = asked;
+        self.ahead = ahead;
+        self.anew = anew;
+        self.newlines = newlines;
+        self.text = text;
+        Ok(())
+    }
+    /// The text as it is now.
+    pub fn text(&self) -> &str
+        ensures { result.now ≡ self.now.text }
+    {
+        &self.text
+    }
+
+    /// The definition that it is lexed by.
+    pub fn definition(&self) -> &'lexer LRNonStreamingLexerDef<L>
+        ensures { result.now ≡ self.now.definition }
+    {
+        self.definition
+    }
+
+    /// The lexemes, and an error at the end where lexing stopped early.
+    pub fn items(&self) -> &[Result<L::LexemeT, LRLexError>]
+        ensures { result.now ≡ self.now.items }
+    {
+        &self.items
+    }
+
+    /// The whole text up to its end or to the error, as it was cut (`LexRun::pieces`).
+    pub fn pieces(&self, alloc: Global) -> Result<Vec<Piece<'lexer, '_>>, AllocError>
+        ensures { IfOk result (λ pieces. ArePieces (definition_of L.StorageT.number self.now.definition) self.now.text
+            self.now.boundaries pieces.items) }
+    {
+        pieces_of(alloc, self.definition, &self.text, &self.boundaries)
+    }
+
+    /// How many tiles the text was cut into.
+    pub fn tiles(&self) -> usize
+        ensures { result ≡ length self.now.boundaries - 1 }
+    {
+        self.boundaries.len().saturating_sub(1)
+    }
+
+    /// How many searches the last edit needed, or, where there was none yet, the text as a whole.
+    pub fn asked(&self) -> u128
+        ensures { result ≡ self.now.asked }
+    {
+        self.asked
+    }
+
+    /// How many tiles the last edit cut anew, or, where there was none yet, all. The others were taken over.
+    pub fn lexed(&self) -> usize
+        ensures { result ≡ self.now.anew }
+    {
+        self.anew
+    }
+
+    /// The text of the span, or the empty text where the span doesn't fit.
+    pub fn text_of(&self, span: Span) -> &str
+        ensures fits { Fits self.now.text span → result.now ≡ slice_range self.now.text (span_start span) (span_end span) }
+        ensures none { ¬ (Fits self.now.text span) → result.now ≡ [] }
+    {
+        text_of(&self.text, span)
+    }
+
+    /// Line and column of the place before this byte, both from 1; a column counts characters. Inside a character it is the
+    /// place before that, and past the text's end the end.
+    pub fn place(&self, byte: usize) -> (usize, usize)
+        ensures fits { IsCharBoundary self.now.text byte → result ≡ place_of self.now.text byte }
+        ensures nearest { (at : ℕ) → IsNearest self.now.text byte at → result ≡ place_of self.now.text at }
+    {
+        place_of(&self.newlines, &self.text, byte)
+    }
+}

@@ -1,0 +1,112 @@
+//! The whole text as it was cut.
+ghost use Rattle.std.specs.Prelude.{ℕ, ◌+◌, ◌<◌, List, IfOk, IsCharBoundary, vec_len};
+ghost use Rattle.lrlex.specs.AtHand.{AreOf};
+ghost use Rattle.lrlex.specs.Pieces.{IsPiece, ArePieces};
+ghost use Rattle.lrlex.specs.Reach.{IsRun};
+ghost use Rattle.lrlex.specs.Tables.{AreMatchers};
+ghost use Rattle.lrlex.specs.Tiling.{Item, Wins};
+ghost use Rattle.lrlex.specs.Views.{definition_of};
+
+use crate::errors::LRLexError;
+use crate::lexer::boundaries::Boundaries;
+use crate::lexer::definition::{LRNonStreamingLexerDef, RulesIn};
+use crate::lexer::run::LexRun;
+use crate::lexer::searching::{Tile, no_matchers, winner};
+use crate::lexer::stack::top_of;
+use lrlex_base::{LexerTypes, Span};
+use regex::Matcher;
+use std::alloc::{AllocError, Global};
+
+/// A tile of a text.
+#[derive(Clone, Copy, Debug)]
+pub struct Piece<'d, 't> {
+    /// The place of the rule that cut it, counted from 0 (`get_rule`).
+    pub rule: usize,
+    /// The rule's name. A piece without a name gives no lexeme.
+    pub name: Option<&'d str>,
+    pub span: Span,
+    pub text: &'t str,
+}
+
+/// The winner of the text, which has one.
+fn tile_of<'d, L: LexerTypes<LexErrorT = LRLexError>>(
+    alloc: Global,
+    definition: &'d LRNonStreamingLexerDef<L>,
+    state: usize,
+    here: RulesIn<'d>,
+    matchers: &mut [Option<Box<Matcher<'d>>>],
+    text: &str,
+) -> Result<Tile, AllocError>
+    requires here { AreOf L.StorageT.number definition.now state here }
+    requires matchers { AreMatchers definition.now.table.rules.items matchers.old }
+    requires some { (t : ℕ × ℕ) × Wins (definition_of L.StorageT.number definition.now) state text.now t.0 t.1 }
+    ensures wins { IfOk result (λ t. Wins (definition_of L.StorageT.number definition.now) state text.now t.rule t.len) }
+    ensures boundary { IfOk result (λ t. IsCharBoundary text.now t.len) }
+    ensures rule { IfOk result (λ t. t.rule < vec_len definition.now.table.rules) }
+    ensures matchers { IfOk result (λ _. AreMatchers definition.now.table.rules.items matchers.new) }
+{
+    let mut asked = 0;
+    let sight = winner(alloc, definition, state, here, matchers, text, &mut asked)?;
+    Ok(sight.tile.unwrap())
+}
+
+/// The tile from this place on.
+fn piece_of<'d, 't, L: LexerTypes<LexErrorT = LRLexError>>(
+    definition: &'d LRNonStreamingLexerDef<L>,
+    text: &'t str,
+    place: usize,
+    tile: Tile,
+) -> Piece<'d, 't>
+    requires rule { tile.rule < vec_len definition.now.table.rules }
+    requires begins { IsCharBoundary text.now place }
+    requires ends { IsCharBoundary text.now (place + tile.len) }
+    ensures { IsPiece (definition_of L.StorageT.number definition.now) text.now place (record { rule = tile.rule; len = tile.len }) result }
+{
+    let end = place + tile.len;
+    Piece {
+        rule: tile.rule,
+        name: definition.table.rules[tile.rule].name(),
+        span: Span::new(place, end),
+        text: &text[place..end],
+    }
+}
+
+/// The tiles between these boundaries of the text, in order.
+pub(crate) fn pieces_of<'d, 't, L: LexerTypes<LexErrorT = LRLexError>>(
+    alloc: Global,
+    definition: &'d LRNonStreamingLexerDef<L>,
+    text: &'t str,
+    boundaries: &Boundaries,
+) -> Result<Vec<Piece<'d, 't>>, AllocError>
+    requires { (found : List Item) × IsRun (definition_of L.StorageT.number definition.now) text.now found boundaries.now }
+    ensures { IfOk result (λ pieces. ArePieces (definition_of L.StorageT.number definition.now) text.now boundaries.now pieces.items) }
+{
+    if !definition.is_state(0) {
+        return Ok(Vec::new(alloc));
+    }
+    let tiles = boundaries.len().saturating_sub(1);
+    let mut pieces = Vec::with_capacity(alloc, tiles)?;
+    let mut matchers = no_matchers(alloc, &definition.table.rules)?;
+    let mut here = definition.rules_in(0);
+    let mut place = 0;
+    'tiles: for index in 0..tiles {
+        let state = top_of(boundaries.stack(index));
+        here = definition.rules_at(here, state);
+        let rest = &text[place..];
+        let tile = tile_of(alloc, definition, state, here, &mut matchers, rest)?;
+        pieces.push(piece_of(definition, text, place, tile))?;
+        place += tile.len;
+    }
+    Ok(pieces)
+}
+
+impl<'lexer, 'input, L: LexerTypes<LexErrorT = LRLexError>> LexRun<'lexer, 'input, L> {
+    /// The whole text up to its end or to the error, as it was cut: the tiles of unnamed rules too, in order. A run doesn't
+    /// keep which rule cut a tile: each tile is looked for once more, and the rules that have no table are asked again.
+    pub fn pieces(&self, alloc: Global) -> Result<Vec<Piece<'lexer, 'input>>, AllocError>
+        ensures { IfOk result (λ pieces. ArePieces (definition_of L.StorageT.number self.now.definition) self.now.text
+            self.now.boundaries pieces.items) }
+    {
+        pieces_of(alloc, self.definition, self.text, &self.boundaries)
+    }
+}
