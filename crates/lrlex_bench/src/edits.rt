@@ -15,7 +15,7 @@ use std::time::Instant;
 const PUT: &str = " ";
 
 /// The first place at `from` or after it, in bytes, that is between two characters or at an end.
-fn boundary_from(text: &str, from: usize) -> usize {
+pub fn boundary_from(text: &str, from: usize) -> usize {
     for (place, _) in text.char_indices() {
         if place >= from {
             return place;

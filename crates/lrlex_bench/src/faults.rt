@@ -1,5 +1,6 @@
 //! Why nothing is measured.
 use crate::words::USAGE;
+use lrlex::EditError;
 use std::alloc::{AllocError, AllocFailed};
 use std::{fmt, io};
 
@@ -14,6 +15,8 @@ pub enum Fault {
     CannotReadInput,
     /// The rule text has faults.
     Refused,
+    /// A key doesn't fit the text.
+    DoesNotFit,
     /// Memory is wanting.
     Memory,
     /// The clock or standard output failed.
@@ -27,6 +30,7 @@ impl fmt::Display for Fault {
             Fault::CannotReadRules => write!(f, "Can't read the rule file"),
             Fault::CannotReadInput => write!(f, "Can't read the input"),
             Fault::Refused => write!(f, "The rule file has faults"),
+            Fault::DoesNotFit => write!(f, "A key doesn't fit the text"),
             Fault::Memory => write!(f, "Out of memory"),
             Fault::System => write!(f, "The clock or standard output failed"),
         }
@@ -36,6 +40,15 @@ impl fmt::Display for Fault {
 impl From<AllocError> for Fault {
     fn from(_fault: AllocError) -> Fault {
         Fault::Memory
+    }
+}
+
+impl From<EditError> for Fault {
+    fn from(fault: EditError) -> Fault {
+        match fault {
+            EditError::DoesNotFit => Fault::DoesNotFit,
+            EditError::OutOfMemory => Fault::Memory,
+        }
     }
 }
 

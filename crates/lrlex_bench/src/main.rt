@@ -4,6 +4,7 @@
 mod edits;
 mod faults;
 mod figures;
+mod keys;
 mod measure;
 mod memory;
 mod spread;
@@ -44,6 +45,8 @@ fn measured<T: Id>(rt: &HostRuntime, words: &[&str]) -> Result<(), Fault> {
     let (definition, took) = build::<T>(rt, rules.as_str())?;
     if given.edits {
         edits::tell_edits::<T>(rt, &definition, input.as_str(), given.times)
+    } else if given.keys {
+        keys::tell_typing::<T>(rt, &definition, input.as_str(), given.times)
     } else {
         tell_run::<T>(rt, &definition, took, input.as_str(), given.times)
     }

@@ -5,7 +5,7 @@ use clap::{Arg, ArgAction, ArgMatches, Command, value_parser};
 use std::alloc::{AllocError, Global};
 
 /// How the program is called.
-pub const USAGE: &str = "Usage: lrlex_bench RULES INPUT K [--edits]";
+pub const USAGE: &str = "Usage: lrlex_bench RULES INPUT K [--edits | --keys]";
 
 /// What the words say.
 #[derive(Debug, Drop)]
@@ -18,6 +18,8 @@ pub struct Words {
     pub times: u32,
     /// Whether lexing again after an edit is measured.
     pub edits: bool,
+    /// Whether typing in a document is measured.
+    pub keys: bool,
 }
 
 /// The command, as `clap` has it.
@@ -29,11 +31,15 @@ fn command<'a>(alloc: Global) -> Result<Command<'a>, AllocError> {
     let edits = Arg::new(alloc, "edits")
         .long("edits")
         .action(ArgAction::SetTrue);
+    let keys = Arg::new(alloc, "keys")
+        .long("keys")
+        .action(ArgAction::SetTrue);
     Command::new(alloc, "lrlex_bench")
         .arg(Arg::new(alloc, "rules").required(true))?
         .arg(Arg::new(alloc, "input").required(true))?
         .arg(times)?
-        .arg(edits)
+        .arg(edits)?
+        .arg(keys)
 }
 
 /// The words of the matches.
@@ -51,6 +57,7 @@ fn words_of(alloc: Global, matches: &ArgMatches<'_>) -> Result<Words, Fault> {
             input: String::from_str(alloc, input)?,
             times,
             edits: matches.get_flag("edits"),
+            keys: matches.get_flag("keys"),
         }),
     }
 }

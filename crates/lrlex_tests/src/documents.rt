@@ -82,7 +82,7 @@ fn edited(
 }
 
 /// What a document shows after these edits. None where the rules are refused.
-fn shown(
+fn edited_by(
     alloc: Global,
     rules: &str,
     text: &str,
@@ -221,7 +221,7 @@ fn expects(rt: &impl Abort, row: &Row, got: Option<&Shown>) {
 fn documents_after_their_edits(rt: HostRuntime) -> Result<(), Fail> {
     for row in DOCUMENTS {
         let (name, rules, text, changes, _) = *row;
-        let got = shown(rt.alloc(), rules, text, changes)?;
+        let got = edited_by(rt.alloc(), rules, text, changes)?;
         expects(&rt, row, got.as_ref());
         // It is what lexing the text anew gives.
         if let Some(now) = got {
@@ -240,7 +240,7 @@ fn a_key_in_a_long_document_cuts_few_tiles_anew(rt: HostRuntime) -> Result<(), F
         text.push_str("ab ")?;
     }
     for at in [0usize, 450, 451, 900] {
-        let got = shown(rt.alloc(), WORDS, text.as_str(), &[(at, at, "x")])?;
+        let got = edited_by(rt.alloc(), WORDS, text.as_str(), &[(at, at, "x")])?;
         let anew = match got {
             Some(shown) => shown.counts[1],
             None => usize::MAX,
