@@ -1,5 +1,5 @@
 -- The places of the rules that pass a test.
-use Rattle.std.proofs.Common.{◌≡◌, ℕ, zero, suc, ◌+◌, ◌<◌, Bool, true, false, cond, List, [], ◌∷◌, ◌++◌, length, drop, map, take, get_or, slice_get, refl, sym, ap, ◌∙◌, arith, count_by}
+use Rattle.std.proofs.Common.{◌≡◌, ℕ, zero, suc, ◌+◌, ◌<◌, ◌≤◌, Bool, true, false, cond, List, [], ◌∷◌, ◌++◌, length, drop, map, take, get_or, slice_get, refl, sym, ap, ◌∙◌, arith, count_by}
 use Rattle.std.proofs.lemmas.List.Recursion.{is_count_by}
 use Rattle.std.proofs.lemmas.List.{length-map, length-take-le, map_more}
 use Rattle.regex_hir.specs.Text.{is_some_and}
@@ -116,3 +116,22 @@ places_more p view rules i r within read =
     ap (places_from p 0) (map_more view rules i r within ∙ ap (λ x. map view (take i rules) ++ view x ∷ []) (sym read))
     ∙ places_last p 0 (map view (take i rules)) (view r)
     ∙ ap (λ k. places_from p 0 (map view (take i rules)) ++ cond (p (view r)) (k ∷ []) []) n
+
+-- where as many places are listed as there are rules, each is listed at its own place
+few_here : (k : ℕ) (xs : List ℕ) (n : ℕ) → length xs ≤ n → (b : Bool) → length (cond b (k ∷ xs) xs) ≤ suc n
+few_here k xs n le true = omega (arith, le)
+few_here k xs n le false = omega (arith, le)
+
+places_few : (p : Rule → Bool) (k : ℕ) (rules : List Rule) → length (places_from p k rules) ≤ length rules
+places_few p k [] = omega arith
+places_few p k (r ∷ rs) = few_here k (places_from p (k + 1) rs) (length rs) (places_few p (k + 1) rs) (p r)
+
+each_here : (k : ℕ) (xs : List ℕ) (n : ℕ) → length xs ≤ n → (length xs ≡ n → (i : ℕ) → i < n → get_or xs i 0 ≡ (k + 1) + i) →
+    (b : Bool) → length (cond b (k ∷ xs) xs) ≡ suc n → (i : ℕ) → i < suc n → get_or (cond b (k ∷ xs) xs) i 0 ≡ k + i
+each_here k xs n le each true len zero lt = omega arith
+each_here k xs n le each true len (suc i) lt = omega (arith, each (omega (arith, len)) i (omega arith))
+each_here k xs n le each false len i lt = absurd (omega (arith, le, len))
+
+pub all_places : (p : Rule → Bool) (k : ℕ) (rules : List Rule) → length (places_from p k rules) ≡ length rules → (i : ℕ) → i < length rules → get_or (places_from p k rules) i 0 ≡ k + i
+all_places p k [] len i lt = absurd (omega arith)
+all_places p k (r ∷ rs) len i lt = each_here k (places_from p (k + 1) rs) (length rs) (places_few p (k + 1) rs) (λ same j less. all_places p (k + 1) rs same j less) (p r) len i lt

@@ -183,3 +183,20 @@ none_tabled ps n asked rises all = record {
   rises = rises;
   each = λ k ge lt none. all k lt;
 }
+
+-- what rises from lo on is at each place at least as far on, and grows by one at least from place to place
+rising_at : (lo hi : ℕ) (xs : List ℕ) (i : ℕ) → AreRising lo hi xs → i < length xs → lo + i ≤ get_or xs i 0
+rising_at lo hi [] i r lt = absurd (omega arith)
+rising_at lo hi (x ∷ xs) zero r lt = omega (arith, r.0)
+rising_at lo hi (x ∷ xs) (suc i) r lt = omega (arith, rising_at (x + 1) hi xs i r.1 (omega arith), r.0)
+
+rising_gap : (lo hi : ℕ) (xs : List ℕ) (i j : ℕ) → AreRising lo hi xs → i ≤ j → j < length xs → get_or xs i 0 + (j - i) ≤ get_or xs j 0
+rising_gap lo hi [] i j r le lt = absurd (omega arith)
+rising_gap lo hi (x ∷ xs) zero zero r le lt = omega arith
+rising_gap lo hi (x ∷ xs) zero (suc j) r le lt = omega (arith, rising_at (x + 1) hi xs j r.1 (omega arith))
+rising_gap lo hi (x ∷ xs) (suc i) zero r le lt = absurd (omega arith)
+rising_gap lo hi (x ∷ xs) (suc i) (suc j) r le lt = omega (arith, rising_gap (x + 1) hi xs i j r.1 (omega arith) (omega arith))
+
+-- where the last is its own place, so is each
+pub rising_whole : (hi : ℕ) (xs : List ℕ) (k : ℕ) → AreRising 0 hi xs → k < length xs → get_or xs (length xs - 1) 0 ≡ length xs - 1 → get_or xs k 0 ≡ k
+rising_whole hi xs k r lt last = omega (arith, rising_at 0 hi xs k r lt, rising_gap 0 hi xs k (length xs - 1) r (omega arith) (omega arith), last)

@@ -1,9 +1,9 @@
 //! The tables of a list of rules: as few as can be had, joined in pairs.
-ghost use Rattle.std.specs.Prelude.{◌≡◌, ℕ, Bool, ◌||◌, ◌+◌, ◌^◌, ◌<◌, ◌≤◌, List, [], ◌∷◌, ◌++◌, length, map, vec_len, slice_index_or, IfOk, OnOk, IfSome, MatchOption, IsTrue, IsFalse, IsUtf8};
+ghost use Rattle.std.specs.Prelude.{◌≡◌, ℕ, Bool, ◌||◌, ◌+◌, ◌^◌, ◌<◌, ◌≤◌, List, [], ◌∷◌, ◌++◌, length, map, vec_len, slice_index, slice_index_or, IfOk, OnOk, IsSome, IfSome, MatchOption, IsTrue, IsFalse, IsUtf8};
 ghost use Rattle.regex.specs.Patterns.{Re};
 ghost use Rattle.lrlex_table.specs.Merged.{pattern_at, IsTableOf, IsLongest, NoneMatches};
 ghost use Rattle.lrlex_table.specs.Decided.{IsDecidedBy};
-ghost use Rattle.lrlex_table.specs.Tables.{AreSingle, rows_of, is_among, is_tabled, IsPartOf, AreParts, Covers, ArePartsOf, AreTablesOf, IsBestAmong, IsWinnerAmong, IsSightOf};
+ghost use Rattle.lrlex_table.specs.Tables.{AreRising, AreSingle, rows_of, is_among, is_tabled, IsPartOf, AreParts, Covers, ArePartsOf, AreTablesOf, IsBestAmong, IsWinnerAmong, IsSightOf};
 
 use crate::budget::Budget;
 use crate::product::product;
@@ -264,6 +264,21 @@ fn together(a: Sight, b: Sight) -> Sight
     }
 }
 
+/// The rule at this place of a list that rises. Where the last is its own place, so is each: then nothing waits for the list,
+/// which would cost each tile.
+#[inline(always)]
+fn rule_at(rules: &[usize], place: usize) -> Option<usize>
+    ensures there { place < length rules.now → IsSome result }
+    ensures rule { (hi : ℕ) → AreRising 0 hi rules.now → IfSome result (λ r. (place < length rules.now) × (r ≡ slice_index rules.now place)) }
+{
+    let last = *rules.last()?;
+    if last == rules.len() - 1 {
+        if place <= last { Some(place) } else { None }
+    } else {
+        rules.get(place).copied()
+    }
+}
+
 impl Part {
     /// The tile with its rule's place in the list, where the table has that among the part's rules.
     #[inline(always)]
@@ -275,9 +290,9 @@ impl Part {
         ensures past { (n : ℕ) → IfSome tile (λ t. t.len < n) → IfSome result (λ t. t.len < n) }
     {
         let tile = tile?;
-        let rule = self.rules.get(tile.rule)?;
+        let rule = rule_at(&self.rules, tile.rule)?;
         Some(Tile {
-            rule: *rule,
+            rule,
             len: tile.len,
         })
     }

@@ -1,4 +1,4 @@
-ghost use Rattle.std.specs.Prelude.{◌≡◌, ◌+◌, ◌^◌, ◌<◌, ◌≤◌, ◌⊎◌, true, false, vec_len, IfOk, IfSome, MatchOption, IsCharBoundary};
+ghost use Rattle.std.specs.Prelude.{◌≡◌, ℕ, length, slice_index, ◌+◌, ◌^◌, ◌<◌, ◌≤◌, ◌⊎◌, true, false, vec_len, IfOk, IfSome, MatchOption, IsCharBoundary};
 ghost use Rattle.regex.specs.Patterns.{SameCaptures};
 ghost use Rattle.regex.specs.Strings.{matcher_pattern};
 ghost use Rattle.lrlex_rules.specs.Patterns.{match_length, rule_pattern};
@@ -102,6 +102,21 @@ fn is_better(rule: usize, len: usize, best: Tile) -> bool
     len > best.len || (len == best.len && rule < best.rule)
 }
 
+/// The place of the active rule with this number, among so many rules. Where all are active, nothing waits for the list, which
+/// would cost each tile.
+#[inline(always)]
+fn place_of(active: &[usize], rules: usize, number: usize) -> usize
+    requires within { number < length active.now }
+    requires all { length active.now ≡ rules → (i : ℕ) → i < rules → slice_index active.now i ≡ i }
+    ensures { result ≡ slice_index active.now number }
+{
+    if active.len() == rules {
+        number
+    } else {
+        active[number]
+    }
+}
+
 /// The rule that wins at the beginning of the text, among those that are active in the state: the tables tell the best of
 /// the rules that have one, and the others are asked. A search doesn't tell how far it looked, so where a rule is asked
 /// the whole text decides.
@@ -155,7 +170,7 @@ pub(crate) fn winner<'d, L: LexerTypes>(
         return Ok(Sight { tile: None, reach });
     }
     let tile = Some(Tile {
-        rule: active[best.rule],
+        rule: place_of(active, definition.table.rules.len(), best.rule),
         len: best.len,
     });
     Ok(Sight { tile, reach })

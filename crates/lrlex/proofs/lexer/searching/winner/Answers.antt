@@ -5,10 +5,13 @@ use Rattle.lrlex_rules.specs.Parts.{as_rule}
 use Rattle.lrlex_rules.specs.Patterns.{match_length}
 use Rattle.lrlex_table.specs.Tables.{IsBestAmong}
 use Rattle.lrlex.specs.Tables.{IsMatcherOf, patterns_on, pattern_in}
+use Rattle.lrlex.specs.Active.{is_active}
 use Rattle.lrlex.specs.Decided.{IsDecided}
+use Rattle.lrlex.specs.Tiling.{Wins}
 use Rattle.lrlex.specs.Views.{definition_of}
 use Rattle.lrlex.specs.declared.lexer.searching.Tile.{Tile}
 use Rattle.lrlex.proofs.CountLemmas.{active_count-le}
+use Rattle.lrlex.proofs.PlaceLemmas.{all_places}
 use Rattle.lrlex.proofs.ScanLemmas.{length-places_of}
 use Rattle.lrlex.proofs.MatcherLemmas.{matcher_at, matchers_set}
 use Rattle.lrlex.proofs.DecidedLemmas.{decided_whole, decided_look}
@@ -173,12 +176,25 @@ returns-then-best-eq0-clause-counted g c =
       others_few d c.args.state c.args.text.now places t.asked.items c.requires.here.active t refl c.requires.here.tables,
     )
 
+pub place_of-requires-clause-all : goal.place_of-requires-clause-all
+place_of-requires-clause-all g c same i lt =
+    let d = definition_of g.L.StorageT.Id.number c.args.definition.now in
+    let q = c.args.state in
+    let places = c.args.here.active.now in
+    let rules_len = length-map c.args.definition.now.table.rules.items (as_rule g.L.StorageT.Id.number) in
+    let ok = c.args.definition.now.table.rules.ok.0 in
+    let each = all_places (is_active d.states q) 0 d.rules (omega (arith, ap length c.requires.here.active, same, rules_len, ok)) i (omega (arith, lt, rules_len, ok)) in
+    ap (λ xs. get_or xs i 0) c.requires.here.active ∙ omega (arith, each)
+
 pub returns-clause-winner : goal.returns-clause-winner
 returns-clause-winner g c =
     let d = definition_of g.L.StorageT.Id.number c.args.definition.now in
     let t = c.args.here.tables.now in
-    best_wins d c.args.state c.args.text.now c.args.here.active.now t.asked.items c.requires.here.active t refl c.requires.here.tables c.others.index c.others.best.rule c.others.best.len
-    (omega (arith, c.others-test.false, ap length c.asked-index-end.ensures)) c.others.invariant.best (omega (arith, c.if-best-eq0.false))
+    let text = c.args.text.now in
+    let best = c.others.best in
+    subst (λ r. Wins d c.args.state text r best.len) (sym c.place_of.ensures)
+    (best_wins d c.args.state text c.args.here.active.now t.asked.items c.requires.here.active t refl c.requires.here.tables c.others.index best.rule best.len
+    (omega (arith, c.others-test.false, ap length c.asked-index-end.ensures)) c.others.invariant.best (omega (arith, c.if-best-eq0.false)))
 
 pub returns-clause-rule : goal.returns-clause-rule
 returns-clause-rule g c =

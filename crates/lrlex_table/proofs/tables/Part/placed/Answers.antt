@@ -1,6 +1,6 @@
-use Rattle.std.proofs.Common.{◌≡◌, get_or, sym, ap, ◌∙◌, subst}
+use Rattle.std.proofs.Common.{◌≡◌, length, get_or, sym, ap, ◌∙◌, subst}
 use Rattle.std.proofs.lemmas.Option.{MatchOption-at_none, MatchOption-at_some}
-use Rattle.lrlex_table.specs.Tables.{is_among, IsBestAmong}
+use Rattle.lrlex_table.specs.Tables.{AreRising, is_among, IsBestAmong}
 use Rattle.lrlex_table.proofs.BestLemmas.{part_matches_none, part_matches_best}
 use Rattle.lrlex_table.proofs.tables.Part.placed.Goals as goal
 
@@ -12,8 +12,8 @@ pub returns-clause-winner : goal.returns-clause-winner
 returns-clause-winner c ps text is utf8 told =
     let rules = c.args.self.now.rules.items in
     let best = MatchOption-at_some _ _ c.in_ok-tile.tile c.in_ok-tile.was told in
-    let at = c.in_ok-rule.ensures.lookup in
-    let read : c.in_ok-rule.rule.now ≡ get_or rules c.in_ok-tile.tile.rule 0 = at.3.1 0 ∙ ap (λ xs. get_or xs c.in_ok-tile.tile.rule 0) c.deref.ensures.value in (
+    let read : c.in_ok-rule.rule ≡ get_or rules c.in_ok-tile.tile.rule 0 =
+    (c.in_ok-rule.ensures.rule (length ps) (subst (AreRising 0 (length ps)) (sym c.deref.ensures.value) is.rises)).1 ∙ ap (λ xs. get_or xs c.in_ok-tile.tile.rule 0) c.deref.ensures.value in (
       best.some,
       subst (λ k. IsBestAmong ps (is_among rules) text k c.in_ok-tile.tile.len) (sym read) (part_matches_best ps rules text c.in_ok-tile.tile.rule c.in_ok-tile.tile.len is.rises best),
     )
