@@ -1,15 +1,13 @@
 #!/bin/sh
-# Builds definitions of hostile rule texts: bench/hostile.sh [OTHER]. Prints for each what its tables are, how long the
-# build took (the quickest of three) and the most memory that it had. OTHER is another build of lrlex_bench to compare
-# with, such as one whose usual budget is nothing (MOST_ROWS and MOST_WORK of crates/lrlex/src/lexer/definition.rt); its
-# columns stand behind. Not part of the gate. A run that needs more than 4 GB or two minutes is ended.
+# Builds definitions of hostile rule texts: bench/hostile.sh. Prints for each what its tables are, how long the build took
+# (the quickest of three) and the most memory that it had, and behind that the same without tables. Not part of the gate. A
+# run that needs more than 4 GB or two minutes is ended.
 set -u
 LC_ALL=C
 export LC_ALL
 
 here=$(CDPATH='' cd -- "$(dirname -- "$0")" && pwd) || exit 1
 . "$here/program.sh"
-other=${1:-}
 ulimit -v 4194304
 
 # lines N PATTERN: N rules, each with this pattern, in which WORD or NUMBER stands for the rule's own. The pattern is cut
@@ -79,11 +77,12 @@ states 4000 s 'aNUMBER' >"$scratch/everywhere_4000.l"
 states 400 s '<sNUMBER,INITIAL>(a|b)*a(a|b){8}NUMBER' >"$scratch/state_blow_ups.l"
 echo "ab" >"$scratch/text"
 
-# measure PROGRAM NAME: the quickest of three builds; its figures go to the file `out`. False where there is none.
+# measure NAME [WORD]: the quickest of three builds, by this word too; its figures go to the file `out`. False where there is
+# none.
 measure() {
     best=
     for _ in 1 2 3; do
-        if ! timeout 120 "$1" "$scratch/$2.l" "$scratch/text" 1 >"$scratch/out" 2>"$scratch/err"; then
+        if ! timeout 120 "$program" "$scratch/$1.l" "$scratch/text" 1 ${2:+"$2"} >"$scratch/out" 2>"$scratch/err"; then
             return 1
         fi
         ms=$(value 'build ms')
@@ -94,17 +93,17 @@ measure() {
 }
 
 row='%-17s %9s %7s %7s %6s %7s %9s %6s   %9s %6s\n'
-printf "$row" text bytes rules tables rows asked 'build ms' MB 'other ms' MB
+printf "$row" text bytes rules tables rows asked 'build ms' MB 'untabled' MB
 for file in "$scratch"/*.l; do
     name=$(basename "$file" .l)
     bytes=$(($(wc -c <"$file")))
-    if measure "$program" "$name"; then
+    if measure "$name"; then
         set -- "$(value rules)" "$(value tables)" "$(value 'rows of tables')" "$(value 'rules without a table')" \
             "$best" "$(megabytes "$(value 'peak kB before lexing')")"
     else
         set -- "$(cat "$scratch/err")" - - - - -
     fi
-    if [ -n "$other" ] && measure "$other" "$name"; then
+    if measure "$name" --no-tables; then
         set -- "$@" "$best" "$(megabytes "$(value 'peak kB before lexing')")"
     else
         set -- "$@" - -

@@ -42,7 +42,7 @@ fn measured<T: Id>(rt: &HostRuntime, words: &[&str]) -> Result<(), Fault> {
     let given = read(rt.alloc(), words)?;
     let rules = text_at(rt, given.rules.as_str(), Fault::CannotReadRules)?;
     let input = text_at(rt, given.input.as_str(), Fault::CannotReadInput)?;
-    let (definition, took) = build::<T>(rt, rules.as_str())?;
+    let (definition, took) = build::<T>(rt, rules.as_str(), given.tables)?;
     if given.edits {
         edits::tell_edits::<T>(rt, &definition, input.as_str(), given.times)
     } else if given.keys {

@@ -3,7 +3,9 @@ use crate::faults::Fault;
 use crate::figures::Hundredths;
 use crate::memory::peak;
 use crate::spread::{Spread, spread_of};
-use lrlex::{DefaultLexerTypes, LRNonStreamingLexerDef, LexRun, LexerDef};
+use lrlex::{
+    Budget, DefaultLexerTypes, LRNonStreamingLexerDef, LexRun, LexerDef, UNSPECIFIED_LEX_FLAGS,
+};
 use lrlex_base::{Id, NewlineCache};
 use std::time::{Duration, Instant};
 
@@ -34,10 +36,19 @@ impl Counts {
     };
 }
 
-/// Reads a rule text, and times that.
-pub fn build<T: Id>(rt: &HostRuntime, rules: &str) -> Result<(Definition<T>, Duration), Fault> {
+/// Reads a rule text, into a definition with tables or without any, and times that.
+pub fn build<T: Id>(
+    rt: &HostRuntime,
+    rules: &str,
+    tables: bool,
+) -> Result<(Definition<T>, Duration), Fault> {
     let begin = Instant::now(rt)?;
-    let built = Definition::<T>::from_str(rt.alloc(), rules)?;
+    let built = if tables {
+        Definition::<T>::from_str(rt.alloc(), rules)?
+    } else {
+        let nothing = Budget::new(0, 0);
+        Definition::<T>::new_with_budget(rt.alloc(), rules, UNSPECIFIED_LEX_FLAGS, nothing)?
+    };
     let took = begin.elapsed(rt)?;
     match built {
         Ok(definition) => Ok((definition, took)),

@@ -5,7 +5,7 @@ use clap::{Arg, ArgAction, ArgMatches, Command, value_parser};
 use std::alloc::{AllocError, Global};
 
 /// How the program is called.
-pub const USAGE: &str = "Usage: lrlex_bench RULES INPUT K [--edits | --keys]";
+pub const USAGE: &str = "Usage: lrlex_bench RULES INPUT K [--edits | --keys] [--no-tables]";
 
 /// What the words say.
 #[derive(Debug, Drop)]
@@ -20,6 +20,8 @@ pub struct Words {
     pub edits: bool,
     /// Whether typing in a document is measured.
     pub keys: bool,
+    /// Whether the definition gets tables.
+    pub tables: bool,
 }
 
 /// The command, as `clap` has it.
@@ -34,12 +36,16 @@ fn command<'a>(alloc: Global) -> Result<Command<'a>, AllocError> {
     let keys = Arg::new(alloc, "keys")
         .long("keys")
         .action(ArgAction::SetTrue);
+    let no_tables = Arg::new(alloc, "no-tables")
+        .long("no-tables")
+        .action(ArgAction::SetTrue);
     Command::new(alloc, "lrlex_bench")
         .arg(Arg::new(alloc, "rules").required(true))?
         .arg(Arg::new(alloc, "input").required(true))?
         .arg(times)?
         .arg(edits)?
-        .arg(keys)
+        .arg(keys)?
+        .arg(no_tables)
 }
 
 /// The words of the matches.
@@ -58,6 +64,7 @@ fn words_of(alloc: Global, matches: &ArgMatches<'_>) -> Result<Words, Fault> {
             times,
             edits: matches.get_flag("edits"),
             keys: matches.get_flag("keys"),
+            tables: !matches.get_flag("no-tables"),
         }),
     }
 }
