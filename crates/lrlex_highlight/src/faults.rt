@@ -1,0 +1,55 @@
+//! Why nothing is shown.
+use crate::words::USAGE;
+use std::alloc::{AllocError, AllocFailed};
+use std::{fmt, io};
+
+/// Why the program can't do what it is asked.
+#[derive(Clone, Copy, Debug, PartialEq, Eq)]
+pub enum Fault {
+    /// The words are refused.
+    Usage,
+    /// The rule file can't be opened or read, or isn't UTF-8.
+    CannotReadRules,
+    /// The input can't be opened or read, or isn't UTF-8.
+    CannotReadInput,
+    /// The rule text has faults.
+    Refused,
+    Memory,
+    /// Standard input or standard output failed.
+    System,
+}
+
+impl fmt::Display for Fault {
+    fn fmt<W: fmt::Write>(&self, f: &mut fmt::Formatter<W>) -> fmt::Result {
+        match self {
+            Fault::Usage => write!(f, "{USAGE}"),
+            Fault::CannotReadRules => write!(f, "Can't read the rule file"),
+            Fault::CannotReadInput => write!(f, "Can't read the input"),
+            Fault::Refused => write!(f, "The rule file has faults: ./lrlex tells them"),
+            Fault::Memory => write!(f, "Out of memory"),
+            Fault::System => write!(f, "Standard input or standard output failed"),
+        }
+    }
+}
+
+impl From<AllocError> for Fault {
+    fn from(_fault: AllocError) -> Fault {
+        Fault::Memory
+    }
+}
+
+impl<T: Drop> From<AllocFailed<T>> for Fault {
+    fn from(_fault: AllocFailed<T>) -> Fault {
+        Fault::Memory
+    }
+}
+
+impl From<io::Error> for Fault {
+    fn from(fault: io::Error) -> Fault {
+        if fault.kind() == io::ErrorKind::OutOfMemory {
+            Fault::Memory
+        } else {
+            Fault::System
+        }
+    }
+}

@@ -1,0 +1,119 @@
+//! Shows a text in colours: `lrlex_highlight [--html] RULES INPUT` colours the input by the pieces into which the rules cut it.
+#![tactic(auto)]
+
+mod classes;
+mod faults;
+mod marks;
+mod words;
+
+use crate::classes::class_of;
+use crate::faults::Fault;
+use crate::marks::Marks;
+use crate::words::read;
+use lrlex::{DefaultLexerTypes, LRNonStreamingLexerDef, LexRun, LexerDef};
+use std::alloc::{AllocError, Global};
+use std::process::ExitCode;
+use std::{env, fs, io};
+
+type Types = DefaultLexerTypes<u32>;
+
+/// What stands between both texts on standard input.
+const BETWEEN: &str = "\n----\n";
+
+/// The words, copied.
+fn words_given(rt: &HostRuntime, alloc: Global) -> io::Result<Vec<String>> {
+    Ok(env::args(rt)?.collect(alloc)?)
+}
+
+/// The same words, borrowed.
+fn borrowed(alloc: Global, words: &[String]) -> Result<Vec<&str>, AllocError> {
+    words.iter().map(|word| word.as_str()).collect(alloc)
+}
+
+/// The place, in bytes, up to which the text was lexed.
+fn end_of(run: &LexRun<'_, '_, Types>) -> usize {
+    if run.boundaries() > 0 {
+        run.place(run.tiles())
+    } else {
+        0
+    }
+}
+
+/// The input with its pieces marked, and behind the last the rest of it.
+fn marked(
+    alloc: Global,
+    definition: &LRNonStreamingLexerDef<Types>,
+    input: &str,
+    marks: Marks,
+) -> Result<String, AllocError> {
+    let run = definition.run(alloc, input)?;
+    let mut page = String::from_str(alloc, marks.head())?;
+    for piece in &run.pieces(alloc)? {
+        marks.push(&mut page, class_of(piece), piece.text)?;
+    }
+    if let Some((_, rest)) = input.split_at_checked(end_of(&run)) {
+        marks.push_rest(&mut page, rest)?;
+    }
+    page.push_str(marks.tail())?;
+    Ok(page)
+}
+
+/// The input, coloured by the rules.
+fn page_of(alloc: Global, rules: &str, input: &str, marks: Marks) -> Result<String, Fault> {
+    match LRNonStreamingLexerDef::<Types>::from_str(alloc, rules)? {
+        Ok(definition) => Ok(marked(alloc, &definition, input, marks)?),
+        Err(_) => Err(Fault::Refused),
+    }
+}
+
+/// The text of a file, or this fault where it can't be read.
+fn text_at(rt: &HostRuntime, path: &str, fault: Fault) -> Result<String, Fault> {
+    match fs::read_to_string(rt, path) {
+        Ok(text) => Ok(text),
+        Err(cause) if cause.kind() == io::ErrorKind::OutOfMemory => Err(Fault::Memory),
+        Err(_) => Err(fault),
+    }
+}
+
+/// Shows the file that the words name.
+fn show_files(rt: &HostRuntime, words: &[&str]) -> Result<(), Fault> {
+    let given = read(rt.alloc(), words)?;
+    let rules = text_at(rt, given.rules.as_str(), Fault::CannotReadRules)?;
+    let input = text_at(rt, given.input.as_str(), Fault::CannotReadInput)?;
+    let page = page_of(rt.alloc(), rules.as_str(), input.as_str(), given.marks)?;
+    print!(rt; "{page}")?;
+    Ok(())
+}
+
+/// Shows what standard input has: the rules before a line `----`, and the text behind it.
+fn show_input(rt: &HostRuntime) -> Result<(), Fault> {
+    let both = io::read_to_string(rt.alloc(), rt.reader())?;
+    let Some((rules, input)) = both.as_str().split_once(BETWEEN) else {
+        return Err(Fault::Usage);
+    };
+    let page = page_of(rt.alloc(), rules, input, Marks::Terminal)?;
+    print!(rt; "{page}")?;
+    Ok(())
+}
+
+/// Does all that the program does.
+fn served(rt: &HostRuntime) -> Result<(), Fault> {
+    let owned = words_given(rt, rt.alloc())?;
+    let words = borrowed(rt.alloc(), owned.as_slice())?;
+    if words.len() < 2 {
+        show_input(rt)
+    } else {
+        show_files(rt, words.as_slice())
+    }
+}
+
+fn main(rt: HostRuntime) -> ExitCode {
+    match served(&rt) {
+        Ok(()) => ExitCode::SUCCESS,
+        Err(fault) => {
+            // There is nowhere to tell of a fault of standard error.
+            let _ = eprintln!(rt; "{fault}");
+            ExitCode::FAILURE
+        }
+    }
+}
