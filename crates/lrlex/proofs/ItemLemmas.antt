@@ -19,7 +19,7 @@ use Rattle.lrlex.specs.Active.{is_active, is_state, taken_by, taken_by_any, no_r
 use Rattle.lrlex.specs.Tiling.{Tile, Item, Item-set, Lexeme, Error, Wins, IsWinner, top, End, Done, NoMatch, NoId, NoTarget, IsEnd, stack_past, IsTiling, lexeme_of, tile_items, end_items, items}
 use Rattle.lrlex.specs.Marks.{Mark}
 use Rattle.lrlex.specs.Reach.{IsLexed, IsRun}
-use Rattle.lrlex.specs.ItemLaws.{is_error, HasItsLength, FitsText, HasNamedRule, EndsBefore, GoesOn, last_end, tile_texts, total_len, IsUnnamed, IsUnnamedBetween, IsUnnamedBefore}
+use Rattle.lrlex.specs.ItemLaws.{is_error, HasItsLength, FitsText, HasNamedRule, EndsBefore, GoesOn, last_end, tile_texts, total_len, IsUnnamed, IsUnnamedBetween, IsUnnamedBefore, AreItemsOf, CoverText, HaveLaws}
 use Rattle.lrlex.proofs.KnownLemmas.{known}
 use Rattle.lrlex.proofs.TilingLemmas.{Wins-le}
 
@@ -381,6 +381,28 @@ module _ (d : Definition) (text : List ℕ) (found : List Item) (marks : List Ma
 
   pub end_by_an_error : IsRun d text found marks → AllPairs GoesOn found
   end_by_an_error run i j x lt within = (pairs_of_run run i j x lt within).1
+
+module _ (d : Definition) (text : List ℕ) (found : List Item) (marks : List Mark) where
+  pub are_items : IsRun d text found marks → AreItemsOf d text found
+  are_items run = record {
+    lengths = have_their_lengths d text found marks run;
+    fit = λ utf8. fit_the_text d text found marks utf8 run;
+    named = have_named_rules d text found marks run;
+    in_order = stand_in_order d text found marks run;
+    error_last = end_by_an_error d text found marks run;
+  }
+
+  cover_text : (h : IsLexed d text found marks) → CoverText d text found h.cut
+  cover_text h = record {
+    before = unnamed_before d text found marks h;
+    between = unnamed_between d text found marks h;
+    behind = λ none. unnamed_behind d text found marks h none;
+    joined = λ none. joined_tiles d text found marks h none;
+    sum = λ none. sum_of_tiles d text found marks h none;
+  }
+
+  pub have_laws : IsRun d text found marks → HaveLaws d text found marks
+  have_laws run = record { items = are_items run; tiles = cover_text }
 
 -- ---- a run that is known to be there
 

@@ -1,8 +1,10 @@
 -- What holds of the items of each run.
-use Rattle.std.specs.Prelude.{◌≡◌, ℕ, ◌+◌, ◌<◌, ◌≤◌, Bool, true, false, IsSome, IsNone, List, [], ◌∷◌, ◌++◌, All, Any, take, drop, Some, IsCharBoundary}
-use Rattle.std.specs.List.{sum_by}
+use Rattle.std.specs.Prelude.{◌≡◌, ℕ, ◌+◌, ◌<◌, ◌≤◌, Bool, true, false, IsSome, IsNone, IfSome, List, [], ◌∷◌, ◌++◌, All, Any, take, drop, length, Some, slice_get, IsCharBoundary, IsUtf8}
+use Rattle.std.specs.List.{AllPairs, AllAdjacentBelow, concat, list_any, sum_by}
 use Rattle.lrlex_rules.specs.Definition.{Definition, Rule}
 use Rattle.lrlex.specs.Active.{rule_at}
+use Rattle.lrlex.specs.Marks.{Mark}
+use Rattle.lrlex.specs.Reach.{IsLexed}
 use Rattle.lrlex.specs.Tiling.{Tile, Item, Lexeme, Error}
 
 abbrev pub is_error : Item → Bool
@@ -67,3 +69,27 @@ IsUnnamedBetween d cut _ _ = Unit {0}
 abbrev pub IsUnnamedBefore : Definition → List Tile → Item → Type 0
 IsUnnamedBefore d cut (Lexeme id start len faulty) = IsUnnamed d cut 0 start
 IsUnnamedBefore d cut (Error start end state) = Unit {0}
+
+-- What holds of the items of each run. A lexeme takes bytes of the text, on character boundaries, and has the id of a named
+-- rule; lexemes stand in order and apart. At most one item is an error: it is the last, and its span is empty.
+pub record AreItemsOf (d : Definition) (text : List ℕ) (found : List Item) : Type 0 where
+  pub lengths : All HasItsLength found
+  pub fit : IsUtf8 text → All (FitsText text) found
+  pub named : All (HasNamedRule d) found
+  pub in_order : AllPairs EndsBefore found
+  pub error_last : AllPairs GoesOn found
+
+-- What holds of items with the tiles that gave them: what lies before the first lexeme, and between a lexeme and the next,
+-- is text of unnamed rules' tiles. Without an error the tiles joined are the text, and what lies behind the last lexeme
+-- is text of such tiles too.
+pub record CoverText (d : Definition) (text : List ℕ) (found : List Item) (cut : List Tile) : Type 0 where
+  pub before : IfSome (slice_get found 0) (IsUnnamedBefore d cut)
+  pub between : AllAdjacentBelow (IsUnnamedBetween d cut) found (length found)
+  pub behind : list_any is_error found ≡ false → IsUnnamed d cut (last_end 0 found) (length text)
+  pub joined : list_any is_error found ≡ false → concat (tile_texts text cut) ≡ text
+  pub sum : list_any is_error found ≡ false → total_len cut ≡ length text
+
+-- both, of what a run found
+pub record HaveLaws (d : Definition) (text : List ℕ) (found : List Item) (marks : List Mark) : Type 0 where
+  pub items : AreItemsOf d text found
+  pub tiles : (h : IsLexed d text found marks) → CoverText d text found h.cut

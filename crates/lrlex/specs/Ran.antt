@@ -2,6 +2,7 @@
 use Rattle.std.specs.Prelude.{ℕ, List, Result}
 use Rattle.lrlex_base.specs.Seen.{Seen}
 use Rattle.lrlex.specs.Marks.{Mark}
+use Rattle.lrlex.specs.ItemLaws.{HaveLaws}
 use Rattle.lrlex.specs.Reach.{IsRun}
 use Rattle.lrlex.specs.Views.{definition_of, items_by}
 use Rattle.lrlex.specs.declared.errors.LRLexError.{LRLexError}
@@ -21,3 +22,7 @@ pub record Ran (D X : Type 0) : Type 0 where
 -- it is the run of this definition on this text
 abbrev pub IsRunOf : {L X S E P Q : Type 0} → (S → ℕ) → (X → Seen S) → LRNonStreamingLexerDef L X S E P Q → List ℕ → Ran (LRNonStreamingLexerDef L X S E P Q) X → Type 0
 IsRunOf number seen d text r = IsRun (definition_of number d) text (items_by number seen r.items) r.boundaries
+
+-- and so its items have the laws of the items of each run
+abbrev pub HasItemLaws : {L X S E P Q : Type 0} → (S → ℕ) → (X → Seen S) → LRNonStreamingLexerDef L X S E P Q → List ℕ → Ran (LRNonStreamingLexerDef L X S E P Q) X → Type 0
+HasItemLaws number seen d text r = HaveLaws (definition_of number d) text (items_by number seen r.items) r.boundaries

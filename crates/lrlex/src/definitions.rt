@@ -45,15 +45,20 @@ pub trait LexerDef<L: LexerTypes>: Sized {
         ensures rules { IfOk result (λ d. rules_of d ≡ rules.items) }
         ensures states { IfOk result (λ d. states_of d ≡ start_states.items) }
         ensures flags { IfOk result (λ d. (said d).flags ≡ DEFAULT_LEX_FLAGS) }
-        ensures made_of { IfOk result (λ d. IsMadeOf L.StorageT.number (rules_of d) (states_of d) (said d)) };
+        ensures made_of { IfOk result (λ d. IsMadeOf L.StorageT.number (rules_of d) (states_of d)
+            (said d)) };
 
     /// Reads a rule text with unset flags. The inner `Err` has each fault of the text, and there is at least one.
     fn from_str(alloc: Global, text: &str) -> Result<LexBuildResult<Self>, AllocError>
-        ensures answer { IfOk result (IsAnswer said UNSPECIFIED_LEX_FLAGS L.StorageT.greatest text.now) }
-        ensures refusals { IfOk result (AreOwnRefusals UNSPECIFIED_LEX_FLAGS L.StorageT.greatest text.now) }
-        ensures placed { IfOk result (λ built. IfErr built (λ faults. All (IsPlaced text.now) faults.items)) }
+        ensures answer { IfOk result (IsAnswer said UNSPECIFIED_LEX_FLAGS L.StorageT.greatest
+            text.now) }
+        ensures refusals { IfOk result (AreOwnRefusals UNSPECIFIED_LEX_FLAGS L.StorageT.greatest
+            text.now) }
+        ensures placed { IfOk result (λ built. IfErr built
+            (λ faults. All (IsPlaced text.now) faults.items)) }
         ensures lawful { IfOk result (λ built. IfOk built (λ d. IsLawful text.now (said d))) }
-        ensures made_of { IfOk result (λ built. IfOk built (λ d. IsMadeOf L.StorageT.number (rules_of d) (states_of d) (said d))) };
+        ensures made_of { IfOk result (λ built. IfOk built
+            (λ d. IsMadeOf L.StorageT.number (rules_of d) (states_of d) (said d))) };
 
     /// The rule at this place, counted from 0.
     fn get_rule(&self, idx: usize) -> Option<&Rule<L::StorageT>>
@@ -61,16 +66,20 @@ pub trait LexerDef<L: LexerTypes>: Sized {
 
     /// The first rule with this id, where there is one. `find_rule_by_id` tells.
     fn get_rule_by_id(&self, tok_id: L::StorageT) -> &Rule<L::StorageT>
-        requires { IsSome (rule_with_id L.StorageT.number (rules_of self.now) (L.StorageT.number tok_id)) }
-        ensures { rule_with_id L.StorageT.number (rules_of self.now) (L.StorageT.number tok_id) ≡ Some result.now };
+        requires { IsSome (rule_with_id L.StorageT.number (rules_of self.now)
+            (L.StorageT.number tok_id)) }
+        ensures { rule_with_id L.StorageT.number (rules_of self.now) (L.StorageT.number tok_id)
+            ≡ Some result.now };
 
     /// The first rule with this id, if there is one.
     fn find_rule_by_id(&self, tok_id: L::StorageT) -> Option<&Rule<L::StorageT>>
-        ensures { option_copied result ≡ rule_with_id L.StorageT.number (rules_of self.now) (L.StorageT.number tok_id) };
+        ensures { option_copied result ≡ rule_with_id L.StorageT.number (rules_of self.now)
+            (L.StorageT.number tok_id) };
 
     /// The first rule with this name, if there is one.
     fn get_rule_by_name(&self, name: &str) -> Option<&Rule<L::StorageT>>
-        ensures { option_copied result ≡ rule_named L.StorageT.number (rules_of self.now) name.now };
+        ensures { option_copied result ≡ rule_named L.StorageT.number
+            (rules_of self.now) name.now };
 
     /// Gives each named rule the map's id for its name, or none. Unnamed rules keep theirs.
     ///
@@ -82,11 +91,17 @@ pub trait LexerDef<L: LexerTypes>: Sized {
         ids: &HashMap<&'a str, L::StorageT>,
     ) -> Result<(Option<HashSet<&'a str>>, Option<HashSet<String>>), AllocError>
         ensures rules { OnOk result (map (as_rule L.StorageT.number) (rules_of self.new)
-            ≡ map (with_own_id (ids_of L.StorageT.number ids.now)) (map (as_rule L.StorageT.number) (rules_of self.old))) }
+            ≡ map (with_own_id (ids_of L.StorageT.number ids.now))
+            (map (as_rule L.StorageT.number) (rules_of self.old))) }
         ensures states { states_of self.new ≡ states_of self.old }
-        ensures says { OnOk result (said self.new ≡ with_ids (ids_of L.StorageT.number ids.now) (said self.old)) }
-        ensures lacking { IfOk result (λ sets. HoldsNames (is_lacking (ids_of L.StorageT.number ids.now) (map (as_rule L.StorageT.number) (rules_of self.old))) sets.0) }
-        ensures unused { IfOk result (λ sets. HoldsTexts (is_unused (ids_of L.StorageT.number ids.now) (map (as_rule L.StorageT.number) (rules_of self.old))) sets.1) }
+        ensures says { OnOk result (said self.new
+            ≡ with_ids (ids_of L.StorageT.number ids.now) (said self.old)) }
+        ensures lacking { IfOk result (λ sets. HoldsNames
+            (is_lacking (ids_of L.StorageT.number ids.now)
+            (map (as_rule L.StorageT.number) (rules_of self.old))) sets.0) }
+        ensures unused { IfOk result (λ sets. HoldsTexts
+            (is_unused (ids_of L.StorageT.number ids.now)
+            (map (as_rule L.StorageT.number) (rules_of self.old))) sets.1) }
         ensures unchanged { OnErr result (self.new ≡ self.old) };
 
     /// The same, where the second set has each name with its place in the rule text.
@@ -96,11 +111,17 @@ pub trait LexerDef<L: LexerTypes>: Sized {
         ids: &HashMap<&'a str, L::StorageT>,
     ) -> Result<(Option<HashSet<&'a str>>, Option<HashSet<(String, Span)>>), AllocError>
         ensures rules { OnOk result (map (as_rule L.StorageT.number) (rules_of self.new)
-            ≡ map (with_own_id (ids_of L.StorageT.number ids.now)) (map (as_rule L.StorageT.number) (rules_of self.old))) }
+            ≡ map (with_own_id (ids_of L.StorageT.number ids.now))
+            (map (as_rule L.StorageT.number) (rules_of self.old))) }
         ensures states { states_of self.new ≡ states_of self.old }
-        ensures says { OnOk result (said self.new ≡ with_ids (ids_of L.StorageT.number ids.now) (said self.old)) }
-        ensures lacking { IfOk result (λ sets. HoldsNames (is_lacking (ids_of L.StorageT.number ids.now) (map (as_rule L.StorageT.number) (rules_of self.old))) sets.0) }
-        ensures unused { IfOk result (λ sets. HoldsPlaces (is_unused_at (ids_of L.StorageT.number ids.now) (map (as_rule L.StorageT.number) (rules_of self.old))) sets.1) }
+        ensures says { OnOk result (said self.new
+            ≡ with_ids (ids_of L.StorageT.number ids.now) (said self.old)) }
+        ensures lacking { IfOk result (λ sets. HoldsNames
+            (is_lacking (ids_of L.StorageT.number ids.now)
+            (map (as_rule L.StorageT.number) (rules_of self.old))) sets.0) }
+        ensures unused { IfOk result (λ sets. HoldsPlaces
+            (is_unused_at (ids_of L.StorageT.number ids.now)
+            (map (as_rule L.StorageT.number) (rules_of self.old))) sets.1) }
         ensures unchanged { OnErr result (self.new ≡ self.old) };
 
     /// The rules, in order.
@@ -129,7 +150,8 @@ impl<L: LexerTypes> LexerDef<L> for LRNonStreamingLexerDef<L> {
     ) -> Result<LRNonStreamingLexerDef<L>, AllocError>
         ensures rules { IfOk result (λ d. definition_rules d ≡ rules.items) }
         ensures states { IfOk result (λ d. definition_states d ≡ start_states.items) }
-        ensures flags { IfOk result (λ d. (definition_of L.StorageT.number d).flags ≡ DEFAULT_LEX_FLAGS) }
+        ensures flags { IfOk result (λ d. (definition_of L.StorageT.number d).flags
+            ≡ DEFAULT_LEX_FLAGS) }
     {
         LRNonStreamingLexerDef::of_parts(alloc, start_states, rules, DEFAULT_LEX_FLAGS)
     }
@@ -204,11 +226,15 @@ impl<L: LexerTypes> LRNonStreamingLexerDef<L> {
         text: &str,
         flags: LexFlags,
     ) -> Result<LexBuildResult<LRNonStreamingLexerDef<L>>, AllocError>
-        ensures answer { IfOk result (IsAnswer (definition_of L.StorageT.number) flags L.StorageT.greatest text.now) }
+        ensures answer { IfOk result (IsAnswer
+            (definition_of L.StorageT.number) flags L.StorageT.greatest text.now) }
         ensures refusals { IfOk result (AreOwnRefusals flags L.StorageT.greatest text.now) }
-        ensures placed { IfOk result (λ built. IfErr built (λ faults. All (IsPlaced text.now) faults.items)) }
-        ensures lawful { IfOk result (λ built. IfOk built (λ d. IsLawful text.now (definition_of L.StorageT.number d))) }
-        ensures initial { IfOk result (λ built. IfOk built (λ d. is_state (definition_of L.StorageT.number d) 0 ≡ true)) }
+        ensures placed { IfOk result (λ built. IfErr built
+            (λ faults. All (IsPlaced text.now) faults.items)) }
+        ensures lawful { IfOk result (λ built. IfOk built
+            (λ d. IsLawful text.now (definition_of L.StorageT.number d))) }
+        ensures initial { IfOk result (λ built. IfOk built
+            (λ d. is_state (definition_of L.StorageT.number d) 0 ≡ true)) }
     {
         LRNonStreamingLexerDef::new_with_budget(alloc, text, flags, usual_budget())
     }
@@ -221,11 +247,15 @@ impl<L: LexerTypes> LRNonStreamingLexerDef<L> {
         flags: LexFlags,
         budget: Budget,
     ) -> Result<LexBuildResult<LRNonStreamingLexerDef<L>>, AllocError>
-        ensures answer { IfOk result (IsAnswer (definition_of L.StorageT.number) flags L.StorageT.greatest text.now) }
+        ensures answer { IfOk result (IsAnswer
+            (definition_of L.StorageT.number) flags L.StorageT.greatest text.now) }
         ensures refusals { IfOk result (AreOwnRefusals flags L.StorageT.greatest text.now) }
-        ensures placed { IfOk result (λ built. IfErr built (λ faults. All (IsPlaced text.now) faults.items)) }
-        ensures lawful { IfOk result (λ built. IfOk built (λ d. IsLawful text.now (definition_of L.StorageT.number d))) }
-        ensures initial { IfOk result (λ built. IfOk built (λ d. is_state (definition_of L.StorageT.number d) 0 ≡ true)) }
+        ensures placed { IfOk result (λ built. IfErr built
+            (λ faults. All (IsPlaced text.now) faults.items)) }
+        ensures lawful { IfOk result (λ built. IfOk built
+            (λ d. IsLawful text.now (definition_of L.StorageT.number d))) }
+        ensures initial { IfOk result (λ built. IfOk built
+            (λ d. is_state (definition_of L.StorageT.number d) 0 ≡ true)) }
     {
         match read_rules::<L::StorageT>(alloc, text, flags)? {
             Ok(file) => {

@@ -16,7 +16,9 @@ use std::hash::Hash;
 
 /// The names of the rules.
 fn names_of<'r, S: Id>(alloc: Global, rules: &'r [Rule<S>]) -> Result<HashSet<&'r str>, AllocError>
-    ensures { IfOk result (λ names. (name : List ℕ) → contains_by (λ k. bytes_eq name k.now) names ≡ list_any (is_named name) (map (as_rule S.number) rules.now)) }
+    ensures { IfOk result (λ names. (name : List ℕ)
+        → contains_by (λ k. bytes_eq name k.now) names
+        ≡ list_any (is_named name) (map (as_rule S.number) rules.now)) }
 {
     let mut names = HashSet::new(alloc);
     for rule in rules {
@@ -40,7 +42,8 @@ pub(crate) fn names_without_rule<'a, S: Id>(
     rules: &[Rule<S>],
     ids: &HashMap<&'a str, S>,
 ) -> Result<Option<HashSet<&'a str>>, AllocError>
-    ensures { IfOk result (HoldsNames (is_lacking (ids_of S.number ids.now) (map (as_rule S.number) rules.now))) }
+    ensures { IfOk result (HoldsNames (is_lacking (ids_of S.number ids.now)
+        (map (as_rule S.number) rules.now))) }
 {
     let names = names_of(alloc, rules)?;
     let mut lacking = HashSet::new(alloc);
@@ -58,7 +61,8 @@ pub(crate) fn names_without_id<'a, S: Id>(
     rules: &[Rule<S>],
     ids: &HashMap<&'a str, S>,
 ) -> Result<Option<HashSet<String>>, AllocError>
-    ensures { IfOk result (HoldsTexts (is_unused (ids_of S.number ids.now) (map (as_rule S.number) rules.now))) }
+    ensures { IfOk result (HoldsTexts (is_unused (ids_of S.number ids.now)
+        (map (as_rule S.number) rules.now))) }
 {
     let mut unused = HashSet::new(alloc);
     for rule in rules {
@@ -77,7 +81,8 @@ pub(crate) fn places_without_id<'a, S: Id>(
     rules: &[Rule<S>],
     ids: &HashMap<&'a str, S>,
 ) -> Result<Option<HashSet<(String, Span)>>, AllocError>
-    ensures { IfOk result (HoldsPlaces (is_unused_at (ids_of S.number ids.now) (map (as_rule S.number) rules.now))) }
+    ensures { IfOk result (HoldsPlaces (is_unused_at (ids_of S.number ids.now)
+        (map (as_rule S.number) rules.now))) }
 {
     let mut unused = HashSet::new(alloc);
     for rule in rules {
@@ -92,7 +97,8 @@ pub(crate) fn places_without_id<'a, S: Id>(
 
 /// The map's id for the rule's name, or none. An unnamed rule keeps its own.
 fn own_id<'a, S: Id>(rule: &Rule<S>, ids: &HashMap<&'a str, S>) -> Option<S>
-    ensures { option_map S.number result ≡ (with_own_id (ids_of S.number ids.now) (as_rule S.number rule.now)).id }
+    ensures { option_map S.number result ≡ (with_own_id (ids_of S.number ids.now)
+        (as_rule S.number rule.now)).id }
 {
     match rule.name() {
         Some(name) => ids.get(name).copied(),
@@ -102,7 +108,8 @@ fn own_id<'a, S: Id>(rule: &Rule<S>, ids: &HashMap<&'a str, S>) -> Option<S>
 
 /// Gives each named rule the map's id for its name, or none.
 pub(crate) fn take_ids<'a, S: Id>(rules: &mut [Rule<S>], ids: &HashMap<&'a str, S>)
-    ensures { map (as_rule S.number) rules.new ≡ map (with_own_id (ids_of S.number ids.now)) (map (as_rule S.number) rules.old) }
+    ensures { map (as_rule S.number) rules.new
+        ≡ map (with_own_id (ids_of S.number ids.now)) (map (as_rule S.number) rules.old) }
 {
     for rule in rules.iter_mut() {
         let id = own_id(rule, ids);
@@ -115,7 +122,9 @@ impl<S: Id> RuleTable<S> {
 
     /// Gives each named rule the map's id for its name, or none.
     pub(crate) fn take_ids<'a>(&mut self, ids: &HashMap<&'a str, S>)
-        ensures rules { map (as_rule S.number) self.new.rules.items ≡ map (with_own_id (ids_of S.number ids.now)) (map (as_rule S.number) self.old.rules.items) }
+        ensures rules { map (as_rule S.number) self.new.rules.items
+            ≡ map (with_own_id (ids_of S.number ids.now))
+            (map (as_rule S.number) self.old.rules.items) }
         ensures states { self.new.start_states ≡ self.old.start_states }
     {
         take_ids(self.rules.as_mut_slice(), ids);

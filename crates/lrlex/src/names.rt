@@ -20,7 +20,8 @@ fn gives<S: Id>(rule: &Rule<S>, id: S) -> bool
 
 /// The first such rule.
 fn first_with<S: Id>(rules: &[Rule<S>], id: S) -> Option<&Rule<S>>
-    ensures { option_copied result ≡ find (λ r. gives (S.number id) (as_rule S.number r)) rules.now }
+    ensures { option_copied result ≡ find (λ r. gives (S.number id) (as_rule S.number r))
+        rules.now }
 {
     rules.iter().find(|rule| gives(rule, id))
 }
@@ -53,7 +54,8 @@ pub(crate) fn have_own_ids<S: Id>(rules: &[Rule<S>]) -> bool
 /// The rule at the place that the id stands for, if it has a name and this id. No other rule has this id.
 fn rule_at<S: Id>(rules: &[Rule<S>], id: S) -> Option<&Rule<S>>
     requires { HaveDistinctIds rules.now }
-    ensures { IfSome result (λ rule. Some rule.now ≡ find (λ r. gives (S.number id) (as_rule S.number r)) rules.now) }
+    ensures { IfSome result (λ rule. Some rule.now
+        ≡ find (λ r. gives (S.number id) (as_rule S.number r)) rules.now) }
 {
     let rule = rules.get(id.to_usize()?)?;
     if gives(rule, id) { Some(rule) } else { None }
@@ -62,7 +64,8 @@ fn rule_at<S: Id>(rules: &[Rule<S>], id: S) -> Option<&Rule<S>>
 /// The first rule with a name and this id. Where ids are places, one rule is looked at.
 fn rule_of<S: Id>(rules: &[Rule<S>], own_ids: bool, id: S) -> Option<&Rule<S>>
     requires { IsTrue own_ids → HaveDistinctIds rules.now }
-    ensures { option_copied result ≡ find (λ r. gives (S.number id) (as_rule S.number r)) rules.now }
+    ensures { option_copied result ≡ find (λ r. gives (S.number id) (as_rule S.number r))
+        rules.now }
 {
     if own_ids {
         if let Some(rule) = rule_at(rules, id) {
@@ -75,7 +78,8 @@ fn rule_of<S: Id>(rules: &[Rule<S>], own_ids: bool, id: S) -> Option<&Rule<S>>
 /// Its name.
 pub(crate) fn name_of<S: Id>(rules: &[Rule<S>], own_ids: bool, id: S) -> Option<&str>
     requires { IsTrue own_ids → HaveDistinctIds rules.now }
-    ensures { option_map (λ t. t.now) result ≡ name_of (map (as_rule S.number) rules.now) (S.number id) }
+    ensures { option_map (λ t. t.now) result ≡ name_of (map (as_rule S.number) rules.now)
+        (S.number id) }
 {
     match rule_of(rules, own_ids, id) {
         Some(rule) => rule.name(),

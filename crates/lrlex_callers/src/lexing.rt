@@ -18,7 +18,8 @@ pub fn words<'d, 't, L: LexerTypes<LexErrorT = LRLexError>>(
     definition: &'d LRNonStreamingLexerDef<L>,
     text: &'t str,
 ) -> Result<Vec<(&'d str, &'t str)>, AllocError>
-    ensures { IfOk result (λ words. AreWords (definition_of L.StorageT.number definition.now) text.now (map shown words.items)) }
+    ensures { IfOk result (λ words. AreWords (definition_of L.StorageT.number definition.now)
+        text.now (map shown words.items)) }
 {
     let lexer = definition.lexer(alloc, text)?;
     let mut words = Vec::new(alloc);
@@ -40,9 +41,11 @@ pub fn lexer_after<'d, 't, L: LexerTypes<LexErrorT = LRLexError>>(
     steps: &[(Edit<'_>, &'t str)],
 ) -> Result<Option<LRNonStreamingLexer<'d, 't, L>>, AllocError>
     ensures made { IfOk result (λ made. IsSome made ↔ AreSteps text.now steps.now) }
-    ensures text { IfOk result (λ made. IfSome made (λ lexer. lexer_text lexer ≡ text_after text.now (map (λ s. s.0) steps.now))) }
+    ensures text { IfOk result (λ made. IfSome made (λ lexer. lexer_text lexer
+        ≡ text_after text.now (map (λ s. s.0) steps.now))) }
     ensures run { IfOk result (λ made. IfSome made (λ lexer. (marks : List Mark)
-        × IsRun (definition_of L.StorageT.number definition.now) (text_after text.now (map (λ s. s.0) steps.now))
+        × IsRun (definition_of L.StorageT.number definition.now)
+        (text_after text.now (map (λ s. s.0) steps.now))
         (items_by L.StorageT.number L.LexemeT.seen (lexer_items lexer)) marks)) }
 {
     let mut now = text;

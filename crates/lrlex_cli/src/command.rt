@@ -12,7 +12,8 @@ fn with_truth<'a>(
     command: Command<'a>,
     name: &'a str,
 ) -> Result<Command<'a>, AllocError>
-    ensures { IfOk result (λ c. app_of c ≡ with_rule (app_of command.entry) (truth_rule name.entry.now)) }
+    ensures { IfOk result (λ c. app_of c ≡ with_rule (app_of command.entry)
+        (truth_rule name.entry.now)) }
 {
     let arg = Arg::new(alloc, name)
         .long(name)
@@ -27,7 +28,8 @@ fn with_size<'a>(
     command: Command<'a>,
     name: &'a str,
 ) -> Result<Command<'a>, AllocError>
-    ensures { IfOk result (λ c. app_of c ≡ with_rule (app_of command.entry) (size_rule name.entry.now)) }
+    ensures { IfOk result (λ c. app_of c ≡ with_rule (app_of command.entry)
+        (size_rule name.entry.now)) }
 {
     let arg = Arg::new(alloc, name)
         .long(name)
@@ -42,7 +44,8 @@ fn with_nest<'a>(
     command: Command<'a>,
     name: &'a str,
 ) -> Result<Command<'a>, AllocError>
-    ensures { IfOk result (λ c. app_of c ≡ with_rule (app_of command.entry) (nest_rule name.entry.now)) }
+    ensures { IfOk result (λ c. app_of c ≡ with_rule (app_of command.entry)
+        (nest_rule name.entry.now)) }
 {
     let arg = Arg::new(alloc, name)
         .long(name)
@@ -57,7 +60,8 @@ fn with_text<'a>(
     command: Command<'a>,
     name: &'a str,
 ) -> Result<Command<'a>, AllocError>
-    ensures { IfOk result (λ c. app_of c ≡ with_rule (app_of command.entry) (text_rule name.entry.now)) }
+    ensures { IfOk result (λ c. app_of c ≡ with_rule (app_of command.entry)
+        (text_rule name.entry.now)) }
 {
     let arg = Arg::new(alloc, name).long(name).action(ArgAction::Set);
     command.arg(arg)
@@ -69,7 +73,8 @@ fn with_path<'a>(
     command: Command<'a>,
     name: &'a str,
 ) -> Result<Command<'a>, AllocError>
-    ensures { IfOk result (λ c. app_of c ≡ with_rule (app_of command.entry) (path_rule name.entry.now)) }
+    ensures { IfOk result (λ c. app_of c ≡ with_rule (app_of command.entry)
+        (path_rule name.entry.now)) }
 {
     let arg = Arg::new(alloc, name).required(true).action(ArgAction::Set);
     command.arg(arg)

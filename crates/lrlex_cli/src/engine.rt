@@ -63,7 +63,8 @@ fn write_items<L: LexerTypes<LexErrorT = LRLexError>, W: Write>(
     out: &mut W,
 ) -> Result<Ended, EngineFault>
     ensures { EndsWriting (W.contents out.old) (W.contents out.new) result
-        (lines (definition_of L.StorageT.number definition.now).rules input.now (items_by L.StorageT.number L.LexemeT.seen items.now))
+        (lines (definition_of L.StorageT.number definition.now).rules input.now
+        (items_by L.StorageT.number L.LexemeT.seen items.now))
         (list_any (λ item. is_err item) items.now) }
 {
     let text = lines::<L>(alloc, definition, input.as_bytes(), items)?;
@@ -89,7 +90,8 @@ pub fn run<L: LexerTypes<LexErrorT = LRLexError>, W: Write>(
     input: &str,
     out: &mut W,
 ) -> Result<Ended, EngineFault>
-    ensures { IsEngineRun (record { greatest = L.StorageT.greatest; flags = flags; rules = rules.now; input = input.now })
+    ensures { IsEngineRun
+        (record { greatest = L.StorageT.greatest; flags = flags; rules = rules.now; input = input.now })
         (W.contents out.old) (W.contents out.new) result }
 {
     let built = LRNonStreamingLexerDef::<L>::new_with_options(alloc, rules, flags)?;
@@ -116,7 +118,8 @@ pub fn run_edited<L: LexerTypes<LexErrorT = LRLexError>, W: Write>(
 ) -> Result<Ended, EngineFault>
     requires fits { Fits old.now edit.now.removed }
     requires gives { new.now ≡ edited old.now (as_span edit.now.removed) edit.now.put.now }
-    ensures { IsEngineRun (record { greatest = L.StorageT.greatest; flags = flags; rules = rules.now; input = new.now })
+    ensures { IsEngineRun
+        (record { greatest = L.StorageT.greatest; flags = flags; rules = rules.now; input = new.now })
         (W.contents out.old) (W.contents out.new) result }
 {
     match LRNonStreamingLexerDef::<L>::new_with_options(alloc, rules, flags)? {
@@ -142,7 +145,8 @@ pub fn report<W: Write>(
     err: &mut W,
 ) -> Result<(), EngineFault>
     requires { All (IsPlaced rules.now) faults.now }
-    ensures { IsReport (W.contents err.old) (W.contents err.new) result (fault_lines rules.now faults.now) }
+    ensures { IsReport (W.contents err.old) (W.contents err.new) result
+        (fault_lines rules.now faults.now) }
 {
     let Ok(text) = fault_lines(alloc, rules, faults) else {
         return Err(EngineFault::Memory);

@@ -10,7 +10,8 @@ use std::alloc::{AllocError, Global};
 
 /// The bytes of the span, as far as there are so many.
 fn part(bytes: &[u8], span: Span) -> &[u8]
-    ensures { result.now ≡ take (span_end span - span_start span) (drop (span_start span) bytes.now) }
+    ensures { result.now ≡ take (span_end span - span_start span)
+        (drop (span_start span) bytes.now) }
 {
     let rest = bytes.get(span.start()..).unwrap_or(&[]);
     rest.get(..span.len()).unwrap_or(rest)
@@ -18,7 +19,8 @@ fn part(bytes: &[u8], span: Span) -> &[u8]
 
 /// Adds the line of a lexeme.
 fn push_lexeme(bytes: &mut Vec<u8>, name: &str, matched: &[u8]) -> Result<(), AllocError>
-    ensures { OnOk result (bytes.new.items ≡ bytes.old.items ++ (name.now ++ 32 ∷ (matched.now ++ 10 ∷ []))) }
+    ensures { OnOk result (bytes.new.items ≡ bytes.old.items
+        ++ (name.now ++ 32 ∷ (matched.now ++ 10 ∷ []))) }
 {
     bytes.extend_from_slice(name.as_bytes())?;
     bytes.push(b' ')?;
@@ -29,7 +31,8 @@ fn push_lexeme(bytes: &mut Vec<u8>, name: &str, matched: &[u8]) -> Result<(), Al
 
 /// Adds the line of an error.
 fn push_error(alloc: Global, bytes: &mut Vec<u8>, error: &LRLexError) -> Result<(), AllocError>
-    ensures { OnOk result (bytes.new.items ≡ bytes.old.items ++ (stop_text (span_start (lex_error_span error.now)) ++ 10 ∷ [])) }
+    ensures { OnOk result (bytes.new.items ≡ bytes.old.items
+        ++ (stop_text (span_start (lex_error_span error.now)) ++ 10 ∷ [])) }
 {
     let line = format!(in alloc; "{error}\n")?;
     bytes.extend_from_slice(line.as_bytes())
@@ -43,7 +46,8 @@ fn push_line<L: LexerTypes>(
     text: &[u8],
     item: &Result<L::LexemeT, LRLexError>,
 ) -> Result<(), AllocError>
-    ensures { OnOk result (bytes.new.items ≡ bytes.old.items ++ line (definition_of L.StorageT.number definition.now).rules text.now
+    ensures { OnOk result (bytes.new.items ≡ bytes.old.items
+        ++ line (definition_of L.StorageT.number definition.now).rules text.now
         (item_of L.StorageT.number L.LexemeT.seen item.now)) }
 {
     match item {
@@ -62,7 +66,8 @@ pub(crate) fn lines<L: LexerTypes>(
     text: &[u8],
     items: &[Result<L::LexemeT, LRLexError>],
 ) -> Result<Vec<u8>, AllocError>
-    ensures { IfOk result (λ bytes. bytes.items ≡ lines (definition_of L.StorageT.number definition.now).rules text.now
+    ensures { IfOk result (λ bytes. bytes.items
+        ≡ lines (definition_of L.StorageT.number definition.now).rules text.now
         (map (item_of L.StorageT.number L.LexemeT.seen) items.now)) }
 {
     let mut bytes = Vec::with_capacity(alloc, text.len())?;

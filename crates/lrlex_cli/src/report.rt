@@ -57,7 +57,8 @@ fn push_more(
 ) -> Result<(), AllocError>
     requires own { AreBreaksOf rules.now newlines.now }
     requires fit { All (Fits rules.now) spans.now }
-    ensures { OnOk result (string_bytes text.new ≡ string_bytes text.old ++ more_places rules.now spans.now) }
+    ensures { OnOk result (string_bytes text.new ≡ string_bytes text.old
+        ++ more_places rules.now spans.now) }
 {
     for span in spans {
         text.push_str(", ")?;
@@ -75,7 +76,8 @@ fn push_others(
 ) -> Result<(), AllocError>
     requires own { AreBreaksOf rules.now newlines.now }
     requires fit { All (Fits rules.now) spans.now }
-    ensures { OnOk result (string_bytes text.new ≡ string_bytes text.old ++ other_places rules.now spans.now) }
+    ensures { OnOk result (string_bytes text.new ≡ string_bytes text.old
+        ++ other_places rules.now spans.now) }
 {
     match spans.split_first() {
         None => Ok(()),
@@ -96,7 +98,8 @@ fn push_fault(
 ) -> Result<(), AllocError>
     requires own { AreBreaksOf rules.now newlines.now }
     requires placed { IsPlaced rules.now fault.now }
-    ensures { OnOk result (string_bytes text.new ≡ string_bytes text.old ++ fault_line rules.now fault.now) }
+    ensures { OnOk result (string_bytes text.new ≡ string_bytes text.old
+        ++ fault_line rules.now fault.now) }
 {
     match fault.spans().split_first() {
         None => Ok(()),

@@ -29,7 +29,8 @@ impl From<AllocError> for TextFault {
 
 /// Reads to the end. No fault is tried again.
 pub fn read_bytes<R: Read>(alloc: Global, reader: &mut R) -> Result<Vec<u8>, TextFault>
-    ensures { IfOk result (λ bytes. GaveAll (R.remaining reader.old) (R.remaining reader.new) bytes.items) }
+    ensures { IfOk result (λ bytes. GaveAll (R.remaining reader.old)
+        (R.remaining reader.new) bytes.items) }
 {
     let mut bytes = Vec::new(alloc);
     let mut buf = [0u8; 8192];

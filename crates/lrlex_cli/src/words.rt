@@ -87,9 +87,11 @@ fn edit_of(
     matches: &ArgMatches<'_>,
 ) -> Result<Option<(usize, usize, String)>, WordsFault>
     ensures value { let rows = rows_of (found_of matches.now) in
-        IfOk result (IsEdit (first_of (codes "from") rows) (first_of (codes "to") rows) (first_of (codes "put") rows)) }
+        IfOk result (IsEdit (first_of (codes "from") rows) (first_of (codes "to") rows)
+        (first_of (codes "put") rows)) }
     ensures refused { let rows = rows_of (found_of matches.now) in
-        IfErr result (λ e. (w : Words) → IsEdit (first_of (codes "from") rows) (first_of (codes "to") rows) (first_of (codes "put") rows) w.edit → e ≡ Memory) }
+        IfErr result (λ e. (w : Words) → IsEdit (first_of (codes "from") rows)
+        (first_of (codes "to") rows) (first_of (codes "put") rows) w.edit → e ≡ Memory) }
 {
     let from = value(matches, "from");
     let to = value(matches, "to");
@@ -108,7 +110,8 @@ fn edit_of(
 /// The words of the matches: both paths have to be there, and an edit whole or not at all.
 fn words_of(alloc: Global, matches: &ArgMatches<'_>) -> Result<Words, WordsFault>
     ensures value { IfOk result (IsReadFrom (rows_of (found_of matches.now))) }
-    ensures refused { IfErr result (λ e. (w : Words) → IsReadFrom (rows_of (found_of matches.now)) w → e ≡ Memory) }
+    ensures refused { IfErr result (λ e. (w : Words) → IsReadFrom (rows_of (found_of matches.now)) w
+        → e ≡ Memory) }
 {
     let Some(rules) = value(matches, "rules") else {
         return Err(WordsFault::Refused);

@@ -107,7 +107,8 @@ pub(crate) fn active_places<S>(
     rules: &[Rule<S>],
     id: usize,
 ) -> Result<Vec<usize>, AllocError>
-    ensures { IfOk result (λ places. places.items ≡ active_places (map as_state states.now) (map (as_rule (λ _. 0)) rules.now) id) }
+    ensures { IfOk result (λ places. places.items
+        ≡ active_places (map as_state states.now) (map (as_rule (λ _. 0)) rules.now) id) }
 {
     let inclusive = is_inclusive(states, id);
     let mut places = Vec::new(alloc);

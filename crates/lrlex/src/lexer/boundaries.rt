@@ -64,7 +64,8 @@ fn range_of(runs: &[(usize, usize)], stretch: Stretch) -> &[(usize, usize)]
 fn shared(before: Stretch, here: Stretch) -> usize
     requires before { before.first ≤ before.end }
     requires here { here.first ≤ here.end }
-    ensures { (runs : List (ℕ × ℕ)) → IsRange (length runs) before → IsRange (length runs) here → Stay result (runs_of runs before) (runs_of runs here) }
+    ensures { (runs : List (ℕ × ℕ)) → IsRange (length runs) before → IsRange (length runs) here
+        → Stay result (runs_of runs before) (runs_of runs here) }
 {
     if here.first == before.first {
         here.end.min(before.end) - here.first
@@ -129,7 +130,8 @@ impl Boundaries {
     /// Adds a boundary with the stack of the last one.
     #[inline(always)]
     pub(crate) fn repeat(&mut self, place: usize) -> Result<(), AllocError>
-        ensures { OnOk result (self.new ≡ self.old ++ record { place = place; runs = last_runs self.old } ∷ []) }
+        ensures { OnOk result (self.new ≡ self.old
+            ++ record { place = place; runs = last_runs self.old } ∷ []) }
     {
         append(&mut self.places, place)?;
         Ok(())
@@ -143,7 +145,8 @@ impl Boundaries {
         kept: usize,
     ) -> Result<(), AllocError>
         requires { Stay kept (last_runs self.old) stack.now }
-        ensures { OnOk result (self.new ≡ self.old ++ record { place = place; runs = stack.now } ∷ []) }
+        ensures { OnOk result (self.new ≡ self.old
+            ++ record { place = place; runs = stack.now } ∷ []) }
     {
         let last = last_of(&self.stretches);
         if kept == stack.len() && kept == last.end - last.first {
@@ -167,8 +170,10 @@ impl Boundaries {
     ) -> Result<(), AllocError>
         requires within { index < length old.now }
         requires last { last_runs self.old ≡ (mark_at old.now index).runs }
-        requires movable { All (IsMovableMark (mark_at old.now index).place to) (drop (index + 1) old.now) }
-        ensures { OnOk result (self.new ≡ self.old ++ map (moved_mark (mark_at old.now index).place to) (drop (index + 1) old.now)) }
+        requires movable { All (IsMovableMark (mark_at old.now index).place to)
+            (drop (index + 1) old.now) }
+        ensures { OnOk result (self.new ≡ self.old
+            ++ map (moved_mark (mark_at old.now index).place to) (drop (index + 1) old.now)) }
     {
         let from = old.place(index);
         let len = old.len();

@@ -36,7 +36,8 @@ pub(crate) fn stored(
     requires some { kept ≤ length stack.now }
     requires within { first + kept ≤ length runs.old.items }
     requires same { slice_range runs.old.items first (first + kept) ≡ take kept stack.now }
-    ensures longer { runs.new.items ≡ runs.old.items ++ drop (length runs.old.items) runs.new.items }
+    ensures longer { runs.new.items ≡ runs.old.items
+        ++ drop (length runs.old.items) runs.new.items }
     ensures ordered { IfOk result (λ r. r.0 ≤ r.1) }
     ensures within { IfOk result (λ r. r.1 ≤ length runs.new.items) }
     ensures stack { IfOk result (λ r. slice_range runs.new.items r.0 r.1 ≡ stack.now) }

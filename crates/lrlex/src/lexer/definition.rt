@@ -135,7 +135,8 @@ impl<L: LexerTypes> LRNonStreamingLexerDef<L> {
     /// The same definition, with tables that cost no more than this. Under a budget of nothing each rule is asked by
     /// itself. No answer changes. `new_with_budget` makes such a definition at once.
     pub fn with_budget(self, alloc: Global, budget: Budget) -> Result<Self, AllocError>
-        ensures { IfOk result (λ d. definition_of L.StorageT.number d ≡ definition_of L.StorageT.number self) }
+        ensures { IfOk result (λ d. definition_of L.StorageT.number d
+            ≡ definition_of L.StorageT.number self) }
     {
         let LRNonStreamingLexerDef { table, flags } = self;
         let RuleTable {
@@ -154,14 +155,16 @@ impl<L: LexerTypes> LRNonStreamingLexerDef<L> {
     /// The name of the first rule that has a name and this id: what a lexeme with the id is called. Where each id is its
     /// rule's place, as in a definition that was read, in constant time; else in time linear in the rules.
     pub fn name_of(&self, id: L::StorageT) -> Option<&str>
-        ensures { option_map (λ t. t.now) result ≡ name_of (definition_of L.StorageT.number self.now).rules (L.StorageT.number id) }
+        ensures { option_map (λ t. t.now) result
+            ≡ name_of (definition_of L.StorageT.number self.now).rules (L.StorageT.number id) }
     {
         name_of(&self.table.rules, self.table.own_ids, id)
     }
 
     /// How many tables the start states have: states with the same rules share theirs.
     pub fn tables(&self) -> usize
-        ensures { count_of_tables (definition_tables self.now) < 2 ^ 64 → result ≡ count_of_tables (definition_tables self.now) }
+        ensures { count_of_tables (definition_tables self.now) < 2 ^ 64
+            → result ≡ count_of_tables (definition_tables self.now) }
     {
         let mut tables = 0usize;
         'lists: for of_list in &self.table.tables {
@@ -172,7 +175,8 @@ impl<L: LexerTypes> LRNonStreamingLexerDef<L> {
 
     /// How many rows all tables have, of some 512 bytes each.
     pub fn table_rows(&self) -> usize
-        ensures { count_of_rows (definition_tables self.now) < 2 ^ 64 → result ≡ count_of_rows (definition_tables self.now) }
+        ensures { count_of_rows (definition_tables self.now) < 2 ^ 64
+            → result ≡ count_of_rows (definition_tables self.now) }
     {
         let mut rows = 0usize;
         'lists: for of_list in &self.table.tables {
@@ -183,7 +187,8 @@ impl<L: LexerTypes> LRNonStreamingLexerDef<L> {
 
     /// How many rules have no table, in all lists of rules that are active in a state.
     pub fn asked_rules(&self) -> usize
-        ensures { count_of_asked (definition_tables self.now) < 2 ^ 64 → result ≡ count_of_asked (definition_tables self.now) }
+        ensures { count_of_asked (definition_tables self.now) < 2 ^ 64
+            → result ≡ count_of_asked (definition_tables self.now) }
     {
         let mut asked = 0usize;
         'lists: for of_list in &self.table.tables {
@@ -194,7 +199,8 @@ impl<L: LexerTypes> LRNonStreamingLexerDef<L> {
 
     /// The flags of the rule text, with their defaults.
     pub fn lex_flags(&self) -> Option<&LexFlags>
-        ensures { option_map (λ f. f.now) result ≡ Some (definition_of L.StorageT.number self.now).flags }
+        ensures { option_map (λ f. f.now) result
+            ≡ Some (definition_of L.StorageT.number self.now).flags }
     {
         Some(&self.flags)
     }
@@ -211,7 +217,8 @@ impl<L: LexerTypes> LRNonStreamingLexerDef<L> {
     #[inline(always)]
     pub(crate) fn active_in(&self, id: usize) -> &[usize]
         requires { is_state (definition_of L.StorageT.number self.now) id ≡ true }
-        ensures { result.now ≡ active_places (definition_of L.StorageT.number self.now).states (definition_of L.StorageT.number self.now).rules id }
+        ensures { result.now ≡ active_places (definition_of L.StorageT.number self.now).states
+            (definition_of L.StorageT.number self.now).rules id }
     {
         match position_of(&self.table.start_states, self.table.placed, id) {
             Some(index) => &self.table.active[index],
@@ -224,7 +231,8 @@ impl<L: LexerTypes> LRNonStreamingLexerDef<L> {
     pub(crate) fn tables_in(&self, id: usize) -> &Tables
         requires { is_state (definition_of L.StorageT.number self.now) id ≡ true }
         ensures served { ∥ AreTablesOf (patterns_on (definition_of L.StorageT.number self.now).rules
-            (active_places (definition_of L.StorageT.number self.now).states (definition_of L.StorageT.number self.now).rules id)) result.now ∥₁ }
+            (active_places (definition_of L.StorageT.number self.now).states
+            (definition_of L.StorageT.number self.now).rules id)) result.now ∥₁ }
         ensures untabled { length result.now.asked.items ≡ untabled_count self.now id }
     {
         let index = position_of(&self.table.start_states, self.table.placed, id).unwrap_or(0);
@@ -264,7 +272,8 @@ impl<L: LexerTypes> LRNonStreamingLexerDef<L> {
     /// Whether the rule's target is no state.
     #[inline(always)]
     pub(crate) fn lacks_target(&self, rule: &Rule<L::StorageT>) -> bool
-        ensures { result ≡ lacks_target (definition_of L.StorageT.number self.now) (as_rule L.StorageT.number rule.now) }
+        ensures { result ≡ lacks_target (definition_of L.StorageT.number self.now)
+            (as_rule L.StorageT.number rule.now) }
     {
         match rule.target_state() {
             Some((id, _)) => !self.is_state(id),

@@ -5,7 +5,7 @@ ghost use Rattle.lrlex_base.specs.Places.{place_of};
 ghost use Rattle.lrlex_base.specs.Spans.{Fits, span, span_start, span_end};
 ghost use Rattle.lrlex.specs.Nearest.{IsNearest, FitsAt};
 ghost use Rattle.lrlex.specs.Pieces.{ArePieces};
-ghost use Rattle.lrlex.specs.Ran.{IsRunOf};
+ghost use Rattle.lrlex.specs.Ran.{IsRunOf, HasItemLaws};
 ghost use Rattle.lrlex.specs.Relexed.{WasRelexed};
 ghost use Rattle.lrlex.specs.Views.{definition_of};
 ghost use Rattle.lrlex.specs.declared.lexer.document.EditError.TheVariants.{DoesNotFit};
@@ -91,7 +91,10 @@ impl<'lexer, L: LexerTypes<LexErrorT = LRLexError>> Document<'lexer, L> {
         definition: &'lexer LRNonStreamingLexerDef<L>,
         text: &str,
     ) -> Result<Self, AllocError>
-        ensures run { IfOk result (IsRunOf L.StorageT.number L.LexemeT.seen definition.now text.now) }
+        ensures run { IfOk result (IsRunOf L.StorageT.number L.LexemeT.seen definition.now
+            text.now) }
+        ensures laws { IfOk result (HasItemLaws L.StorageT.number L.LexemeT.seen definition.now
+            text.now) }
         ensures definition { IfOk result (λ d. d.definition ≡ definition.now) }
         ensures text { IfOk result (λ d. d.text ≡ text.now) }
     {
@@ -129,8 +132,12 @@ impl<'lexer, L: LexerTypes<LexErrorT = LRLexError>> Document<'lexer, L> {
         ensures definition { self.new.definition ≡ self.old.definition }
         ensures fits { OnOk result (FitsAt self.old.text from to) }
         ensures text { OnOk result (self.new.text ≡ edited self.old.text (span from to) put.now) }
-        ensures run { OnOk result (IsRunOf L.StorageT.number L.LexemeT.seen self.new.definition self.new.text self.new) }
-        ensures counts { OnOk result (WasRelexed L.StorageT.number self.old.boundaries self.old.ahead (span from to) put.now self.new) }
+        ensures run { OnOk result (IsRunOf L.StorageT.number L.LexemeT.seen self.new.definition
+            self.new.text self.new) }
+        ensures laws { OnOk result (HasItemLaws L.StorageT.number L.LexemeT.seen self.new.definition
+            self.new.text self.new) }
+        ensures counts { OnOk result (WasRelexed L.StorageT.number self.old.boundaries
+            self.old.ahead (span from to) put.now self.new) }
         ensures refused { IfErr result (λ e. e ≡ DoesNotFit ↔ ¬ (FitsAt self.old.text from to)) }
         ensures kept { OnErr result (self.new ≡ self.old) }
     {
@@ -194,7 +201,8 @@ impl<'lexer, L: LexerTypes<LexErrorT = LRLexError>> Document<'lexer, L> {
 
     /// The whole text up to its end or to the error, as it was cut (`LexRun::pieces`).
     pub fn pieces(&self, alloc: Global) -> Result<Vec<Piece<'lexer, '_>>, AllocError>
-        ensures { IfOk result (λ pieces. ArePieces (definition_of L.StorageT.number self.now.definition) self.now.text
+        ensures { IfOk result (λ pieces. ArePieces
+            (definition_of L.StorageT.number self.now.definition) self.now.text
             self.now.boundaries pieces.items) }
     {
         pieces_of(alloc, self.definition, &self.text, &self.boundaries)
@@ -223,7 +231,8 @@ impl<'lexer, L: LexerTypes<LexErrorT = LRLexError>> Document<'lexer, L> {
 
     /// The text of the span, or the empty text where the span doesn't fit.
     pub fn text_of(&self, span: Span) -> &str
-        ensures fits { Fits self.now.text span → result.now ≡ slice_range self.now.text (span_start span) (span_end span) }
+        ensures fits { Fits self.now.text span
+            → result.now ≡ slice_range self.now.text (span_start span) (span_end span) }
         ensures none { ¬ (Fits self.now.text span) → result.now ≡ [] }
     {
         text_of(&self.text, span)
@@ -233,7 +242,8 @@ impl<'lexer, L: LexerTypes<LexErrorT = LRLexError>> Document<'lexer, L> {
     /// place before that, and past the text's end the end.
     pub fn place(&self, byte: usize) -> (usize, usize)
         ensures fits { IsCharBoundary self.now.text byte → result ≡ place_of self.now.text byte }
-        ensures nearest { (at : ℕ) → IsNearest self.now.text byte at → result ≡ place_of self.now.text at }
+        ensures nearest { (at : ℕ) → IsNearest self.now.text byte at
+            → result ≡ place_of self.now.text at }
     {
         place_of(&self.newlines, &self.text, byte)
     }

@@ -11,19 +11,26 @@ ghost use Rattle.lrlex.specs.Reach.{IsLexed};
 /// boundary's stack, moved by its place: so it is a function of that text, that stack and the definition.
 pub fn tiling_laws()
     ensures one { (d : Definition) (text stack : List ℕ) → HasOneTiling d text stack }
-    ensures rest { (d : Definition) (text : List ℕ) (found : List Item) (marks : List Mark) (h : IsLexed d text found marks) (k : ℕ) (m : Mark)
-        → slice_get marks k ≡ Some m → IsTiling d (drop m.place text) (plain m.runs) (drop k h.cut) h.end }
-    ensures moved { (d : Definition) (text : List ℕ) (found : List Item) (marks : List Mark) (h : IsLexed d text found marks) (k : ℕ) (m : Mark)
-        → slice_get marks k ≡ Some m → items_from m.place found ≡ map (moved m.place) (items d 0 (drop k h.cut) h.end) }
+    ensures rest { (d : Definition) (text : List ℕ) (found : List Item) (marks : List Mark)
+        (h : IsLexed d text found marks) (k : ℕ) (m : Mark)
+        → slice_get marks k ≡ Some m → IsTiling d (drop m.place text) (plain m.runs)
+        (drop k h.cut) h.end }
+    ensures moved { (d : Definition) (text : List ℕ) (found : List Item) (marks : List Mark)
+        (h : IsLexed d text found marks) (k : ℕ) (m : Mark)
+        → slice_get marks k ≡ Some m → items_from m.place found
+        ≡ map (moved m.place) (items d 0 (drop k h.cut) h.end) }
 {}
 
 /// What a run's boundaries say: one more than the tiles, the greatest number of runs of equal neighbours in a stack,
 /// and that this is at most one more than the number of tiles that push a state other than the top.
 pub fn run_laws()
-    ensures tiles { (d : Definition) (text : List ℕ) (found : List Item) (marks : List Mark) (h : IsLexed d text found marks)
+    ensures tiles { (d : Definition) (text : List ℕ) (found : List Item) (marks : List Mark)
+        (h : IsLexed d text found marks)
         → length marks ≡ length h.cut + 1 }
-    ensures peak { (d : Definition) (text : List ℕ) (found : List Item) (marks : List Mark) (h : IsLexed d text found marks)
+    ensures peak { (d : Definition) (text : List ℕ) (found : List Item) (marks : List Mark)
+        (h : IsLexed d text found marks)
         → most_runs marks ≡ most_entries (boundaries d 0 (0 ∷ []) h.cut) }
-    ensures few { (d : Definition) (text : List ℕ) (found : List Item) (marks : List Mark) (h : IsLexed d text found marks)
+    ensures few { (d : Definition) (text : List ℕ) (found : List Item) (marks : List Mark)
+        (h : IsLexed d text found marks)
         → most_runs marks ≤ 1 + pushes d (0 ∷ []) h.cut }
 {}

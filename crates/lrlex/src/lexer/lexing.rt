@@ -50,7 +50,8 @@ pub(crate) fn begin<X: Copy>(alloc: Global, text: &str) -> Result<Progress<X>, A
     ensures place { IfOk result (λ p. p.place ≡ 0) }
     ensures stack { IfOk result (λ p. p.stack.items ≡ (1, 0) ∷ []) }
     ensures items { IfOk result (λ p. p.items.items ≡ []) }
-    ensures boundaries { IfOk result (λ p. p.boundaries ≡ record { place = 0; runs = (1, 0) ∷ [] } ∷ []) }
+    ensures boundaries { IfOk result (λ p. p.boundaries
+        ≡ record { place = 0; runs = (1, 0) ∷ [] } ∷ []) }
     ensures asked { IfOk result (λ p. p.asked ≡ 0) }
     ensures ahead { IfOk result (λ p. p.ahead.items ≡ 0 ∷ []) }
     ensures over { IfOk result (λ p. p.over ≡ 0) }
@@ -100,7 +101,8 @@ pub(crate) fn give_error<L: LexerTypes>(
     state: Option<usize>,
 ) -> Result<(), AllocError>
     ensures { OnOk result (items_by L.StorageT.number L.LexemeT.seen items.new.items
-        ≡ items_by L.StorageT.number L.LexemeT.seen items.old.items ++ Error place place state ∷ []) }
+        ≡ items_by L.StorageT.number L.LexemeT.seen items.old.items
+        ++ Error place place state ∷ []) }
 {
     let span = Span::new(place, place);
     let error = match state {
@@ -133,11 +135,13 @@ fn enter<X: Copy>(
     requires last { last_runs progress.old.boundaries ≡ progress.old.stack.items }
     ensures place { OnOk result (progress.new.place ≡ place) }
     ensures runs { OnOk result (AreRuns progress.new.stack.items) }
-    ensures moved { OnOk result (plain progress.new.stack.items ≡ stack_after (plain progress.old.stack.items) target) }
+    ensures moved { OnOk result (plain progress.new.stack.items
+        ≡ stack_after (plain progress.old.stack.items) target) }
     ensures items { OnOk result (progress.new.items.items ≡ progress.old.items.items) }
     ensures asked { OnOk result (progress.new.asked ≡ progress.old.asked) }
     ensures over { OnOk result (progress.new.over ≡ over) }
-    ensures ahead { OnOk result (progress.new.ahead.items ≡ progress.old.ahead.items ++ capped over ∷ []) }
+    ensures ahead { OnOk result (progress.new.ahead.items ≡ progress.old.ahead.items
+        ++ capped over ∷ []) }
     ensures kept { OnOk result (progress.new.boundaries ≡ progress.old.boundaries
         ++ record { place = place; runs = progress.new.stack.items } ∷ []) }
 {
@@ -168,23 +172,41 @@ pub(crate) fn advance<'d, L: LexerTypes>(
     requires inside { progress.old.place < length text.now }
     requires boundary { IsCharBoundary text.now progress.old.place }
     requires matchers { AreMatchers definition.now.table.rules.items matchers.old }
-    requires reached { Reached (definition_of L.StorageT.number definition.now) text.now progress.old.place progress.old.stack.items
-        (items_by L.StorageT.number L.LexemeT.seen progress.old.items.items) progress.old.boundaries progress.old.asked }
-    requires looked { HasLooked (definition_of L.StorageT.number definition.now) text.now progress.old.boundaries progress.old.ahead.items progress.old.place progress.old.over }
-    ensures here { IfOk result (λ _. AreOf L.StorageT.number definition.now here.new.state here.new) }
-    ensures matchers { IfOk result (λ _. AreMatchers definition.now.table.rules.items matchers.new) }
-    ensures goes_on { IfOk result (λ on. on ≡ true → Reached (definition_of L.StorageT.number definition.now) text.now progress.new.place progress.new.stack.items
-        (items_by L.StorageT.number L.LexemeT.seen progress.new.items.items) progress.new.boundaries progress.new.asked) }
-    ensures looked { IfOk result (λ on. on ≡ true → HasLooked (definition_of L.StorageT.number definition.now) text.now progress.new.boundaries progress.new.ahead.items progress.new.place progress.new.over) }
+    requires reached { Reached (definition_of L.StorageT.number definition.now) text.now
+        progress.old.place progress.old.stack.items
+        (items_by L.StorageT.number L.LexemeT.seen progress.old.items.items) progress.old.boundaries
+        progress.old.asked }
+    requires looked { HasLooked (definition_of L.StorageT.number definition.now) text.now
+        progress.old.boundaries progress.old.ahead.items progress.old.place progress.old.over }
+    ensures here { IfOk result (λ _. AreOf L.StorageT.number definition.now here.new.state
+        here.new) }
+    ensures matchers { IfOk result (λ _. AreMatchers definition.now.table.rules.items
+        matchers.new) }
+    ensures goes_on { IfOk result (λ on. on ≡ true
+        → Reached (definition_of L.StorageT.number definition.now) text.now progress.new.place
+        progress.new.stack.items
+        (items_by L.StorageT.number L.LexemeT.seen progress.new.items.items) progress.new.boundaries
+        progress.new.asked) }
+    ensures looked { IfOk result (λ on. on ≡ true
+        → HasLooked (definition_of L.StorageT.number definition.now) text.now
+        progress.new.boundaries progress.new.ahead.items progress.new.place progress.new.over) }
     ensures boundary { IfOk result (λ on. on ≡ true → IsCharBoundary text.now progress.new.place) }
     ensures grows { IfOk result (λ on. on ≡ true → progress.old.place < progress.new.place) }
-    ensures more { IfOk result (λ on. on ≡ true → (m : Mark) × (progress.new.boundaries ≡ progress.old.boundaries ++ m ∷ [])) }
-    ensures ends { IfOk result (λ on. on ≡ false → IsLexed (definition_of L.StorageT.number definition.now) text.now
-        (items_by L.StorageT.number L.LexemeT.seen progress.new.items.items) progress.new.boundaries) }
-    ensures same { IfOk result (λ on. on ≡ false → progress.new.boundaries ≡ progress.old.boundaries) }
-    ensures ahead { IfOk result (λ on. on ≡ false → progress.new.ahead.items ≡ progress.old.ahead.items) }
-    ensures asked { IfOk result (λ _. progress.new.asked ≤ searches (definition_of L.StorageT.number definition.now) text.now progress.old.boundaries) }
-    ensures exact { IfOk result (λ _. progress.new.asked ≡ progress.old.asked + untabled_count definition.now (top (plain progress.old.stack.items))) }
+    ensures more { IfOk result (λ on. on ≡ true → (m : Mark)
+        × (progress.new.boundaries ≡ progress.old.boundaries ++ m ∷ [])) }
+    ensures ends { IfOk result (λ on. on ≡ false
+        → IsLexed (definition_of L.StorageT.number definition.now) text.now
+        (items_by L.StorageT.number L.LexemeT.seen progress.new.items.items)
+        progress.new.boundaries) }
+    ensures same { IfOk result (λ on. on ≡ false
+        → progress.new.boundaries ≡ progress.old.boundaries) }
+    ensures ahead { IfOk result (λ on. on ≡ false
+        → progress.new.ahead.items ≡ progress.old.ahead.items) }
+    ensures asked { IfOk result (λ _. progress.new.asked ≤ searches
+        (definition_of L.StorageT.number definition.now) text.now progress.old.boundaries) }
+    ensures exact { IfOk result (λ _. progress.new.asked
+        ≡ progress.old.asked + untabled_count definition.now
+        (top (plain progress.old.stack.items))) }
 {
     let place = progress.place;
     let state = top_of(&progress.stack);

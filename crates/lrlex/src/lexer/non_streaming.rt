@@ -1,7 +1,7 @@
 ghost use Rattle.std.specs.Prelude.{◌≡◌, ℕ, List, [], All, IfOk, IsCharBoundary, IsUtf8, slice_range};
 ghost use Rattle.lrlex_base.specs.Spans.{Fits, span_start, span_end};
 ghost use Rattle.lrlex_base.specs.Places.{AreBreaksOf, place_of};
-ghost use Rattle.lrlex.specs.ItemLaws.{FitsText};
+ghost use Rattle.lrlex.specs.ItemLaws.{FitsText, AreItemsOf};
 ghost use Rattle.lrlex.specs.Marks.{Mark};
 ghost use Rattle.lrlex.specs.Nearest.{IsNearest};
 ghost use Rattle.lrlex.specs.Reach.{IsRun};
@@ -75,7 +75,8 @@ impl<'lexer, 'input, L: LexerTypes<LexErrorT = LRLexError>> LRNonStreamingLexer<
 
     /// The text of the span, or the empty text where the span doesn't fit the input: `span_str` without a condition.
     pub fn text_of(&self, span: Span) -> &'input str
-        ensures fits { Fits (lexer_text self.now) span → result.now ≡ slice_range (lexer_text self.now) (span_start span) (span_end span) }
+        ensures fits { Fits (lexer_text self.now) span
+            → result.now ≡ slice_range (lexer_text self.now) (span_start span) (span_end span) }
         ensures none { ¬ (Fits (lexer_text self.now) span) → result.now ≡ [] }
     {
         text_of(self.input.text, span)
@@ -84,8 +85,10 @@ impl<'lexer, 'input, L: LexerTypes<LexErrorT = LRLexError>> LRNonStreamingLexer<
     /// Line and column of the place before this byte, both from 1; a column counts characters. Inside a character it is the
     /// place before that, and past the input's end the end.
     pub fn place(&self, byte: usize) -> (usize, usize)
-        ensures fits { IsCharBoundary (lexer_text self.now) byte → result ≡ place_of (lexer_text self.now) byte }
-        ensures nearest { (at : ℕ) → IsNearest (lexer_text self.now) byte at → result ≡ place_of (lexer_text self.now) at }
+        ensures fits { IsCharBoundary (lexer_text self.now) byte
+            → result ≡ place_of (lexer_text self.now) byte }
+        ensures nearest { (at : ℕ) → IsNearest (lexer_text self.now) byte at
+            → result ≡ place_of (lexer_text self.now) at }
     {
         place_of(&self.input.newlines, self.input.text, byte)
     }
@@ -132,10 +135,14 @@ impl<'lexer, 'input, L: LexerTypes<LexErrorT = LRLexError>> LexRun<'lexer, 'inpu
     ) -> Result<LRNonStreamingLexer<'lexer, 'input, L>, AllocError>
         ensures items { IfOk result (λ lexer. lexer_items lexer ≡ self.entry.items) }
         ensures text { IfOk result (λ lexer. lexer_text lexer ≡ self.entry.text) }
-        ensures run { IfOk result (λ lexer. IsRun (definition_of L.StorageT.number self.entry.definition) (lexer_text lexer)
+        ensures run { IfOk result (λ lexer. IsRun
+            (definition_of L.StorageT.number self.entry.definition) (lexer_text lexer)
             (items_by L.StorageT.number L.LexemeT.seen (lexer_items lexer)) self.entry.boundaries) }
         ensures fit { IfOk result (λ lexer. All (FitsText (lexer_text lexer))
             (items_by L.StorageT.number L.LexemeT.seen (lexer_items lexer))) }
+        ensures laws { IfOk result (λ lexer. AreItemsOf
+            (definition_of L.StorageT.number self.entry.definition)
+            (lexer_text lexer) (items_by L.StorageT.number L.LexemeT.seen (lexer_items lexer))) }
     {
         let LexRun { text, items, .. } = self;
         let input = Input::new(alloc, text)?;
@@ -157,10 +164,13 @@ impl<L: LexerTypes<LexErrorT = LRLexError>> LRNonStreamingLexerDef<L> {
         input: &'input str,
     ) -> Result<LRNonStreamingLexer<'lexer, 'input, L>, AllocError>
         ensures text { IfOk result (λ lexer. lexer_text lexer ≡ input.now) }
-        ensures run { IfOk result (λ lexer. (marks : List Mark) × IsRun (definition_of L.StorageT.number self.now) input.now
+        ensures run { IfOk result (λ lexer. (marks : List Mark)
+            × IsRun (definition_of L.StorageT.number self.now) input.now
             (items_by L.StorageT.number L.LexemeT.seen (lexer_items lexer)) marks) }
         ensures fit { IfOk result (λ lexer. All (FitsText input.now)
             (items_by L.StorageT.number L.LexemeT.seen (lexer_items lexer))) }
+        ensures laws { IfOk result (λ lexer. AreItemsOf (definition_of L.StorageT.number self.now)
+            input.now (items_by L.StorageT.number L.LexemeT.seen (lexer_items lexer))) }
     {
         self.run(alloc, input)?.into_lexer(alloc)
     }

@@ -39,11 +39,14 @@ fn tile_of<'d, L: LexerTypes<LexErrorT = LRLexError>>(
 ) -> Result<Tile, AllocError>
     requires here { AreOf L.StorageT.number definition.now state here }
     requires matchers { AreMatchers definition.now.table.rules.items matchers.old }
-    requires some { (t : ℕ × ℕ) × Wins (definition_of L.StorageT.number definition.now) state text.now t.0 t.1 }
-    ensures wins { IfOk result (λ t. Wins (definition_of L.StorageT.number definition.now) state text.now t.rule t.len) }
+    requires some { (t : ℕ × ℕ) × Wins (definition_of L.StorageT.number definition.now) state
+        text.now t.0 t.1 }
+    ensures wins { IfOk result (λ t. Wins (definition_of L.StorageT.number definition.now) state
+        text.now t.rule t.len) }
     ensures boundary { IfOk result (λ t. IsCharBoundary text.now t.len) }
     ensures rule { IfOk result (λ t. t.rule < vec_len definition.now.table.rules) }
-    ensures matchers { IfOk result (λ _. AreMatchers definition.now.table.rules.items matchers.new) }
+    ensures matchers { IfOk result (λ _. AreMatchers definition.now.table.rules.items
+        matchers.new) }
 {
     let mut asked = 0;
     let sight = winner(alloc, definition, state, here, matchers, text, &mut asked)?;
@@ -60,7 +63,8 @@ fn piece_of<'d, 't, L: LexerTypes<LexErrorT = LRLexError>>(
     requires rule { tile.rule < vec_len definition.now.table.rules }
     requires begins { IsCharBoundary text.now place }
     requires ends { IsCharBoundary text.now (place + tile.len) }
-    ensures { IsPiece (definition_of L.StorageT.number definition.now) text.now place (record { rule = tile.rule; len = tile.len }) result }
+    ensures { IsPiece (definition_of L.StorageT.number definition.now) text.now place
+        (record { rule = tile.rule; len = tile.len }) result }
 {
     let end = place + tile.len;
     Piece {
@@ -78,8 +82,10 @@ pub(crate) fn pieces_of<'d, 't, L: LexerTypes<LexErrorT = LRLexError>>(
     text: &'t str,
     boundaries: &Boundaries,
 ) -> Result<Vec<Piece<'d, 't>>, AllocError>
-    requires { (found : List Item) × IsRun (definition_of L.StorageT.number definition.now) text.now found boundaries.now }
-    ensures { IfOk result (λ pieces. ArePieces (definition_of L.StorageT.number definition.now) text.now boundaries.now pieces.items) }
+    requires { (found : List Item) × IsRun (definition_of L.StorageT.number definition.now) text.now
+        found boundaries.now }
+    ensures { IfOk result (λ pieces. ArePieces
+        (definition_of L.StorageT.number definition.now) text.now boundaries.now pieces.items) }
 {
     if !definition.is_state(0) {
         return Ok(Vec::new(alloc));
@@ -104,7 +110,8 @@ impl<'lexer, 'input, L: LexerTypes<LexErrorT = LRLexError>> LexRun<'lexer, 'inpu
     /// The whole text up to its end or to the error, as it was cut: the tiles of unnamed rules too, in order. A run doesn't
     /// keep which rule cut a tile: each tile is looked for once more, and the rules that have no table are asked again.
     pub fn pieces(&self, alloc: Global) -> Result<Vec<Piece<'lexer, 'input>>, AllocError>
-        ensures { IfOk result (λ pieces. ArePieces (definition_of L.StorageT.number self.now.definition) self.now.text
+        ensures { IfOk result (λ pieces. ArePieces
+            (definition_of L.StorageT.number self.now.definition) self.now.text
             self.now.boundaries pieces.items) }
     {
         pieces_of(alloc, self.definition, self.text, &self.boundaries)

@@ -10,7 +10,7 @@ ghost use Rattle.lrlex.specs.Runs.{plain, AreRuns};
 ghost use Rattle.lrlex.specs.Reach.{IsRun, searches};
 ghost use Rattle.lrlex.specs.Asked.{asks, WasCutAnew};
 ghost use Rattle.lrlex.specs.Decided.{AreRaised, IsSafe, LooksAhead};
-ghost use Rattle.lrlex.specs.Ran.{IsRunOf};
+ghost use Rattle.lrlex.specs.Ran.{IsRunOf, HasItemLaws};
 ghost use Rattle.lrlex.specs.Relexed.{WasRelexed};
 ghost use Rattle.lrlex.specs.Views.{definition_of, items_by, item_of};
 
@@ -74,12 +74,15 @@ fn items_from<'a, L: LexerTypes<LexErrorT = LRLexError>>(
     items: &'a [Result<L::LexemeT, LRLexError>],
     place: usize,
 ) -> &'a [Result<L::LexemeT, LRLexError>]
-    requires { IsPartitionedBy (begins_before place) (map (item_of L.StorageT.number L.LexemeT.seen) items.now) }
-    ensures { map (item_of L.StorageT.number L.LexemeT.seen) result.now ≡ items_from place (map (item_of L.StorageT.number L.LexemeT.seen) items.now) }
+    requires { IsPartitionedBy (begins_before place)
+        (map (item_of L.StorageT.number L.LexemeT.seen) items.now) }
+    ensures { map (item_of L.StorageT.number L.LexemeT.seen) result.now
+        ≡ items_from place (map (item_of L.StorageT.number L.LexemeT.seen) items.now) }
 {
     let before = items.partition_point(
         |item: &Result<L::LexemeT, LRLexError>| -> bool
-            ensures { result ≡ begins_before place (item_of L.StorageT.number L.LexemeT.seen item.now) }
+            ensures { result ≡ begins_before place
+                (item_of L.StorageT.number L.LexemeT.seen item.now) }
         { begins_before::<L>(item, place) },
     );
     &items[before..]
@@ -127,7 +130,9 @@ fn is_at(boundaries: &Boundaries, index: usize, place: usize, stack: &[(usize, u
     ensures within { result ≡ true → index < length boundaries.now }
     ensures place { result ≡ true → (mark_at boundaries.now index).place ≡ place }
     ensures stack { result ≡ true → (mark_at boundaries.now index).runs ≡ stack.now }
-    ensures none { result ≡ false → index < length boundaries.now → (mark_at boundaries.now index).place ≡ place → (mark_at boundaries.now index).runs ≢ stack.now }
+    ensures none { result ≡ false → index < length boundaries.now
+        → (mark_at boundaries.now index).place ≡ place
+        → (mark_at boundaries.now index).runs ≢ stack.now }
 {
     if index >= boundaries.len() || boundaries.place(index) != place {
         return false;
@@ -157,17 +162,26 @@ fn meets(
     requires sorted { IsSortedRuns old.now }
     requires stack { AreRuns stack.now }
     requires put { span_start edit.now.removed + length edit.now.put.now < 2 ^ 64 }
-    requires room { place + span_end edit.now.removed < span_start edit.now.removed + length edit.now.put.now + 2 ^ 64 }
+    requires room { place + span_end edit.now.removed < span_start edit.now.removed + length
+        edit.now.put.now + 2 ^ 64 }
     requires cursor { cursor.old ≤ length old.now }
-    requires behind { (j : ℕ) → j < cursor.old → (mark_at old.now j).place + (span_start edit.now.removed + length edit.now.put.now) < max place (span_start edit.now.removed + length edit.now.put.now) + span_end edit.now.removed }
+    requires behind { (j : ℕ) → j < cursor.old
+        → (mark_at old.now j).place + (span_start edit.now.removed + length edit.now.put.now) < max
+        place (span_start edit.now.removed + length edit.now.put.now) + span_end edit.now.removed }
     ensures cursor { cursor.new ≤ length old.now }
-    ensures behind { (j : ℕ) → j < cursor.new → (mark_at old.now j).place + (span_start edit.now.removed + length edit.now.put.now) < max place (span_start edit.now.removed + length edit.now.put.now) + span_end edit.now.removed }
+    ensures behind { (j : ℕ) → j < cursor.new → (mark_at old.now j).place +
+        (span_start edit.now.removed + length edit.now.put.now) < max place
+        (span_start edit.now.removed + length edit.now.put.now) + span_end edit.now.removed }
     ensures within { result ≡ true → cursor.new < length old.now }
     ensures past { result ≡ true → span_start edit.now.removed + length edit.now.put.now ≤ place }
-    ensures place { result ≡ true → (mark_at old.now cursor.new).place + (span_start edit.now.removed + length edit.now.put.now) ≡ place + span_end edit.now.removed }
+    ensures place { result ≡ true → (mark_at old.now cursor.new).place +
+        (span_start edit.now.removed + length edit.now.put.now)
+        ≡ place + span_end edit.now.removed }
     ensures stack { result ≡ true → (mark_at old.now cursor.new).runs ≡ stack.now }
-    ensures none { result ≡ false → span_start edit.now.removed + length edit.now.put.now ≤ place → (j : ℕ) → j < length old.now
-        → (mark_at old.now j).place + (span_start edit.now.removed + length edit.now.put.now) ≡ place + span_end edit.now.removed → plain (mark_at old.now j).runs ≢ plain stack.now }
+    ensures none { result ≡ false → span_start edit.now.removed + length edit.now.put.now ≤ place
+        → (j : ℕ) → j < length old.now
+        → (mark_at old.now j).place + (span_start edit.now.removed + length edit.now.put.now)
+        ≡ place + span_end edit.now.removed → plain (mark_at old.now j).runs ≢ plain stack.now }
 {
     let put_end = edit.removed.start() + edit.put.len();
     if place < put_end {
@@ -198,20 +212,28 @@ fn take_over<L: LexerTypes<LexErrorT = LRLexError>>(
     requires in_order { IsPartitionedBy (begins_before (mark_at old.now.boundaries.now index).place)
         (map (item_of L.StorageT.number L.LexemeT.seen) old.now.items.now) }
     requires items { All (IsMovable (mark_at old.now.boundaries.now index).place progress.old.place)
-        (items_from (mark_at old.now.boundaries.now index).place (map (item_of L.StorageT.number L.LexemeT.seen) old.now.items.now)) }
-    requires last { last_runs progress.old.boundaries ≡ (mark_at old.now.boundaries.now index).runs }
-    requires boundaries { All (IsMovableMark (mark_at old.now.boundaries.now index).place progress.old.place)
+        (items_from (mark_at old.now.boundaries.now index).place
+        (map (item_of L.StorageT.number L.LexemeT.seen) old.now.items.now)) }
+    requires last { last_runs progress.old.boundaries
+        ≡ (mark_at old.now.boundaries.now index).runs }
+    requires boundaries { All (IsMovableMark (mark_at old.now.boundaries.now index).place
+        progress.old.place)
         (drop (index + 1) old.now.boundaries.now) }
     requires sorted { IsSortedRuns old.now.boundaries.now }
     requires numbers { length old.now.ahead.now ≡ length old.now.boundaries.now }
-    ensures items { OnOk result (map (item_of L.StorageT.number L.LexemeT.seen) progress.new.items.items
+    ensures items { OnOk result (map (item_of L.StorageT.number L.LexemeT.seen)
+        progress.new.items.items
         ≡ map (item_of L.StorageT.number L.LexemeT.seen) progress.old.items.items
         ++ map (rebased (mark_at old.now.boundaries.now index).place progress.old.place)
-        (items_from (mark_at old.now.boundaries.now index).place (map (item_of L.StorageT.number L.LexemeT.seen) old.now.items.now))) }
+        (items_from (mark_at old.now.boundaries.now index).place
+        (map (item_of L.StorageT.number L.LexemeT.seen) old.now.items.now))) }
     ensures boundaries { OnOk result (progress.new.boundaries ≡ progress.old.boundaries
-        ++ map (moved_mark (mark_at old.now.boundaries.now index).place progress.old.place) (drop (index + 1) old.now.boundaries.now)) }
+        ++ map (moved_mark (mark_at old.now.boundaries.now index).place progress.old.place)
+        (drop (index + 1) old.now.boundaries.now)) }
     ensures asked { OnOk result (progress.new.asked ≡ progress.old.asked) }
-    ensures ahead { OnOk result (AreRaised old.now.boundaries.now old.now.ahead.now index progress.old.over (length old.now.boundaries.now) progress.old.ahead.items progress.new.ahead.items) }
+    ensures ahead { OnOk result (AreRaised old.now.boundaries.now old.now.ahead.now index
+        progress.old.over (length old.now.boundaries.now) progress.old.ahead.items
+        progress.new.ahead.items) }
 {
     let to = progress.place;
     let from = old.boundaries.place(index);
@@ -235,22 +257,34 @@ pub(crate) fn relexed<'lexer, 'new, L: LexerTypes<LexErrorT = LRLexError>>(
     edit: &Edit<'_>,
     new: &'new str,
 ) -> Result<LexRun<'lexer, 'new, L>, AllocError>
-    requires looks { ∥ LooksAhead (definition_of L.StorageT.number old.now.definition.now) old.now.text.now old.now.boundaries.now old.now.ahead.now ∥₁ }
-    requires run { ∥ IsRun (definition_of L.StorageT.number old.now.definition.now) old.now.text.now (items_by L.StorageT.number L.LexemeT.seen old.now.items.now) old.now.boundaries.now ∥₁ }
+    requires looks { ∥ LooksAhead (definition_of L.StorageT.number old.now.definition.now)
+        old.now.text.now old.now.boundaries.now old.now.ahead.now ∥₁ }
+    requires run { ∥ IsRun (definition_of L.StorageT.number old.now.definition.now) old.now.text.now
+        (items_by L.StorageT.number L.LexemeT.seen old.now.items.now) old.now.boundaries.now ∥₁ }
     requires fits { Fits old.now.text.now edit.now.removed }
     requires gives { new.now ≡ edited old.now.text.now (as_span edit.now.removed) edit.now.put.now }
-    ensures run { IfOk result (IsRunOf L.StorageT.number L.LexemeT.seen old.now.definition.now new.now) }
+    ensures run { IfOk result (IsRunOf L.StorageT.number L.LexemeT.seen old.now.definition.now
+        new.now) }
     ensures definition { IfOk result (λ r. r.definition ≡ old.now.definition.now) }
     ensures text { IfOk result (λ r. r.text ≡ new.now) }
-    ensures asked { IfOk result (λ r. r.asked ≤ searches (definition_of L.StorageT.number old.now.definition.now) new.now r.boundaries) }
-    ensures few { IfOk result (λ r. r.asked ≤ length r.boundaries * length (definition_of L.StorageT.number old.now.definition.now).rules) }
-    ensures met { IfOk result (λ r. (k : ℕ) → Meets old.now.boundaries.now r.boundaries (span_start edit.now.removed) (span_end edit.now.removed) (length edit.now.put.now) k
-        → r.asked ≤ searches (definition_of L.StorageT.number old.now.definition.now) new.now (take k r.boundaries)) }
-    ensures lexed { IfOk result (λ r. (k : ℕ) → k < length old.now.boundaries.now → IsSafe old.now.boundaries.now old.now.ahead.now (span_start edit.now.removed) k
+    ensures asked { IfOk result (λ r. r.asked ≤ searches
+        (definition_of L.StorageT.number old.now.definition.now) new.now r.boundaries) }
+    ensures few { IfOk result (λ r. r.asked ≤ length r.boundaries * length
+        (definition_of L.StorageT.number old.now.definition.now).rules) }
+    ensures met { IfOk result (λ r. (k : ℕ) → Meets old.now.boundaries.now r.boundaries
+        (span_start edit.now.removed) (span_end edit.now.removed) (length edit.now.put.now) k
+        → r.asked ≤ searches (definition_of L.StorageT.number old.now.definition.now) new.now
+        (take k r.boundaries)) }
+    ensures lexed { IfOk result (λ r. (k : ℕ) → k < length old.now.boundaries.now
+        → IsSafe old.now.boundaries.now old.now.ahead.now (span_start edit.now.removed) k
         → (r.anew + k ≤ length r.boundaries - 1)
-        × ((j : ℕ) → Meets old.now.boundaries.now r.boundaries (span_start edit.now.removed) (span_end edit.now.removed) (length edit.now.put.now) j → r.anew + k ≤ j)) }
-    ensures exact { IfOk result (λ r. is_state (definition_of L.StorageT.number old.now.definition.now) 0 ≡ true
-        → WasCutAnew (asks old.now.definition.now new.now) old.now.boundaries.now r.boundaries old.now.ahead.now (span_start edit.now.removed) (span_end edit.now.removed) (length edit.now.put.now) r.asked r.anew) }
+        × ((j : ℕ) → Meets old.now.boundaries.now r.boundaries (span_start edit.now.removed)
+        (span_end edit.now.removed) (length edit.now.put.now) j → r.anew + k ≤ j)) }
+    ensures exact { IfOk result (λ r. is_state
+        (definition_of L.StorageT.number old.now.definition.now) 0 ≡ true
+        → WasCutAnew (asks old.now.definition.now new.now) old.now.boundaries.now r.boundaries
+        old.now.ahead.now (span_start edit.now.removed) (span_end edit.now.removed)
+        (length edit.now.put.now) r.asked r.anew) }
 {
     let definition = old.definition;
     if !definition.is_state(0) {
@@ -299,11 +333,16 @@ impl<'lexer, L: LexerTypes<LexErrorT = LRLexError>> LexRun<'lexer, '_, L> {
         new: &'new str,
     ) -> Result<LexRun<'lexer, 'new, L>, AllocError>
         requires fits { Fits self.now.text edit.now.removed }
-        requires gives { new.now ≡ edited self.now.text (as_span edit.now.removed) edit.now.put.now }
-        ensures run { IfOk result (IsRunOf L.StorageT.number L.LexemeT.seen self.now.definition new.now) }
+        requires gives { new.now ≡ edited self.now.text
+            (as_span edit.now.removed) edit.now.put.now }
+        ensures run { IfOk result (IsRunOf L.StorageT.number L.LexemeT.seen self.now.definition
+            new.now) }
+        ensures laws { IfOk result (HasItemLaws L.StorageT.number L.LexemeT.seen self.now.definition
+            new.now) }
         ensures definition { IfOk result (λ r. r.definition ≡ self.now.definition) }
         ensures text { IfOk result (λ r. r.text ≡ new.now) }
-        ensures counts { IfOk result (WasRelexed L.StorageT.number self.now.boundaries self.now.ahead (as_span edit.now.removed) edit.now.put.now) }
+        ensures counts { IfOk result (WasRelexed L.StorageT.number self.now.boundaries
+            self.now.ahead (as_span edit.now.removed) edit.now.put.now) }
     {
         let old = Old {
             definition: self.definition,

@@ -26,39 +26,58 @@ use std::alloc::{AllocError, Global};
 /// edit, the new run has the first k tiles of the old one, with their boundaries and items, and lexing may go on from
 /// boundary k.
 pub fn resume_laws()
-    ensures goes_on { (d : Definition) (old new put : List ℕ) (low high : ℕ) (found : List Item) (marks : List Mark) (k : ℕ)
-        → is_state d 0 ≡ true → IsText new → low ≤ length old → new ≡ edited old (span low high) put → IsLexed d old found marks
+    ensures goes_on { (d : Definition) (old new put : List ℕ) (low high : ℕ) (found : List Item)
+        (marks : List Mark) (k : ℕ)
+        → is_state d 0 ≡ true → IsText new → low ≤ length old → new ≡ edited old (span low high) put
+        → IsLexed d old found marks
         → k < length marks → AreDecided d old marks k low → GoesOn d new found marks k }
-    ensures same { (d : Definition) (old new put : List ℕ) (low high : ℕ) (found other_found : List Item) (marks other_marks : List Mark) (k : ℕ)
+    ensures same { (d : Definition) (old new put : List ℕ) (low high : ℕ)
+        (found other_found : List Item) (marks other_marks : List Mark) (k : ℕ)
         → is_state d 0 ≡ true → IsText new → low ≤ length old → new ≡ edited old (span low high) put
         → (h : IsLexed d old found marks) (other : IsLexed d new other_found other_marks)
-        → k < length marks → AreDecided d old marks k low → BeginAlike h.cut other.cut found other_found marks other_marks k }
+        → k < length marks → AreDecided d old marks k low
+        → BeginAlike h.cut other.cut found other_found marks other_marks k }
 {}
 
 /// How far the bytes go that decide what wins: the text and its end decide it, more bytes decide it too, before an edit the
 /// same bytes decide it as before, and behind the edit the same, moved with the text.
 pub fn decided_laws()
-    ensures whole { (d : Definition) (q : ℕ) (text : List ℕ) → IsDecided d q text (length text + 1) }
-    ensures more { (d : Definition) (q : ℕ) (text : List ℕ) (reach more : ℕ) → reach ≤ more → IsDecided d q text reach → IsDecided d q text more }
-    ensures kept { (d : Definition) (old new put : List ℕ) (low high : ℕ) (found : List Item) (marks : List Mark) (k far : ℕ)
-        → is_state d 0 ≡ true → IsText new → low ≤ length old → new ≡ edited old (span low high) put → IsLexed d old found marks
-        → k < length marks → far ≤ low → AreDecided d old marks k far → AreDecided d new marks k far }
+    ensures whole { (d : Definition) (q : ℕ) (text : List ℕ)
+        → IsDecided d q text (length text + 1) }
+    ensures more { (d : Definition) (q : ℕ) (text : List ℕ) (reach more : ℕ) → reach ≤ more
+        → IsDecided d q text reach → IsDecided d q text more }
+    ensures kept { (d : Definition) (old new put : List ℕ) (low high : ℕ) (found : List Item)
+        (marks : List Mark) (k far : ℕ)
+        → is_state d 0 ≡ true → IsText new → low ≤ length old → new ≡ edited old (span low high) put
+        → IsLexed d old found marks
+        → k < length marks → far ≤ low → AreDecided d old marks k far
+        → AreDecided d new marks k far }
     ensures safe { (d : Definition) (text : List ℕ) (marks : List Mark) (ahead : List ℕ) (low k : ℕ)
-        → LooksAhead d text marks ahead → k < length marks → IsSafe marks ahead low k → AreDecided d text marks k low }
-    ensures moved { (d : Definition) (old new : List ℕ) (m : Mark) (place far to : ℕ) → drop m.place old ≡ drop place new
-        → far - m.place ≤ to - place → IsDecidedAt d old far m → IsDecidedAt d new to (record { place = place; runs = m.runs }) }
+        → LooksAhead d text marks ahead → k < length marks → IsSafe marks ahead low k
+        → AreDecided d text marks k low }
+    ensures moved { (d : Definition) (old new : List ℕ) (m : Mark) (place far to : ℕ)
+        → drop m.place old ≡ drop place new
+        → far - m.place ≤ to - place → IsDecidedAt d old far m
+        → IsDecidedAt d new to (record { place = place; runs = m.runs }) }
 {}
 
 /// How the numbers that tell how far the tiles looked grow with a run, and that those up to a safe boundary stay.
 pub fn ahead_laws()
-    ensures start { (d : Definition) (text : List ℕ) (m : Mark) → LooksAhead d text (m ∷ []) (0 ∷ []) }
-    ensures step { (d : Definition) (text : List ℕ) (marks : List Mark) (k far at : ℕ) → k < length marks → AreDecided d text marks k far
+    ensures start { (d : Definition) (text : List ℕ) (m : Mark)
+        → LooksAhead d text (m ∷ []) (0 ∷ []) }
+    ensures step { (d : Definition) (text : List ℕ) (marks : List Mark) (k far at : ℕ)
+        → k < length marks → AreDecided d text marks k far
         → IsDecidedAt d text at (mark_at marks k) → AreDecided d text marks (k + 1) (max far at) }
-    ensures more { (d : Definition) (text : List ℕ) (marks : List Mark) (ahead : List ℕ) (m : Mark) (far n : ℕ) → 0 < length marks → LooksAhead d text marks ahead
-        → AreDecided d text (marks ++ m ∷ []) (length marks) far → (n < 255 → far ≤ m.place + n) → LooksAhead d text (marks ++ m ∷ []) (ahead ++ n ∷ []) }
-    ensures kept { (d : Definition) (old new put : List ℕ) (low high : ℕ) (found : List Item) (marks : List Mark) (ahead : List ℕ) (k : ℕ)
-        → is_state d 0 ≡ true → IsText new → low ≤ length old → new ≡ edited old (span low high) put → IsLexed d old found marks
-        → k < length marks → LooksAhead d old marks ahead → IsSafe marks ahead low k → LooksAhead d new (take (k + 1) marks) (take (k + 1) ahead) }
+    ensures more { (d : Definition) (text : List ℕ) (marks : List Mark) (ahead : List ℕ) (m : Mark)
+        (far n : ℕ) → 0 < length marks → LooksAhead d text marks ahead
+        → AreDecided d text (marks ++ m ∷ []) (length marks) far → (n < 255 → far ≤ m.place + n)
+        → LooksAhead d text (marks ++ m ∷ []) (ahead ++ n ∷ []) }
+    ensures kept { (d : Definition) (old new put : List ℕ) (low high : ℕ) (found : List Item)
+        (marks : List Mark) (ahead : List ℕ) (k : ℕ)
+        → is_state d 0 ≡ true → IsText new → low ≤ length old → new ≡ edited old (span low high) put
+        → IsLexed d old found marks
+        → k < length marks → LooksAhead d old marks ahead → IsSafe marks ahead low k
+        → LooksAhead d new (take (k + 1) marks) (take (k + 1) ahead) }
 {}
 
 /// How many boundaries stand at the place or before it.
@@ -66,7 +85,8 @@ pub(crate) fn up_to(boundaries: &Boundaries, place: usize) -> usize
     requires { IsSortedRuns boundaries.now }
     ensures within { result ≤ length boundaries.now }
     ensures up_to { (j : ℕ) → j < result → (mark_at boundaries.now j).place ≤ place }
-    ensures past { (j : ℕ) → result ≤ j → j < length boundaries.now → place < (mark_at boundaries.now j).place }
+    ensures past { (j : ℕ) → result ≤ j → j < length boundaries.now
+        → place < (mark_at boundaries.now j).place }
 {
     let mut from = 0usize;
     let mut to = boundaries.len();
@@ -101,7 +121,8 @@ pub(crate) fn last_safe(boundaries: &Boundaries, ahead: &[u8], place: usize) -> 
     requires first { IsSafe boundaries.now ahead.now place 0 }
     ensures within { result < length boundaries.now }
     ensures safe { IsSafe boundaries.now ahead.now place result }
-    ensures last { (j : ℕ) → result < j → j < length boundaries.now → ¬ (IsSafe boundaries.now ahead.now place j) }
+    ensures last { (j : ℕ) → result < j → j < length boundaries.now
+        → ¬ (IsSafe boundaries.now ahead.now place j) }
 {
     let mut index = up_to(boundaries, place);
     'back: while index > 0 {
@@ -119,12 +140,15 @@ pub(crate) fn items_before<'a, L: LexerTypes<LexErrorT = LRLexError>>(
     items: &'a [Result<L::LexemeT, LRLexError>],
     place: usize,
 ) -> &'a [Result<L::LexemeT, LRLexError>]
-    requires { IsPartitionedBy (begins_before place) (map (item_of L.StorageT.number L.LexemeT.seen) items.now) }
-    ensures { map (item_of L.StorageT.number L.LexemeT.seen) result.now ≡ items_before place (map (item_of L.StorageT.number L.LexemeT.seen) items.now) }
+    requires { IsPartitionedBy (begins_before place)
+        (map (item_of L.StorageT.number L.LexemeT.seen) items.now) }
+    ensures { map (item_of L.StorageT.number L.LexemeT.seen) result.now
+        ≡ items_before place (map (item_of L.StorageT.number L.LexemeT.seen) items.now) }
 {
     let before = items.partition_point(
         |item: &Result<L::LexemeT, LRLexError>| -> bool
-            ensures { result ≡ begins_before place (item_of L.StorageT.number L.LexemeT.seen item.now) }
+            ensures { result ≡ begins_before place
+                (item_of L.StorageT.number L.LexemeT.seen item.now) }
         { begins_before::<L>(item, place) },
     );
     &items[..before]
@@ -182,16 +206,26 @@ pub(crate) fn resume<L: LexerTypes<LexErrorT = LRLexError>>(
     new: &str,
 ) -> Result<Progress<L::LexemeT>, AllocError>
     requires initial { is_state (definition_of L.StorageT.number old.now.definition.now) 0 ≡ true }
-    requires looks { ∥ LooksAhead (definition_of L.StorageT.number old.now.definition.now) old.now.text.now old.now.boundaries.now old.now.ahead.now ∥₁ }
-    requires run { ∥ IsRun (definition_of L.StorageT.number old.now.definition.now) old.now.text.now (items_by L.StorageT.number L.LexemeT.seen old.now.items.now) old.now.boundaries.now ∥₁ }
+    requires looks { ∥ LooksAhead (definition_of L.StorageT.number old.now.definition.now)
+        old.now.text.now old.now.boundaries.now old.now.ahead.now ∥₁ }
+    requires run { ∥ IsRun (definition_of L.StorageT.number old.now.definition.now) old.now.text.now
+        (items_by L.StorageT.number L.LexemeT.seen old.now.items.now) old.now.boundaries.now ∥₁ }
     requires fits { Fits old.now.text.now edit.now.removed }
     requires gives { new.now ≡ edited old.now.text.now (as_span edit.now.removed) edit.now.put.now }
-    ensures reached { IfOk result (λ p. Reached (definition_of L.StorageT.number old.now.definition.now) new.now p.place p.stack.items (items_by L.StorageT.number L.LexemeT.seen p.items.items) p.boundaries p.asked) }
-    ensures looked { IfOk result (λ p. HasLooked (definition_of L.StorageT.number old.now.definition.now) new.now p.boundaries p.ahead.items p.place p.over) }
+    ensures reached { IfOk result (λ p. Reached
+        (definition_of L.StorageT.number old.now.definition.now) new.now p.place p.stack.items
+        (items_by L.StorageT.number L.LexemeT.seen p.items.items) p.boundaries p.asked) }
+    ensures looked { IfOk result (λ p. HasLooked
+        (definition_of L.StorageT.number old.now.definition.now) new.now p.boundaries p.ahead.items
+        p.place p.over) }
     ensures boundary { IfOk result (λ p. IsCharBoundary new.now p.place) }
-    ensures before { IfOk result (λ p. (j : ℕ) → j + 1 < length p.boundaries → (mark_at p.boundaries j).place < span_start edit.now.removed) }
-    ensures last { IfOk result (λ p. (j : ℕ) → j < length old.now.boundaries.now → IsSafe old.now.boundaries.now old.now.ahead.now (span_start edit.now.removed) j → j < length p.boundaries) }
-    ensures from { IfOk result (λ p. IsLastSafe old.now.boundaries.now old.now.ahead.now (span_start edit.now.removed) (length p.boundaries - 1)) }
+    ensures before { IfOk result (λ p. (j : ℕ) → j + 1 < length p.boundaries
+        → (mark_at p.boundaries j).place < span_start edit.now.removed) }
+    ensures last { IfOk result (λ p. (j : ℕ) → j < length old.now.boundaries.now
+        → IsSafe old.now.boundaries.now old.now.ahead.now (span_start edit.now.removed) j
+        → j < length p.boundaries) }
+    ensures from { IfOk result (λ p. IsLastSafe old.now.boundaries.now old.now.ahead.now
+        (span_start edit.now.removed) (length p.boundaries - 1)) }
     ensures none { IfOk result (λ p. p.asked ≡ 0) }
 {
     let index = last_safe(old.boundaries, old.ahead, edit.removed.start());
@@ -213,7 +247,8 @@ pub(crate) fn append_raised(
     requires within { index < length old.now }
     requires numbers { length numbers.now ≡ length old.now }
     requires sorted { IsSortedRuns old.now }
-    ensures { OnOk result (AreRaised old.now numbers.now index over (length old.now) ahead.old.items ahead.new.items) }
+    ensures { OnOk result (AreRaised old.now numbers.now index over
+        (length old.now) ahead.old.items ahead.new.items) }
 {
     let from = old.place(index);
     let far = match from.checked_add(over) {

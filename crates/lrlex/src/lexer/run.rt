@@ -6,7 +6,7 @@ ghost use Rattle.lrlex.specs.Reach.{Reached, IsLexed, IsRun, searches};
 ghost use Rattle.lrlex.specs.Asked.{asks};
 ghost use Rattle.lrlex.specs.Decided.{LooksAhead};
 ghost use Rattle.lrlex.specs.Views.{definition_of, items_by};
-ghost use Rattle.lrlex.specs.Ran.{IsRunOf};
+ghost use Rattle.lrlex.specs.Ran.{IsRunOf, HasItemLaws};
 
 use crate::errors::LRLexError;
 use crate::lexer::boundaries::Boundaries;
@@ -150,6 +150,8 @@ pub(crate) fn refused<'lexer, 'input, L: LexerTypes<LexErrorT = LRLexError>>(
 ) -> Result<LexRun<'lexer, 'input, L>, AllocError>
     requires { is_state (definition_of L.StorageT.number definition.now) 0 ≡ false }
     ensures run { IfOk result (IsRunOf L.StorageT.number L.LexemeT.seen definition.now text.now) }
+    ensures laws { IfOk result (HasItemLaws L.StorageT.number L.LexemeT.seen definition.now
+        text.now) }
     ensures definition { IfOk result (λ r. r.definition ≡ definition.now) }
     ensures text { IfOk result (λ r. r.text ≡ text.now) }
     ensures asked { IfOk result (λ r. r.asked ≡ 0) }
@@ -176,8 +178,10 @@ pub(crate) fn finished<'lexer, 'input, L: LexerTypes<LexErrorT = LRLexError>>(
     progress: Progress<L::LexemeT>,
     anew: usize,
 ) -> LexRun<'lexer, 'input, L>
-    requires looks { LooksAhead (definition_of L.StorageT.number definition.now) text.now progress.boundaries progress.ahead.items }
-    requires run { IsRun (definition_of L.StorageT.number definition.now) text.now (items_by L.StorageT.number L.LexemeT.seen progress.items.items) progress.boundaries }
+    requires looks { LooksAhead (definition_of L.StorageT.number definition.now) text.now
+        progress.boundaries progress.ahead.items }
+    requires run { IsRun (definition_of L.StorageT.number definition.now) text.now
+        (items_by L.StorageT.number L.LexemeT.seen progress.items.items) progress.boundaries }
     ensures definition { result.definition ≡ definition.now }
     ensures text { result.text ≡ text.now }
     ensures items { result.items ≡ progress.items.items }
@@ -216,10 +220,14 @@ impl<L: LexerTypes<LexErrorT = LRLexError>> LRNonStreamingLexerDef<L> {
         text: &'input str,
     ) -> Result<LexRun<'lexer, 'input, L>, AllocError>
         ensures run { IfOk result (IsRunOf L.StorageT.number L.LexemeT.seen self.now text.now) }
+        ensures laws { IfOk result (HasItemLaws L.StorageT.number L.LexemeT.seen self.now
+            text.now) }
         ensures definition { IfOk result (λ r. r.definition ≡ self.now) }
         ensures text { IfOk result (λ r. r.text ≡ text.now) }
-        ensures asked { IfOk result (λ r. r.asked ≤ searches (definition_of L.StorageT.number self.now) text.now r.boundaries) }
-        ensures few { IfOk result (λ r. r.asked ≤ length r.boundaries * length (definition_of L.StorageT.number self.now).rules) }
+        ensures asked { IfOk result (λ r. r.asked ≤ searches
+            (definition_of L.StorageT.number self.now) text.now r.boundaries) }
+        ensures few { IfOk result (λ r. r.asked ≤ length r.boundaries * length
+            (definition_of L.StorageT.number self.now).rules) }
         ensures exact { IfOk result (λ r. r.asked ≡ asks self.now text.now r.boundaries) }
         ensures lexed { IfOk result (λ r. r.anew ≡ length r.boundaries - 1) }
     {

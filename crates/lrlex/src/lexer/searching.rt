@@ -133,14 +133,19 @@ pub(crate) fn winner<'d, L: LexerTypes>(
     requires here { AreOf L.StorageT.number definition.now state here }
     requires matchers { AreMatchers definition.now.table.rules.items matchers.old }
     requires room { asked.old + vec_len definition.now.table.rules < 2 ^ 128 }
-    ensures winner { IfOk result (λ s. MatchOption s.tile (IsStuck (definition_of L.StorageT.number definition.now) state text.now)
+    ensures winner { IfOk result (λ s. MatchOption s.tile
+        (IsStuck (definition_of L.StorageT.number definition.now) state text.now)
         (λ t. Wins (definition_of L.StorageT.number definition.now) state text.now t.rule t.len)) }
     ensures boundary { IfOk result (λ s. IfSome s.tile (λ t. IsCharBoundary text.now t.len)) }
-    ensures rule { IfOk result (λ s. IfSome s.tile (λ t. t.rule < vec_len definition.now.table.rules)) }
-    ensures decided { IfOk result (λ s. IsDecided (definition_of L.StorageT.number definition.now) state text.now s.reach) }
-    ensures counted { IfOk result (λ _. asked.new ≤ asked.old + active_count (definition_of L.StorageT.number definition.now) state) }
+    ensures rule { IfOk result (λ s. IfSome s.tile
+        (λ t. t.rule < vec_len definition.now.table.rules)) }
+    ensures decided { IfOk result (λ s. IsDecided
+        (definition_of L.StorageT.number definition.now) state text.now s.reach) }
+    ensures counted { IfOk result (λ _. asked.new ≤ asked.old + active_count
+        (definition_of L.StorageT.number definition.now) state) }
     ensures exact { IfOk result (λ _. asked.new ≡ asked.old + untabled_count definition.now state) }
-    ensures matchers { IfOk result (λ _. AreMatchers definition.now.table.rules.items matchers.new) }
+    ensures matchers { IfOk result (λ _. AreMatchers definition.now.table.rules.items
+        matchers.new) }
 {
     let active = here.active;
     let tables = here.tables;

@@ -36,7 +36,8 @@ fn push_state(runs: &mut Vec<(usize, usize)>, id: usize) -> Result<usize, AllocE
 fn pop_state(runs: &mut Vec<(usize, usize)>) -> Result<usize, AllocError>
     requires { AreRuns runs.old.items }
     ensures runs { IfOk result (λ _. AreRuns runs.new.items) }
-    ensures popped { IfOk result (λ _. plain runs.new.items ≡ or_initial (take (length (plain runs.old.items) - 1) (plain runs.old.items))) }
+    ensures popped { IfOk result (λ _. plain runs.new.items
+        ≡ or_initial (take (length (plain runs.old.items) - 1) (plain runs.old.items))) }
     ensures stay { IfOk result (λ k. Stay k runs.old.items runs.new.items) }
 {
     let last = runs.pop();
@@ -62,7 +63,8 @@ pub(crate) fn step(
     requires runs { AreRuns runs.old.items }
     requires room { length (plain runs.old.items) + 1 < 2 ^ 64 }
     ensures runs { IfOk result (λ _. AreRuns runs.new.items) }
-    ensures moved { IfOk result (λ _. plain runs.new.items ≡ stack_after (plain runs.old.items) target) }
+    ensures moved { IfOk result (λ _. plain runs.new.items
+        ≡ stack_after (plain runs.old.items) target) }
     ensures stay { IfOk result (λ k. Stay k runs.old.items runs.new.items) }
 {
     match target {

@@ -21,7 +21,8 @@ fn table_alone<S>(
     rule: &Rule<S>,
     budget: &mut Budget,
 ) -> Result<Option<Table>, AllocError>
-    ensures { IfOk result (λ o. IfSome o (IsTableOf (pattern_of (as_rule (λ _. 0) rule.now) ∷ []))) }
+    ensures { IfOk result (λ o. IfSome o (IsTableOf
+        (pattern_of (as_rule (λ _. 0) rule.now) ∷ []))) }
 {
     let source = Source {
         regex: rule.regex(),
@@ -84,7 +85,8 @@ fn tables_from<S>(
     requires from { from < to }
     requires to { to ≤ length places.now }
     ensures tables { AreSingle (pattern_in (map (as_rule (λ _. 0)) rules.now)) singles.old →
-        IfOk result (λ t. ArePartsOf (patterns_on (map (as_rule (λ _. 0)) rules.now) places.now) from to t.parts.items t.asked.items) }
+        IfOk result (λ t. ArePartsOf (patterns_on (map (as_rule (λ _. 0)) rules.now) places.now)
+        from to t.parts.items t.asked.items) }
     ensures kept { AreSingle (pattern_in (map (as_rule (λ _. 0)) rules.now)) singles.old →
         OnOk result (AreSingle (pattern_in (map (as_rule (λ _. 0)) rules.now)) singles.new) }
 {
@@ -170,7 +172,8 @@ fn same_before(
 ) -> Option<usize>
     requires { index < length active.now }
     ensures before { IfSome result (λ j. j < index) }
-    ensures same { IfSome result (λ j. slice_index_or (map (λ v. v.items) active.now) j [] ≡ slice_index_or (map (λ v. v.items) active.now) index []) }
+    ensures same { IfSome result (λ j. slice_index_or (map (λ v. v.items) active.now) j []
+        ≡ slice_index_or (map (λ v. v.items) active.now) index []) }
 {
     let earlier = *known.get(&hash)?;
     if earlier < index && active[earlier].as_slice() == active[index].as_slice() {
@@ -188,7 +191,8 @@ pub(crate) fn tables_for<S>(
     active: &[Vec<usize>],
     mut budget: Budget,
 ) -> Result<(Vec<Tables>, Vec<usize>), AllocError>
-    ensures served { IfOk result (λ r. AreServed rules.now (map (λ v. v.items) active.now) r.0.items r.1.items) }
+    ensures served { IfOk result (λ r. AreServed rules.now
+        (map (λ v. v.items) active.now) r.0.items r.1.items) }
     ensures each { IfOk result (λ r. length r.1.items ≡ length active.now) }
     ensures within { IfOk result (λ r. All (λ j. j < length r.0.items) r.1.items) }
 {

@@ -8,7 +8,8 @@ use lrlex_base::{NewlineCache, Span};
 
 /// The text of the span, or the empty text where the span doesn't fit.
 pub(crate) fn text_of(text: &str, span: Span) -> &str
-    ensures fits { Fits text.now span → result.now ≡ slice_range text.now (span_start span) (span_end span) }
+    ensures fits { Fits text.now span → result.now
+        ≡ slice_range text.now (span_start span) (span_end span) }
     ensures none { ¬ (Fits text.now span) → result.now ≡ [] }
 {
     if !span.fits(text) {

@@ -1,6 +1,6 @@
 -- The lexer's items are those of the run, over the run's text.
 use Rattle.std.proofs.Common.{◌∙◌, subst, All, IfOk, Result, Ok, Err}
-use Rattle.lrlex.specs.ItemLaws.{FitsText}
+use Rattle.lrlex.specs.ItemLaws.{FitsText, AreItemsOf}
 use Rattle.lrlex.specs.Reach.{IsRun}
 use Rattle.lrlex.specs.Views.{definition_of, items_by}
 use Rattle.lrlex.specs.Lexers.{lexer_items, lexer_text}
@@ -25,3 +25,12 @@ returns-clause-fit g c =
     both _ _ _ (λ lexer text fit.
     subst (λ t. All (FitsText t) (items_by g.L.StorageT.Id.number g.L.LexemeT.Lexeme.seen (lexer_items lexer))) (text ∙ c.in_ok-run.ensures.text) fit)
     c.into_lexer.result c.into_lexer.ensures.text c.into_lexer.ensures.fit
+
+pub returns-clause-laws : goal.returns-clause-laws
+returns-clause-laws g c =
+    let number = g.L.StorageT.Id.number in
+    let seen = g.L.LexemeT.Lexeme.seen in
+    both _ _ _ (λ lexer text laws.
+    subst (λ t. AreItemsOf (definition_of number c.args.self.now) t (items_by number seen (lexer_items lexer))) (text ∙ c.in_ok-run.ensures.text)
+    (subst (λ d. AreItemsOf (definition_of number d) (lexer_text lexer) (items_by number seen (lexer_items lexer))) c.in_ok-run.ensures.definition laws))
+    c.into_lexer.result c.into_lexer.ensures.text c.into_lexer.ensures.laws

@@ -7,6 +7,7 @@ use Rattle.lrlex.specs.AtHand.{AreOf}
 use Rattle.lrlex.specs.Views.{definition_of, items_by}
 use Rattle.lrlex.proofs.ViewLemmas.{taken_back}
 use Rattle.lrlex.proofs.BegunLemmas.{begun, begun_looking}
+use Rattle.lrlex.proofs.ItemLemmas.{have_laws}
 use Rattle.lrlex.proofs.ReachLemmas.{ended, nothing_left, asked_now, few_searches, run_of, length_now}
 use Rattle.lrlex.specs.Asked.{asks}
 use Rattle.lrlex.proofs.AskedLemmas.{asks_nowhere, more_asked, all_asked, next_asked}
@@ -128,3 +129,9 @@ returns-then-not-branch-clause-exact g c =
     c.finished.ensures.asked
     ∙ more_asked c.args.self.now c.args.text.now d p.place p.stack.items found p.boundaries p.asked r 0 some c.tiles.invariant.exact c.advance.new.progress.asked c.tiles-test.true c.in_ok-advance.ensures.exact
     ∙ ap (asks c.args.self.now c.args.text.now) (sym (c.finished.ensures.boundaries ∙ c.in_ok-advance.ensures.same c.if-not-branch.true))
+
+pub returns-clause-laws : goal.returns-clause-laws
+returns-clause-laws g c = have_laws _ _ _ _ (returns-clause-run g c)
+
+pub returns-then-not-branch-clause-laws : goal.returns-then-not-branch-clause-laws
+returns-then-not-branch-clause-laws g c = have_laws _ _ _ _ (returns-then-not-branch-clause-run g c)

@@ -1,10 +1,13 @@
 use Rattle.std.proofs.Common.{◌≡◌, ℕ, List, sym, ap, ◌∙◌, subst, arith, IsCharBoundary}
 use Rattle.lrlex_base.specs.Spans.{Fits, span, as_span}
 use Rattle.lrlex.specs.Marks.{Mark}
-use Rattle.lrlex.specs.Ran.{Ran}
+use Rattle.lrlex.specs.Ran.{Ran, IsRunOf}
+use Rattle.lrlex.specs.Reach.{IsRun}
 use Rattle.lrlex.specs.Relexed.{WasRelexed}
+use Rattle.lrlex.specs.Views.{definition_of, items_by}
 use Rattle.lrlex.proofs.CountedLemmas.{of_own, of_fields}
 use Rattle.lrlex.proofs.DocumentLemmas.{refused_by_memory}
+use Rattle.lrlex.proofs.ItemLemmas.{have_laws}
 use Rattle.lrlex.proofs.lexer.document.Document.edit.Goals as goal
 
 pub returns-clause-fits : goal.returns-clause-fits
@@ -47,3 +50,13 @@ returns-in_err-run-clause-refused g c =
     let text : c.deref.result.now ≡ c.args.self.now.text = c.deref.ensures ∙ ap (λ (v : Ran _ _). v.text) c.self.view_is in
     refused_by_memory _ _ _ _ c.from_residual-in_err-run.ensures.1 (omega (arith, c.if-from-to.false)) c.new.result c.new.ensures.start c.new.ensures.end
     (subst (λ t. Fits t c.new.result) text (c.fits.ensures.0 c.if-not-fits.false))
+
+pub returns-clause-laws : goal.returns-clause-laws
+returns-clause-laws g c =
+    let number = g.L.StorageT.Id.number in
+    let seen = g.L.LexemeT.Lexeme.seen in
+    let d = c.self.inside.definition.now in
+    let text = c.deref-7.result.now in
+    let is : IsRun (definition_of number d) text (items_by number seen c.run.inside.items.items) c.run.inside.boundaries =
+    subst (λ (v : Ran _ _). IsRunOf number seen d text v) (sym c.run.view_is) c.in_ok-run.ensures.run in
+    have_laws _ _ _ _ (subst (λ t. IsRun (definition_of number d) t (items_by number seen c.run.inside.items.items) c.run.inside.boundaries) c.deref-7.ensures is)

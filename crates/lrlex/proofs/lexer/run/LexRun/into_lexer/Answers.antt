@@ -1,9 +1,9 @@
 use Rattle.std.proofs.Common.{sym, subst, All}
-use Rattle.lrlex.specs.ItemLaws.{FitsText}
+use Rattle.lrlex.specs.ItemLaws.{FitsText, AreItemsOf}
 use Rattle.lrlex.specs.Ran.{Ran}
 use Rattle.lrlex.specs.Reach.{IsRun}
 use Rattle.lrlex.specs.Views.{definition_of, items_by}
-use Rattle.lrlex.proofs.ItemLemmas.{known_run, fit_the_text}
+use Rattle.lrlex.proofs.ItemLemmas.{known_run, fit_the_text, are_items}
 use Rattle.lrlex.proofs.lexer.run.LexRun.into_lexer.Goals as goal
 
 pub returns-clause-run : goal.returns-clause-run
@@ -21,3 +21,11 @@ returns-clause-fit g c =
     let found = items_by g.L.StorageT.Id.number g.L.LexemeT.Lexeme.seen s.items.items in
     subst (λ text. All (FitsText text) found) (sym c.in_ok-input.ensures.text)
     (fit_the_text d s.text.now found s.boundaries c.new.ensures.utf8 (known_run d s.text.now found s.boundaries c.self.invariant.1))
+
+pub returns-clause-laws : goal.returns-clause-laws
+returns-clause-laws g c =
+    let s = c.self.inside in
+    let d = definition_of g.L.StorageT.Id.number s.definition.now in
+    let found = items_by g.L.StorageT.Id.number g.L.LexemeT.Lexeme.seen s.items.items in
+    subst (λ (v : Ran _ _). AreItemsOf (definition_of g.L.StorageT.Id.number v.definition) c.in_ok-input.input.text.now found) c.self.view_is
+    (subst (λ text. AreItemsOf d text found) (sym c.in_ok-input.ensures.text) (are_items d s.text.now found s.boundaries (known_run d s.text.now found s.boundaries c.self.invariant.1)))
