@@ -10,6 +10,7 @@ ghost use Rattle.lrlex.specs.Decided.{HasLooked, capped};
 ghost use Rattle.lrlex.specs.Tables.{AreMatchers};
 ghost use Rattle.lrlex.specs.AtHand.{AreOf};
 ghost use Rattle.lrlex.specs.Views.{definition_of, item_of, items_by};
+ghost use Rattle.lrlex.specs.UnderWay.{HasEntered};
 
 use crate::errors::LRLexError;
 use crate::lexer::active::{lacks_id, lexeme_id};
@@ -133,17 +134,7 @@ fn enter<X: Copy>(
     requires runs { AreRuns progress.old.stack.items }
     requires room { length (plain progress.old.stack.items) + 1 < 2 ^ 64 }
     requires last { last_runs progress.old.boundaries ≡ progress.old.stack.items }
-    ensures place { OnOk result (progress.new.place ≡ place) }
-    ensures runs { OnOk result (AreRuns progress.new.stack.items) }
-    ensures moved { OnOk result (plain progress.new.stack.items
-        ≡ stack_after (plain progress.old.stack.items) target) }
-    ensures items { OnOk result (progress.new.items.items ≡ progress.old.items.items) }
-    ensures asked { OnOk result (progress.new.asked ≡ progress.old.asked) }
-    ensures over { OnOk result (progress.new.over ≡ over) }
-    ensures ahead { OnOk result (progress.new.ahead.items ≡ progress.old.ahead.items
-        ++ capped over ∷ []) }
-    ensures kept { OnOk result (progress.new.boundaries ≡ progress.old.boundaries
-        ++ record { place = place; runs = progress.new.stack.items } ∷ []) }
+    ensures { OnOk result (HasEntered progress.old progress.new target place over) }
 {
     progress.place = place;
     progress.over = over;

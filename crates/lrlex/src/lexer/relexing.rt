@@ -13,6 +13,7 @@ ghost use Rattle.lrlex.specs.Decided.{AreRaised, IsSafe, LooksAhead};
 ghost use Rattle.lrlex.specs.Ran.{IsRunOf, HasItemLaws};
 ghost use Rattle.lrlex.specs.Relexed.{WasRelexed};
 ghost use Rattle.lrlex.specs.Views.{definition_of, items_by, item_of};
+ghost use Rattle.lrlex.specs.UnderWay.{HasTakenOver};
 
 use crate::errors::LRLexError;
 use crate::lexer::boundaries::Boundaries;
@@ -221,19 +222,8 @@ fn take_over<L: LexerTypes<LexErrorT = LRLexError>>(
         (drop (index + 1) old.now.boundaries.now) }
     requires sorted { IsSortedRuns old.now.boundaries.now }
     requires numbers { length old.now.ahead.now ≡ length old.now.boundaries.now }
-    ensures items { OnOk result (map (item_of L.StorageT.number L.LexemeT.seen)
-        progress.new.items.items
-        ≡ map (item_of L.StorageT.number L.LexemeT.seen) progress.old.items.items
-        ++ map (rebased (mark_at old.now.boundaries.now index).place progress.old.place)
-        (items_from (mark_at old.now.boundaries.now index).place
-        (map (item_of L.StorageT.number L.LexemeT.seen) old.now.items.now))) }
-    ensures boundaries { OnOk result (progress.new.boundaries ≡ progress.old.boundaries
-        ++ map (moved_mark (mark_at old.now.boundaries.now index).place progress.old.place)
-        (drop (index + 1) old.now.boundaries.now)) }
-    ensures asked { OnOk result (progress.new.asked ≡ progress.old.asked) }
-    ensures ahead { OnOk result (AreRaised old.now.boundaries.now old.now.ahead.now index
-        progress.old.over (length old.now.boundaries.now) progress.old.ahead.items
-        progress.new.ahead.items) }
+    ensures { OnOk result (HasTakenOver L.StorageT.number L.LexemeT.seen old.now.items.now
+        old.now.boundaries.now old.now.ahead.now index progress.old progress.new) }
 {
     let to = progress.place;
     let from = old.boundaries.place(index);

@@ -14,6 +14,7 @@ ghost use Rattle.std.specs.List.Sorted.{IsPartitionedBy};
 ghost use Rattle.lrlex.specs.Edits.{begins_before};
 ghost use Rattle.lrlex.specs.Decided.{items_before};
 ghost use Rattle.lrlex.specs.Views.{definition_of, item_of, items_by};
+ghost use Rattle.lrlex.specs.UnderWay.{StandsAt};
 
 use crate::errors::LRLexError;
 use crate::lexer::boundaries::Boundaries;
@@ -169,13 +170,7 @@ fn resumed<X: Copy>(
 ) -> Result<Progress<X>, AllocError>
     requires within { index < length old.now }
     requires numbers { length ahead.now ≡ length old.now }
-    ensures place { IfOk result (λ p. p.place ≡ (mark_at old.now index).place) }
-    ensures stack { IfOk result (λ p. p.stack.items ≡ (mark_at old.now index).runs) }
-    ensures items { IfOk result (λ p. p.items.items ≡ before.now) }
-    ensures boundaries { IfOk result (λ p. p.boundaries ≡ take (index + 1) old.now) }
-    ensures asked { IfOk result (λ p. p.asked ≡ 0) }
-    ensures ahead { IfOk result (λ p. p.ahead.items ≡ take (index + 1) ahead.now) }
-    ensures over { IfOk result (λ p. p.over ≡ slice_index ahead.now index) }
+    ensures { IfOk result (StandsAt old.now ahead.now index before.now) }
 {
     let room = old.len().saturating_add(SLACK);
     let mut progress = Progress {

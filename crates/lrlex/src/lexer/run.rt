@@ -7,6 +7,7 @@ ghost use Rattle.lrlex.specs.Asked.{asks};
 ghost use Rattle.lrlex.specs.Decided.{LooksAhead};
 ghost use Rattle.lrlex.specs.Views.{definition_of, items_by};
 ghost use Rattle.lrlex.specs.Ran.{IsRunOf, HasItemLaws};
+ghost use Rattle.lrlex.specs.UnderWay.{HasFinished};
 
 use crate::errors::LRLexError;
 use crate::lexer::boundaries::Boundaries;
@@ -182,13 +183,7 @@ pub(crate) fn finished<'lexer, 'input, L: LexerTypes<LexErrorT = LRLexError>>(
         progress.boundaries progress.ahead.items }
     requires run { IsRun (definition_of L.StorageT.number definition.now) text.now
         (items_by L.StorageT.number L.LexemeT.seen progress.items.items) progress.boundaries }
-    ensures definition { result.definition ≡ definition.now }
-    ensures text { result.text ≡ text.now }
-    ensures items { result.items ≡ progress.items.items }
-    ensures boundaries { result.boundaries ≡ progress.boundaries }
-    ensures asked { result.asked ≡ progress.asked }
-    ensures ahead { result.ahead ≡ progress.ahead.items }
-    ensures anew { result.anew ≡ anew }
+    ensures { HasFinished definition.now text.now progress anew result }
 {
     let Progress {
         place: _,

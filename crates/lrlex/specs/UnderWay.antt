@@ -1,0 +1,56 @@
+-- How each step of a run leaves what the run has found so far.
+use Rattle.std.specs.Prelude.{◌≡◌, ℕ, ◌+◌, List, Option, Result, [], ◌∷◌, ◌++◌, length, map, drop, take, slice_index}
+use Rattle.lrlex_base.specs.Seen.{Seen}
+use Rattle.lrlex_rules.specs.declared.states.StartStateOperation.{StartStateOperation}
+use Rattle.lrlex.specs.Decided.{AreRaised, LooksAhead, capped}
+use Rattle.lrlex.specs.Edits.{items_from, moved_mark}
+use Rattle.lrlex.specs.Marks.{Mark, mark_at}
+use Rattle.lrlex.specs.Ran.{Ran}
+use Rattle.lrlex.specs.Reach.{IsRun}
+use Rattle.lrlex.specs.Runs.{AreRuns, plain}
+use Rattle.lrlex.specs.Tiling.{Item, rebased, stack_after}
+use Rattle.lrlex.specs.Views.{item_of}
+use Rattle.lrlex.specs.declared.errors.LRLexError.{LRLexError}
+use Rattle.lrlex.specs.declared.lexer.lexing.Progress.{Progress}
+
+-- The next boundary was entered: it stands at this place, the rule's target moved the stack, the tiles looked so far
+-- past the place, and nothing else was found.
+pub record HasEntered {X : Type 0} (old new : Progress X) (target : Option (ℕ × StartStateOperation)) (at far : ℕ) : Type 0 where
+  pub place : new.place ≡ at
+  pub runs : AreRuns new.stack.items
+  pub moved : plain new.stack.items ≡ stack_after (plain old.stack.items) target
+  pub items : new.items.items ≡ old.items.items
+  pub asked : new.asked ≡ old.asked
+  pub over : new.over ≡ far
+  pub ahead : new.ahead.items ≡ old.ahead.items ++ capped far ∷ []
+  pub kept : new.boundaries ≡ old.boundaries ++ record { place = at; runs = new.stack.items } ∷ []
+
+-- what was found stands at boundary `index` of an old run: its boundaries and numbers up to there, these items, no search
+pub record StandsAt {X : Type 0} (old : List Mark) (numbers : List ℕ) (index : ℕ) (before : List (Result X LRLexError)) (p : Progress X) : Type 0 where
+  pub place : p.place ≡ (mark_at old index).place
+  pub stack : p.stack.items ≡ (mark_at old index).runs
+  pub items : p.items.items ≡ before
+  pub boundaries : p.boundaries ≡ take (index + 1) old
+  pub asked : p.asked ≡ 0
+  pub ahead : p.ahead.items ≡ take (index + 1) numbers
+  pub over : p.over ≡ slice_index numbers index
+
+-- the run has what was found, with so many tiles cut anew
+pub record HasFinished {D X : Type 0} (d : D) (input : List ℕ) (p : Progress X) (cut : ℕ) (r : Ran D X) : Type 0 where
+  pub definition : r.definition ≡ d
+  pub text : r.text ≡ input
+  pub items : r.items ≡ p.items.items
+  pub boundaries : r.boundaries ≡ p.boundaries
+  pub asked : r.asked ≡ p.asked
+  pub ahead : r.ahead ≡ p.ahead.items
+  pub anew : r.anew ≡ cut
+
+-- What follows old boundary `index` was taken over, moved to the place at hand: items, boundaries, and the numbers that tell
+-- how far the tiles looked, raised where that is needed. Nothing was searched.
+pub record HasTakenOver {S X : Type 0} (number : S → ℕ) (seen : X → Seen S) (found : List (Result X LRLexError)) (marks : List Mark) (numbers : List ℕ) (index : ℕ)
+    (old new : Progress X) : Type 0 where
+  pub items : map (item_of number seen) new.items.items ≡ map (item_of number seen) old.items.items
+      ++ map (rebased (mark_at marks index).place old.place) (items_from (mark_at marks index).place (map (item_of number seen) found))
+  pub boundaries : new.boundaries ≡ old.boundaries ++ map (moved_mark (mark_at marks index).place old.place) (drop (index + 1) marks)
+  pub asked : new.asked ≡ old.asked
+  pub ahead : AreRaised marks numbers index old.over (length marks) old.ahead.items new.ahead.items
