@@ -1,15 +1,18 @@
 -- How each step of a run leaves what the run has found so far.
-use Rattle.std.specs.Prelude.{◌≡◌, ℕ, ◌+◌, List, Option, Result, [], ◌∷◌, ◌++◌, length, map, drop, take, slice_index}
+use Rattle.std.specs.Prelude.{◌≡◌, ℕ, ◌+◌, ◌-◌, ◌<◌, ◌≤◌, Bool, true, max, List, Option, Result, [], ◌∷◌, ◌++◌, length, map, drop, take, slice_index, IsCharBoundary}
 use Rattle.lrlex_base.specs.Seen.{Seen}
+use Rattle.lrlex_base.specs.declared.spans.Span.{Span}
 use Rattle.lrlex_rules.specs.declared.states.StartStateOperation.{StartStateOperation}
-use Rattle.lrlex.specs.Decided.{AreRaised, LooksAhead, capped}
+use Rattle.lrlex_rules.specs.Definition.{Definition}
+use Rattle.lrlex.specs.Asked.{IsLastSafe}
+use Rattle.lrlex.specs.Decided.{AreRaised, HasLooked, IsSafe, capped}
 use Rattle.lrlex.specs.Edits.{items_from, moved_mark}
 use Rattle.lrlex.specs.Marks.{Mark, mark_at}
 use Rattle.lrlex.specs.Ran.{Ran}
-use Rattle.lrlex.specs.Reach.{IsRun}
+use Rattle.lrlex.specs.Reach.{Reached}
 use Rattle.lrlex.specs.Runs.{AreRuns, plain}
-use Rattle.lrlex.specs.Tiling.{Item, rebased, stack_after}
-use Rattle.lrlex.specs.Views.{item_of}
+use Rattle.lrlex.specs.Tiling.{rebased, stack_after}
+use Rattle.lrlex.specs.Views.{item_of, items_by}
 use Rattle.lrlex.specs.declared.errors.LRLexError.{LRLexError}
 use Rattle.lrlex.specs.declared.lexer.lexing.Progress.{Progress}
 
@@ -54,3 +57,26 @@ pub record HasTakenOver {S X : Type 0} (number : S → ℕ) (seen : X → Seen S
   pub boundaries : new.boundaries ≡ old.boundaries ++ map (moved_mark (mark_at marks index).place old.place) (drop (index + 1) marks)
   pub asked : new.asked ≡ old.asked
   pub ahead : AreRaised marks numbers index old.over (length marks) old.ahead.items new.ahead.items
+
+-- The cursor stands at the first old boundary that isn't before the place, as it was before the edit; where a meeting was
+-- found, that boundary stands there with the same stack.
+pub record TellsMeeting (old : List Mark) (removed : Span) (put : List ℕ) (at : ℕ) (runs : List (ℕ × ℕ)) (next : ℕ) (found : Bool) : Type 0 where
+  pub cursor : next ≤ length old
+  pub behind : (j : ℕ) → j < next
+      → (mark_at old j).place + (removed.start + length put) < max at (removed.start + length put) + removed.end
+  pub within : found ≡ true → next < length old
+  pub past : found ≡ true → removed.start + length put ≤ at
+  pub place : found ≡ true → (mark_at old next).place + (removed.start + length put) ≡ at + removed.end
+  pub stack : found ≡ true → (mark_at old next).runs ≡ runs
+
+-- A run of the new text stands at the last boundary of the old one that is safe for an edit from `low` on, and all its
+-- boundaries before that one stand before the edit. Nothing was searched.
+pub record HasResumed {S X : Type 0} (d : Definition) (number : S → ℕ) (seen : X → Seen S) (old : List Mark) (numbers : List ℕ) (low : ℕ) (new : List ℕ)
+    (p : Progress X) : Type 0 where
+  pub reached : Reached d new p.place p.stack.items (items_by number seen p.items.items) p.boundaries p.asked
+  pub looked : HasLooked d new p.boundaries p.ahead.items p.place p.over
+  pub boundary : IsCharBoundary new p.place
+  pub before : (j : ℕ) → j + 1 < length p.boundaries → (mark_at p.boundaries j).place < low
+  pub last : (j : ℕ) → j < length old → IsSafe old numbers low j → j < length p.boundaries
+  pub from : IsLastSafe old numbers low (length p.boundaries - 1)
+  pub none : p.asked ≡ 0

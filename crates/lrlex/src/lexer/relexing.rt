@@ -13,7 +13,7 @@ ghost use Rattle.lrlex.specs.Decided.{AreRaised, IsSafe, LooksAhead};
 ghost use Rattle.lrlex.specs.Ran.{IsRunOf, HasItemLaws};
 ghost use Rattle.lrlex.specs.Relexed.{WasRelexed};
 ghost use Rattle.lrlex.specs.Views.{definition_of, items_by, item_of};
-ghost use Rattle.lrlex.specs.UnderWay.{HasTakenOver};
+ghost use Rattle.lrlex.specs.UnderWay.{HasTakenOver, TellsMeeting};
 
 use crate::errors::LRLexError;
 use crate::lexer::boundaries::Boundaries;
@@ -169,16 +169,7 @@ fn meets(
     requires behind { (j : ℕ) → j < cursor.old
         → (mark_at old.now j).place + (span_start edit.now.removed + length edit.now.put.now) < max
         place (span_start edit.now.removed + length edit.now.put.now) + span_end edit.now.removed }
-    ensures cursor { cursor.new ≤ length old.now }
-    ensures behind { (j : ℕ) → j < cursor.new → (mark_at old.now j).place +
-        (span_start edit.now.removed + length edit.now.put.now) < max place
-        (span_start edit.now.removed + length edit.now.put.now) + span_end edit.now.removed }
-    ensures within { result ≡ true → cursor.new < length old.now }
-    ensures past { result ≡ true → span_start edit.now.removed + length edit.now.put.now ≤ place }
-    ensures place { result ≡ true → (mark_at old.now cursor.new).place +
-        (span_start edit.now.removed + length edit.now.put.now)
-        ≡ place + span_end edit.now.removed }
-    ensures stack { result ≡ true → (mark_at old.now cursor.new).runs ≡ stack.now }
+    ensures at { TellsMeeting old.now edit.now.removed edit.now.put.now place stack.now cursor.new result }
     ensures none { result ≡ false → span_start edit.now.removed + length edit.now.put.now ≤ place
         → (j : ℕ) → j < length old.now
         → (mark_at old.now j).place + (span_start edit.now.removed + length edit.now.put.now)

@@ -14,7 +14,7 @@ ghost use Rattle.std.specs.List.Sorted.{IsPartitionedBy};
 ghost use Rattle.lrlex.specs.Edits.{begins_before};
 ghost use Rattle.lrlex.specs.Decided.{items_before};
 ghost use Rattle.lrlex.specs.Views.{definition_of, item_of, items_by};
-ghost use Rattle.lrlex.specs.UnderWay.{StandsAt};
+ghost use Rattle.lrlex.specs.UnderWay.{HasResumed, StandsAt};
 
 use crate::errors::LRLexError;
 use crate::lexer::boundaries::Boundaries;
@@ -207,21 +207,9 @@ pub(crate) fn resume<L: LexerTypes<LexErrorT = LRLexError>>(
         (items_by L.StorageT.number L.LexemeT.seen old.now.items.now) old.now.boundaries.now ∥₁ }
     requires fits { Fits old.now.text.now edit.now.removed }
     requires gives { new.now ≡ edited old.now.text.now (as_span edit.now.removed) edit.now.put.now }
-    ensures reached { IfOk result (λ p. Reached
-        (definition_of L.StorageT.number old.now.definition.now) new.now p.place p.stack.items
-        (items_by L.StorageT.number L.LexemeT.seen p.items.items) p.boundaries p.asked) }
-    ensures looked { IfOk result (λ p. HasLooked
-        (definition_of L.StorageT.number old.now.definition.now) new.now p.boundaries p.ahead.items
-        p.place p.over) }
-    ensures boundary { IfOk result (λ p. IsCharBoundary new.now p.place) }
-    ensures before { IfOk result (λ p. (j : ℕ) → j + 1 < length p.boundaries
-        → (mark_at p.boundaries j).place < span_start edit.now.removed) }
-    ensures last { IfOk result (λ p. (j : ℕ) → j < length old.now.boundaries.now
-        → IsSafe old.now.boundaries.now old.now.ahead.now (span_start edit.now.removed) j
-        → j < length p.boundaries) }
-    ensures from { IfOk result (λ p. IsLastSafe old.now.boundaries.now old.now.ahead.now
-        (span_start edit.now.removed) (length p.boundaries - 1)) }
-    ensures none { IfOk result (λ p. p.asked ≡ 0) }
+    ensures { IfOk result (HasResumed (definition_of L.StorageT.number old.now.definition.now)
+        L.StorageT.number L.LexemeT.seen old.now.boundaries.now old.now.ahead.now
+        (span_start edit.now.removed) new.now) }
 {
     let index = last_safe(old.boundaries, old.ahead, edit.removed.start());
     let before = items_before::<L>(old.items, old.boundaries.place(index));

@@ -7,7 +7,7 @@ ghost use Rattle.lrlex.specs.Asked.{untabled_count};
 ghost use Rattle.lrlex.specs.Tiling.{Wins, IsStuck};
 ghost use Rattle.lrlex.specs.Decided.{IsDecided};
 ghost use Rattle.lrlex.specs.Tables.{IsMatcherOf, AreMatchers};
-ghost use Rattle.lrlex.specs.AtHand.{AreOf};
+ghost use Rattle.lrlex.specs.AtHand.{AreOf, HasAsked, IsSightOf};
 ghost use Rattle.lrlex.specs.Views.{definition_of};
 
 use crate::lexer::definition::{LRNonStreamingLexerDef, RulesIn};
@@ -133,17 +133,13 @@ pub(crate) fn winner<'d, L: LexerTypes>(
     requires here { AreOf L.StorageT.number definition.now state here }
     requires matchers { AreMatchers definition.now.table.rules.items matchers.old }
     requires room { asked.old + vec_len definition.now.table.rules < 2 ^ 128 }
-    ensures winner { IfOk result (λ s. MatchOption s.tile
-        (IsStuck (definition_of L.StorageT.number definition.now) state text.now)
-        (λ t. Wins (definition_of L.StorageT.number definition.now) state text.now t.rule t.len)) }
+    ensures sight { IfOk result (IsSightOf (definition_of L.StorageT.number definition.now)
+        state text.now) }
     ensures boundary { IfOk result (λ s. IfSome s.tile (λ t. IsCharBoundary text.now t.len)) }
     ensures rule { IfOk result (λ s. IfSome s.tile
         (λ t. t.rule < vec_len definition.now.table.rules)) }
-    ensures decided { IfOk result (λ s. IsDecided
-        (definition_of L.StorageT.number definition.now) state text.now s.reach) }
-    ensures counted { IfOk result (λ _. asked.new ≤ asked.old + active_count
-        (definition_of L.StorageT.number definition.now) state) }
-    ensures exact { IfOk result (λ _. asked.new ≡ asked.old + untabled_count definition.now state) }
+    ensures asked { IfOk result (λ _. HasAsked L.StorageT.number definition.now state
+        asked.old asked.new) }
     ensures matchers { IfOk result (λ _. AreMatchers definition.now.table.rules.items
         matchers.new) }
 {

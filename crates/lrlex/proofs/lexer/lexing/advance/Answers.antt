@@ -35,7 +35,7 @@ returns-in_default-clause-ends g c on =
     let on_top : c.top_of-state.result ≡ top (plain p.stack.items) = c.top_of-state.ensures ∙ ap (λ s. top (plain s)) c.deref.ensures.value in
     let q = c.top_of-state.result in
     ended d text p.place p.stack.items found p.boundaries p.asked r (items_by g.L.StorageT.Id.number g.L.LexemeT.Lexeme.seen c.give_error.new.items.items) (NoMatch q)
-    (something_left text p.place c.requires.inside, on_top, subst (IsStuck d q) c.range_from-rest.ensures.value (rw c.in_default.is at c.in_ok-sight.ensures.winner))
+    (something_left text p.place c.requires.inside, on_top, subst (IsStuck d q) c.range_from-rest.ensures.value (rw c.in_default.is at c.in_ok-sight.ensures.sight.winner))
     c.in_ok-give_error.ensures
 
 pub returns-then-lacks_id-clause-ends : goal.returns-then-lacks_id-clause-ends
@@ -49,7 +49,7 @@ returns-then-lacks_id-clause-ends g c on =
     let t : Tile = record { rule = c.in-Some.tile.rule; len = c.in-Some.tile.len } in
     let within : t.rule < length c.args.definition.now.table.rules.items = omega (arith, c.args.definition.now.table.rules.ok.0, (rw c.in-Some.is at c.in_ok-sight.ensures.rule)) in
     let rule_is = rule_read g.L.StorageT.Id.number c.args.definition.now t.rule c.index-rule.result.now within c.index-rule.ensures in
-    let wins = wins_at d c.top_of-state.result (plain p.stack.items) c.range_from-rest.result.now (drop p.place text) t on_top c.range_from-rest.ensures.value (rw c.in-Some.is at c.in_ok-sight.ensures.winner) in
+    let wins = wins_at d c.top_of-state.result (plain p.stack.items) c.range_from-rest.result.now (drop p.place text) t on_top c.range_from-rest.ensures.value (rw c.in-Some.is at c.in_ok-sight.ensures.sight.winner) in
     ended d text p.place p.stack.items found p.boundaries p.asked r (items_by g.L.StorageT.Id.number g.L.LexemeT.Lexeme.seen c.give_error-then-lacks_id.new.items.items) NoId
     (t, wins, ap lacks_id rule_is ∙ sym c.if-lacks_id.ensures)
     c.in_ok-give_error-2.ensures
@@ -62,7 +62,7 @@ returns-in_default-clause-asked g c =
     let r = c.requires.reached in
     let found = items_by g.L.StorageT.Id.number g.L.LexemeT.Lexeme.seen p.items.items in
     let on_top : c.top_of-state.result ≡ top (plain p.stack.items) = c.top_of-state.ensures ∙ ap (λ s. top (plain s)) c.deref.ensures.value in
-    let few : c.winner.new.asked ≤ p.asked + active_count d (top (plain p.stack.items)) = subst (λ q. c.winner.new.asked ≤ p.asked + active_count d q) on_top c.in_ok-sight.ensures.counted in
+    let few : c.winner.new.asked ≤ p.asked + active_count d (top (plain p.stack.items)) = subst (λ q. c.winner.new.asked ≤ p.asked + active_count d q) on_top c.in_ok-sight.ensures.asked.counted in
     searches_now d text p.place p.stack.items found p.boundaries p.asked r c.winner.new.asked c.requires.inside few
 
 pub returns-then-lacks_id-clause-asked : goal.returns-then-lacks_id-clause-asked
@@ -73,7 +73,7 @@ returns-then-lacks_id-clause-asked g c =
     let r = c.requires.reached in
     let found = items_by g.L.StorageT.Id.number g.L.LexemeT.Lexeme.seen p.items.items in
     let on_top : c.top_of-state.result ≡ top (plain p.stack.items) = c.top_of-state.ensures ∙ ap (λ s. top (plain s)) c.deref.ensures.value in
-    let few : c.winner.new.asked ≤ p.asked + active_count d (top (plain p.stack.items)) = subst (λ q. c.winner.new.asked ≤ p.asked + active_count d q) on_top c.in_ok-sight.ensures.counted in
+    let few : c.winner.new.asked ≤ p.asked + active_count d (top (plain p.stack.items)) = subst (λ q. c.winner.new.asked ≤ p.asked + active_count d q) on_top c.in_ok-sight.ensures.asked.counted in
     searches_now d text p.place p.stack.items found p.boundaries p.asked r c.winner.new.asked c.requires.inside few
 
 pub returns-then-lacks_target-clause-ends : goal.returns-then-lacks_target-clause-ends
@@ -87,7 +87,7 @@ returns-then-lacks_target-clause-ends g c on =
     let t : Tile = record { rule = c.in-Some.tile.rule; len = c.in-Some.tile.len } in
     let within : t.rule < length c.args.definition.now.table.rules.items = omega (arith, c.args.definition.now.table.rules.ok.0, (rw c.in-Some.is at c.in_ok-sight.ensures.rule)) in
     let rule_is = rule_read g.L.StorageT.Id.number c.args.definition.now t.rule c.index-rule.result.now within c.index-rule.ensures in
-    let wins = wins_at d c.top_of-state.result (plain p.stack.items) c.range_from-rest.result.now (drop p.place text) t on_top c.range_from-rest.ensures.value (rw c.in-Some.is at c.in_ok-sight.ensures.winner) in
+    let wins = wins_at d c.top_of-state.result (plain p.stack.items) c.range_from-rest.result.now (drop p.place text) t on_top c.range_from-rest.ensures.value (rw c.in-Some.is at c.in_ok-sight.ensures.sight.winner) in
     let given : items_by g.L.StorageT.Id.number g.L.LexemeT.Lexeme.seen c.give.new.items.items ≡ found ++ tile_items d p.place t =
     c.in_ok-give.ensures ∙ sym (ap (λ (x : Rule). found ++ lexeme_of (lexeme_id x) p.place t.len) rule_is) in
     ended d text p.place p.stack.items found p.boundaries p.asked r (items_by g.L.StorageT.Id.number g.L.LexemeT.Lexeme.seen c.give_error-then-lacks_target.new.items.items) (NoTarget t)
@@ -103,7 +103,7 @@ returns-then-lacks_target-clause-asked g c =
     let r = c.requires.reached in
     let found = items_by g.L.StorageT.Id.number g.L.LexemeT.Lexeme.seen p.items.items in
     let on_top : c.top_of-state.result ≡ top (plain p.stack.items) = c.top_of-state.ensures ∙ ap (λ s. top (plain s)) c.deref.ensures.value in
-    let few : c.winner.new.asked ≤ p.asked + active_count d (top (plain p.stack.items)) = subst (λ q. c.winner.new.asked ≤ p.asked + active_count d q) on_top c.in_ok-sight.ensures.counted in
+    let few : c.winner.new.asked ≤ p.asked + active_count d (top (plain p.stack.items)) = subst (λ q. c.winner.new.asked ≤ p.asked + active_count d q) on_top c.in_ok-sight.ensures.asked.counted in
     searches_now d text p.place p.stack.items found p.boundaries p.asked r c.winner.new.asked c.requires.inside few
 
 pub enter-requires-clause-runs : goal.enter-requires-clause-runs
@@ -127,7 +127,7 @@ returns-clause-goes_on g c on =
     let t : Tile = record { rule = c.in-Some.tile.rule; len = c.in-Some.tile.len } in
     let within : t.rule < length c.args.definition.now.table.rules.items = omega (arith, c.args.definition.now.table.rules.ok.0, (rw c.in-Some.is at c.in_ok-sight.ensures.rule)) in
     let rule_is = rule_read g.L.StorageT.Id.number c.args.definition.now t.rule c.index-rule.result.now within c.index-rule.ensures in
-    let wins = wins_at d c.top_of-state.result (plain p.stack.items) c.range_from-rest.result.now (drop p.place text) t on_top c.range_from-rest.ensures.value (rw c.in-Some.is at c.in_ok-sight.ensures.winner) in
+    let wins = wins_at d c.top_of-state.result (plain p.stack.items) c.range_from-rest.result.now (drop p.place text) t on_top c.range_from-rest.ensures.value (rw c.in-Some.is at c.in_ok-sight.ensures.sight.winner) in
     let given : items_by g.L.StorageT.Id.number g.L.LexemeT.Lexeme.seen c.give.new.items.items ≡ found ++ tile_items d p.place t =
     c.in_ok-give.ensures ∙ sym (ap (λ (x : Rule). found ++ lexeme_of (lexeme_id x) p.place t.len) rule_is) in
     let taken : IsTaken d (drop p.place text) (plain p.stack.items) t = record {
@@ -138,7 +138,7 @@ returns-clause-goes_on g c on =
     let n = c.enter.new.progress in
     let e = c.in_ok-enter.ensures in
     let few : n.asked ≤ p.asked + active_count d (top (plain p.stack.items)) =
-    subst (λ q. n.asked ≤ p.asked + active_count d q) on_top (omega (arith, e.asked, c.in_ok-sight.ensures.counted)) in
+    subst (λ q. n.asked ≤ p.asked + active_count d q) on_top (omega (arith, e.asked, c.in_ok-sight.ensures.asked.counted)) in
     let more : items_by g.L.StorageT.Id.number g.L.LexemeT.Lexeme.seen n.items.items ≡ found ++ tile_items d p.place t = ap (items_by g.L.StorageT.Id.number g.L.LexemeT.Lexeme.seen) e.items ∙ given in
     subst (λ i. Reached d text i n.stack.items (items_by g.L.StorageT.Id.number g.L.LexemeT.Lexeme.seen n.items.items) n.boundaries n.asked) (sym e.place)
     (Reached-more d text p.place p.stack.items found p.boundaries p.asked r n.stack.items (items_by g.L.StorageT.Id.number g.L.LexemeT.Lexeme.seen n.items.items) n.boundaries n.asked t c.requires.inside taken few
@@ -165,7 +165,7 @@ returns-clause-asked g c =
     let found = items_by g.L.StorageT.Id.number g.L.LexemeT.Lexeme.seen p.items.items in
     let on_top : c.top_of-state.result ≡ top (plain p.stack.items) = c.top_of-state.ensures ∙ ap (λ s. top (plain s)) c.deref.ensures.value in
     let few : c.enter.new.progress.asked ≤ p.asked + active_count d (top (plain p.stack.items)) =
-    subst (λ q. c.enter.new.progress.asked ≤ p.asked + active_count d q) on_top (omega (arith, c.in_ok-enter.ensures.asked, c.in_ok-sight.ensures.counted)) in
+    subst (λ q. c.enter.new.progress.asked ≤ p.asked + active_count d q) on_top (omega (arith, c.in_ok-enter.ensures.asked, c.in_ok-sight.ensures.asked.counted)) in
     searches_now d text p.place p.stack.items found p.boundaries p.asked r c.enter.new.progress.asked c.requires.inside few
 
 pub returns-clause-looked : goal.returns-clause-looked
@@ -178,7 +178,7 @@ returns-clause-looked g c on =
     let n = c.enter.new.progress in
     let e = c.in_ok-enter.ensures in
     let reach = c.in_ok-sight.sight.reach in
-    let decided = subst (λ q. IsDecided d q (drop p.place text) reach) on_top (subst (λ xs. IsDecided d c.top_of-state.result xs reach) c.range_from-rest.ensures.value c.in_ok-sight.ensures.decided) in
+    let decided = subst (λ q. IsDecided d q (drop p.place text) reach) on_top (subst (λ xs. IsDecided d c.top_of-state.result xs reach) c.range_from-rest.ensures.value c.in_ok-sight.ensures.sight.decided) in
     looked_more d text r.before p.boundaries p.ahead.items p.place p.stack.items p.over r.kept c.requires.looked reach c.in-Some.tile.len decided n.stack.items n.place n.over n.boundaries n.ahead.items
     e.place (omega (arith, e.over, c.saturating_sub-over.ensures, c.max.ensures)) (e.kept ∙ ap (λ i. p.boundaries ++ record { place = i; runs = n.stack.items } ∷ []) (sym e.place)) (e.ahead ∙ ap (λ i. p.ahead.items ++ capped i ∷ []) (sym e.over))
 
@@ -186,22 +186,22 @@ pub returns-in_default-clause-exact : goal.returns-in_default-clause-exact
 returns-in_default-clause-exact g c =
     let p = c.args.progress.now in
     let on_top : c.top_of-state.result ≡ top (plain p.stack.items) = c.top_of-state.ensures ∙ ap (λ s. top (plain s)) c.deref.ensures.value in
-    subst (λ q. c.winner.new.asked ≡ p.asked + untabled_count c.args.definition.now q) on_top (c.in_ok-sight.ensures.exact)
+    subst (λ q. c.winner.new.asked ≡ p.asked + untabled_count c.args.definition.now q) on_top (c.in_ok-sight.ensures.asked.exact)
 
 pub returns-then-lacks_id-clause-exact : goal.returns-then-lacks_id-clause-exact
 returns-then-lacks_id-clause-exact g c =
     let p = c.args.progress.now in
     let on_top : c.top_of-state.result ≡ top (plain p.stack.items) = c.top_of-state.ensures ∙ ap (λ s. top (plain s)) c.deref.ensures.value in
-    subst (λ q. c.winner.new.asked ≡ p.asked + untabled_count c.args.definition.now q) on_top (c.in_ok-sight.ensures.exact)
+    subst (λ q. c.winner.new.asked ≡ p.asked + untabled_count c.args.definition.now q) on_top (c.in_ok-sight.ensures.asked.exact)
 
 pub returns-then-lacks_target-clause-exact : goal.returns-then-lacks_target-clause-exact
 returns-then-lacks_target-clause-exact g c =
     let p = c.args.progress.now in
     let on_top : c.top_of-state.result ≡ top (plain p.stack.items) = c.top_of-state.ensures ∙ ap (λ s. top (plain s)) c.deref.ensures.value in
-    subst (λ q. c.winner.new.asked ≡ p.asked + untabled_count c.args.definition.now q) on_top (c.in_ok-sight.ensures.exact)
+    subst (λ q. c.winner.new.asked ≡ p.asked + untabled_count c.args.definition.now q) on_top (c.in_ok-sight.ensures.asked.exact)
 
 pub returns-clause-exact : goal.returns-clause-exact
 returns-clause-exact g c =
     let p = c.args.progress.now in
     let on_top : c.top_of-state.result ≡ top (plain p.stack.items) = c.top_of-state.ensures ∙ ap (λ s. top (plain s)) c.deref.ensures.value in
-    subst (λ q. c.enter.new.progress.asked ≡ p.asked + untabled_count c.args.definition.now q) on_top (omega (arith, c.in_ok-enter.ensures.asked, c.in_ok-sight.ensures.exact))
+    subst (λ q. c.enter.new.progress.asked ≡ p.asked + untabled_count c.args.definition.now q) on_top (omega (arith, c.in_ok-enter.ensures.asked, c.in_ok-sight.ensures.asked.exact))

@@ -77,9 +77,9 @@ take_over-requires-clause-in_order g c =
     let r = c.tiles.invariant.reached in
     let h = known d s.text.now (items_by g.L.StorageT.Id.number g.L.LexemeT.Lexeme.seen s.items.now) s.boundaries.now r.initial c.requires.run in
     let j = c.meets.new.cursor in
-    let stacks : (mark_at s.boundaries.now j).runs ≡ p.stack.items = c.meets.ensures.stack c.if-meets.true ∙ c.deref-in-tiles.ensures.value in
+    let stacks : (mark_at s.boundaries.now j).runs ≡ p.stack.items = c.meets.ensures.at.stack c.if-meets.true ∙ c.deref-in-tiles.ensures.value in
     olds_in_order d s.text.now new edit.removed.start edit.removed.end edit.put.now (items_by g.L.StorageT.Id.number g.L.LexemeT.Lexeme.seen s.items.now) s.boundaries.now h p.place p.stack.items found p.boundaries p.asked r
-    j (c.meets.ensures.within c.if-meets.true) edit.removed.in_order c.requires.fits.1.0 c.requires.gives (c.meets.ensures.past c.if-meets.true) (c.meets.ensures.place c.if-meets.true) stacks
+    j (c.meets.ensures.at.within c.if-meets.true) edit.removed.in_order c.requires.fits.1.0 c.requires.gives (c.meets.ensures.at.past c.if-meets.true) (c.meets.ensures.at.place c.if-meets.true) stacks
 
 pub take_over-requires-clause-items : goal.take_over-requires-clause-items
 take_over-requires-clause-items g c =
@@ -93,9 +93,9 @@ take_over-requires-clause-items g c =
     let r = c.tiles.invariant.reached in
     let h = known d s.text.now (items_by g.L.StorageT.Id.number g.L.LexemeT.Lexeme.seen s.items.now) s.boundaries.now r.initial c.requires.run in
     let j = c.meets.new.cursor in
-    let stacks : (mark_at s.boundaries.now j).runs ≡ p.stack.items = c.meets.ensures.stack c.if-meets.true ∙ c.deref-in-tiles.ensures.value in
+    let stacks : (mark_at s.boundaries.now j).runs ≡ p.stack.items = c.meets.ensures.at.stack c.if-meets.true ∙ c.deref-in-tiles.ensures.value in
     items_movable d s.text.now new edit.removed.start edit.removed.end edit.put.now (items_by g.L.StorageT.Id.number g.L.LexemeT.Lexeme.seen s.items.now) s.boundaries.now h p.place p.stack.items found p.boundaries p.asked r
-    j (c.meets.ensures.within c.if-meets.true) edit.removed.in_order c.requires.fits.1.0 c.requires.gives (c.meets.ensures.past c.if-meets.true) (c.meets.ensures.place c.if-meets.true) stacks c.tiles.invariant.boundary.0 (omega arith)
+    j (c.meets.ensures.at.within c.if-meets.true) edit.removed.in_order c.requires.fits.1.0 c.requires.gives (c.meets.ensures.at.past c.if-meets.true) (c.meets.ensures.at.place c.if-meets.true) stacks c.tiles.invariant.boundary.0 (omega arith)
 
 pub take_over-requires-clause-boundaries : goal.take_over-requires-clause-boundaries
 take_over-requires-clause-boundaries g c =
@@ -109,9 +109,9 @@ take_over-requires-clause-boundaries g c =
     let r = c.tiles.invariant.reached in
     let h = known d s.text.now (items_by g.L.StorageT.Id.number g.L.LexemeT.Lexeme.seen s.items.now) s.boundaries.now r.initial c.requires.run in
     let j = c.meets.new.cursor in
-    let stacks : (mark_at s.boundaries.now j).runs ≡ p.stack.items = c.meets.ensures.stack c.if-meets.true ∙ c.deref-in-tiles.ensures.value in
+    let stacks : (mark_at s.boundaries.now j).runs ≡ p.stack.items = c.meets.ensures.at.stack c.if-meets.true ∙ c.deref-in-tiles.ensures.value in
     marks_movable d s.text.now new edit.removed.start edit.removed.end edit.put.now (items_by g.L.StorageT.Id.number g.L.LexemeT.Lexeme.seen s.items.now) s.boundaries.now h p.place p.stack.items found p.boundaries p.asked r
-    j (c.meets.ensures.within c.if-meets.true) edit.removed.in_order c.requires.fits.1.0 c.requires.gives (c.meets.ensures.past c.if-meets.true) (c.meets.ensures.place c.if-meets.true) stacks c.tiles.invariant.boundary.0 (omega arith)
+    j (c.meets.ensures.at.within c.if-meets.true) edit.removed.in_order c.requires.fits.1.0 c.requires.gives (c.meets.ensures.at.past c.if-meets.true) (c.meets.ensures.at.place c.if-meets.true) stacks c.tiles.invariant.boundary.0 (omega arith)
 
 pub finished-requires-clause-run : goal.finished-requires-clause-run
 finished-requires-clause-run g c =
@@ -125,14 +125,14 @@ finished-requires-clause-run g c =
     let r = c.tiles.invariant.reached in
     let h = known d s.text.now (items_by g.L.StorageT.Id.number g.L.LexemeT.Lexeme.seen s.items.now) s.boundaries.now r.initial c.requires.run in
     let j = c.meets.new.cursor in
-    let stacks : (mark_at s.boundaries.now j).runs ≡ p.stack.items = c.meets.ensures.stack c.if-meets.true ∙ c.deref-in-tiles.ensures.value in
+    let stacks : (mark_at s.boundaries.now j).runs ≡ p.stack.items = c.meets.ensures.at.stack c.if-meets.true ∙ c.deref-in-tiles.ensures.value in
     let items_is : items_by g.L.StorageT.Id.number g.L.LexemeT.Lexeme.seen c.take_over.new.progress.items.items ≡ found ++ map (rebased (mark_at s.boundaries.now j).place p.place) (items_from (mark_at s.boundaries.now j).place (items_by g.L.StorageT.Id.number g.L.LexemeT.Lexeme.seen s.items.now)) =
     c.in_ok-take_over.ensures.items in
     let marks_is : c.take_over.new.progress.boundaries ≡ p.boundaries ++ map (moved_mark (mark_at s.boundaries.now j).place p.place) (drop (j + 1) s.boundaries.now) =
     c.in_ok-take_over.ensures.boundaries in
     let lexed : IsLexed d new (items_by g.L.StorageT.Id.number g.L.LexemeT.Lexeme.seen c.take_over.new.progress.items.items) c.take_over.new.progress.boundaries =
     subst (λ xs. IsLexed d new xs c.take_over.new.progress.boundaries) (sym items_is) (subst (IsLexed d new _) (sym marks_is) (whole d s.text.now new edit.removed.start edit.removed.end edit.put.now (items_by g.L.StorageT.Id.number g.L.LexemeT.Lexeme.seen s.items.now) s.boundaries.now h p.place p.stack.items found p.boundaries p.asked r
-    j (c.meets.ensures.within c.if-meets.true) edit.removed.in_order c.requires.fits.1.0 c.requires.gives (c.meets.ensures.past c.if-meets.true) (c.meets.ensures.place c.if-meets.true) stacks)) in
+    j (c.meets.ensures.at.within c.if-meets.true) edit.removed.in_order c.requires.fits.1.0 c.requires.gives (c.meets.ensures.at.past c.if-meets.true) (c.meets.ensures.at.place c.if-meets.true) stacks)) in
     run_of d new (items_by g.L.StorageT.Id.number g.L.LexemeT.Lexeme.seen c.take_over.new.progress.items.items) c.take_over.new.progress.boundaries r.initial lexed
 
 pub returns-then-meets-clause-run : goal.returns-then-meets-clause-run
@@ -147,14 +147,14 @@ returns-then-meets-clause-run g c =
     let r = c.tiles.invariant.reached in
     let h = known d s.text.now (items_by g.L.StorageT.Id.number g.L.LexemeT.Lexeme.seen s.items.now) s.boundaries.now r.initial c.requires.run in
     let j = c.meets.new.cursor in
-    let stacks : (mark_at s.boundaries.now j).runs ≡ p.stack.items = c.meets.ensures.stack c.if-meets.true ∙ c.deref-in-tiles.ensures.value in
+    let stacks : (mark_at s.boundaries.now j).runs ≡ p.stack.items = c.meets.ensures.at.stack c.if-meets.true ∙ c.deref-in-tiles.ensures.value in
     let items_is : items_by g.L.StorageT.Id.number g.L.LexemeT.Lexeme.seen c.take_over.new.progress.items.items ≡ found ++ map (rebased (mark_at s.boundaries.now j).place p.place) (items_from (mark_at s.boundaries.now j).place (items_by g.L.StorageT.Id.number g.L.LexemeT.Lexeme.seen s.items.now)) =
     c.in_ok-take_over.ensures.items in
     let marks_is : c.take_over.new.progress.boundaries ≡ p.boundaries ++ map (moved_mark (mark_at s.boundaries.now j).place p.place) (drop (j + 1) s.boundaries.now) =
     c.in_ok-take_over.ensures.boundaries in
     let lexed : IsLexed d new (items_by g.L.StorageT.Id.number g.L.LexemeT.Lexeme.seen c.take_over.new.progress.items.items) c.take_over.new.progress.boundaries =
     subst (λ xs. IsLexed d new xs c.take_over.new.progress.boundaries) (sym items_is) (subst (IsLexed d new _) (sym marks_is) (whole d s.text.now new edit.removed.start edit.removed.end edit.put.now (items_by g.L.StorageT.Id.number g.L.LexemeT.Lexeme.seen s.items.now) s.boundaries.now h p.place p.stack.items found p.boundaries p.asked r
-    j (c.meets.ensures.within c.if-meets.true) edit.removed.in_order c.requires.fits.1.0 c.requires.gives (c.meets.ensures.past c.if-meets.true) (c.meets.ensures.place c.if-meets.true) stacks)) in
+    j (c.meets.ensures.at.within c.if-meets.true) edit.removed.in_order c.requires.fits.1.0 c.requires.gives (c.meets.ensures.at.past c.if-meets.true) (c.meets.ensures.at.place c.if-meets.true) stacks)) in
     subst (λ xs. IsRun d new (items_by g.L.StorageT.Id.number g.L.LexemeT.Lexeme.seen xs) c.finished.result.boundaries) (sym c.finished.ensures.items)
     (subst (IsRun d new (items_by g.L.StorageT.Id.number g.L.LexemeT.Lexeme.seen c.take_over.new.progress.items.items)) (sym c.finished.ensures.boundaries)
     (run_of d new (items_by g.L.StorageT.Id.number g.L.LexemeT.Lexeme.seen c.take_over.new.progress.items.items) c.take_over.new.progress.boundaries r.initial lexed))
@@ -229,8 +229,8 @@ tiles-preserved g c =
       kept = omega (arith, c.tiles.invariant.kept, ap length more.1, length-append p.boundaries (more.0 ∷ []));
       exact = next_asked def new d p.place p.stack.items found p.boundaries p.asked r (c.len-kept.result - 1) from_within c.tiles.invariant.exact c.advance.new.progress.asked more.0 c.advance.new.progress.boundaries
           c.tiles-test.true c.in_ok-advance.ensures.exact more.1;
-      cursor = c.meets.ensures.cursor;
-      behind = λ j lt. omega (arith, c.meets.ensures.behind j lt, grows);
+      cursor = c.meets.ensures.at.cursor;
+      behind = λ j lt. omega (arith, c.meets.ensures.at.behind j lt, grows);
       unmet = λ k lt m. none k (meets_front s.boundaries.now p.boundaries (more.0 ∷ []) c.advance.new.progress.boundaries edit.removed.start edit.removed.end (length edit.put.now) k more.1 (omega (arith, lt, ap length more.1, length-append p.boundaries (more.0 ∷ []))) m);
     }
 
@@ -278,7 +278,7 @@ pub take_over-requires-clause-last : goal.take_over-requires-clause-last
 take_over-requires-clause-last g c =
     let p = c.tiles.progress in
     last_now (definition_of g.L.StorageT.Id.number c.args.old.now.definition.now) c.args.new.now p.place p.stack.items (items_by g.L.StorageT.Id.number g.L.LexemeT.Lexeme.seen p.items.items) p.boundaries p.asked c.tiles.invariant.reached
-    ∙ sym (c.meets.ensures.stack c.if-meets.true ∙ c.deref-in-tiles.ensures.value)
+    ∙ sym (c.meets.ensures.at.stack c.if-meets.true ∙ c.deref-in-tiles.ensures.value)
 
 pub finished-requires-then-not-branch-clause-run : goal.finished-requires-then-not-branch-clause-run
 finished-requires-then-not-branch-clause-run g c =
@@ -362,12 +362,12 @@ finished-requires-clause-looks g c =
     let r = c.tiles.invariant.reached in
     let h = known d s.text.now olds s.boundaries.now r.initial c.requires.run in
     let j = c.meets.new.cursor in
-    let stacks : (mark_at s.boundaries.now j).runs ≡ p.stack.items = c.meets.ensures.stack c.if-meets.true ∙ c.deref-in-tiles.ensures.value in
+    let stacks : (mark_at s.boundaries.now j).runs ≡ p.stack.items = c.meets.ensures.at.stack c.if-meets.true ∙ c.deref-in-tiles.ensures.value in
     let same = rest_same d s.text.now new edit.removed.start edit.removed.end edit.put.now olds s.boundaries.now h p.place p.stack.items found p.boundaries p.asked r
-    j (c.meets.ensures.within c.if-meets.true) edit.removed.in_order c.requires.fits.1.0 c.requires.gives (c.meets.ensures.past c.if-meets.true) (c.meets.ensures.place c.if-meets.true) stacks in
+    j (c.meets.ensures.at.within c.if-meets.true) edit.removed.in_order c.requires.fits.1.0 c.requires.gives (c.meets.ensures.at.past c.if-meets.true) (c.meets.ensures.at.place c.if-meets.true) stacks in
     subst (λ ms. LooksAhead d new ms c.take_over.new.progress.ahead.items) (sym c.in_ok-take_over.ensures.boundaries)
     (looks_taken_over d s.text.now new s.boundaries.now s.ahead.now (looks_known d s.text.now s.boundaries.now s.ahead.now c.requires.looks) (sorted d s.text.now olds s.boundaries.now h)
-    r.before p.boundaries p.ahead.items p.place p.stack.items p.over r.kept c.tiles.invariant.looked j (c.meets.ensures.within c.if-meets.true) same stacks c.take_over.new.progress.ahead.items c.in_ok-take_over.ensures.ahead)
+    r.before p.boundaries p.ahead.items p.place p.stack.items p.over r.kept c.tiles.invariant.looked j (c.meets.ensures.at.within c.if-meets.true) same stacks c.take_over.new.progress.ahead.items c.in_ok-take_over.ensures.ahead)
 
 pub finished-requires-then-not-branch-clause-looks : goal.finished-requires-then-not-branch-clause-looks
 finished-requires-then-not-branch-clause-looks g c =
@@ -435,8 +435,8 @@ returns-then-meets-clause-exact g c z =
     let within : k < length p.boundaries = omega (arith, c.tiles.invariant.kept, length_now d new p.place p.stack.items found p.boundaries p.asked r) in
     cut_to_meeting def d new s.boundaries.now s.ahead.now edit.removed.start edit.removed.end (length edit.put.now) p.place p.stack.items found p.boundaries p.asked r k resumed within c.tiles.invariant.exact c.tiles.invariant.unmet
     c.finished.result.boundaries c.finished.result.asked c.finished.result.anew (omega (arith, c.finished.ensures.anew, c.len.ensures, c.tiles.invariant.kept, some)) _ (c.finished.ensures.boundaries ∙ c.in_ok-take_over.ensures.boundaries)
-    (c.finished.ensures.asked ∙ c.in_ok-take_over.ensures.asked) (c.meets.ensures.past c.if-meets.true) c.meets.new.cursor (c.meets.ensures.within c.if-meets.true) (c.meets.ensures.place c.if-meets.true)
-    (c.meets.ensures.stack c.if-meets.true ∙ c.deref-in-tiles.ensures.value)
+    (c.finished.ensures.asked ∙ c.in_ok-take_over.ensures.asked) (c.meets.ensures.at.past c.if-meets.true) c.meets.new.cursor (c.meets.ensures.at.within c.if-meets.true) (c.meets.ensures.at.place c.if-meets.true)
+    (c.meets.ensures.at.stack c.if-meets.true ∙ c.deref-in-tiles.ensures.value)
 
 pub returns-then-not-branch-clause-exact : goal.returns-then-not-branch-clause-exact
 returns-then-not-branch-clause-exact g c z =

@@ -64,8 +64,8 @@ resumed-requires-clause-numbers g c =
     let o = c.args.old.now in
     (looks_known (definition_of g.L.StorageT.Id.number o.definition.now) o.text.now o.boundaries.now o.ahead.now c.requires.looks).len
 
-pub returns-clause-reached : goal.returns-clause-reached
-returns-clause-reached g c =
+pub returns : goal.returns
+returns g c =
     let d = definition_of g.L.StorageT.Id.number c.args.old.now.definition.now in
     let o = c.args.old.now in
     let found = items_by g.L.StorageT.Id.number g.L.LexemeT.Lexeme.seen o.items.now in
@@ -80,124 +80,46 @@ returns-clause-reached g c =
     let safe : IsSafe o.boundaries.now o.ahead.now low k = subst (λ n. IsSafe o.boundaries.now o.ahead.now n k) c.start.ensures c.last_safe-index.ensures.safe in
     let p = c.in_ok-progress.progress in
     let e = c.in_ok-progress.ensures in
-    let going = (going d o.text.now new edit.put.now low edit.removed.end found o.boundaries.now o.ahead.now c.requires.initial is le c.requires.gives h looks k c.last_safe-index.ensures.within safe).reached in
+    let gone = going d o.text.now new edit.put.now low edit.removed.end found o.boundaries.now o.ahead.now c.requires.initial is le c.requires.gives h looks k c.last_safe-index.ensures.within safe in
     let front = items_before (mark_at o.boundaries.now k).place found in
     let kept : items_by g.L.StorageT.Id.number g.L.LexemeT.Lexeme.seen p.items.items ≡ front =
     ap (items_by g.L.StorageT.Id.number g.L.LexemeT.Lexeme.seen) e.items ∙ c.items_before-before.ensures
     ∙ ap (λ i. items_before i found) c.place.ensures in
     let now = items_by g.L.StorageT.Id.number g.L.LexemeT.Lexeme.seen p.items.items in
-    subst (λ i. Reached d new i p.stack.items now p.boundaries p.asked) (sym e.place)
-    (subst (λ s. Reached d new (mark_at o.boundaries.now k).place s now p.boundaries p.asked) (sym e.stack)
-    (subst (λ xs. Reached d new (mark_at o.boundaries.now k).place (mark_at o.boundaries.now k).runs xs p.boundaries p.asked) (sym kept)
-    (subst (λ ms. Reached d new (mark_at o.boundaries.now k).place (mark_at o.boundaries.now k).runs front ms p.asked) (sym e.boundaries)
-    (subst (λ n. Reached d new (mark_at o.boundaries.now k).place (mark_at o.boundaries.now k).runs front (take (k + 1) o.boundaries.now) n) (sym e.asked) going))))
-
-pub returns-clause-looked : goal.returns-clause-looked
-returns-clause-looked g c =
-    let d = definition_of g.L.StorageT.Id.number c.args.old.now.definition.now in
-    let o = c.args.old.now in
-    let found = items_by g.L.StorageT.Id.number g.L.LexemeT.Lexeme.seen o.items.now in
-    let h = known d o.text.now found o.boundaries.now c.requires.initial c.requires.run in
-    let looks = looks_known d o.text.now o.boundaries.now o.ahead.now c.requires.looks in
-    let new = c.args.new.now in
-    let is : IsText new = record { bytes = are_bytes new c.type_inv.new; utf8 = c.utf8.new } in
-    let edit = c.args.edit.now in
-    let low = edit.removed.start in
-    let le : low ≤ length o.text.now = omega (arith, edit.removed.in_order, c.requires.fits.1.0) in
-    let k = c.last_safe-index.result in
-    let safe : IsSafe o.boundaries.now o.ahead.now low k = subst (λ n. IsSafe o.boundaries.now o.ahead.now n k) c.start.ensures c.last_safe-index.ensures.safe in
-    let p = c.in_ok-progress.progress in
-    let e = c.in_ok-progress.ensures in
     let looked = going_looked d o.text.now new edit.put.now low edit.removed.end found o.boundaries.now o.ahead.now c.requires.initial is le c.requires.gives h looks k c.last_safe-index.ensures.within safe p.over e.over in
-    subst (λ i. HasLooked d new p.boundaries p.ahead.items i p.over) (sym e.place)
-    (subst (λ ms. HasLooked d new ms p.ahead.items (mark_at o.boundaries.now k).place p.over) (sym e.boundaries)
-    (subst (λ ns. HasLooked d new (take (k + 1) o.boundaries.now) ns (mark_at o.boundaries.now k).place p.over) (sym e.ahead) looked))
-
-pub returns-clause-boundary : goal.returns-clause-boundary
-returns-clause-boundary g c =
-    let d = definition_of g.L.StorageT.Id.number c.args.old.now.definition.now in
-    let o = c.args.old.now in
-    let found = items_by g.L.StorageT.Id.number g.L.LexemeT.Lexeme.seen o.items.now in
-    let h = known d o.text.now found o.boundaries.now c.requires.initial c.requires.run in
-    let looks = looks_known d o.text.now o.boundaries.now o.ahead.now c.requires.looks in
-    let new = c.args.new.now in
-    let is : IsText new = record { bytes = are_bytes new c.type_inv.new; utf8 = c.utf8.new } in
-    let edit = c.args.edit.now in
-    let low = edit.removed.start in
-    let le : low ≤ length o.text.now = omega (arith, edit.removed.in_order, c.requires.fits.1.0) in
-    let k = c.last_safe-index.result in
-    let safe : IsSafe o.boundaries.now o.ahead.now low k = subst (λ n. IsSafe o.boundaries.now o.ahead.now n k) c.start.ensures c.last_safe-index.ensures.safe in
-    let p = c.in_ok-progress.progress in
-    let e = c.in_ok-progress.ensures in
-    subst (IsCharBoundary new) (sym e.place) (going d o.text.now new edit.put.now low edit.removed.end found o.boundaries.now o.ahead.now c.requires.initial is le c.requires.gives h looks k c.last_safe-index.ensures.within safe).boundary
-
-pub returns-clause-before : goal.returns-clause-before
-returns-clause-before g c =
-    let d = definition_of g.L.StorageT.Id.number c.args.old.now.definition.now in
-    let o = c.args.old.now in
-    let found = items_by g.L.StorageT.Id.number g.L.LexemeT.Lexeme.seen o.items.now in
-    let h = known d o.text.now found o.boundaries.now c.requires.initial c.requires.run in
-    let looks = looks_known d o.text.now o.boundaries.now o.ahead.now c.requires.looks in
-    let new = c.args.new.now in
-    let is : IsText new = record { bytes = are_bytes new c.type_inv.new; utf8 = c.utf8.new } in
-    let edit = c.args.edit.now in
-    let low = edit.removed.start in
-    let le : low ≤ length o.text.now = omega (arith, edit.removed.in_order, c.requires.fits.1.0) in
-    let k = c.last_safe-index.result in
-    let safe : IsSafe o.boundaries.now o.ahead.now low k = subst (λ n. IsSafe o.boundaries.now o.ahead.now n k) c.start.ensures c.last_safe-index.ensures.safe in
-    let p = c.in_ok-progress.progress in
-    let e = c.in_ok-progress.ensures in
-    λ j lt.
-    let count : length p.boundaries ≡ k + 1 = ap length e.boundaries ∙ length-take-le (k + 1) o.boundaries.now (omega (arith, c.last_safe-index.ensures.within)) in
-    let place : (mark_at p.boundaries j).place ≡ (mark_at o.boundaries.now j).place =
-    ap (λ ms. (mark_at ms j).place) e.boundaries ∙ ap (λ (m : Mark). m.place) (get_or-take (k + 1) o.boundaries.now j no_mark (omega (arith, count, lt))) in
-    omega (arith, place, safe.before, (sorted d o.text.now found o.boundaries.now h).rising j k (omega (arith, count, lt)) c.last_safe-index.ensures.within)
-
-pub returns-clause-last : goal.returns-clause-last
-returns-clause-last g c =
-    let d = definition_of g.L.StorageT.Id.number c.args.old.now.definition.now in
-    let o = c.args.old.now in
-    let found = items_by g.L.StorageT.Id.number g.L.LexemeT.Lexeme.seen o.items.now in
-    let h = known d o.text.now found o.boundaries.now c.requires.initial c.requires.run in
-    let looks = looks_known d o.text.now o.boundaries.now o.ahead.now c.requires.looks in
-    let new = c.args.new.now in
-    let is : IsText new = record { bytes = are_bytes new c.type_inv.new; utf8 = c.utf8.new } in
-    let edit = c.args.edit.now in
-    let low = edit.removed.start in
-    let le : low ≤ length o.text.now = omega (arith, edit.removed.in_order, c.requires.fits.1.0) in
-    let k = c.last_safe-index.result in
-    let safe : IsSafe o.boundaries.now o.ahead.now low k = subst (λ n. IsSafe o.boundaries.now o.ahead.now n k) c.start.ensures c.last_safe-index.ensures.safe in
-    let p = c.in_ok-progress.progress in
-    let e = c.in_ok-progress.ensures in
-    λ j lt is.
-    let count : length p.boundaries ≡ k + 1 = ap length e.boundaries ∙ length-take-le (k + 1) o.boundaries.now (omega (arith, c.last_safe-index.ensures.within)) in
-    elim (cases_lt k j) [
-      | inl later ↦ absurd (c.last_safe-index.ensures.last j later lt
-          (subst (λ n. IsSafe o.boundaries.now o.ahead.now n j) (sym c.start.ensures) is))
-      | inr here ↦ omega (arith, count)
-    ]
-
-pub returns-clause-from : goal.returns-clause-from
-returns-clause-from g c =
-    let d = definition_of g.L.StorageT.Id.number c.args.old.now.definition.now in
-    let o = c.args.old.now in
-    let found = items_by g.L.StorageT.Id.number g.L.LexemeT.Lexeme.seen o.items.now in
-    let h = known d o.text.now found o.boundaries.now c.requires.initial c.requires.run in
-    let looks = looks_known d o.text.now o.boundaries.now o.ahead.now c.requires.looks in
-    let new = c.args.new.now in
-    let is : IsText new = record { bytes = are_bytes new c.type_inv.new; utf8 = c.utf8.new } in
-    let edit = c.args.edit.now in
-    let low = edit.removed.start in
-    let le : low ≤ length o.text.now = omega (arith, edit.removed.in_order, c.requires.fits.1.0) in
-    let k = c.last_safe-index.result in
-    let safe : IsSafe o.boundaries.now o.ahead.now low k = subst (λ n. IsSafe o.boundaries.now o.ahead.now n k) c.start.ensures c.last_safe-index.ensures.safe in
-    let p = c.in_ok-progress.progress in
-    let e = c.in_ok-progress.ensures in
     let count : length p.boundaries ≡ k + 1 = ap length e.boundaries ∙ length-take-le (k + 1) o.boundaries.now (omega (arith, c.last_safe-index.ensures.within)) in
     let at : k ≡ length p.boundaries - 1 = omega (arith, count) in
-    subst (IsLastSafe o.boundaries.now o.ahead.now low) at (record {
-      within = c.last_safe-index.ensures.within;
-      safe = safe;
-      last = λ j later lt is. c.last_safe-index.ensures.last j later lt
-          (subst (λ n. IsSafe o.boundaries.now o.ahead.now n j) (sym c.start.ensures) is);
-    })
+    record {
+      reached =
+          subst (λ i. Reached d new i p.stack.items now p.boundaries p.asked) (sym e.place)
+          (subst (λ s. Reached d new (mark_at o.boundaries.now k).place s now p.boundaries p.asked) (sym e.stack)
+          (subst (λ xs. Reached d new (mark_at o.boundaries.now k).place (mark_at o.boundaries.now k).runs xs p.boundaries p.asked) (sym kept)
+          (subst (λ ms. Reached d new (mark_at o.boundaries.now k).place (mark_at o.boundaries.now k).runs front ms p.asked) (sym e.boundaries)
+          (subst (λ n. Reached d new (mark_at o.boundaries.now k).place (mark_at o.boundaries.now k).runs front (take (k + 1) o.boundaries.now) n) (sym e.asked) gone.reached))));
+      looked =
+          subst (λ i. HasLooked d new p.boundaries p.ahead.items i p.over) (sym e.place)
+          (subst (λ ms. HasLooked d new ms p.ahead.items (mark_at o.boundaries.now k).place p.over) (sym e.boundaries)
+          (subst (λ ns. HasLooked d new (take (k + 1) o.boundaries.now) ns (mark_at o.boundaries.now k).place p.over) (sym e.ahead) looked));
+      boundary =
+          subst (IsCharBoundary new) (sym e.place) gone.boundary;
+      before =
+          λ j lt.
+          let place : (mark_at p.boundaries j).place ≡ (mark_at o.boundaries.now j).place =
+          ap (λ ms. (mark_at ms j).place) e.boundaries ∙ ap (λ (m : Mark). m.place) (get_or-take (k + 1) o.boundaries.now j no_mark (omega (arith, count, lt))) in
+          omega (arith, place, safe.before, (sorted d o.text.now found o.boundaries.now h).rising j k (omega (arith, count, lt)) c.last_safe-index.ensures.within);
+      last =
+          λ j lt is.
+          elim (cases_lt k j) [
+            | inl later ↦ absurd (c.last_safe-index.ensures.last j later lt
+                (subst (λ n. IsSafe o.boundaries.now o.ahead.now n j) (sym c.start.ensures) is))
+            | inr here ↦ omega (arith, count)
+          ];
+      from =
+          subst (IsLastSafe o.boundaries.now o.ahead.now low) at (record {
+            within = c.last_safe-index.ensures.within;
+            safe = safe;
+            last = λ j later lt is. c.last_safe-index.ensures.last j later lt
+                (subst (λ n. IsSafe o.boundaries.now o.ahead.now n j) (sym c.start.ensures) is);
+          });
+      none = e.asked;
+    }

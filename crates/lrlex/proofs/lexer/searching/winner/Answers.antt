@@ -155,27 +155,6 @@ others-preserved g c =
       }
     ]
 
-pub returns-then-best-eq0-clause-winner : goal.returns-then-best-eq0-clause-winner
-returns-then-best-eq0-clause-winner g c =
-    let d = definition_of g.L.StorageT.Id.number c.args.definition.now in
-    let t = c.args.here.tables.now in
-    best_stuck d c.args.state c.args.text.now c.args.here.active.now t.asked.items c.requires.here.active t refl c.requires.here.tables c.others.index c.others.best.rule c.others.best.len
-    (omega (arith, c.others-test.false, ap length c.asked-index-end.ensures)) c.others.invariant.best c.if-best-eq0.true
-
-pub returns-then-best-eq0-clause-counted : goal.returns-then-best-eq0-clause-counted
-returns-then-best-eq0-clause-counted g c =
-    let d = definition_of g.L.StorageT.Id.number c.args.definition.now in
-    let t = c.args.here.tables.now in
-    let places = c.args.here.active.now in
-    omega (
-      arith,
-      c.others.invariant.counted,
-      c.others.auto.index-end,
-      ap length c.asked-index-end.ensures,
-      length-places_of d c.args.state places c.requires.here.active,
-      others_few d c.args.state c.args.text.now places t.asked.items c.requires.here.active t refl c.requires.here.tables,
-    )
-
 pub place_of-requires-clause-all : goal.place_of-requires-clause-all
 place_of-requires-clause-all g c same i lt =
     let d = definition_of g.L.StorageT.Id.number c.args.definition.now in
@@ -186,16 +165,6 @@ place_of-requires-clause-all g c same i lt =
     let each = all_places (is_active d.states q) 0 d.rules (omega (arith, ap length c.requires.here.active, same, rules_len, ok)) i (omega (arith, lt, rules_len, ok)) in
     ap (λ xs. get_or xs i 0) c.requires.here.active ∙ omega (arith, each)
 
-pub returns-clause-winner : goal.returns-clause-winner
-returns-clause-winner g c =
-    let d = definition_of g.L.StorageT.Id.number c.args.definition.now in
-    let t = c.args.here.tables.now in
-    let text = c.args.text.now in
-    let best = c.others.best in
-    subst (λ r. Wins d c.args.state text r best.len) (sym c.place_of.ensures)
-    (best_wins d c.args.state text c.args.here.active.now t.asked.items c.requires.here.active t refl c.requires.here.tables c.others.index best.rule best.len
-    (omega (arith, c.others-test.false, ap length c.asked-index-end.ensures)) c.others.invariant.best (omega (arith, c.if-best-eq0.false)))
-
 pub returns-clause-rule : goal.returns-clause-rule
 returns-clause-rule g c =
     let d = definition_of g.L.StorageT.Id.number c.args.definition.now in
@@ -205,70 +174,94 @@ returns-clause-rule g c =
     let rules_len = length-map c.args.definition.now.table.rules.items (as_rule g.L.StorageT.Id.number) in
     omega (arith, c.args.definition.now.table.rules.ok.0, rules_len, active_within d c.args.state places c.requires.here.active c.others.best.rule (omega (arith, inside, count)))
 
-pub returns-clause-counted : goal.returns-clause-counted
-returns-clause-counted g c =
+pub returns-then-best-eq0-clause-sight : goal.returns-then-best-eq0-clause-sight
+returns-then-best-eq0-clause-sight g c =
+    let d = definition_of g.L.StorageT.Id.number c.args.definition.now in
+    let t = c.args.here.tables.now in
+    let q = c.args.state in
+    let text = c.args.text.now in
+    record {
+      winner =
+          best_stuck d c.args.state c.args.text.now c.args.here.active.now t.asked.items c.requires.here.active t refl c.requires.here.tables c.others.index c.others.best.rule c.others.best.len
+          (omega (arith, c.others-test.false, ap length c.asked-index-end.ensures)) c.others.invariant.best c.if-best-eq0.true;
+      decided = elim c.if-is_empty.branch [
+        | then-is_empty w ↦
+            let zero : length c.asked-2.result.now ≡ 0 = search (rules, arith) in
+            subst (IsDecided d q text) (sym w.reach-is)
+            (decided_look d q text c.args.here.active.now t.asked.items c.requires.here.active t refl c.requires.here.tables c.others.index c.others.best.rule c.others.best.len
+            (omega (arith, c.others-test.false, ap length c.asked-index-end.ensures)) c.others.invariant.best c.look-sight.result.reach
+            (nil_from_length t.asked.items (omega (arith, zero, ap length c.asked-2.ensures))) c.look-sight.ensures.decided)
+        | else-is_empty w ↦ subst (IsDecided d q text) (sym w.reach-is) (decided_whole d q text)
+      ];
+    }
+
+pub returns-then-best-eq0-clause-asked : goal.returns-then-best-eq0-clause-asked
+returns-then-best-eq0-clause-asked g c =
     let d = definition_of g.L.StorageT.Id.number c.args.definition.now in
     let t = c.args.here.tables.now in
     let places = c.args.here.active.now in
-    omega (
-      arith,
-      c.others.invariant.counted,
-      c.others.auto.index-end,
-      ap length c.asked-index-end.ensures,
-      length-places_of d c.args.state places c.requires.here.active,
-      others_few d c.args.state c.args.text.now places t.asked.items c.requires.here.active t refl c.requires.here.tables,
-    )
+    record {
+      counted = omega (
+        arith,
+        c.others.invariant.counted,
+        c.others.auto.index-end,
+        ap length c.asked-index-end.ensures,
+        length-places_of d c.args.state places c.requires.here.active,
+        others_few d c.args.state c.args.text.now places t.asked.items c.requires.here.active t refl c.requires.here.tables,
+      );
+      exact = omega (
+        arith,
+        c.others.invariant.counted,
+        c.others.auto.index-end,
+        c.others-test.false,
+        ap length c.asked-index-end.ensures,
+        c.requires.here.untabled,
+      );
+    }
 
-pub returns-then-best-eq0-clause-decided : goal.returns-then-best-eq0-clause-decided
-returns-then-best-eq0-clause-decided g c =
+pub returns-clause-sight : goal.returns-clause-sight
+returns-clause-sight g c =
     let d = definition_of g.L.StorageT.Id.number c.args.definition.now in
-    let q = c.args.state in
-    let text = c.args.text.now in
     let t = c.args.here.tables.now in
-    elim c.if-is_empty.branch [
-      | then-is_empty w ↦
-          let zero : length c.asked-2.result.now ≡ 0 = search (rules, arith) in
-          subst (IsDecided d q text) (sym w.reach-is)
-          (decided_look d q text c.args.here.active.now t.asked.items c.requires.here.active t refl c.requires.here.tables c.others.index c.others.best.rule c.others.best.len
-          (omega (arith, c.others-test.false, ap length c.asked-index-end.ensures)) c.others.invariant.best c.look-sight.result.reach
-          (nil_from_length t.asked.items (omega (arith, zero, ap length c.asked-2.ensures))) c.look-sight.ensures.decided)
-      | else-is_empty w ↦ subst (IsDecided d q text) (sym w.reach-is) (decided_whole d q text)
-    ]
+    let text = c.args.text.now in
+    let best = c.others.best in
+    let q = c.args.state in
+    record {
+      winner =
+          subst (λ r. Wins d c.args.state text r best.len) (sym c.place_of.ensures)
+          (best_wins d c.args.state text c.args.here.active.now t.asked.items c.requires.here.active t refl c.requires.here.tables c.others.index best.rule best.len
+          (omega (arith, c.others-test.false, ap length c.asked-index-end.ensures)) c.others.invariant.best (omega (arith, c.if-best-eq0.false)));
+      decided = elim c.if-is_empty.branch [
+        | then-is_empty w ↦
+            let zero : length c.asked-2.result.now ≡ 0 = search (rules, arith) in
+            subst (IsDecided d q text) (sym w.reach-is)
+            (decided_look d q text c.args.here.active.now t.asked.items c.requires.here.active t refl c.requires.here.tables c.others.index c.others.best.rule c.others.best.len
+            (omega (arith, c.others-test.false, ap length c.asked-index-end.ensures)) c.others.invariant.best c.look-sight.result.reach
+            (nil_from_length t.asked.items (omega (arith, zero, ap length c.asked-2.ensures))) c.look-sight.ensures.decided)
+        | else-is_empty w ↦ subst (IsDecided d q text) (sym w.reach-is) (decided_whole d q text)
+      ];
+    }
 
-pub returns-clause-decided : goal.returns-clause-decided
-returns-clause-decided g c =
+pub returns-clause-asked : goal.returns-clause-asked
+returns-clause-asked g c =
     let d = definition_of g.L.StorageT.Id.number c.args.definition.now in
-    let q = c.args.state in
-    let text = c.args.text.now in
     let t = c.args.here.tables.now in
-    elim c.if-is_empty.branch [
-      | then-is_empty w ↦
-          let zero : length c.asked-2.result.now ≡ 0 = search (rules, arith) in
-          subst (IsDecided d q text) (sym w.reach-is)
-          (decided_look d q text c.args.here.active.now t.asked.items c.requires.here.active t refl c.requires.here.tables c.others.index c.others.best.rule c.others.best.len
-          (omega (arith, c.others-test.false, ap length c.asked-index-end.ensures)) c.others.invariant.best c.look-sight.result.reach
-          (nil_from_length t.asked.items (omega (arith, zero, ap length c.asked-2.ensures))) c.look-sight.ensures.decided)
-      | else-is_empty w ↦ subst (IsDecided d q text) (sym w.reach-is) (decided_whole d q text)
-    ]
-
-pub returns-then-best-eq0-clause-exact : goal.returns-then-best-eq0-clause-exact
-returns-then-best-eq0-clause-exact g c =
-    omega (
-      arith,
-      c.others.invariant.counted,
-      c.others.auto.index-end,
-      c.others-test.false,
-      ap length c.asked-index-end.ensures,
-      c.requires.here.untabled,
-    )
-
-pub returns-clause-exact : goal.returns-clause-exact
-returns-clause-exact g c =
-    omega (
-      arith,
-      c.others.invariant.counted,
-      c.others.auto.index-end,
-      c.others-test.false,
-      ap length c.asked-index-end.ensures,
-      c.requires.here.untabled,
-    )
+    let places = c.args.here.active.now in
+    record {
+      counted = omega (
+        arith,
+        c.others.invariant.counted,
+        c.others.auto.index-end,
+        ap length c.asked-index-end.ensures,
+        length-places_of d c.args.state places c.requires.here.active,
+        others_few d c.args.state c.args.text.now places t.asked.items c.requires.here.active t refl c.requires.here.tables,
+      );
+      exact = omega (
+        arith,
+        c.others.invariant.counted,
+        c.others.auto.index-end,
+        c.others-test.false,
+        ap length c.asked-index-end.ensures,
+        c.requires.here.untabled,
+      );
+    }
