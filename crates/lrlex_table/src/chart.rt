@@ -1,5 +1,5 @@
 //! The table of one rule: each row stands for the threads of its NFA, in order.
-ghost use Rattle.std.specs.Prelude.{◌≡◌, ◌≢◌, ℕ, ◌+◌, ◌-◌, ◌*◌, ◌<◌, ◌≤◌, true, Some, None, [], ◌∷◌, map, length, vec_len, IsTrue, IfOk, IfSome, slice_index};
+ghost use Rattle.std.specs.Prelude.{◌≡◌, ◌≢◌, ◌+◌, ◌-◌, ◌<◌, ◌≤◌, true, Some, None, [], ◌∷◌, vec_len, IsTrue, IfOk, IfSome};
 ghost use Rattle.regex_nfa.specs.Sides.{seen};
 ghost use Rattle.regex_dfa.specs.Walks.{AreStates};
 ghost use Rattle.regex.specs.Patterns.{Re};

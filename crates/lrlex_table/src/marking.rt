@@ -1,7 +1,7 @@
 //! How a table is made of its rows: its cells are marked.
 ghost use Rattle.std.specs.Prelude.{◌≡◌, ℕ, ◌*◌, ◌<◌, List, length, IfSome, vec_len, slice_index_or};
 ghost use Rattle.regex.specs.Patterns.{Re};
-ghost use Rattle.lrlex_table.specs.Sound.{row_in, rows_in, is_marked, wins_at};
+ghost use Rattle.lrlex_table.specs.Sound.{row_in, is_marked, wins_at};
 ghost use Rattle.lrlex_table.specs.Merged.{IsTableOf, Serves};
 
 use crate::table::{MARK, Table, win_in};

@@ -1,5 +1,5 @@
 //! The table of the rules of two tables. Each row stands for a row of each.
-ghost use Rattle.std.specs.Prelude.{◌≡◌, ◌≢◌, ℕ, ◌+◌, ◌-◌, ◌*◌, ◌<◌, ◌≤◌, ◌++◌, List, length, vec_len, IsTrue, IfOk, IfSome, None, Some, slice_index_or};
+ghost use Rattle.std.specs.Prelude.{◌≡◌, ◌≢◌, ◌+◌, ◌-◌, ◌*◌, ◌<◌, ◌≤◌, ◌++◌, List, length, vec_len, IsTrue, IfOk, IfSome, None, Some};
 ghost use Rattle.regex.specs.Patterns.{Re};
 ghost use Rattle.lrlex_table.specs.Merged.{next_of, IsTableOf};
 ghost use Rattle.lrlex_table.specs.Grids.{first_win, pair_at, IsRun, HasPairOf, IsGridBelow};
