@@ -78,10 +78,11 @@ pub record HasRow (old new : List (List ℕ)) (threads : List ℕ) (v : ℕ) : T
   pub within : v < length new
   pub is : threads_at new v ≡ threads
 
+-- the same of two charts
 abbrev pub HasRowOf : Chart → Chart → List ℕ → ℕ → Type 0
 HasRowOf old new = HasRow (lists_of old.rows) (lists_of new.rows)
 
--- the same, where v is not row 1
+-- on the byte, row r goes to row v, which is not row 1
 abbrev pub IsCellOf : Nfa → List (List ℕ) → Bool → ℕ → ℕ → ℕ → Type 0
 IsCellOf nfa rows matched r b v = (v ≢ 1) × IsCell nfa rows matched r b v
 
@@ -99,7 +100,7 @@ abbrev pub ClassesLead : Dfa → List (List ℕ) → Bool → ℕ → List (Opti
 ClassesLead dfa rows matched r led =
     (b v : ℕ) → b < 256 → slice_index_or led (slice_index dfa.class_of b) None ≡ Some v → IsCellOf dfa.nfa rows matched r b v
 
--- the rows below n have all their cells
+-- the rows below n have all their cells, and no others have any
 pub record IsFilledBelow (nfa : Nfa) (c : Chart) (n : ℕ) : Type 0 where
   -- rows and cells are those of the NFA
   pub chart : IsChart nfa (lists_of c.rows) c.next.items c.wins.items
@@ -110,6 +111,7 @@ pub record IsFilledBelow (nfa : Nfa) (c : Chart) (n : ℕ) : Type 0 where
   -- and each has a cell for each byte
   pub cells : vec_len c.next ≡ n * 256
 
+-- the row of the chart has its cells below this byte
 abbrev pub IsFillingOf : Nfa → Chart → ℕ → ℕ → List ℕ → Bool → Type 0
 IsFillingOf nfa c = IsFilling nfa (lists_of c.rows) c.next.items c.wins.items
 
