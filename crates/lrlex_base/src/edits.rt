@@ -15,7 +15,9 @@ pub struct Edit<'e> {
 
 // What stands behind this front, or none where the bytes have another.
 fn behind<'t>(bytes: &'t [u8], front: &[u8]) -> Option<&'t [u8]>
-    ensures { MatchOption result ((rest : List ℕ) → bytes.now ≢ front.now ++ rest) (λ rest. bytes.now ≡ front.now ++ rest.now) }
+    ensures { MatchOption result
+        ((rest : List ℕ) → bytes.now ≢ front.now ++ rest)
+        (λ rest. bytes.now ≡ front.now ++ rest.now) }
 {
     bytes.strip_prefix(front)
 }
@@ -30,7 +32,8 @@ impl<'e> Edit<'e> {
 
     /// Whether the edit makes `new` of `old`. False where it doesn't fit `old`.
     pub fn gives(&self, old: &str, new: &str) -> bool
-        ensures { IsTrue result ↔ (Fits old.now self.now.removed × (new.now ≡ edited old.now (as_span self.now.removed) self.now.put.now)) }
+        ensures { IsTrue result ↔ (Fits old.now self.now.removed
+            × (new.now ≡ edited old.now (as_span self.now.removed) self.now.put.now)) }
     {
         if !self.fits(old) {
             return false;
@@ -49,7 +52,8 @@ impl<'e> Edit<'e> {
     /// The text that the edit makes of `old`, which it fits.
     pub fn apply<A: Allocator>(&self, alloc: A, old: &str) -> Result<String<A>, AllocError>
         requires { Fits old.now self.now.removed }
-        ensures { IfOk result (λ s. string_bytes s ≡ edited old.now (as_span self.now.removed) self.now.put.now) }
+        ensures { IfOk result (λ s.
+            string_bytes s ≡ edited old.now (as_span self.now.removed) self.now.put.now) }
     {
         let mut new = String::new(alloc);
         new.push_str(&old[..self.removed.start()])?;

@@ -32,7 +32,8 @@ fn add_starts<A: Allocator>(
     piece: &str,
 ) -> Result<(), AllocError>
     requires { at + length piece.now < 2 ^ 64 }
-    ensures ok { OnOk result (starts.new.items ≡ starts.old.items ++ starts_after (newlines_from at piece.now)) }
+    ensures ok { OnOk result
+        (starts.new.items ≡ starts.old.items ++ starts_after (newlines_from at piece.now)) }
     ensures err { OnErr result (starts.new.items ≡ starts.old.items) }
     ensures no_newline { newlines_from at piece.now ≡ [] → IsOk result }
 {
@@ -51,7 +52,9 @@ fn add_starts<A: Allocator>(
 // How many lines but the first begin at or before the place.
 fn lines_begun(starts: &[usize], at: usize) -> usize
     ensures bound { result ≤ length starts.now }
-    ensures count { (text : List ℕ) → at ≤ length text → starts.now ≡ starts_after (newlines_from 0 text) → result ≡ count_by is_newline (take at text) }
+    ensures count { (text : List ℕ) →
+        at ≤ length text → starts.now ≡ starts_after (newlines_from 0 text) →
+        result ≡ count_by is_newline (take at text) }
 {
     starts.partition_point(
         |s: &usize| -> bool
@@ -102,8 +105,10 @@ impl<A: Allocator> NewlineCache<A> {
     pub fn feed(&mut self, piece: &str) -> Result<(), AllocError>
         requires { self.old.fed + length piece.now < 2 ^ 64 }
         ensures fed { OnOk result (self.new.fed ≡ self.old.fed + length piece.now) }
-        ensures newlines { OnOk result (self.new.newlines ≡ self.old.newlines ++ newlines_from self.old.fed piece.now) }
-        ensures pieces { (text : List ℕ) → AreBreaksOf text self.old → OnOk result (AreBreaksOf (text ++ piece.now) self.new) }
+        ensures newlines { OnOk result
+            (self.new.newlines ≡ self.old.newlines ++ newlines_from self.old.fed piece.now) }
+        ensures pieces { (text : List ℕ) → AreBreaksOf text self.old →
+            OnOk result (AreBreaksOf (text ++ piece.now) self.new) }
         ensures unchanged { OnErr result (self.new ≡ self.old) }
         ensures no_newline { newlines_from self.old.fed piece.now ≡ [] → IsOk result }
     {
@@ -115,7 +120,8 @@ impl<A: Allocator> NewlineCache<A> {
     /// Line and column of the place before this byte, both from 1. The column counts the characters of the line's front in `src`. None
     /// exactly where `src` hasn't the length that was fed or the byte is past its end.
     pub fn byte_to_line_num_and_col_num(&self, src: &str, byte: usize) -> Option<(usize, usize)>
-        requires newlines { length src.now ≡ self.now.fed → self.now.newlines ≡ newlines_from 0 src.now }
+        requires newlines { length src.now ≡ self.now.fed →
+            self.now.newlines ≡ newlines_from 0 src.now }
         requires boundary { byte ≤ length src.now → IsCharBoundary src.now byte }
         ensures none { IsNone result ↔ ((length src.now ≢ self.now.fed) ⊎ (length src.now < byte)) }
         ensures place { IfSome result (λ p. p ≡ place_of src.now byte) }
@@ -132,11 +138,14 @@ impl<A: Allocator> NewlineCache<A> {
     /// The ends of the whole lines that the span touches, without the newline of the last one.
     pub fn span_line_bytes(&self, span: Span) -> (usize, usize)
         requires { span_end span ≤ self.now.fed }
-        ensures lines { (text : List ℕ) → AreBreaksOf text self.now → let lines = whole_lines text (as_span span) in
+        ensures lines { (text : List ℕ) → AreBreaksOf text self.now →
+            let lines = whole_lines text (as_span span) in
             (result.0 ≡ lines.start) × (result.1 ≡ lines.end) }
 
         // They can be cut out of the text.
-        ensures fits { (text : List ℕ) → IsUtf8 text → AreBreaksOf text self.now → (result.0 ≤ result.1) × IsCharBoundary text result.0 × IsCharBoundary text result.1 }
+        ensures fits { (text : List ℕ) → IsUtf8 text → AreBreaksOf text self.now →
+            (result.0 ≤ result.1)
+            × IsCharBoundary text result.0 × IsCharBoundary text result.1 }
     {
         let first = lines_begun(&self.starts, span.start());
         let last = lines_begun(&self.starts, span.end());

@@ -48,7 +48,8 @@ impl<StorageT: Id, A: Allocator + Copy> CTTokenMapBuilder<StorageT, A> {
     ) -> Result<CTTokenMapBuilder<StorageT, A>, AllocError>
         ensures mod_name { IfOk result (λ b. b.mod_name ≡ mod_name.now) }
         ensures type_name { IfOk result (λ b. b.type_name ≡ type_name.now) }
-        ensures tokens { IfOk result (λ b. AreTokensOf StorageT.output (entries_of token_map.now) b.tokens) }
+        ensures tokens { IfOk result (λ b.
+            AreTokensOf StorageT.output (entries_of token_map.now) b.tokens) }
         ensures dead_code { IfOk result (λ b. b.dead_code ≡ false) }
     {
         Ok(CTTokenMapBuilder {
@@ -67,7 +68,8 @@ impl<StorageT: Id, A: Allocator + Copy> CTTokenMapBuilder<StorageT, A> {
         alloc: A,
         rename_map: Option<&HashMap<&str, &str>>,
     ) -> Result<CTTokenMapBuilder<StorageT, A>, AllocError>
-        ensures { IfOk result (λ b. b ≡ record self { tokens = map (renamed (look_up rename_map.entry)) self.tokens }) }
+        ensures { IfOk result (λ b.
+            b ≡ record self { tokens = map (renamed (look_up rename_map.entry)) self.tokens }) }
     {
         let tokens = renamed_tokens(alloc, &self.tokens, rename_map)?;
         Ok(CTTokenMapBuilder { tokens, ..self })
@@ -86,7 +88,8 @@ impl<StorageT: Id, A: Allocator + Copy> CTTokenMapBuilder<StorageT, A> {
     /// The module's text, or why there is none. The module's name is tested first, then the type's, then token by token.
     pub fn build(&self, alloc: A) -> Result<Result<String<A>, TokenMapFault<A>>, AllocError>
         ensures module { IfOk result (λ r. written r ≡ module_text self.now) }
-        ensures distinct { IfOk result (λ r. IfOk r (λ _. IsDistinct bytes_eq (map constant_of self.now.tokens))) }
+        ensures distinct { IfOk result (λ r.
+            IfOk r (λ _. IsDistinct bytes_eq (map constant_of self.now.tokens))) }
     {
         if !is_identifier(&self.mod_name) {
             return Ok(Err(TokenMapFault::BadModuleName));
@@ -116,12 +119,14 @@ pub fn ct_token_map<StorageT: Id, A: Allocator + Copy>(
     token_map: &HashMap<String, StorageT>,
     rename_map: Option<&HashMap<&str, &str>>,
 ) -> Result<Result<String<A>, TokenMapFault<A>>, AllocError>
-    ensures { IfOk result (λ r. (tokens : List NamedToken) × AreTokensOf StorageT.output (entries_of token_map.now) tokens × (written r ≡ module_text record {
-      mod_name = mod_name.now;
-      type_name = type_name.now;
-      tokens = map (renamed (look_up rename_map.entry)) tokens;
-      dead_code = true;
-    })) }
+    ensures { IfOk result (λ r. (tokens : List NamedToken)
+        × AreTokensOf StorageT.output (entries_of token_map.now) tokens
+        × (written r ≡ module_text record {
+          mod_name = mod_name.now;
+          type_name = type_name.now;
+          tokens = map (renamed (look_up rename_map.entry)) tokens;
+          dead_code = true;
+        })) }
 {
     let named = CTTokenMapBuilder::new(alloc, mod_name, type_name, token_map)?;
     let shown = named.rename_map(alloc, rename_map)?;

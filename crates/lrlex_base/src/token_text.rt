@@ -66,7 +66,8 @@ pub(crate) fn first_fault<A: Allocator + Copy>(
     alloc: A,
     tokens: &[Token<A>],
 ) -> Result<Option<TokenMapFault<A>>, AllocError>
-    ensures { IfOk result (λ fault. option_map fault_view fault ≡ first_fault [] (map token_view tokens.now)) }
+    ensures { IfOk result (λ fault.
+        option_map fault_view fault ≡ first_fault [] (map token_view tokens.now)) }
 {
     let mut constants: Vec<String<A>, A> = Vec::new(alloc);
     for token in tokens {
@@ -90,7 +91,8 @@ fn line_of<A: Allocator + Copy>(
     type_name: &str,
     token: &Token<A>,
 ) -> Result<String<A>, AllocError>
-    ensures { IfOk result (λ s. string_bytes s ≡ constant_line type_name.now (token_view token.now)) }
+    ensures { IfOk result (λ s.
+        string_bytes s ≡ constant_line type_name.now (token_view token.now)) }
 {
     let constant = constant_of(alloc, &token.shown)?;
     let id = token.id.as_str();
@@ -104,7 +106,8 @@ fn push_lines<A: Allocator + Copy>(
     type_name: &str,
     tokens: &[Token<A>],
 ) -> Result<(), AllocError>
-    ensures { OnOk result (string_bytes text.new ≡ string_bytes text.old ++ flat_map (constant_line type_name.now) (map token_view tokens.now)) }
+    ensures { OnOk result (string_bytes text.new ≡ string_bytes text.old
+        ++ flat_map (constant_line type_name.now) (map token_view tokens.now)) }
 {
     for token in tokens {
         let line = line_of(alloc, type_name, token)?;
@@ -115,7 +118,8 @@ fn push_lines<A: Allocator + Copy>(
 
 // Appends the ids of the tokens, with a comma and a blank between each two.
 fn push_ids<A: Allocator>(text: &mut String<A>, tokens: &[Token<A>]) -> Result<(), AllocError>
-    ensures { OnOk result (string_bytes text.new ≡ string_bytes text.old ++ join_by (λ t. t.id) (codes ", ") (map token_view tokens.now)) }
+    ensures { OnOk result (string_bytes text.new ≡ string_bytes text.old
+        ++ join_by (λ t. t.id) (codes ", ") (map token_view tokens.now)) }
 {
     for (i, token) in tokens.iter().enumerate() {
         if i > 0 {

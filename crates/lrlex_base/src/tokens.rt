@@ -25,7 +25,8 @@ fn sort_tokens<A: Allocator>(tokens: &mut Vec<Token<A>, A>)
 {
     tokens.sort_unstable_by(
         |a: &Token<A>, b: &Token<A>| -> Ordering
-            ensures { result ≡ slice_cmp nat_cmp (string_bytes a.now.name) (string_bytes b.now.name) }
+            ensures { result
+                ≡ slice_cmp nat_cmp (string_bytes a.now.name) (string_bytes b.now.name) }
         { a.name.as_str().cmp(b.name.as_str()) },
     );
 }
@@ -52,8 +53,10 @@ fn tokens_listed<StorageT: Id, A: Allocator + Copy>(
     alloc: A,
     token_map: &HashMap<String, StorageT>,
 ) -> Result<Vec<Token<A>, A>, AllocError>
-    ensures names { IfOk result (λ v. map (λ t. string_bytes t.name) v.items ≡ map (λ e. string_bytes e.0) token_map.now.entries) }
-    ensures each { IfOk result (λ v. All (λ t. IsTokenOf StorageT.output (entries_of token_map.now) (token_view t)) v.items) }
+    ensures names { IfOk result (λ v. map (λ t. string_bytes t.name) v.items
+        ≡ map (λ e. string_bytes e.0) token_map.now.entries) }
+    ensures each { IfOk result (λ v.
+        All (λ t. IsTokenOf StorageT.output (entries_of token_map.now) (token_view t)) v.items) }
 {
     let mut tokens: Vec<Token<A>, A> = Vec::new(alloc);
     for (name, id) in token_map {
@@ -68,7 +71,8 @@ pub(crate) fn tokens_of<StorageT: Id, A: Allocator + Copy>(
     alloc: A,
     token_map: &HashMap<String, StorageT>,
 ) -> Result<Vec<Token<A>, A>, AllocError>
-    ensures { IfOk result (λ v. AreTokensOf StorageT.output (entries_of token_map.now) (map token_view v.items)) }
+    ensures { IfOk result (λ v.
+        AreTokensOf StorageT.output (entries_of token_map.now) (map token_view v.items)) }
 {
     let mut tokens = tokens_listed(alloc, token_map)?;
     sort_tokens(&mut tokens);
@@ -94,7 +98,8 @@ pub(crate) fn renamed_tokens<A: Allocator + Copy>(
     tokens: &[Token<A>],
     renames: Option<&HashMap<&str, &str>>,
 ) -> Result<Vec<Token<A>, A>, AllocError>
-    ensures { IfOk result (λ v. map token_view v.items ≡ map (renamed (look_up renames.entry)) (map token_view tokens.now)) }
+    ensures { IfOk result (λ v. map token_view v.items
+        ≡ map (renamed (look_up renames.entry)) (map token_view tokens.now)) }
 {
     let mut all: Vec<Token<A>, A> = Vec::new(alloc);
     for token in tokens {

@@ -55,11 +55,15 @@ is_state_name name = is_ascii_alphabetic (slice_index name 0) && list_all is_sta
 abbrev pub declared_name : Bool → Piece → Declared
 declared_name exclusive name = if is_state_name name.text then Name exclusive name else Wrong (fault_at InvalidStartStateName name.at)
 
--- the names of a declaration, which are cut at each single white space character
+-- the names are cut at each single white space character
+abbrev pub names_in : Bool → Piece → List Declared
+names_in exclusive parameters = map (declared_name exclusive) (cut is_white_space parameters)
+
+-- the names of a declaration
 abbrev pub declared_names : Piece → Option Bool → Piece → List Declared
 declared_names line None parameters = Wrong (fault_at UnknownDeclaration line.at) ∷ []
 declared_names line (Some exclusive) parameters =
-    if is_empty parameters.text then Wrong (fault_at UnknownDeclaration line.at) ∷ [] else map (declared_name exclusive) (cut is_white_space parameters)
+    if is_empty parameters.text then Wrong (fault_at UnknownDeclaration line.at) ∷ [] else names_in exclusive parameters
 
 -- what a line without the white space round it declares
 abbrev pub declared_by : Piece → List Declared

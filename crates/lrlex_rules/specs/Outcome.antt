@@ -90,9 +90,13 @@ rules_events s text declared (Some mark) =
     let rest = rules_section text mark in
     end_events text (events_after (line_event s) declared (section_lines (allows_comments s.flags) (lines rest))) (section_end (lines rest))
 
+-- the events of a rule file behind those before it, where comments are allowed or not in its declarations
+abbrev pub file_events : Settings → Bool → List ℕ → List Event → List Event
+file_events s comments text earlier = rules_events s text (events_after state_event earlier (declarations comments text)) (section_end (trimmed_lines text))
+
 -- the events of a rule file
 abbrev pub events_of : Settings → List ℕ → List Event
-events_of s text = rules_events s text (events_after state_event (NewState initial ∷ []) (declarations (allows_comments s.flags) text)) (section_end (trimmed_lines text))
+events_of s text = file_events s (allows_comments s.flags) text (NewState initial ∷ [])
 
 -- the place of a duplicate of this original
 abbrev pub same_subject : Subject → Subject → Bool

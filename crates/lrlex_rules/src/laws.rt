@@ -19,13 +19,16 @@ pub fn flag_laws()
 
 /// An operation equals itself alone.
 pub fn operation_laws()
-    ensures { (a b : StartStateOperation) → IsTrue (⟦<StartStateOperation as PartialEq>⟧.eq a b) ↔ (a ≡ b) }
+    ensures { (a b : StartStateOperation) →
+        IsTrue (⟦<StartStateOperation as PartialEq>⟧.eq a b) ↔ (a ≡ b) }
 {}
 
 /// A text is cut in one way at the characters that pass a test, as its lines are: it is the pieces with those characters
 /// between them, and no piece has such a character.
 pub fn line_laws()
-    ensures some { (p : ℕ → Bool) (x : Piece) → (pieces : List (List ℕ)) × (between : List ℕ) × IsCut p (chars x.text) pieces between }
+    ensures some { (p : ℕ → Bool) (x : Piece) →
+        (pieces : List (List ℕ)) × (between : List ℕ) × IsCut p (chars x.text) pieces between }
     ensures only { (p : ℕ → Bool) (x : Piece) (pieces : List (List ℕ)) (between : List ℕ)
-        → IsCut p (chars x.text) pieces between → map (λ y. y.text) (cut p x) ≡ map encode_utf8_all pieces }
+        → IsCut p (chars x.text) pieces between
+        → map (λ y. y.text) (cut p x) ≡ map encode_utf8_all pieces }
 {}

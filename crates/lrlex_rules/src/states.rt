@@ -59,8 +59,12 @@ impl StartState {
         exclusive: bool,
         name_span: Span,
     ) -> Result<StartState, AllocError>
-        ensures { IfOk result (λ s. as_state s
-            ≡ record { id = id; name = name.now; exclusive = exclusive; name_span = as_span name_span }) }
+        ensures { IfOk result (λ s. as_state s ≡ record {
+          id = id;
+          name = name.now;
+          exclusive = exclusive;
+          name_span = as_span name_span;
+        }) }
     {
         let name = String::from_str(alloc, name)?;
         Ok(StartState {

@@ -1,5 +1,5 @@
 -- The table of one rule: a list of threads for each row.
-use Rattle.std.specs.Prelude.{◌≡◌, ◌≢◌, ◌⊎◌, ℕ, ◌+◌, ◌*◌, ◌<◌, ◌≤◌, Bool, true, List, [], ◌∷◌, ◌++◌, length, map, Vec, Option, Some, None, is_some, if◌then◌else◌, ◌==◌, slice_index, slice_index_or}
+use Rattle.std.specs.Prelude.{◌≡◌, ◌≢◌, ◌⊎◌, ℕ, ◌+◌, ◌*◌, ◌<◌, ◌≤◌, Bool, true, List, [], ◌∷◌, ◌++◌, length, map, Vec, vec_len, Option, Some, None, is_some, if◌then◌else◌, ◌==◌, slice_index, slice_index_or}
 use Rattle.std.specs.declared.alloc.Global.{Global}
 use Rattle.regex_hir.specs.Looks.{Side}
 use Rattle.regex_hir.specs.declared.look.Look as look
@@ -10,6 +10,7 @@ use Rattle.regex_nfa.specs.declared.nfa.Nfa.{Nfa}
 use Rattle.regex_dfa.specs.Moves.{Test, Agrees, MovesForward}
 use Rattle.regex_dfa.specs.Walks.{AreStates}
 use Rattle.regex_dfa.specs.declared.dfa.Dfa.{Dfa}
+use Rattle.lrlex_table.specs.declared.chart.Chart.{Chart}
 
 -- the start of the text, or of a line
 abbrev pub IsStart : look.Look → Type 0
@@ -77,7 +78,11 @@ pub record HasRow (old new : List (List ℕ)) (threads : List ℕ) (v : ℕ) : T
   pub within : v < length new
   pub is : threads_at new v ≡ threads
 
--- the same, where v is not row 1
+-- the same of two charts
+abbrev pub HasRowOf : Chart → Chart → List ℕ → ℕ → Type 0
+HasRowOf old new = HasRow (lists_of old.rows) (lists_of new.rows)
+
+-- on the byte, row r goes to row v, which is not row 1
 abbrev pub IsCellOf : Nfa → List (List ℕ) → Bool → ℕ → ℕ → ℕ → Type 0
 IsCellOf nfa rows matched r b v = (v ≢ 1) × IsCell nfa rows matched r b v
 
@@ -94,3 +99,27 @@ pub record IsFilling (nfa : Nfa) (rows : List (List ℕ)) (next : List ℕ) (win
 abbrev pub ClassesLead : Dfa → List (List ℕ) → Bool → ℕ → List (Option ℕ) → Type 0
 ClassesLead dfa rows matched r led =
     (b v : ℕ) → b < 256 → slice_index_or led (slice_index dfa.class_of b) None ≡ Some v → IsCellOf dfa.nfa rows matched r b v
+
+-- the rows below n have all their cells, and no others have any
+pub record IsFilledBelow (nfa : Nfa) (c : Chart) (n : ℕ) : Type 0 where
+  -- rows and cells are those of the NFA
+  pub chart : IsChart nfa (lists_of c.rows) c.next.items c.wins.items
+  -- there are so many rows
+  pub rows : n ≤ vec_len c.rows
+  -- for each of them it is noted what matches there
+  pub wins : vec_len c.wins ≡ n
+  -- and each has a cell for each byte
+  pub cells : vec_len c.next ≡ n * 256
+
+-- the row of the chart has its cells below this byte
+abbrev pub IsFillingOf : Nfa → Chart → ℕ → ℕ → List ℕ → Bool → Type 0
+IsFillingOf nfa c = IsFilling nfa (lists_of c.rows) c.next.items c.wins.items
+
+-- the same, with the rows to which the row's classes lead, as far as they were met
+pub record IsFillingBy (dfa : Dfa) (c : Chart) (row byte : ℕ) (threads : List ℕ) (matched : Bool) (led : List (Option ℕ)) : Type 0 where
+  -- the row has its cells below this byte
+  pub filling : IsFillingOf dfa.nfa c row byte threads matched
+  -- where a class has a row in the list, each of its bytes leads there
+  pub classes : ClassesLead dfa (lists_of c.rows) matched row led
+  -- the list has a place for each class
+  pub wide : length led ≡ 256

@@ -3,7 +3,7 @@ use Rattle.std.specs.Prelude.{◌≡◌, ℕ, ◌+◌, ◌<◌, ◌≤◌, Bool,
 use Rattle.std.specs.List.{list_any, sum_by}
 use Rattle.regex.specs.Patterns.{Re}
 use Rattle.lrlex_rules.specs.Patterns.{match_length}
-use Rattle.lrlex_table.specs.Merged.{pattern_at, IsTableOf}
+use Rattle.lrlex_table.specs.Merged.{pattern_at, IsTableOf, IsLongest, NoneMatches}
 use Rattle.lrlex_table.specs.Decided.{IsText, BeginsAlike}
 use Rattle.lrlex_table.specs.declared.single.Single.{Single}
 use Rattle.lrlex_table.specs.declared.tables.Part.{Part}
@@ -31,10 +31,14 @@ abbrev pub AreRising : ℕ → ℕ → List ℕ → Type 0
 AreRising lo hi [] = lo ≤ hi
 AreRising lo hi (x ∷ xs) = (lo ≤ x) × AreRising (x + 1) hi xs
 
+-- the patterns at these places
+abbrev pub patterns_at : List Re → List ℕ → List Re
+patterns_at ps places = map (λ k. pattern_at ps k) places
+
 -- the table of some of the rules from lo on and below hi
 pub record IsPartOf (ps : List Re) (lo hi : ℕ) (p : Part) : Type 0 where
   pub rises : AreRising lo hi p.rules.items
-  pub table : IsTableOf (map (λ k. pattern_at ps k) p.rules.items) p.table
+  pub table : IsTableOf (patterns_at ps p.rules.items) p.table
 
 -- each is the table of some of the rules from lo on and below hi
 abbrev pub AreParts : List Re → ℕ → ℕ → List Part → Type 0
@@ -53,6 +57,18 @@ pub record ArePartsOf (ps : List Re) (lo hi : ℕ) (parts : List Part) (asked : 
 -- the tables are those of the rules with these patterns
 abbrev pub AreTablesOf : List Re → Tables → Type 0
 AreTablesOf ps t = ArePartsOf ps 0 (length ps) t.parts.items t.asked.items
+
+-- the tile is as long as the other at least, and where it isn't longer, its rule isn't a later one
+abbrev pub IsNoWorse : Tile → Tile → Type 0
+IsNoWorse tile other = (other.len ≤ tile.len) × (other.len ≡ tile.len → tile.rule ≤ other.rule)
+
+-- the tile, where there is one, has fewer bytes than this
+abbrev pub IsBelow : ℕ → Option Tile → Type 0
+IsBelow n tile = IfSome tile (λ t. t.len < n)
+
+-- the tile is that of the longest match of these patterns, where one matches
+abbrev pub IsLongestOf : List Re → List ℕ → Option Tile → Type 0
+IsLongestOf ps text tile = MatchOption tile (NoneMatches ps text) (λ t. IsLongest ps text t.rule t.len)
 
 -- Among some of the patterns none matches more than n bytes, and where that is not 0, k is the first that matches n.
 pub record IsBestAmong (ps : List Re) (among : ℕ → Bool) (text : List ℕ) (k n : ℕ) : Type 0 where

@@ -71,8 +71,10 @@ impl Budget {
 
     /// Puts back what was set aside.
     pub fn put_back(&mut self, aside: Budget)
-        ensures rows { self.old.rows + aside.rows < 2 ^ 64 → self.new.rows ≡ self.old.rows + aside.rows }
-        ensures work { self.old.work + aside.work < 2 ^ 64 → self.new.work ≡ self.old.work + aside.work }
+        ensures rows { self.old.rows + aside.rows < 2 ^ 64 →
+            self.new.rows ≡ self.old.rows + aside.rows }
+        ensures work { self.old.work + aside.work < 2 ^ 64 →
+            self.new.work ≡ self.old.work + aside.work }
     {
         self.rows = self.rows.saturating_add(aside.rows);
         self.work = self.work.saturating_add(aside.work);

@@ -1,11 +1,11 @@
 //! The table of one rule: each row stands for the threads of its NFA, in order.
-ghost use Rattle.std.specs.Prelude.{◌≡◌, ◌≢◌, ℕ, ◌+◌, ◌-◌, ◌*◌, ◌<◌, ◌≤◌, true, Some, None, [], ◌∷◌, map, length, vec_len, IsTrue, IfOk, IfSome, slice_index};
+ghost use Rattle.std.specs.Prelude.{◌≡◌, ◌≢◌, ◌+◌, ◌-◌, ◌<◌, ◌≤◌, true, Some, None, [], ◌∷◌, vec_len, IsTrue, IfOk, IfSome};
 ghost use Rattle.regex_nfa.specs.Sides.{seen};
 ghost use Rattle.regex_dfa.specs.Walks.{AreStates};
 ghost use Rattle.regex.specs.Patterns.{Re};
 ghost use Rattle.lrlex_table.specs.Steps.{Fits};
 ghost use Rattle.lrlex_table.specs.Merged.{Measures, IsTableOf};
-ghost use Rattle.lrlex_table.specs.Charts.{AsksForStarts, side_at, StepsFrom, StepsOn, win_of, lists_of, threads_at, IsCellOf, IsChart, IsFilling, HasRow, ClassesLead};
+ghost use Rattle.lrlex_table.specs.Charts.{AsksForStarts, side_at, StepsFrom, StepsOn, win_of, lists_of, threads_at, IsCellOf, HasRowOf, IsFilledBelow, IsFillingOf, IsFillingBy};
 
 use crate::budget::Budget;
 use crate::index::{Index, hash_of};
@@ -83,7 +83,8 @@ fn step_from(
     requires states { AreStates nfa.now threads.now }
     ensures fits { Fits scratch.new (vec_len nfa.now.states) }
     ensures states { IfOk result (λ o. IfSome o (λ m. AreStates nfa.now scratch.new.next.items)) }
-    ensures steps { IfOk result (λ o. IfSome o (StepsFrom nfa.now (seen before) byte threads.now scratch.new.next.items)) }
+    ensures steps { IfOk result (λ o.
+        IfSome o (StepsFrom nfa.now (seen before) byte threads.now scratch.new.next.items)) }
 {
     let place = Place {
         before,
@@ -115,8 +116,10 @@ fn step(
     requires fits { Fits scratch.old (vec_len dfa.now.nfa.states) }
     requires states { AreStates dfa.now.nfa threads.now }
     ensures fits { Fits scratch.new (vec_len dfa.now.nfa.states) }
-    ensures states { IfOk result (λ o. IfSome o (λ m. AreStates dfa.now.nfa scratch.new.next.items)) }
-    ensures steps { IfOk result (λ o. IfSome o (StepsOn dfa.now.nfa row byte threads.now scratch.new.next.items)) }
+    ensures states { IfOk result (λ o.
+        IfSome o (λ m. AreStates dfa.now.nfa scratch.new.next.items)) }
+    ensures steps { IfOk result (λ o.
+        IfSome o (StepsOn dfa.now.nfa row byte threads.now scratch.new.next.items)) }
 {
     if scratch.visits > MOST_VISITS_ALONE {
         return Ok(None);
@@ -143,7 +146,7 @@ fn step(
 
 impl Chart {
     fn new(alloc: Global, nfa: &Nfa) -> Result<Chart, AllocError>
-        ensures { IfOk result (λ c. IsChart nfa.now (lists_of c.rows) c.next.items c.wins.items × (vec_len c.next ≡ 0) × (vec_len c.wins ≡ 0)) }
+        ensures { IfOk result (λ c. IsFilledBelow nfa.now c 0) }
     {
         let mut rows = Vec::new(alloc);
         rows.push(Vec::new(alloc))?;
@@ -198,7 +201,7 @@ impl Chart {
         threads: &[StateId],
         most: u16,
     ) -> Result<Option<u16>, AllocError>
-        ensures row { IfOk result (λ o. IfSome o (HasRow (lists_of self.old.rows) (lists_of self.new.rows) threads.now)) }
+        ensures row { IfOk result (λ o. IfSome o (HasRowOf self.old self.new threads.now)) }
         ensures next { self.new.next ≡ self.old.next }
         ensures wins { self.new.wins ≡ self.old.wins }
     {
@@ -216,7 +219,7 @@ impl Chart {
         threads: &[StateId],
         most: u16,
     ) -> Result<Option<u16>, AllocError>
-        ensures row { IfOk result (λ o. IfSome o (HasRow (lists_of self.old.rows) (lists_of self.new.rows) threads.now)) }
+        ensures row { IfOk result (λ o. IfSome o (HasRowOf self.old self.new threads.now)) }
         ensures next { self.new.next ≡ self.old.next }
         ensures wins { self.new.wins ≡ self.old.wins }
     {
@@ -247,14 +250,12 @@ impl Chart {
     ) -> Result<Option<bool>, AllocError>
         requires starts { AsksForStarts dfa.now.nfa }
         requires fits { Fits scratch.old (vec_len dfa.now.nfa.states) }
-        requires chart { IsChart dfa.now.nfa (lists_of self.old.rows) self.old.next.items self.old.wins.items }
+        requires filled { IsFilledBelow dfa.now.nfa self.old row }
         requires row { row < vec_len self.old.rows }
-        requires wins { vec_len self.old.wins ≡ row }
-        requires next { vec_len self.old.next ≡ row * 256 }
         requires threads { threads.now ≡ threads_at (lists_of self.old.rows) row }
         ensures fits { Fits scratch.new (vec_len dfa.now.nfa.states) }
-        ensures filling { IfOk result (λ o. IfSome o
-            (IsFilling dfa.now.nfa (lists_of self.new.rows) self.new.next.items self.new.wins.items row 0 threads.now)) }
+        ensures filling { IfOk result (λ o.
+            IfSome o (IsFillingOf dfa.now.nfa self.new row 0 threads.now)) }
     {
         let Some(matched) = step(alloc, dfa, scratch, threads, row, None)? else {
             return Ok(None);
@@ -281,14 +282,12 @@ impl Chart {
     ) -> Result<Option<u16>, AllocError>
         requires starts { AsksForStarts dfa.now.nfa }
         requires fits { Fits scratch.old (vec_len dfa.now.nfa.states) }
-        requires filling { IsFilling dfa.now.nfa (lists_of self.old.rows) self.old.next.items self.old.wins.items row byte threads.now matched }
-        requires led { ClassesLead dfa.now (lists_of self.old.rows) matched row led.old }
-        requires classes { length led.old ≡ 256 }
+        requires filling { IsFillingBy dfa.now self.old row byte threads.now matched led.old }
         ensures fits { Fits scratch.new (vec_len dfa.now.nfa.states) }
         ensures filling { IfOk result (λ o. IfSome o (λ v.
-            IsFilling dfa.now.nfa (lists_of self.new.rows) self.new.next.items self.new.wins.items row byte threads.now matched)) }
-        ensures cell { IfOk result (λ o. IfSome o (IsCellOf dfa.now.nfa (lists_of self.new.rows) matched row byte)) }
-        ensures led { IfOk result (λ o. IfSome o (λ v. ClassesLead dfa.now (lists_of self.new.rows) matched row led.new)) }
+            IsFillingBy dfa.now self.new row byte threads.now matched led.new)) }
+        ensures cell { IfOk result (λ o.
+            IfSome o (IsCellOf dfa.now.nfa (lists_of self.new.rows) matched row byte)) }
     {
         let class = dfa.class_of[byte as usize] as usize;
         if let Some(to) = led[class] {
@@ -318,15 +317,11 @@ impl Chart {
     ) -> Result<bool, AllocError>
         requires starts { AsksForStarts dfa.now.nfa }
         requires fits { Fits scratch.old (vec_len dfa.now.nfa.states) }
-        requires chart { IsChart dfa.now.nfa (lists_of self.old.rows) self.old.next.items self.old.wins.items }
+        requires filled { IsFilledBelow dfa.now.nfa self.old row }
         requires row { row < vec_len self.old.rows }
-        requires wins { vec_len self.old.wins ≡ row }
-        requires next { vec_len self.old.next ≡ row * 256 }
         ensures fits { Fits scratch.new (vec_len dfa.now.nfa.states) }
-        ensures chart { IfOk result (λ b. IsTrue b → IsChart dfa.now.nfa (lists_of self.new.rows) self.new.next.items self.new.wins.items) }
-        ensures row { IfOk result (λ b. IsTrue b → row < vec_len self.new.rows) }
-        ensures wins { IfOk result (λ b. IsTrue b → vec_len self.new.wins ≡ row + 1) }
-        ensures next { IfOk result (λ b. IsTrue b → vec_len self.new.next ≡ (row + 1) * 256) }
+        ensures filled { IfOk result (λ b.
+            IsTrue b → IsFilledBelow dfa.now.nfa self.new (row + 1)) }
     {
         let threads = Vec::from_slice(alloc, self.rows[row as usize].as_slice())?;
         let Some(matched) = self.begin(alloc, dfa, scratch, &threads, row)? else {
@@ -355,13 +350,11 @@ impl Chart {
     ) -> Result<bool, AllocError>
         requires starts { AsksForStarts dfa.now.nfa }
         requires fits { Fits scratch.old (vec_len dfa.now.nfa.states) }
-        requires chart { IsChart dfa.now.nfa (lists_of self.old.rows) self.old.next.items self.old.wins.items }
-        requires wins { vec_len self.old.wins ≡ 0 }
-        requires next { vec_len self.old.next ≡ 0 }
-        ensures chart { IfOk result (λ b. IsTrue b → IsChart dfa.now.nfa (lists_of self.new.rows) self.new.next.items self.new.wins.items) }
-        ensures wins { IfOk result (λ b. IsTrue b → vec_len self.new.wins ≡ vec_len self.new.rows) }
-        ensures next { IfOk result (λ b. IsTrue b → vec_len self.new.next ≡ vec_len self.new.rows * 256) }
-        ensures paid { IfOk result (λ b. IsTrue b → vec_len self.new.wins + budget.new.rows ≤ budget.old.rows) }
+        requires filled { IsFilledBelow dfa.now.nfa self.old 0 }
+        ensures filled { IfOk result (λ b.
+            IsTrue b → IsFilledBelow dfa.now.nfa self.new (vec_len self.new.rows)) }
+        ensures paid { IfOk result (λ b.
+            IsTrue b → vec_len self.new.wins + budget.new.rows ≤ budget.old.rows) }
     {
         'rows: for row in 0..most {
             if row as usize == self.rows.len() {
@@ -389,8 +382,10 @@ pub fn chart_of(
     most: u16,
     budget: &mut Budget,
 ) -> Result<Option<Table>, AllocError>
-    ensures table { (re : Re) → Measures dfa.now.nfa re → IfOk result (λ o. IfSome o (IsTableOf (re ∷ []))) }
-    ensures paid { IfOk result (λ o. IfSome o (λ t. vec_len t.wins + budget.new.rows ≤ budget.old.rows)) }
+    ensures table { (re : Re) → Measures dfa.now.nfa re →
+        IfOk result (λ o. IfSome o (IsTableOf (re ∷ []))) }
+    ensures paid { IfOk result (λ o.
+        IfSome o (λ t. vec_len t.wins + budget.new.rows ≤ budget.old.rows)) }
 {
     if !asks_for_starts(&dfa.nfa) {
         return Ok(None);

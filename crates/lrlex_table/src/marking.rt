@@ -1,7 +1,7 @@
 //! How a table is made of its rows: its cells are marked.
 ghost use Rattle.std.specs.Prelude.{◌≡◌, ℕ, ◌*◌, ◌<◌, List, length, IfSome, vec_len, slice_index_or};
 ghost use Rattle.regex.specs.Patterns.{Re};
-ghost use Rattle.lrlex_table.specs.Sound.{row_in, rows_in, is_marked, wins_at};
+ghost use Rattle.lrlex_table.specs.Sound.{row_in, is_marked, wins_at};
 ghost use Rattle.lrlex_table.specs.Merged.{IsTableOf, Serves};
 
 use crate::table::{MARK, Table, win_in};
@@ -22,8 +22,10 @@ fn cell_of(wins: &[Option<u16>], row: u16) -> u16
 fn mark(cells: &mut [u16], wins: &[Option<u16>])
     requires { (i : ℕ) → slice_index_or cells.old i 0 < 32768 }
     ensures len { length cells.new ≡ length cells.old }
-    ensures rows { (i : ℕ) → i < length cells.old → row_in (slice_index_or cells.new i 0) ≡ slice_index_or cells.old i 0 }
-    ensures marks { (i : ℕ) → i < length cells.old → is_marked (slice_index_or cells.new i 0) ≡ wins_at wins.now (slice_index_or cells.old i 0) }
+    ensures rows { (i : ℕ) → i < length cells.old →
+        row_in (slice_index_or cells.new i 0) ≡ slice_index_or cells.old i 0 }
+    ensures marks { (i : ℕ) → i < length cells.old →
+        is_marked (slice_index_or cells.new i 0) ≡ wins_at wins.now (slice_index_or cells.old i 0) }
 {
     'cells: for at in 0..cells.len() {
         cells[at] = cell_of(wins, cells[at]);
@@ -36,7 +38,8 @@ pub(crate) fn marked_table(mut next: Vec<u16>, wins: Vec<Option<u16>>, start: u1
     requires wide { vec_len next ≡ vec_len wins * 256 }
     requires start { start < vec_len wins }
     requires inside { (i : ℕ) → slice_index_or next.items i 0 < vec_len wins }
-    ensures table { (ps : List Re) → Serves next.items wins.items start ps → IfSome result (IsTableOf ps) }
+    ensures table { (ps : List Re) → Serves next.items wins.items start ps →
+        IfSome result (IsTableOf ps) }
     ensures wins { IfSome result (λ t. t.wins ≡ wins) }
 {
     if start == 0 || wins.len() > MARK as usize || win_in(&wins, 0).is_some() {

@@ -1,8 +1,8 @@
 //! The table of the rules of two tables. Each row stands for a row of each.
-ghost use Rattle.std.specs.Prelude.{◌≡◌, ◌≢◌, ℕ, ◌+◌, ◌-◌, ◌*◌, ◌<◌, ◌≤◌, ◌++◌, List, length, vec_len, IsTrue, IfOk, IfSome, None, Some, slice_index_or};
+ghost use Rattle.std.specs.Prelude.{◌≡◌, ◌≢◌, ◌+◌, ◌-◌, ◌*◌, ◌<◌, ◌≤◌, ◌++◌, List, length, vec_len, IsTrue, IfOk, IfSome, None, Some};
 ghost use Rattle.regex.specs.Patterns.{Re};
 ghost use Rattle.lrlex_table.specs.Merged.{next_of, IsTableOf};
-ghost use Rattle.lrlex_table.specs.Grids.{first_win, pair_at, HasPair, IsPairCellOf, IsGridOf, IsPairingOf};
+ghost use Rattle.lrlex_table.specs.Grids.{first_win, pair_at, IsRun, HasPairOf, IsGridBelow};
 
 use crate::budget::Budget;
 use crate::index::{Index, hash_of_pair};
@@ -48,8 +48,8 @@ fn run_end(a: &Table, x: u16, b: &Table, y: u16, byte: usize) -> usize
     requires other { y < vec_len b.now.wins }
     ensures past { byte < result }
     ensures within { result ≤ 256 }
-    ensures row { (c : ℕ) → byte ≤ c → c < result → slice_index_or a.now.cells.items (x * 256 + c) 0 ≡ slice_index_or a.now.cells.items (x * 256 + byte) 0 }
-    ensures other { (c : ℕ) → byte ≤ c → c < result → slice_index_or b.now.cells.items (y * 256 + c) 0 ≡ slice_index_or b.now.cells.items (y * 256 + byte) 0 }
+    ensures row { IsRun a.now.cells.items x byte result }
+    ensures other { IsRun b.now.cells.items y byte result }
 {
     let (x, y) = (x as usize * 256, y as usize * 256);
     let (to, also) = (a.cells[x + byte], b.cells[y + byte]);
@@ -63,10 +63,7 @@ fn run_end(a: &Table, x: u16, b: &Table, y: u16, byte: usize) -> usize
 
 impl Grid {
     fn new(alloc: Global, a: &Table, b: &Table, shift: u16) -> Result<Option<Grid>, AllocError>
-        ensures grid { IfOk result (λ o. IfSome o (λ g. IsGridOf a.now b.now shift g.rows.items g.next.items g.wins.items)) }
-        ensures first { IfOk result (λ o. IfSome o (λ g. (g.first.0 ≡ a.now.start) × (g.first.1 ≡ b.now.start))) }
-        ensures next { IfOk result (λ o. IfSome o (λ g. vec_len g.next ≡ 0)) }
-        ensures wins { IfOk result (λ o. IfSome o (λ g. vec_len g.wins ≡ 0)) }
+        ensures { IfOk result (λ o. IfSome o (λ g. IsGridBelow a.now b.now shift g 0)) }
     {
         if a.start == 0 || b.start == 0 {
             return Ok(None);
@@ -109,7 +106,7 @@ impl Grid {
     /// The row of these two. None where there would be more than `most`.
     #[inline(never)]
     fn intern(&mut self, x: u16, y: u16, most: u16) -> Result<Option<u16>, AllocError>
-        ensures row { IfOk result (λ o. IfSome o (HasPair self.old.first.0 self.old.first.1 self.old.rows.items self.new.rows.items x y)) }
+        ensures row { IfOk result (λ o. IfSome o (HasPairOf self.old self.new x y)) }
         ensures next { self.new.next ≡ self.old.next }
         ensures wins { self.new.wins ≡ self.old.wins }
         ensures first { self.new.first ≡ self.old.first }
@@ -140,16 +137,11 @@ impl Grid {
         row: u16,
         most: u16,
     ) -> Result<bool, AllocError>
-        requires grid { IsGridOf a.now b.now shift self.old.rows.items self.old.next.items self.old.wins.items }
-        requires first { (self.old.first.0 ≡ a.now.start) × (self.old.first.1 ≡ b.now.start) }
+        requires filled { IsGridBelow a.now b.now shift self.old row }
         requires row { row < vec_len self.old.rows }
-        requires wins { vec_len self.old.wins ≡ row }
-        requires next { vec_len self.old.next ≡ row * 256 }
         ensures first { self.new.first ≡ self.old.first }
-        ensures grid { IfOk result (λ t. IsTrue t → IsGridOf a.now b.now shift self.new.rows.items self.new.next.items self.new.wins.items) }
-        ensures row { IfOk result (λ t. IsTrue t → row < vec_len self.new.rows) }
-        ensures wins { IfOk result (λ t. IsTrue t → vec_len self.new.wins ≡ row + 1) }
-        ensures next { IfOk result (λ t. IsTrue t → vec_len self.new.next ≡ (row + 1) * 256) }
+        ensures filled { IfOk result (λ t.
+            IsTrue t → IsGridBelow a.now b.now shift self.new (row + 1)) }
     {
         let (x, y) = self.rows[row as usize];
         let Some(win) = first_of(a.win_of(x), b.win_of(y), shift) else {
@@ -181,13 +173,9 @@ impl Grid {
         most: u16,
         budget: &mut Budget,
     ) -> Result<bool, AllocError>
-        requires grid { IsGridOf a.now b.now shift self.old.rows.items self.old.next.items self.old.wins.items }
-        requires first { (self.old.first.0 ≡ a.now.start) × (self.old.first.1 ≡ b.now.start) }
-        requires wins { vec_len self.old.wins ≡ 0 }
-        requires next { vec_len self.old.next ≡ 0 }
-        ensures grid { IfOk result (λ t. IsTrue t → IsGridOf a.now b.now shift self.new.rows.items self.new.next.items self.new.wins.items) }
-        ensures wins { IfOk result (λ t. IsTrue t → vec_len self.new.wins ≡ vec_len self.new.rows) }
-        ensures next { IfOk result (λ t. IsTrue t → vec_len self.new.next ≡ vec_len self.new.rows * 256) }
+        requires filled { IsGridBelow a.now b.now shift self.old 0 }
+        ensures filled { IfOk result (λ t.
+            IsTrue t → IsGridBelow a.now b.now shift self.new (vec_len self.new.rows)) }
     {
         'rows: for row in 0..most {
             if row as usize == self.rows.len() {

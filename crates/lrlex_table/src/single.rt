@@ -61,8 +61,10 @@ impl Single {
         alloc: Global,
         budget: &mut Budget,
     ) -> Result<Option<Table>, AllocError>
-        ensures given { (ps : List Re) → IfSome self.old.table (IsTableOf ps) → IfOk result (λ o. IfSome o (IsTableOf ps)) }
-        ensures kept { (ps : List Re) → IfSome self.old.table (IsTableOf ps) → IfSome self.new.table (IsTableOf ps) }
+        ensures given { (ps : List Re) → IfSome self.old.table (IsTableOf ps) →
+            IfOk result (λ o. IfSome o (IsTableOf ps)) }
+        ensures kept { (ps : List Re) → IfSome self.old.table (IsTableOf ps) →
+            IfSome self.new.table (IsTableOf ps) }
     {
         self.lists = self.lists.saturating_sub(1);
         if self.lists == 0 {

@@ -1,9 +1,9 @@
 //! The tables of a list of rules: as few as can be had, joined in pairs.
-ghost use Rattle.std.specs.Prelude.{◌≡◌, ℕ, Bool, ◌||◌, ◌+◌, ◌^◌, ◌<◌, ◌≤◌, List, [], ◌∷◌, ◌++◌, length, map, vec_len, slice_index, slice_index_or, IfOk, OnOk, IsSome, IfSome, MatchOption, IsTrue, IsFalse, IsUtf8};
+ghost use Rattle.std.specs.Prelude.{◌≡◌, ℕ, Bool, ◌||◌, ◌+◌, ◌^◌, ◌<◌, ◌≤◌, List, [], ◌∷◌, ◌++◌, length, map, vec_len, slice_index, IfOk, OnOk, IsSome, IfSome, MatchOption, IsTrue, IsFalse, IsUtf8};
 ghost use Rattle.regex.specs.Patterns.{Re};
-ghost use Rattle.lrlex_table.specs.Merged.{pattern_at, IsTableOf, IsLongest, NoneMatches};
+ghost use Rattle.lrlex_table.specs.Merged.{pattern_at, IsTableOf};
 ghost use Rattle.lrlex_table.specs.Decided.{IsDecidedBy};
-ghost use Rattle.lrlex_table.specs.Tables.{AreRising, AreSingle, rows_of, is_among, is_tabled, IsPartOf, AreParts, Covers, ArePartsOf, AreTablesOf, IsBestAmong, IsWinnerAmong, IsSightOf};
+ghost use Rattle.lrlex_table.specs.Tables.{AreRising, AreSingle, rows_of, is_among, is_tabled, patterns_at, IsPartOf, AreParts, Covers, ArePartsOf, AreTablesOf, IsNoWorse, IsBelow, IsLongestOf, IsBestAmong, IsWinnerAmong, IsSightOf};
 
 use crate::budget::Budget;
 use crate::product::product;
@@ -44,7 +44,8 @@ fn most_rows(a: &Table, b: &Table) -> u16 {
 fn join(alloc: Global, a: &Part, b: &Part, budget: &mut Budget) -> Result<Option<Part>, AllocError>
     ensures part { (ps : List Re) (lo hi : ℕ) → IsPartOf ps lo hi a.now → IsPartOf ps lo hi b.now →
         IfOk result (λ o. IfSome o (IsPartOf ps lo hi)) }
-    ensures rules { IfOk result (λ o. IfSome o (λ p. p.rules.items ≡ a.now.rules.items ++ b.now.rules.items)) }
+    ensures rules { IfOk result (λ o.
+        IfSome o (λ p. p.rules.items ≡ a.now.rules.items ++ b.now.rules.items)) }
 {
     let Some(last) = a.rules.last() else {
         return Ok(None)
@@ -80,7 +81,8 @@ fn put(
     part: Part,
     budget: &mut Budget,
 ) -> Result<(), AllocError>
-    ensures parts { (ps : List Re) (lo hi : ℕ) → AreParts ps lo hi parts.old.items → IsPartOf ps lo hi part →
+    ensures parts { (ps : List Re) (lo hi : ℕ) →
+        AreParts ps lo hi parts.old.items → IsPartOf ps lo hi part →
         OnOk result (AreParts ps lo hi parts.new.items) }
     ensures covers { OnOk result (Covers parts.new.items (part ∷ parts.old.items)) }
 {
@@ -104,8 +106,10 @@ fn hand_out_at(
     place: usize,
     budget: &mut Budget,
 ) -> Result<Option<Table>, AllocError>
-    ensures given { (pattern : ℕ → Re) → AreSingle pattern singles.old → IfOk result (λ o. IfSome o (IsTableOf (pattern place ∷ []))) }
-    ensures kept { (pattern : ℕ → Re) → AreSingle pattern singles.old → OnOk result (AreSingle pattern singles.new) }
+    ensures given { (pattern : ℕ → Re) → AreSingle pattern singles.old →
+        IfOk result (λ o. IfSome o (IsTableOf (pattern place ∷ []))) }
+    ensures kept { (pattern : ℕ → Re) → AreSingle pattern singles.old →
+        OnOk result (AreSingle pattern singles.new) }
 {
     if place < singles.len() {
         singles[place].hand_out(alloc, budget)
@@ -122,9 +126,11 @@ fn alone(
     rule: usize,
     budget: &mut Budget,
 ) -> Result<Tables, AllocError>
-    ensures tables { (pattern : ℕ → Re) (ps : List Re) → AreSingle pattern singles.old → pattern_at ps rule ≡ pattern place →
+    ensures tables { (pattern : ℕ → Re) (ps : List Re) →
+        AreSingle pattern singles.old → pattern_at ps rule ≡ pattern place →
         IfOk result (λ t. ArePartsOf ps rule (rule + 1) t.parts.items t.asked.items) }
-    ensures kept { (pattern : ℕ → Re) → AreSingle pattern singles.old → OnOk result (AreSingle pattern singles.new) }
+    ensures kept { (pattern : ℕ → Re) → AreSingle pattern singles.old →
+        OnOk result (AreSingle pattern singles.new) }
 {
     let mut parts = Vec::new(alloc);
     let mut asked = Vec::new(alloc);
@@ -147,7 +153,8 @@ pub fn joined_tables(
     right: Tables,
     budget: &mut Budget,
 ) -> Result<Tables, AllocError>
-    ensures { (ps : List Re) (lo middle hi : ℕ) → ArePartsOf ps lo middle left.parts.items left.asked.items →
+    ensures { (ps : List Re) (lo middle hi : ℕ) →
+        ArePartsOf ps lo middle left.parts.items left.asked.items →
         ArePartsOf ps middle hi right.parts.items right.asked.items →
         IfOk result (λ t. ArePartsOf ps lo hi t.parts.items t.asked.items) }
 {
@@ -214,7 +221,8 @@ pub fn tables_between(
     requires to { to ≤ length places.now }
     ensures tables { (pattern : ℕ → Re) → AreSingle pattern singles.old →
         IfOk result (λ t. ArePartsOf (map pattern places.now) from to t.parts.items t.asked.items) }
-    ensures kept { (pattern : ℕ → Re) → AreSingle pattern singles.old → OnOk result (AreSingle pattern singles.new) }
+    ensures kept { (pattern : ℕ → Re) → AreSingle pattern singles.old →
+        OnOk result (AreSingle pattern singles.new) }
 {
     if to - from == 1 {
         return alone(alloc, singles, places[from], from, budget);
@@ -228,8 +236,8 @@ pub fn tables_between(
 /// Whether a tile is better than another: it has more bytes, or as many by an earlier rule.
 #[inline(always)]
 fn comes_before(tile: Tile, other: Tile) -> bool
-    ensures yes { IsTrue result → (other.len ≤ tile.len) × (other.len ≡ tile.len → tile.rule ≤ other.rule) }
-    ensures no { IsFalse result → (tile.len ≤ other.len) × (tile.len ≡ other.len → other.rule ≤ tile.rule) }
+    ensures yes { IsTrue result → IsNoWorse tile other }
+    ensures no { IsFalse result → IsNoWorse other tile }
 {
     tile.len > other.len || (tile.len == other.len && tile.rule < other.rule)
 }
@@ -237,9 +245,10 @@ fn comes_before(tile: Tile, other: Tile) -> bool
 /// The better of two tiles, where they are there.
 #[inline(always)]
 fn better(one: Option<Tile>, other: Option<Tile>) -> Option<Tile>
-    ensures winner { (ps : List Re) (a b : ℕ → Bool) (text : List ℕ) → IsWinnerAmong ps a text one → IsWinnerAmong ps b text other →
+    ensures winner { (ps : List Re) (a b : ℕ → Bool) (text : List ℕ) →
+        IsWinnerAmong ps a text one → IsWinnerAmong ps b text other →
         IsWinnerAmong ps (λ k. a k || b k) text result }
-    ensures past { (n : ℕ) → IfSome one (λ t. t.len < n) → IfSome other (λ t. t.len < n) → IfSome result (λ t. t.len < n) }
+    ensures past { (n : ℕ) → IsBelow n one → IsBelow n other → IsBelow n result }
 {
     let Some(tile) = one else { return other };
     let Some(rival) = other else { return one };
@@ -253,9 +262,11 @@ fn better(one: Option<Tile>, other: Option<Tile>) -> Option<Tile>
 /// What two looks at a text see together: the better tile, and the greater reach.
 #[inline(always)]
 fn together(a: Sight, b: Sight) -> Sight
-    ensures sight { (ps : List Re) (one other : ℕ → Bool) (text : List ℕ) → IsSightOf ps one text a → IsSightOf ps other text b →
+    ensures sight { (ps : List Re) (one other : ℕ → Bool) (text : List ℕ) →
+        IsSightOf ps one text a → IsSightOf ps other text b →
         IsSightOf ps (λ k. one k || other k) text result }
-    ensures past { IfSome a.tile (λ t. t.len < a.reach) → IfSome b.tile (λ t. t.len < b.reach) → IfSome result.tile (λ t. t.len < result.reach) }
+    ensures past { IsBelow a.reach a.tile → IsBelow b.reach b.tile →
+        IsBelow result.reach result.tile }
 {
     let reach = if a.reach < b.reach { b.reach } else { a.reach };
     Sight {
@@ -269,7 +280,8 @@ fn together(a: Sight, b: Sight) -> Sight
 #[inline(always)]
 fn rule_at(rules: &[usize], place: usize) -> Option<usize>
     ensures there { place < length rules.now → IsSome result }
-    ensures rule { (hi : ℕ) → AreRising 0 hi rules.now → IfSome result (λ r. (place < length rules.now) × (r ≡ slice_index rules.now place)) }
+    ensures rule { (hi : ℕ) → AreRising 0 hi rules.now →
+        IfSome result (λ r. (place < length rules.now) × (r ≡ slice_index rules.now place)) }
 {
     let last = *rules.last()?;
     if last == rules.len() - 1 {
@@ -283,11 +295,11 @@ impl Part {
     /// The tile with its rule's place in the list, where the table has that among the part's rules.
     #[inline(always)]
     fn placed(&self, tile: Option<Tile>) -> Option<Tile>
-        ensures winner { (ps : List Re) (text : List ℕ) → IsPartOf ps 0 (length ps) self.now → IsUtf8 text →
-            MatchOption tile (NoneMatches (map (λ k. pattern_at ps k) self.now.rules.items) text)
-            (λ t. IsLongest (map (λ k. pattern_at ps k) self.now.rules.items) text t.rule t.len) →
+        ensures winner { (ps : List Re) (text : List ℕ) →
+            IsPartOf ps 0 (length ps) self.now → IsUtf8 text →
+            IsLongestOf (patterns_at ps self.now.rules.items) text tile →
             IsWinnerAmong ps (is_among self.now.rules.items) text result }
-        ensures past { (n : ℕ) → IfSome tile (λ t. t.len < n) → IfSome result (λ t. t.len < n) }
+        ensures past { (n : ℕ) → IsBelow n tile → IsBelow n result }
     {
         let tile = tile?;
         let rule = rule_at(&self.rules, tile.rule)?;
@@ -300,8 +312,9 @@ impl Part {
     /// What the table sees of the part's rules.
     #[inline(always)]
     fn look(&self, text: &str) -> Sight
-        ensures sight { (ps : List Re) → IsPartOf ps 0 (length ps) self.now → IsSightOf ps (is_among self.now.rules.items) text.now result }
-        ensures past { IfSome result.tile (λ t. t.len < result.reach) }
+        ensures sight { (ps : List Re) → IsPartOf ps 0 (length ps) self.now →
+            IsSightOf ps (is_among self.now.rules.items) text.now result }
+        ensures past { IsBelow result.reach result.tile }
     {
         let sight = self.table.look(text);
         Sight {
@@ -336,8 +349,9 @@ impl Tables {
     /// What all tables see. Out of line, since most lists of rules have one, and its look shall stay short.
     #[inline(never)]
     fn look_at_each(&self, text: &str) -> Sight
-        ensures sight { (ps : List Re) → AreTablesOf ps self.now → IsSightOf ps (is_tabled self.now.parts.items) text.now result }
-        ensures past { IfSome result.tile (λ t. t.len < result.reach) }
+        ensures sight { (ps : List Re) → AreTablesOf ps self.now →
+            IsSightOf ps (is_tabled self.now.parts.items) text.now result }
+        ensures past { IsBelow result.reach result.tile }
     {
         let mut sight = Sight {
             tile: None,
@@ -356,8 +370,10 @@ impl Tables {
     pub fn look(&self, text: &str) -> Sight
         ensures winner { (ps : List Re) → AreTablesOf ps self.now →
             MatchOption result.tile (IsBestAmong ps (is_tabled self.now.parts.items) text.now 0 0)
-            (λ t. (0 < t.len) × IsBestAmong ps (is_tabled self.now.parts.items) text.now t.rule t.len) }
-        ensures decided { (ps : List Re) → AreTablesOf ps self.now → self.now.asked.items ≡ [] → IsDecidedBy ps text.now result.reach }
+            (λ t. (0 < t.len) ×
+            IsBestAmong ps (is_tabled self.now.parts.items) text.now t.rule t.len) }
+        ensures decided { (ps : List Re) → AreTablesOf ps self.now → self.now.asked.items ≡ [] →
+            IsDecidedBy ps text.now result.reach }
         ensures past { IfSome result.tile (λ t. t.len < result.reach) }
     {
         if self.parts.len() == 1 {

@@ -1,21 +1,18 @@
 ghost use Rattle.std.specs.Prelude.{◌≡◌, ◌-◌, ◌^◌, ◌<◌, ◌∷◌, [], length, map, slice_get, false, OnOk, IfOk, All};
 ghost use Rattle.std.specs.Result.{IfErr};
-ghost use Rattle.std.specs.List.{find, flat_map};
+ghost use Rattle.std.specs.List.{flat_map};
 ghost use Rattle.std.specs.String.{string_bytes};
 ghost use Rattle.std.specs.Option.{option_copied, option_map};
 ghost use Rattle.lrlex_rules.specs.declared.flags.LexFlags.{LexFlags};
 ghost use Rattle.lrlex_rules.specs.Flags.{allows_comments};
-ghost use Rattle.lrlex_rules.specs.Parts.{as_rule};
 ghost use Rattle.lrlex_rules.specs.Event.{fault_at, span_of, rules_of};
 ghost use Rattle.lrlex_rules.specs.Event.Event.{Fatal, Verbatim, NewState};
-ghost use Rattle.lrlex_rules.specs.Declaration.{initial, declarations, trimmed_lines, section_end, state_event, declared_name, declared_by};
-ghost use Rattle.lrlex_rules.specs.Outcome.{then_fatal, rules_events, events_after, has_name, rule_named, rule_event, split_event, line_event};
+ghost use Rattle.lrlex_rules.specs.Declaration.{initial, state_event, declared_name, names_in, declared_by};
+ghost use Rattle.lrlex_rules.specs.Outcome.{then_fatal, rules_events, events_after, file_events, rule_event, split_event, line_event};
 ghost use Rattle.lrlex_rules.specs.Kinds.{as_kind, is_regex_error};
 ghost use Rattle.lrlex_rules.specs.Merge.{tells_duplicates};
 ghost use Rattle.lrlex_rules.specs.Faults.{IsPlaced};
 ghost use Rattle.lrlex_rules.specs.Laws.{IsLawful};
-ghost use Rattle.lrlex_base.specs.Classes.{is_white_space};
-ghost use Rattle.lrlex_rules.specs.Text.{cut};
 ghost use Rattle.lrlex_rules.specs.Reading.{as_piece, as_parts, as_pattern, AddsLine, ReadsLines, AreApart, MarkAt, IsAnswer, AreOwnRefusals, as_definition, refused_of, Represents, Adds, AddsRefused, Reads, EndBy, line_end};
 
 use crate::faults::{LexBuildError, LexErrorKind};
@@ -58,7 +55,8 @@ pub(crate) struct Builder<'t, StorageT> {
 impl<'t, StorageT: Id> Builder<'t, StorageT> {
     /// A builder that has the state with which each rule file begins.
     fn new(alloc: Global) -> Result<Builder<'t, StorageT>, AllocError>
-        ensures { IfOk result (λ b. (flags : LexFlags) → Represents StorageT.number flags b (NewState initial ∷ [])) }
+        ensures { IfOk result (λ b. (flags : LexFlags) →
+            Represents StorageT.number flags b (NewState initial ∷ [])) }
     {
         let first = StartState::new(alloc, 0, "INITIAL", false, Span::new(0, 0))?;
         let mut states = States::new(alloc);
@@ -133,7 +131,8 @@ impl<'t, StorageT: Id> Builder<'t, StorageT> {
     ) -> Result<(), AllocError>
         requires { line_end names < 2 ^ 64 }
         ensures { OnOk result (Reads StorageT.number self.old self.new
-            (λ events. events_after state_event events (map (declared_name exclusive) (cut is_white_space (as_piece names.entry))))) }
+            (λ events. events_after state_event events
+            (names_in exclusive (as_piece names.entry)))) }
     {
         let end = names.at + names.text.len();
         let mut left = Some(names.text);
@@ -177,7 +176,8 @@ impl<'t, StorageT: Id> Builder<'t, StorageT> {
     fn declarations(&mut self, alloc: Global, lines: &[Line<'t>]) -> Result<(), AllocError>
         requires { EndBy (2 ^ 64 - 1) lines.now }
         ensures { OnOk result (Reads StorageT.number self.old self.new
-            (λ events. events_after state_event events (flat_map declared_by (map as_piece lines.now)))) }
+            (λ events. events_after state_event events
+            (flat_map declared_by (map as_piece lines.now)))) }
     {
         for line in lines {
             if self.is_refused {
@@ -212,8 +212,10 @@ impl<'t, StorageT: Id> Builder<'t, StorageT> {
         flags: &LexFlags,
     ) -> Result<(), AllocError>
         requires { self.old.is_refused ≡ false }
-        ensures { OnOk result (AddsLine StorageT.number flags.now StorageT.greatest self.old self.new at
-            (λ s events. rule_event s (rules_of events) at (as_parts parts.entry) (as_pattern pattern))) }
+        ensures { OnOk result
+            (AddsLine StorageT.number flags.now StorageT.greatest self.old self.new at
+            (λ s events. rule_event s (rules_of events) at
+            (as_parts parts.entry) (as_pattern pattern))) }
     {
         let Some(id) = StorageT::from_count(self.rules.list.as_slice().len()) else {
             return self.refuse(alloc, LexErrorKind::TooManyRules, at);
@@ -247,7 +249,8 @@ impl<'t, StorageT: Id> Builder<'t, StorageT> {
         flags: &LexFlags,
     ) -> Result<(), AllocError>
         requires { self.old.is_refused ≡ false }
-        ensures { OnOk result (AddsLine StorageT.number flags.now StorageT.greatest self.old self.new at
+        ensures { OnOk result
+            (AddsLine StorageT.number flags.now StorageT.greatest self.old self.new at
             (λ s events. split_event s events at (Ok (as_parts parts.entry)))) }
     {
         if let Some(original) = self.rules.named(parts.label.name) {
@@ -267,7 +270,8 @@ impl<'t, StorageT: Id> Builder<'t, StorageT> {
     fn line(&mut self, alloc: Global, line: Line<'t>, flags: &LexFlags) -> Result<(), AllocError>
         requires fits { line_end line < 2 ^ 64 }
         requires calm { self.old.is_refused ≡ false }
-        ensures { OnOk result (AddsLine StorageT.number flags.now StorageT.greatest self.old self.new line.entry.at
+        ensures { OnOk result
+            (AddsLine StorageT.number flags.now StorageT.greatest self.old self.new line.entry.at
             (λ s events. line_event s events (as_piece line.entry))) }
     {
         if begins_with_white(line.text) {
@@ -288,7 +292,8 @@ impl<'t, StorageT: Id> Builder<'t, StorageT> {
     ) -> Result<(), AllocError>
         requires fit { EndBy (2 ^ 64 - 1) lines.now }
         requires apart { AreApart lines.now }
-        ensures { OnOk result (ReadsLines StorageT.number flags.now StorageT.greatest self.old self.new
+        ensures { OnOk result
+            (ReadsLines StorageT.number flags.now StorageT.greatest self.old self.new
             (λ s events. events_after (line_event s) events (map as_piece lines.now))) }
     {
         for line in lines {
@@ -329,7 +334,8 @@ impl<'t, StorageT: Id> Builder<'t, StorageT> {
     ) -> Result<(), AllocError>
         requires fits { length text.now < 2 ^ 64 }
         requires mark { MarkAt 0 text.now mark }
-        ensures { OnOk result (ReadsLines StorageT.number flags.now StorageT.greatest self.old self.new
+        ensures { OnOk result
+            (ReadsLines StorageT.number flags.now StorageT.greatest self.old self.new
             (λ s events. rules_events s text.now events (Some (as_piece mark.entry)))) }
     {
         let section = skip_blanks(behind(text, 0, mark));
@@ -350,9 +356,9 @@ impl<'t, StorageT: Id> Builder<'t, StorageT> {
     /// Reads a rule text.
     fn read(&mut self, alloc: Global, text: &'t str, flags: &LexFlags) -> Result<(), AllocError>
         requires { length text.now < 2 ^ 64 }
-        ensures { OnOk result (ReadsLines StorageT.number flags.now StorageT.greatest self.old self.new
-            (λ s events. rules_events s text.now (events_after state_event events (declarations (allows_comments flags.now) text.now))
-            (section_end (trimmed_lines text.now)))) }
+        ensures { OnOk result
+            (ReadsLines StorageT.number flags.now StorageT.greatest self.old self.new
+            (λ s events. file_events s (allows_comments flags.now) text.now events)) }
     {
         let comments = flags.allow_wholeline_comments.unwrap_or(false);
         let declared = read_section(alloc, text, 0, comments, true)?;
@@ -378,11 +384,15 @@ pub fn read_rules<StorageT: Id>(
     text: &str,
     flags: LexFlags,
 ) -> Result<Result<RuleFile<StorageT>, Vec<LexBuildError>>, AllocError>
-    ensures answer { IfOk result (IsAnswer (as_definition StorageT.number) flags StorageT.greatest text.now) }
+    ensures answer { IfOk result
+        (IsAnswer (as_definition StorageT.number) flags StorageT.greatest text.now) }
     ensures refusals { IfOk result (AreOwnRefusals flags StorageT.greatest text.now) }
-    ensures placed { IfOk result (λ answer. IfErr answer (λ faults. All (IsPlaced text.now) faults.items)) }
-    ensures lawful { IfOk result (λ answer. IfOk answer (λ file. IsLawful text.now (as_definition StorageT.number file))) }
-    ensures first { IfOk result (λ answer. IfOk answer (λ file. slice_get (as_definition StorageT.number file).states 0 ≡ Some initial)) }
+    ensures placed { IfOk result (λ answer.
+        IfErr answer (λ faults. All (IsPlaced text.now) faults.items)) }
+    ensures lawful { IfOk result (λ answer.
+        IfOk answer (λ file. IsLawful text.now (as_definition StorageT.number file))) }
+    ensures first { IfOk result (λ answer. IfOk answer (λ file.
+        slice_get (as_definition StorageT.number file).states 0 ≡ Some initial)) }
 {
     let resolved = flags.resolved();
     let mut builder = Builder::<StorageT>::new(alloc)?;

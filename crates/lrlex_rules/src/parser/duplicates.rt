@@ -49,7 +49,8 @@ fn note(
     original: Span,
     place: usize,
 ) -> Result<(), AllocError>
-    ensures noted { OnOk result (NotesFault places.old places.new (as_subject named) (as_span original) place) }
+    ensures noted { OnOk result
+        (NotesFault places.old places.new (as_subject named) (as_span original) place) }
     ensures same { OnErr result (KeepsFaults places.old places.new) }
 {
     places.insert((named, original.start(), original.end()), place)?;
@@ -97,7 +98,8 @@ impl Faults {
         found: Span,
     ) -> Result<(), AllocError>
         ensures { OnOk result (map as_fault self.new.list.items
-            ≡ with_duplicate (as_subject named) (as_span original) (as_span found) (map as_fault self.old.list.items)) }
+            ≡ with_duplicate (as_subject named) (as_span original) (as_span found)
+            (map as_fault self.old.list.items)) }
     {
         if let Some(place) = place_of(&self.places, named, original) {
             let fault = &mut self.list[place];

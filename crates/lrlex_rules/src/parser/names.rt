@@ -50,7 +50,8 @@ impl<'t> States<'t> {
 
     /// The first state with this name.
     pub(crate) fn named(&self, name: &str) -> Option<&StartState>
-        ensures { option_map as_state (option_copied result) ≡ state_named name.now (map as_state self.now.list.items) }
+        ensures { option_map as_state (option_copied result)
+            ≡ state_named name.now (map as_state self.now.list.items) }
     {
         match self.places.get(name) {
             Some(place) => self.list.get(*place),
@@ -95,7 +96,8 @@ impl<'t, StorageT: Id> Rules<'t, StorageT> {
     /// The first rule with this name, if it is one.
     pub(crate) fn named(&self, name: Option<&str>) -> Option<&Rule<StorageT>>
         ensures { option_map (as_rule StorageT.number) (option_copied result)
-            ≡ rule_named (map (as_rule StorageT.number) self.now.list.items) (option_copied name.entry) }
+            ≡ rule_named (map (as_rule StorageT.number) self.now.list.items)
+            (option_copied name.entry) }
     {
         match self.places.get(name?) {
             Some(place) => self.list.get(*place),

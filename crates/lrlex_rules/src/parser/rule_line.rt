@@ -136,7 +136,8 @@ fn parts_of_word<'a>(
     word: &'a str,
 ) -> Result<Parts<'a>, Fatal>
     requires { blank + 1 + length word.now < 2 ^ 64 }
-    ensures { seen as_parts as_fatal result ≡ parts_of_word (as_states states.now) head.now blank word.now }
+    ensures { seen as_parts as_fatal result
+        ≡ parts_of_word (as_states states.now) head.now blank word.now }
 {
     let end = blank + 1 + word.len();
     match in_angles(word) {

@@ -143,7 +143,8 @@ pub(crate) fn next_line(text: &str) -> (&str, Option<&str>)
         ≡ piece o result.0.now ∷ lines_left (o + length text.now) (option_copied result.1) }
     ensures shorter { IfSome (option_copied result.1) (λ rest. length rest < length text.now) }
     ensures front { result.0.now ≡ take (length result.0.now) text.now }
-    ensures back { IfSome (option_copied result.1) (λ rest. rest ≡ drop (length text.now - length rest) text.now) }
+    ensures back { IfSome (option_copied result.1)
+        (λ rest. rest ≡ drop (length text.now - length rest) text.now) }
     ensures within { length result.0.now ≤ length text.now }
 {
     match text.split_once(|c: char| is_line_sep(c)) {
@@ -155,7 +156,8 @@ pub(crate) fn next_line(text: &str) -> (&str, Option<&str>)
 /// The first name of a text, and what follows the white space character behind it, if there is one.
 pub(crate) fn next_name(text: &str) -> (&str, Option<&str>)
     ensures pieces { (o : ℕ) → cut is_white_space (piece o text.now)
-        ≡ piece o result.0.now ∷ pieces_left is_white_space (o + length text.now) (option_copied result.1) }
+        ≡ piece o result.0.now
+        ∷ pieces_left is_white_space (o + length text.now) (option_copied result.1) }
     ensures shorter { IfSome (option_copied result.1) (λ rest. length rest < length text.now) }
     ensures within { length result.0.now ≤ length text.now }
 {

@@ -9,7 +9,6 @@ returns-clause-table c re measures =
     let made = c.fill_all.new.self in
     let done : IsTrue c.in_ok-fill_all.field-0 = search rules in
     let len : length (lists_of made.rows) ≡ length made.rows.items = length-map made.rows.items (λ v. v.items) in
-    let wins = c.in_ok-fill_all.ensures.wins done in
-    let next = c.in_ok-fill_all.ensures.next done in
-    c.marked_table.ensures.table _ (serves_one c.args.dfa.now.nfa (lists_of made.rows) made.next.items made.wins.items (c.if-not-asks_for_starts.ensures (search rules)) (c.in_ok-fill_all.ensures.chart done)
-    (omega (arith, len, wins, made.rows.ok.0, made.wins.ok.0)) (omega (arith, len, next, made.rows.ok.0, made.next.ok.0)) re measures)
+    let filled = c.in_ok-fill_all.ensures.filled done in
+    c.marked_table.ensures.table _ (serves_one c.args.dfa.now.nfa (lists_of made.rows) made.next.items made.wins.items (c.if-not-asks_for_starts.ensures (search rules)) filled.chart
+    (omega (arith, len, filled.wins, made.rows.ok.0, made.wins.ok.0)) (omega (arith, len, filled.cells, made.rows.ok.0, made.next.ok.0)) re measures)
