@@ -14,13 +14,13 @@ use std::alloc::{AllocError, Global};
 use std::process::ExitCode;
 use std::{env, io};
 
-/// As many spaces as stand before the column, which counts from 1.
-fn spaces_before(alloc: Global, column: usize) -> Result<String, AllocError> {
-    let mut spaces = String::new(alloc);
-    for _ in 1..column {
-        spaces.push(' ')?;
+/// What brings a caret under the column, which counts from 1: a tab under each tab, and else spaces.
+fn indent_to(alloc: Global, line: &str, column: usize) -> Result<String, AllocError> {
+    let mut indent = String::new(alloc);
+    for (c, _) in line.chars().zip(1..column) {
+        indent.push(if c == '\t' { c } else { ' ' })?;
     }
-    Ok(spaces)
+    Ok(indent)
 }
 
 /// Tells what is wrong with a line, with a caret under the place.
@@ -31,8 +31,8 @@ fn show_fault(
     column: usize,
     why: &str,
 ) -> io::Result<()> {
-    let spaces = spaces_before(rt.alloc(), column)?;
-    println!(rt; "stdin:{number}:{column}: {why}\n{line}\n{spaces}^")
+    let indent = indent_to(rt.alloc(), line, column)?;
+    println!(rt; "stdin:{number}:{column}: {why}\n{line}\n{indent}^")
 }
 
 /// Works out one line.
@@ -49,7 +49,7 @@ fn serve_line(
     }
 }
 
-/// Works out each line of standard input.
+/// Works out each line of standard input that isn't blank.
 fn serve(rt: &HostRuntime) -> io::Result<ExitCode> {
     let Some(definition) = definition_by(rt.alloc())? else {
         eprintln!(rt; "The rules and the grammar differ")?;
@@ -59,7 +59,9 @@ fn serve(rt: &HostRuntime) -> io::Result<ExitCode> {
     let mut number: usize = 0;
     for line in text.as_str().lines() {
         number = number.saturating_add(1);
-        serve_line(rt, &definition, number, line)?;
+        if !line.trim().is_empty() {
+            serve_line(rt, &definition, number, line)?;
+        }
     }
     Ok(ExitCode::SUCCESS)
 }
