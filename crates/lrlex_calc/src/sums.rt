@@ -1,0 +1,216 @@
+//! Works out a line.
+use crate::grammar::{CLOSE, Definition, MINUS, NUMBER, OPEN, OVER, PLUS, TIMES};
+use lrlex::{LexError, Lexeme, Lexer};
+use std::alloc::{AllocError, AllocFailed, Global};
+
+/// Why a line has no value.
+#[derive(Clone, Copy, Debug, PartialEq, Eq)]
+pub enum Failure {
+    /// At this column, from 1, stands what is wrong.
+    Wrong { column: usize, why: &'static str },
+    Memory,
+}
+
+impl From<AllocError> for Failure {
+    fn from(_fault: AllocError) -> Failure {
+        Failure::Memory
+    }
+}
+
+impl<T: Drop> From<AllocFailed<T>> for Failure {
+    fn from(_fault: AllocFailed<T>) -> Failure {
+        Failure::Memory
+    }
+}
+
+#[derive(Clone, Copy, Debug, PartialEq, Eq)]
+enum Operator {
+    Add,
+    Subtract,
+    Multiply,
+    Divide,
+}
+
+/// What waits for its right side.
+#[derive(Clone, Copy, Debug, PartialEq, Eq)]
+enum Held {
+    Parenthesis,
+    Negation,
+    /// An operator with its left side.
+    Left(i64, Operator),
+}
+
+/// What waits, and the column where it stands.
+#[derive(Clone, Copy, Debug, PartialEq, Eq)]
+struct Waiting {
+    held: Held,
+    column: usize,
+}
+
+/// A line that is read so far.
+#[derive(Debug, Drop)]
+struct Sum {
+    /// The value up to here, from the innermost that waits on. None where a value has to come.
+    value: Option<i64>,
+    /// What waits, the innermost last.
+    waiting: Vec<Waiting>,
+}
+
+/// The operator of a token.
+fn operator_of(token: u32) -> Option<Operator> {
+    match token {
+        PLUS => Some(Operator::Add),
+        MINUS => Some(Operator::Subtract),
+        TIMES => Some(Operator::Multiply),
+        OVER => Some(Operator::Divide),
+        _ => None,
+    }
+}
+
+/// How strongly an operator binds.
+fn strength(operator: Operator) -> u8 {
+    match operator {
+        Operator::Add | Operator::Subtract => 1,
+        Operator::Multiply | Operator::Divide => 2,
+    }
+}
+
+/// How strongly it holds what stands behind it. A parenthesis lets nothing out before it closes.
+fn hold(held: Held) -> u8 {
+    match held {
+        Held::Parenthesis => 0,
+        Held::Left(_, operator) => strength(operator),
+        Held::Negation => 3,
+    }
+}
+
+/// The value with what waited for it. None where it is too large, or a divisor is 0.
+fn applied(held: Held, right: i64) -> Option<i64> {
+    match held {
+        Held::Parenthesis => Some(right),
+        Held::Negation => right.checked_neg(),
+        Held::Left(left, Operator::Add) => left.checked_add(right),
+        Held::Left(left, Operator::Subtract) => left.checked_sub(right),
+        Held::Left(left, Operator::Multiply) => left.checked_mul(right),
+        Held::Left(left, Operator::Divide) => left.checked_div(right),
+    }
+}
+
+/// Why `applied` gave none.
+fn why_none(held: Held, right: i64) -> &'static str {
+    match (held, right) {
+        (Held::Left(_, Operator::Divide), 0) => "division by 0",
+        _ => "the result is too large",
+    }
+}
+
+/// That this is wrong at the column.
+fn wrong<T>(column: usize, why: &'static str) -> Result<T, Failure> {
+    Err(Failure::Wrong { column, why })
+}
+
+impl Sum {
+    /// The value, after all that waits for it and holds at least so strongly.
+    fn reduced(&mut self, value: i64, least: u8) -> Result<i64, Failure> {
+        let mut value = value;
+        for _ in 0..self.waiting.len() {
+            let Some(Waiting { held, column }) = self.waiting.last().copied() else {
+                break;
+            };
+            if hold(held) < least {
+                break;
+            }
+            self.waiting.pop();
+            value = match applied(held, value) {
+                Some(value) => value,
+                None => return wrong(column, why_none(held, value)),
+            };
+        }
+        Ok(value)
+    }
+
+    /// Takes a token where a value has to come.
+    fn take_first(&mut self, token: u32, text: &str, column: usize) -> Result<(), Failure> {
+        let held = match token {
+            NUMBER => match text.parse() {
+                Ok(number) => {
+                    self.value = Some(number);
+                    return Ok(());
+                }
+                Err(_) => return wrong(column, "the number is too large"),
+            },
+            OPEN => Held::Parenthesis,
+            MINUS => Held::Negation,
+            _ => return wrong(column, "expected a number, - or ("),
+        };
+        self.waiting.push(Waiting { held, column })?;
+        Ok(())
+    }
+
+    /// Closes the innermost parenthesis behind the value.
+    fn close(&mut self, value: i64, column: usize) -> Result<(), Failure> {
+        self.value = Some(self.reduced(value, 1)?);
+        match self.waiting.pop() {
+            Some(_) => Ok(()),
+            None => wrong(column, "no parenthesis is open"),
+        }
+    }
+
+    /// Takes a token behind a value.
+    fn take_next(&mut self, value: i64, token: u32, column: usize) -> Result<(), Failure> {
+        match operator_of(token) {
+            Some(operator) => {
+                let left = self.reduced(value, strength(operator))?;
+                self.value = None;
+                let held = Held::Left(left, operator);
+                self.waiting.push(Waiting { held, column })?;
+                Ok(())
+            }
+            None if token == CLOSE => self.close(value, column),
+            None => wrong(column, "expected an operator or )"),
+        }
+    }
+
+    /// Takes a token.
+    fn take(&mut self, token: u32, text: &str, column: usize) -> Result<(), Failure> {
+        match self.value {
+            Some(value) => self.take_next(value, token, column),
+            None => self.take_first(token, text, column),
+        }
+    }
+
+    /// The whole line's value. The column is that of its end.
+    fn whole(&mut self, column: usize) -> Result<i64, Failure> {
+        let Some(value) = self.value else {
+            return wrong(column, "expected a number, - or (");
+        };
+        let value = self.reduced(value, 1)?;
+        match self.waiting.last() {
+            Some(open) => wrong(open.column, "this parenthesis isn't closed"),
+            None => Ok(value),
+        }
+    }
+}
+
+/// The value of a line.
+pub fn value_of(alloc: Global, definition: &Definition, line: &str) -> Result<i64, Failure> {
+    let lexer = definition.lexer(alloc, line)?;
+    let mut sum = Sum {
+        value: None,
+        waiting: Vec::new(alloc),
+    };
+    for item in lexer.iter() {
+        match item {
+            Ok(lexeme) => {
+                let (_, column) = lexer.place(lexeme.span().start());
+                sum.take(lexeme.tok_id(), lexer.text_of(lexeme.span()), column)?;
+            }
+            Err(error) => {
+                let (_, column) = lexer.place(error.span().start());
+                return wrong(column, "no token begins here");
+            }
+        }
+    }
+    let (_, column) = lexer.place(line.len());
+    sum.whole(column)
+}

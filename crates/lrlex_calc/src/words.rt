@@ -1,0 +1,10 @@
+//! The words of the command line.
+use clap::Command;
+use std::alloc::Global;
+
+/// The command, which takes no words but `--help`.
+pub fn command<'a>(alloc: Global) -> Command<'a> {
+    Command::new(alloc, "lrlex_calc").about(
+        "Works out each line of standard input: whole numbers, + - * / and parentheses.",
+    )
+}

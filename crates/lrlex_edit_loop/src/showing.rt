@@ -1,0 +1,44 @@
+//! What a document says, as lines.
+use lrlex::{DefaultLexeme, DefaultLexerTypes, Document, LRLexError, LexError, Lexeme};
+use std::io;
+
+type Types = DefaultLexerTypes<u32>;
+
+/// A lexeme: its place, its name and its text.
+fn show_lexeme(
+    rt: &HostRuntime,
+    document: &Document<'_, Types>,
+    lexeme: &DefaultLexeme<u32>,
+) -> io::Result<()> {
+    let (line, column) = document.place(lexeme.span().start());
+    let name = document.definition().name_of(lexeme.tok_id()).unwrap_or("");
+    let text = document.text_of(lexeme.span());
+    println!(rt; "{line}:{column} {name} {text}")
+}
+
+/// Where lexing stopped.
+fn show_error(
+    rt: &HostRuntime,
+    document: &Document<'_, Types>,
+    error: &LRLexError,
+) -> io::Result<()> {
+    let (line, column) = document.place(error.span().start());
+    println!(rt; "stdin:{line}:{column}: no rule matches here")
+}
+
+/// What the document's text is cut into, and how many tiles the last edit cut anew.
+pub fn show(rt: &HostRuntime, document: &Document<'_, Types>) -> io::Result<()> {
+    for item in document.items() {
+        match item {
+            Ok(lexeme) => show_lexeme(rt, document, lexeme)?,
+            Err(error) => show_error(rt, document, error)?,
+        }
+    }
+    let (lexed, tiles) = (document.lexed(), document.tiles());
+    println!(rt; "{lexed} of {tiles} tiles cut anew")
+}
+
+/// Why nothing was edited.
+pub fn show_refused(rt: &HostRuntime, why: &str) -> io::Result<()> {
+    println!(rt; "{why}")
+}

@@ -1,0 +1,54 @@
+//! Shows a reader on top of a lexer: `lrlex_json_check < TEXT` says whether a text is JSON (RFC 8259), or where it isn't and
+//! what was expected there. The lexer cuts the text, and the reader keeps what is open on a stack of its own.
+#![tactic(auto)]
+
+mod reader;
+mod tokens;
+mod words;
+
+use crate::reader::{Fault, fault_of};
+use crate::tokens::RULES;
+use crate::words::command;
+use lrlex::{DefaultLexerTypes, LRNonStreamingLexerDef, LexerDef};
+use std::process::ExitCode;
+use std::{env, io};
+
+type Definition = LRNonStreamingLexerDef<DefaultLexerTypes<u32>>;
+
+/// Tells where the text isn't JSON, and what was expected there.
+fn show(rt: &HostRuntime, fault: &Fault<'_>) -> io::Result<ExitCode> {
+    let (line, column) = fault.place;
+    let expected = fault.expected;
+    match fault.found {
+        "" => println!(rt; "stdin:{line}:{column}: expected {expected}, found the end")?,
+        found => println!(rt; "stdin:{line}:{column}: expected {expected}, found {found}")?,
+    }
+    Ok(ExitCode::FAILURE)
+}
+
+/// Serves what standard input has.
+fn serve(rt: &HostRuntime) -> io::Result<ExitCode> {
+    let text = io::read_to_string(rt.alloc(), rt.reader())?;
+    let Ok(definition) = Definition::from_str(rt.alloc(), RULES)? else {
+        eprintln!(rt; "The rules have faults")?;
+        return Ok(ExitCode::FAILURE);
+    };
+    match fault_of(rt.alloc(), &definition, text.as_str())? {
+        Some(fault) => show(rt, &fault),
+        None => {
+            println!(rt; "ok")?;
+            Ok(ExitCode::SUCCESS)
+        }
+    }
+}
+
+fn main(rt: HostRuntime) -> io::Result<ExitCode> {
+    let words: Vec<String> = env::args(&rt)?.collect(rt.alloc())?;
+    match command(rt.alloc()).try_get_matches_from(words.as_slice()) {
+        Ok(_) => serve(&rt),
+        Err(told) => {
+            told.print(&rt)?;
+            Ok(ExitCode::from(if told.use_stderr() { 2 } else { 0 }))
+        }
+    }
+}
