@@ -8,17 +8,17 @@ use std::rt::Files;
 
 /// Words and standard input; what is written to standard output and standard error, and the status.
 #[derive(Clone, Copy, Debug)]
-struct Row<'a> {
-    words: &'a [&'a str],
-    stdin: &'a str,
-    out: &'a str,
-    err: &'a str,
-    status: u8,
+pub(crate) struct Row<'a> {
+    pub(crate) words: &'a [&'a str],
+    pub(crate) stdin: &'a str,
+    pub(crate) out: &'a str,
+    pub(crate) err: &'a str,
+    pub(crate) status: u8,
 }
 
 impl<'a> Row<'a> {
     /// The same row where this is told in place of all that it writes.
-    fn told(self, err: &'a str) -> Row<'a> {
+    pub(crate) fn told(self, err: &'a str) -> Row<'a> {
         Row {
             out: "",
             err,
@@ -29,7 +29,7 @@ impl<'a> Row<'a> {
 }
 
 /// Whether the program, over this standard input, does what the row says, with so many calls of `read`.
-fn does<R: Files + AllocGlobal>(
+pub(crate) fn does<R: Files + AllocGlobal>(
     rt: &R,
     row: &Row<'_>,
     mut stdin: TestReader<'_>,

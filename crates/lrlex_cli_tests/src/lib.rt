@@ -3,6 +3,8 @@
 #![tactic(auto)]
 
 #[cfg(test)]
+mod broken_files;
+#[cfg(test)]
 mod broken_readers;
 #[cfg(test)]
 mod broken_writers;
