@@ -13,7 +13,7 @@ const ROW_1: &str = "%%\n[0-9]+ 'INT'\n[a-z]+ 'ID'\n[ ] ;";
 const WORDS: &str = "%%\n[a-z]+ 'ID'\n[ ] ;";
 
 /// Runs with ids of `u32` and no flag set.
-fn ran<W: Write>(
+pub(crate) fn ran<W: Write>(
     rt: &impl AllocGlobal,
     rules: &str,
     input: &str,
@@ -23,7 +23,7 @@ fn ran<W: Write>(
 }
 
 /// Runs on the new text, which this edit makes of the old one: from where, to where, and what is put there.
-fn ran_edited<W: Write>(
+pub(crate) fn ran_edited<W: Write>(
     rt: &(impl AllocGlobal + Abort),
     rules: &str,
     old: &str,
@@ -93,53 +93,6 @@ fn no_fault_no_line(rt: HostRuntime) {
     let mut err = TestWriter::new(rt.alloc(), 3, Trouble::Fails(1, ErrorKind::Other));
     assert!(rt; report(rt.alloc(), &[], "%%", &mut err).is_ok());
     assert!(rt; err.held().is_empty());
-}
-
-#[test]
-fn writers_that_fail(rt: HostRuntime) -> Result<(), Fail> {
-    let mut out = TestWriter::new(rt.alloc(), 5, Trouble::Fails(2, ErrorKind::Other));
-    let result = ran(&rt, ROW_1, "abc 123", &mut out);
-    assert_eq!(rt; out.held(), b"ID ab".as_slice());
-    assert!(rt; matches!(result, Err(EngineFault::Write(e)) if e.kind() == ErrorKind::Other));
-    for k in 1..=15u64 {
-        for kind in [ErrorKind::Other, ErrorKind::Interrupted] {
-            let mut out = TestWriter::new(rt.alloc(), 1, Trouble::Fails(k, kind));
-            let result = ran(&rt, ROW_1, "abc 123", &mut out);
-            assert!(rt; out.held().len() as u64 == k - 1);
-            assert!(rt; matches!(result, Err(EngineFault::Write(e)) if e.kind() == kind));
-        }
-    }
-    let mut out = TestWriter::new(rt.alloc(), 1, Trouble::Fails(16, ErrorKind::Other));
-    let result = ran(&rt, ROW_1, "abc 123", &mut out);
-    assert!(rt; matches!(result, Ok(Ended::Lexed)));
-    assert_eq!(rt; out.held(), b"ID abc\nINT 123\n".as_slice());
-    let mut out = TestWriter::new(rt.alloc(), 1, Trouble::TakesNone(6));
-    let result = ran(&rt, ROW_1, "abc 123", &mut out);
-    assert_eq!(rt; out.held(), b"ID ab".as_slice());
-    assert!(rt; matches!(result, Err(EngineFault::Write(e)) if e.kind() == ErrorKind::WriteZero));
-    Ok(())
-}
-
-#[test]
-fn writers_that_fail_after_an_edit(rt: HostRuntime) -> Result<(), Fail> {
-    let edit = (0, 2, "xyz");
-    for k in 1..=19u64 {
-        for kind in [ErrorKind::Other, ErrorKind::Interrupted] {
-            let mut out = TestWriter::new(rt.alloc(), 1, Trouble::Fails(k, kind));
-            let result = ran_edited(&rt, WORDS, "ab cd ef", edit, "xyz cd ef", &mut out);
-            assert_eq!(rt; out.held().len() as u64, k - 1);
-            assert!(rt; matches!(result, Err(EngineFault::Write(e)) if e.kind() == kind));
-        }
-    }
-    let mut out = TestWriter::new(rt.alloc(), 1, Trouble::Fails(20, ErrorKind::Other));
-    let result = ran_edited(&rt, WORDS, "ab cd ef", edit, "xyz cd ef", &mut out);
-    assert!(rt; matches!(result, Ok(Ended::Lexed)));
-    assert_eq!(rt; out.held(), b"ID xyz\nID cd\nID ef\n".as_slice());
-    let mut out = TestWriter::new(rt.alloc(), 1, Trouble::TakesNone(6));
-    let result = ran_edited(&rt, WORDS, "ab cd ef", edit, "xyz cd ef", &mut out);
-    assert_eq!(rt; out.held(), b"ID xy".as_slice());
-    assert!(rt; matches!(result, Err(EngineFault::Write(e)) if e.kind() == ErrorKind::WriteZero));
-    Ok(())
 }
 
 /// Holds what it takes in itself, so it asks for no memory.

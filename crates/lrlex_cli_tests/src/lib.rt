@@ -3,6 +3,12 @@
 #![tactic(auto)]
 
 #[cfg(test)]
+mod broken_files;
+#[cfg(test)]
+mod broken_readers;
+#[cfg(test)]
+mod broken_writers;
+#[cfg(test)]
 mod engine;
 #[cfg(test)]
 mod program;

@@ -1,5 +1,5 @@
 //! Rows on the program, over files of the test's own and texts in memory.
-use crate::writers::{FailingReader, TestWriter, Trouble};
+use crate::writers::{TestWriter, Trouble};
 use lrlex_cli::program::serve;
 use std::io::ErrorKind;
 use std::process::Abort;
@@ -243,26 +243,7 @@ fn edits(rt: HostRuntime) -> Result<(), Fail> {
 }
 
 #[test]
-fn reads_that_fail(rt: HostRuntime) {
-    for kind in [ErrorKind::Other, ErrorKind::Interrupted] {
-        for (words, left) in [
-            (["lrlex"].as_slice(), b"".as_slice()),
-            (["lrlex"].as_slice(), b"ab".as_slice()),
-            (["lrlex", "-", "none"].as_slice(), b"ab".as_slice()),
-        ] {
-            let calls = left.len() as u64 + 1;
-            let mut stdin = FailingReader {
-                left,
-                kind,
-                calls: 0,
-            };
-            let mut out = Vec::new(rt.alloc());
-            let mut err = Vec::new(rt.alloc());
-            let status = serve(&rt, words, &mut stdin, &mut out, &mut err);
-            assert_eq!(rt; err.as_slice(), b"Can't open file -\n".as_slice());
-            assert!(rt; status == 1 && stdin.calls == calls && out.is_empty());
-        }
-    }
+fn bytes_that_are_no_text(rt: HostRuntime) {
     let mut err = Vec::new(rt.alloc());
     let mut out = Vec::new(rt.alloc());
     let status = serve(

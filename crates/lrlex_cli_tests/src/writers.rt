@@ -39,6 +39,10 @@ impl TestWriter {
         self.held.as_slice()
     }
 
+    pub(crate) fn calls(&self) -> u64 {
+        self.calls
+    }
+
     pub(crate) fn flushes(&self) -> u64 {
         self.flushes
     }
@@ -67,27 +71,43 @@ impl Write for TestWriter {
     }
 }
 
-/// Gives its bytes one a call, and then fails.
+/// Gives at most `most` bytes a call, and fails at the call `fails_at`, counted from 1.
 #[derive(Drop)]
-pub(crate) struct FailingReader<'a> {
-    pub(crate) left: &'a [u8],
-    pub(crate) kind: ErrorKind,
-    pub(crate) calls: u64,
+pub(crate) struct TestReader<'a> {
+    left: &'a [u8],
+    most: usize,
+    calls: u64,
+    fails_at: u64,
+    kind: ErrorKind,
 }
 
-impl Read for FailingReader<'_> {
+impl<'a> TestReader<'a> {
+    pub(crate) fn new(bytes: &'a [u8], most: usize, fails_at: u64, kind: ErrorKind) -> Self {
+        TestReader {
+            left: bytes,
+            most,
+            calls: 0,
+            fails_at,
+            kind,
+        }
+    }
+
+    pub(crate) fn calls(&self) -> u64 {
+        self.calls
+    }
+}
+
+impl Read for TestReader<'_> {
     ghost remaining = { λ _. None };
 
     fn read(&mut self, buf: &mut [u8]) -> io::Result<usize> {
         self.calls = self.calls.saturating_add(1);
-        let Some((first, rest)) = self.left.split_first() else {
+        if self.calls == self.fails_at {
             return Err(io::Error::from(self.kind));
-        };
-        if buf.is_empty() {
-            return Ok(0);
         }
-        buf[0] = *first;
-        self.left = rest;
-        Ok(1)
+        let given = self.left.len().min(self.most).min(buf.len());
+        buf[..given].copy_from_slice(&self.left[..given]);
+        self.left = &self.left[given..];
+        Ok(given)
     }
 }
