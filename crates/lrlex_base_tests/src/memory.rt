@@ -1,6 +1,6 @@
 //! Want of memory: in heaps of rising sizes, each of which refuses a later request than the ones before.
 use linked_list_allocator::LocalHeap;
-use lrlex_base::{CTTokenMapBuilder, Edit, NewlineCache, Span};
+use lrlex_base::{CTTokenMapBuilder, Edit, NewlineCache, Span, ct_token_map};
 use std::collections::HashMap;
 use std::test::Fail;
 
@@ -103,5 +103,29 @@ fn a_refused_module_is_no_fault(rt: HostRuntime) -> Result<(), Fail> {
         new > 3 && renamed > 3 && built > 3 && made > 3,
         "{new}, {renamed}, {built} and {made}"
     );
+    Ok(())
+}
+
+#[test]
+fn a_refused_module_in_one_call_is_no_fault(rt: HostRuntime) -> Result<(), Fail> {
+    let alloc = rt.alloc();
+    let mut tokens: HashMap<String, u8> = HashMap::new(alloc);
+    tokens.insert(String::from_str(alloc, "+")?, 3)?;
+    let mut renames: HashMap<&str, &str> = HashMap::new(alloc);
+    renames.insert("+", "PLUS")?;
+    let want =
+        "#[allow(dead_code)]\nmod x {\n    pub const T_PLUS: u8 = 3;\n    #[allow(dead_code)]\n    pub const TOK_IDS: &[u8] = &[3];\n}\n";
+    let (mut made, mut refused) = (0u32, 0u32);
+    for size in 1..=64usize {
+        let heap = LocalHeap::new(alloc, size * 64)?;
+        match ct_token_map(&heap, "x", "u8", &tokens, Some(&renames)) {
+            Ok(answer) => {
+                assert_eq!(rt; answer.ok().ok_or("a fault")?.as_str(), want);
+                made = made.saturating_add(1);
+            }
+            Err(_) => refused = refused.saturating_add(1),
+        }
+    }
+    assert!(rt; made > 8 && refused > 8, "{made} and {refused}");
     Ok(())
 }
