@@ -4,16 +4,17 @@ use Rattle.lrlex_base.specs.Seen.{Seen}
 use Rattle.lrlex_base.specs.declared.spans.Span.{Span}
 use Rattle.lrlex_rules.specs.declared.states.StartStateOperation.{StartStateOperation}
 use Rattle.lrlex_rules.specs.Definition.{Definition}
-use Rattle.lrlex.specs.Asked.{IsLastSafe}
+use Rattle.lrlex.specs.Asked.{IsLastSafe, untabled_count}
 use Rattle.lrlex.specs.Decided.{AreRaised, HasLooked, IsSafe, capped}
 use Rattle.lrlex.specs.Edits.{items_from, moved_mark}
 use Rattle.lrlex.specs.Marks.{Mark, mark_at}
 use Rattle.lrlex.specs.Ran.{Ran}
-use Rattle.lrlex.specs.Reach.{Reached}
+use Rattle.lrlex.specs.Reach.{IsLexed, Reached, searches}
 use Rattle.lrlex.specs.Runs.{AreRuns, plain}
-use Rattle.lrlex.specs.Tiling.{rebased, stack_after}
-use Rattle.lrlex.specs.Views.{item_of, items_by}
+use Rattle.lrlex.specs.Tiling.{rebased, stack_after, top}
+use Rattle.lrlex.specs.Views.{definition_of, item_of, items_by}
 use Rattle.lrlex.specs.declared.errors.LRLexError.{LRLexError}
+use Rattle.lrlex.specs.declared.lexer.definition.LRNonStreamingLexerDef.{LRNonStreamingLexerDef}
 use Rattle.lrlex.specs.declared.lexer.lexing.Progress.{Progress}
 
 -- The next boundary was entered: it stands at this place, the rule's target moved the stack, the tiles looked so far
@@ -80,3 +81,26 @@ pub record HasResumed {S X : Type 0} (d : Definition) (number : S → ℕ) (seen
   pub last : (j : ℕ) → j < length old → IsSafe old numbers low j → j < length p.boundaries
   pub from : IsLastSafe old numbers low (length p.boundaries - 1)
   pub none : p.asked ≡ 0
+
+-- A run stands at a place, between characters: tiles led to it, with these items and boundaries, and they looked so far.
+pub record IsUnderWay {S X : Type 0} (d : Definition) (number : S → ℕ) (seen : X → Seen S) (text : List ℕ) (p : Progress X) : Type 0 where
+  pub boundary : IsCharBoundary text p.place
+  pub reached : Reached d text p.place p.stack.items (items_by number seen p.items.items) p.boundaries p.asked
+  pub looked : HasLooked d text p.boundaries p.ahead.items p.place p.over
+
+-- it took one more tile, and stands behind it
+pub record HasAdvanced {S X : Type 0} (d : Definition) (number : S → ℕ) (seen : X → Seen S) (text : List ℕ) (old new : Progress X) : Type 0 where
+  pub here : IsUnderWay d number seen text new
+  pub grows : old.place < new.place
+  pub more : (m : Mark) × (new.boundaries ≡ old.boundaries ++ m ∷ [])
+
+-- it found no more tile, and all that it found is what the text gives
+pub record HasEnded {S X : Type 0} (d : Definition) (number : S → ℕ) (seen : X → Seen S) (text : List ℕ) (old new : Progress X) : Type 0 where
+  pub lexed : IsLexed d text (items_by number seen new.items.items) new.boundaries
+  pub same : new.boundaries ≡ old.boundaries
+  pub ahead : new.ahead.items ≡ old.ahead.items
+
+-- the searches of one step: at most as many as the boundaries so far allow, and exactly those of the state on top
+pub record HasSearched {L X S E P Q : Type 0} (number : S → ℕ) (d : LRNonStreamingLexerDef L X S E P Q) (text : List ℕ) (old new : Progress X) : Type 0 where
+  pub few : new.asked ≤ searches (definition_of number d) text old.boundaries
+  pub exact : new.asked ≡ old.asked + untabled_count d (top (plain old.stack.items))

@@ -10,7 +10,7 @@ ghost use Rattle.lrlex.specs.Decided.{HasLooked, capped};
 ghost use Rattle.lrlex.specs.Tables.{AreMatchers};
 ghost use Rattle.lrlex.specs.AtHand.{AreOf};
 ghost use Rattle.lrlex.specs.Views.{definition_of, item_of, items_by};
-ghost use Rattle.lrlex.specs.UnderWay.{HasEntered};
+ghost use Rattle.lrlex.specs.UnderWay.{HasAdvanced, HasEnded, HasEntered, HasSearched, IsUnderWay};
 
 use crate::errors::LRLexError;
 use crate::lexer::active::{lacks_id, lexeme_id};
@@ -161,43 +161,19 @@ pub(crate) fn advance<'d, L: LexerTypes>(
 ) -> Result<bool, AllocError>
     requires here { AreOf L.StorageT.number definition.now here.old.state here.old }
     requires inside { progress.old.place < length text.now }
-    requires boundary { IsCharBoundary text.now progress.old.place }
     requires matchers { AreMatchers definition.now.table.rules.items matchers.old }
-    requires reached { Reached (definition_of L.StorageT.number definition.now) text.now
-        progress.old.place progress.old.stack.items
-        (items_by L.StorageT.number L.LexemeT.seen progress.old.items.items) progress.old.boundaries
-        progress.old.asked }
-    requires looked { HasLooked (definition_of L.StorageT.number definition.now) text.now
-        progress.old.boundaries progress.old.ahead.items progress.old.place progress.old.over }
-    ensures here { IfOk result (λ _. AreOf L.StorageT.number definition.now here.new.state
-        here.new) }
-    ensures matchers { IfOk result (λ _. AreMatchers definition.now.table.rules.items
-        matchers.new) }
+    requires under_way { IsUnderWay (definition_of L.StorageT.number definition.now) L.StorageT.number
+        L.LexemeT.seen text.now progress.old }
+    ensures held { IfOk result (λ _. AreOf L.StorageT.number definition.now here.new.state here.new
+        × AreMatchers definition.now.table.rules.items matchers.new) }
     ensures goes_on { IfOk result (λ on. on ≡ true
-        → Reached (definition_of L.StorageT.number definition.now) text.now progress.new.place
-        progress.new.stack.items
-        (items_by L.StorageT.number L.LexemeT.seen progress.new.items.items) progress.new.boundaries
-        progress.new.asked) }
-    ensures looked { IfOk result (λ on. on ≡ true
-        → HasLooked (definition_of L.StorageT.number definition.now) text.now
-        progress.new.boundaries progress.new.ahead.items progress.new.place progress.new.over) }
-    ensures boundary { IfOk result (λ on. on ≡ true → IsCharBoundary text.now progress.new.place) }
-    ensures grows { IfOk result (λ on. on ≡ true → progress.old.place < progress.new.place) }
-    ensures more { IfOk result (λ on. on ≡ true → (m : Mark)
-        × (progress.new.boundaries ≡ progress.old.boundaries ++ m ∷ [])) }
+        → HasAdvanced (definition_of L.StorageT.number definition.now) L.StorageT.number
+        L.LexemeT.seen text.now progress.old progress.new) }
     ensures ends { IfOk result (λ on. on ≡ false
-        → IsLexed (definition_of L.StorageT.number definition.now) text.now
-        (items_by L.StorageT.number L.LexemeT.seen progress.new.items.items)
-        progress.new.boundaries) }
-    ensures same { IfOk result (λ on. on ≡ false
-        → progress.new.boundaries ≡ progress.old.boundaries) }
-    ensures ahead { IfOk result (λ on. on ≡ false
-        → progress.new.ahead.items ≡ progress.old.ahead.items) }
-    ensures asked { IfOk result (λ _. progress.new.asked ≤ searches
-        (definition_of L.StorageT.number definition.now) text.now progress.old.boundaries) }
-    ensures exact { IfOk result (λ _. progress.new.asked
-        ≡ progress.old.asked + untabled_count definition.now
-        (top (plain progress.old.stack.items))) }
+        → HasEnded (definition_of L.StorageT.number definition.now) L.StorageT.number
+        L.LexemeT.seen text.now progress.old progress.new) }
+    ensures asked { IfOk result (λ _. HasSearched L.StorageT.number definition.now text.now
+        progress.old progress.new) }
 {
     let place = progress.place;
     let state = top_of(&progress.stack);

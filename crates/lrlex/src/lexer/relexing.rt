@@ -238,24 +238,23 @@ pub(crate) fn relexed<'lexer, 'new, L: LexerTypes<LexErrorT = LRLexError>>(
     edit: &Edit<'_>,
     new: &'new str,
 ) -> Result<LexRun<'lexer, 'new, L>, AllocError>
-    requires looks { ∥ LooksAhead (definition_of L.StorageT.number old.now.definition.now)
-        old.now.text.now old.now.boundaries.now old.now.ahead.now ∥₁ }
-    requires run { ∥ IsRun (definition_of L.StorageT.number old.now.definition.now) old.now.text.now
+    requires known { ∥ LooksAhead (definition_of L.StorageT.number old.now.definition.now)
+        old.now.text.now old.now.boundaries.now old.now.ahead.now ∥₁
+        × ∥ IsRun (definition_of L.StorageT.number old.now.definition.now) old.now.text.now
         (items_by L.StorageT.number L.LexemeT.seen old.now.items.now) old.now.boundaries.now ∥₁ }
-    requires fits { Fits old.now.text.now edit.now.removed }
-    requires gives { new.now ≡ edited old.now.text.now (as_span edit.now.removed) edit.now.put.now }
+    requires applies { Fits old.now.text.now edit.now.removed
+        × (new.now ≡ edited old.now.text.now (as_span edit.now.removed) edit.now.put.now) }
     ensures run { IfOk result (IsRunOf L.StorageT.number L.LexemeT.seen old.now.definition.now
         new.now) }
-    ensures definition { IfOk result (λ r. r.definition ≡ old.now.definition.now) }
-    ensures text { IfOk result (λ r. r.text ≡ new.now) }
+    ensures of { IfOk result (λ r. (r.definition ≡ old.now.definition.now) × (r.text ≡ new.now)) }
     ensures asked { IfOk result (λ r. r.asked ≤ searches
         (definition_of L.StorageT.number old.now.definition.now) new.now r.boundaries) }
-    ensures few { IfOk result (λ r. r.asked ≤ length r.boundaries * length
-        (definition_of L.StorageT.number old.now.definition.now).rules) }
-    ensures met { IfOk result (λ r. (k : ℕ) → Meets old.now.boundaries.now r.boundaries
+    ensures few { IfOk result (λ r. (r.asked ≤ length r.boundaries * length
+        (definition_of L.StorageT.number old.now.definition.now).rules)
+        × ((k : ℕ) → Meets old.now.boundaries.now r.boundaries
         (span_start edit.now.removed) (span_end edit.now.removed) (length edit.now.put.now) k
         → r.asked ≤ searches (definition_of L.StorageT.number old.now.definition.now) new.now
-        (take k r.boundaries)) }
+        (take k r.boundaries))) }
     ensures lexed { IfOk result (λ r. (k : ℕ) → k < length old.now.boundaries.now
         → IsSafe old.now.boundaries.now old.now.ahead.now (span_start edit.now.removed) k
         → (r.anew + k ≤ length r.boundaries - 1)

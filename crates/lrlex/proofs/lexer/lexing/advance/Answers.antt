@@ -1,4 +1,4 @@
-use Rattle.std.proofs.Common.{◌≡◌, ◌+◌, ◌<◌, ◌≤◌, List, [], ◌∷◌, ◌++◌, None, length, drop, sym, ap, ◌∙◌, subst, arith, append_assoc, IsCharBoundary}
+use Rattle.std.proofs.Common.{refl, ◌≡◌, ◌+◌, ◌<◌, ◌≤◌, List, [], ◌∷◌, ◌++◌, None, length, drop, sym, ap, ◌∙◌, subst, arith, append_assoc, IsCharBoundary}
 use Rattle.std.proofs.lemmas.List.{length-map}
 use Rattle.std.proofs.lemmas.Str.{IsCharBoundary-from_rest}
 use Rattle.lrlex_rules.specs.Definition.{Rule}
@@ -18,70 +18,100 @@ use Rattle.lrlex.proofs.lexer.lexing.advance.Goals as goal
 pub winner-requires-clause-room : goal.winner-requires-clause-room
 winner-requires-clause-room g c =
     let d = definition_of g.L.StorageT.Id.number c.args.definition.now in
-    let r = c.requires.reached in
+    let r = c.requires.under_way.reached in
     let rules_len = length-map c.args.definition.now.table.rules.items (as_rule g.L.StorageT.Id.number) in
     let few = searches-few d c.args.text.now r.before in
     let room = room_for c.args.progress.now.asked (length r.before) (length d.rules) (omega (arith, r.few)) (omega (arith, c.args.definition.now.table.rules.ok.0, c.args.definition.now.table.rules.ok.1, c.args.definition.now.table.rules.small))
     (omega (arith, few, r.asks)) in
     omega (arith, c.args.definition.now.table.rules.ok.0, room)
 
+pub enter-requires-clause-runs : goal.enter-requires-clause-runs
+enter-requires-clause-runs g c =
+    let p = c.args.progress.now in
+    runs_now (definition_of g.L.StorageT.Id.number c.args.definition.now) c.args.text.now p.place p.stack.items (items_by g.L.StorageT.Id.number g.L.LexemeT.Lexeme.seen p.items.items) p.boundaries p.asked c.requires.under_way.reached
+
+pub enter-requires-clause-last : goal.enter-requires-clause-last
+enter-requires-clause-last g c =
+    let p = c.args.progress.now in
+    last_now (definition_of g.L.StorageT.Id.number c.args.definition.now) c.args.text.now p.place p.stack.items (items_by g.L.StorageT.Id.number g.L.LexemeT.Lexeme.seen p.items.items) p.boundaries p.asked c.requires.under_way.reached
+
 pub returns-in_default-clause-ends : goal.returns-in_default-clause-ends
 returns-in_default-clause-ends g c on =
     let d = definition_of g.L.StorageT.Id.number c.args.definition.now in
     let text = c.args.text.now in
     let p = c.args.progress.now in
-    let r = c.requires.reached in
+    let r = c.requires.under_way.reached in
     let found = items_by g.L.StorageT.Id.number g.L.LexemeT.Lexeme.seen p.items.items in
     let on_top : c.top_of-state.result ≡ top (plain p.stack.items) = c.top_of-state.ensures ∙ ap (λ s. top (plain s)) c.deref.ensures.value in
     let q = c.top_of-state.result in
-    ended d text p.place p.stack.items found p.boundaries p.asked r (items_by g.L.StorageT.Id.number g.L.LexemeT.Lexeme.seen c.give_error.new.items.items) (NoMatch q)
-    (something_left text p.place c.requires.inside, on_top, subst (IsStuck d q) c.range_from-rest.ensures.value (rw c.in_default.is at c.in_ok-sight.ensures.sight.winner))
-    c.in_ok-give_error.ensures
-
-pub returns-then-lacks_id-clause-ends : goal.returns-then-lacks_id-clause-ends
-returns-then-lacks_id-clause-ends g c on =
-    let d = definition_of g.L.StorageT.Id.number c.args.definition.now in
-    let text = c.args.text.now in
-    let p = c.args.progress.now in
-    let r = c.requires.reached in
-    let found = items_by g.L.StorageT.Id.number g.L.LexemeT.Lexeme.seen p.items.items in
-    let on_top : c.top_of-state.result ≡ top (plain p.stack.items) = c.top_of-state.ensures ∙ ap (λ s. top (plain s)) c.deref.ensures.value in
-    let t : Tile = record { rule = c.in-Some.tile.rule; len = c.in-Some.tile.len } in
-    let within : t.rule < length c.args.definition.now.table.rules.items = omega (arith, c.args.definition.now.table.rules.ok.0, (rw c.in-Some.is at c.in_ok-sight.ensures.rule)) in
-    let rule_is = rule_read g.L.StorageT.Id.number c.args.definition.now t.rule c.index-rule.result.now within c.index-rule.ensures in
-    let wins = wins_at d c.top_of-state.result (plain p.stack.items) c.range_from-rest.result.now (drop p.place text) t on_top c.range_from-rest.ensures.value (rw c.in-Some.is at c.in_ok-sight.ensures.sight.winner) in
-    ended d text p.place p.stack.items found p.boundaries p.asked r (items_by g.L.StorageT.Id.number g.L.LexemeT.Lexeme.seen c.give_error-then-lacks_id.new.items.items) NoId
-    (t, wins, ap lacks_id rule_is ∙ sym c.if-lacks_id.ensures)
-    c.in_ok-give_error-2.ensures
+    record {
+      lexed =
+          ended d text p.place p.stack.items found p.boundaries p.asked r (items_by g.L.StorageT.Id.number g.L.LexemeT.Lexeme.seen c.give_error.new.items.items) (NoMatch q)
+          (something_left text p.place c.requires.inside, on_top, subst (IsStuck d q) c.range_from-rest.ensures.value (rw c.in_default.is at c.in_ok-sight.ensures.sight.winner))
+          c.in_ok-give_error.ensures;
+      same = refl;
+      ahead = refl;
+    }
 
 pub returns-in_default-clause-asked : goal.returns-in_default-clause-asked
 returns-in_default-clause-asked g c =
     let d = definition_of g.L.StorageT.Id.number c.args.definition.now in
     let text = c.args.text.now in
     let p = c.args.progress.now in
-    let r = c.requires.reached in
+    let r = c.requires.under_way.reached in
     let found = items_by g.L.StorageT.Id.number g.L.LexemeT.Lexeme.seen p.items.items in
     let on_top : c.top_of-state.result ≡ top (plain p.stack.items) = c.top_of-state.ensures ∙ ap (λ s. top (plain s)) c.deref.ensures.value in
     let few : c.winner.new.asked ≤ p.asked + active_count d (top (plain p.stack.items)) = subst (λ q. c.winner.new.asked ≤ p.asked + active_count d q) on_top c.in_ok-sight.ensures.asked.counted in
-    searches_now d text p.place p.stack.items found p.boundaries p.asked r c.winner.new.asked c.requires.inside few
+    record {
+      few =
+          searches_now d text p.place p.stack.items found p.boundaries p.asked r c.winner.new.asked c.requires.inside few;
+      exact =
+          subst (λ q. c.winner.new.asked ≡ p.asked + untabled_count c.args.definition.now q) on_top (c.in_ok-sight.ensures.asked.exact);
+    }
+
+pub returns-then-lacks_id-clause-ends : goal.returns-then-lacks_id-clause-ends
+returns-then-lacks_id-clause-ends g c on =
+    let d = definition_of g.L.StorageT.Id.number c.args.definition.now in
+    let text = c.args.text.now in
+    let p = c.args.progress.now in
+    let r = c.requires.under_way.reached in
+    let found = items_by g.L.StorageT.Id.number g.L.LexemeT.Lexeme.seen p.items.items in
+    let on_top : c.top_of-state.result ≡ top (plain p.stack.items) = c.top_of-state.ensures ∙ ap (λ s. top (plain s)) c.deref.ensures.value in
+    let t : Tile = record { rule = c.in-Some.tile.rule; len = c.in-Some.tile.len } in
+    let within : t.rule < length c.args.definition.now.table.rules.items = omega (arith, c.args.definition.now.table.rules.ok.0, (rw c.in-Some.is at c.in_ok-sight.ensures.rule)) in
+    let rule_is = rule_read g.L.StorageT.Id.number c.args.definition.now t.rule c.index-rule.result.now within c.index-rule.ensures in
+    let wins = wins_at d c.top_of-state.result (plain p.stack.items) c.range_from-rest.result.now (drop p.place text) t on_top c.range_from-rest.ensures.value (rw c.in-Some.is at c.in_ok-sight.ensures.sight.winner) in
+    record {
+      lexed =
+          ended d text p.place p.stack.items found p.boundaries p.asked r (items_by g.L.StorageT.Id.number g.L.LexemeT.Lexeme.seen c.give_error-then-lacks_id.new.items.items) NoId
+          (t, wins, ap lacks_id rule_is ∙ sym c.if-lacks_id.ensures)
+          c.in_ok-give_error-2.ensures;
+      same = refl;
+      ahead = refl;
+    }
 
 pub returns-then-lacks_id-clause-asked : goal.returns-then-lacks_id-clause-asked
 returns-then-lacks_id-clause-asked g c =
     let d = definition_of g.L.StorageT.Id.number c.args.definition.now in
     let text = c.args.text.now in
     let p = c.args.progress.now in
-    let r = c.requires.reached in
+    let r = c.requires.under_way.reached in
     let found = items_by g.L.StorageT.Id.number g.L.LexemeT.Lexeme.seen p.items.items in
     let on_top : c.top_of-state.result ≡ top (plain p.stack.items) = c.top_of-state.ensures ∙ ap (λ s. top (plain s)) c.deref.ensures.value in
     let few : c.winner.new.asked ≤ p.asked + active_count d (top (plain p.stack.items)) = subst (λ q. c.winner.new.asked ≤ p.asked + active_count d q) on_top c.in_ok-sight.ensures.asked.counted in
-    searches_now d text p.place p.stack.items found p.boundaries p.asked r c.winner.new.asked c.requires.inside few
+    record {
+      few =
+          searches_now d text p.place p.stack.items found p.boundaries p.asked r c.winner.new.asked c.requires.inside few;
+      exact =
+          subst (λ q. c.winner.new.asked ≡ p.asked + untabled_count c.args.definition.now q) on_top (c.in_ok-sight.ensures.asked.exact);
+    }
 
 pub returns-then-lacks_target-clause-ends : goal.returns-then-lacks_target-clause-ends
 returns-then-lacks_target-clause-ends g c on =
     let d = definition_of g.L.StorageT.Id.number c.args.definition.now in
     let text = c.args.text.now in
     let p = c.args.progress.now in
-    let r = c.requires.reached in
+    let r = c.requires.under_way.reached in
     let found = items_by g.L.StorageT.Id.number g.L.LexemeT.Lexeme.seen p.items.items in
     let on_top : c.top_of-state.result ≡ top (plain p.stack.items) = c.top_of-state.ensures ∙ ap (λ s. top (plain s)) c.deref.ensures.value in
     let t : Tile = record { rule = c.in-Some.tile.rule; len = c.in-Some.tile.len } in
@@ -90,38 +120,38 @@ returns-then-lacks_target-clause-ends g c on =
     let wins = wins_at d c.top_of-state.result (plain p.stack.items) c.range_from-rest.result.now (drop p.place text) t on_top c.range_from-rest.ensures.value (rw c.in-Some.is at c.in_ok-sight.ensures.sight.winner) in
     let given : items_by g.L.StorageT.Id.number g.L.LexemeT.Lexeme.seen c.give.new.items.items ≡ found ++ tile_items d p.place t =
     c.in_ok-give.ensures ∙ sym (ap (λ (x : Rule). found ++ lexeme_of (lexeme_id x) p.place t.len) rule_is) in
-    ended d text p.place p.stack.items found p.boundaries p.asked r (items_by g.L.StorageT.Id.number g.L.LexemeT.Lexeme.seen c.give_error-then-lacks_target.new.items.items) (NoTarget t)
-    (wins, ap lacks_id rule_is ∙ sym c.if-lacks_id.ensures, ap (lacks_target d) rule_is ∙ sym c.if-lacks_target.ensures)
-    (c.in_ok-give_error-3.ensures ∙ ap (λ (xs : List Item). xs ++ Error p.place p.place None ∷ []) given
-    ∙ append_assoc found (tile_items d p.place t) (Error p.place p.place None ∷ []))
+    record {
+      lexed =
+          ended d text p.place p.stack.items found p.boundaries p.asked r (items_by g.L.StorageT.Id.number g.L.LexemeT.Lexeme.seen c.give_error-then-lacks_target.new.items.items) (NoTarget t)
+          (wins, ap lacks_id rule_is ∙ sym c.if-lacks_id.ensures, ap (lacks_target d) rule_is ∙ sym c.if-lacks_target.ensures)
+          (c.in_ok-give_error-3.ensures ∙ ap (λ (xs : List Item). xs ++ Error p.place p.place None ∷ []) given
+          ∙ append_assoc found (tile_items d p.place t) (Error p.place p.place None ∷ []));
+      same = refl;
+      ahead = refl;
+    }
 
 pub returns-then-lacks_target-clause-asked : goal.returns-then-lacks_target-clause-asked
 returns-then-lacks_target-clause-asked g c =
     let d = definition_of g.L.StorageT.Id.number c.args.definition.now in
     let text = c.args.text.now in
     let p = c.args.progress.now in
-    let r = c.requires.reached in
+    let r = c.requires.under_way.reached in
     let found = items_by g.L.StorageT.Id.number g.L.LexemeT.Lexeme.seen p.items.items in
     let on_top : c.top_of-state.result ≡ top (plain p.stack.items) = c.top_of-state.ensures ∙ ap (λ s. top (plain s)) c.deref.ensures.value in
     let few : c.winner.new.asked ≤ p.asked + active_count d (top (plain p.stack.items)) = subst (λ q. c.winner.new.asked ≤ p.asked + active_count d q) on_top c.in_ok-sight.ensures.asked.counted in
-    searches_now d text p.place p.stack.items found p.boundaries p.asked r c.winner.new.asked c.requires.inside few
-
-pub enter-requires-clause-runs : goal.enter-requires-clause-runs
-enter-requires-clause-runs g c =
-    let p = c.args.progress.now in
-    runs_now (definition_of g.L.StorageT.Id.number c.args.definition.now) c.args.text.now p.place p.stack.items (items_by g.L.StorageT.Id.number g.L.LexemeT.Lexeme.seen p.items.items) p.boundaries p.asked c.requires.reached
-
-pub enter-requires-clause-last : goal.enter-requires-clause-last
-enter-requires-clause-last g c =
-    let p = c.args.progress.now in
-    last_now (definition_of g.L.StorageT.Id.number c.args.definition.now) c.args.text.now p.place p.stack.items (items_by g.L.StorageT.Id.number g.L.LexemeT.Lexeme.seen p.items.items) p.boundaries p.asked c.requires.reached
+    record {
+      few =
+          searches_now d text p.place p.stack.items found p.boundaries p.asked r c.winner.new.asked c.requires.inside few;
+      exact =
+          subst (λ q. c.winner.new.asked ≡ p.asked + untabled_count c.args.definition.now q) on_top (c.in_ok-sight.ensures.asked.exact);
+    }
 
 pub returns-clause-goes_on : goal.returns-clause-goes_on
 returns-clause-goes_on g c on =
     let d = definition_of g.L.StorageT.Id.number c.args.definition.now in
     let text = c.args.text.now in
     let p = c.args.progress.now in
-    let r = c.requires.reached in
+    let r = c.requires.under_way.reached in
     let found = items_by g.L.StorageT.Id.number g.L.LexemeT.Lexeme.seen p.items.items in
     let on_top : c.top_of-state.result ≡ top (plain p.stack.items) = c.top_of-state.ensures ∙ ap (λ s. top (plain s)) c.deref.ensures.value in
     let t : Tile = record { rule = c.in-Some.tile.rule; len = c.in-Some.tile.len } in
@@ -140,68 +170,39 @@ returns-clause-goes_on g c on =
     let few : n.asked ≤ p.asked + active_count d (top (plain p.stack.items)) =
     subst (λ q. n.asked ≤ p.asked + active_count d q) on_top (omega (arith, e.asked, c.in_ok-sight.ensures.asked.counted)) in
     let more : items_by g.L.StorageT.Id.number g.L.LexemeT.Lexeme.seen n.items.items ≡ found ++ tile_items d p.place t = ap (items_by g.L.StorageT.Id.number g.L.LexemeT.Lexeme.seen) e.items ∙ given in
-    subst (λ i. Reached d text i n.stack.items (items_by g.L.StorageT.Id.number g.L.LexemeT.Lexeme.seen n.items.items) n.boundaries n.asked) (sym e.place)
-    (Reached-more d text p.place p.stack.items found p.boundaries p.asked r n.stack.items (items_by g.L.StorageT.Id.number g.L.LexemeT.Lexeme.seen n.items.items) n.boundaries n.asked t c.requires.inside taken few
-    e.runs (e.moved ∙ ap (stack_after (plain p.stack.items)) c.target_state.ensures ∙ sym (ap (λ (x : Rule). stack_after (plain p.stack.items) x.target) rule_is)) more
-    e.kept)
-
-pub returns-clause-boundary : goal.returns-clause-boundary
-returns-clause-boundary g c on =
-    let d = definition_of g.L.StorageT.Id.number c.args.definition.now in
-    let text = c.args.text.now in
-    let p = c.args.progress.now in
-    let r = c.requires.reached in
-    let found = items_by g.L.StorageT.Id.number g.L.LexemeT.Lexeme.seen p.items.items in
-    let t : Tile = record { rule = c.in-Some.tile.rule; len = c.in-Some.tile.len } in
-    subst (IsCharBoundary text) (sym c.in_ok-enter.ensures.place)
-    (IsCharBoundary-from_rest text p.place t.len c.requires.boundary.0 (subst (λ rest. IsCharBoundary rest t.len) c.range_from-rest.ensures.value (rw c.in-Some.is at c.in_ok-sight.ensures.boundary)))
+    let reach = c.in_ok-sight.sight.reach in
+    let decided = subst (λ q. IsDecided d q (drop p.place text) reach) on_top (subst (λ xs. IsDecided d c.top_of-state.result xs reach) c.range_from-rest.ensures.value c.in_ok-sight.ensures.sight.decided) in
+    record {
+      here = record {
+        boundary =
+            subst (IsCharBoundary text) (sym c.in_ok-enter.ensures.place)
+            (IsCharBoundary-from_rest text p.place t.len c.requires.under_way.boundary.0 (subst (λ rest. IsCharBoundary rest t.len) c.range_from-rest.ensures.value (rw c.in-Some.is at c.in_ok-sight.ensures.boundary)));
+        reached =
+            subst (λ i. Reached d text i n.stack.items (items_by g.L.StorageT.Id.number g.L.LexemeT.Lexeme.seen n.items.items) n.boundaries n.asked) (sym e.place)
+            (Reached-more d text p.place p.stack.items found p.boundaries p.asked r n.stack.items (items_by g.L.StorageT.Id.number g.L.LexemeT.Lexeme.seen n.items.items) n.boundaries n.asked t c.requires.inside taken few
+            e.runs (e.moved ∙ ap (stack_after (plain p.stack.items)) c.target_state.ensures ∙ sym (ap (λ (x : Rule). stack_after (plain p.stack.items) x.target) rule_is)) more
+            e.kept);
+        looked =
+            looked_more d text r.before p.boundaries p.ahead.items p.place p.stack.items p.over r.kept c.requires.under_way.looked reach c.in-Some.tile.len decided n.stack.items n.place n.over n.boundaries n.ahead.items
+            e.place (omega (arith, e.over, c.saturating_sub-over.ensures, c.max.ensures)) (e.kept ∙ ap (λ i. p.boundaries ++ record { place = i; runs = n.stack.items } ∷ []) (sym e.place)) (e.ahead ∙ ap (λ i. p.ahead.items ++ capped i ∷ []) (sym e.over));
+      };
+      grows = omega (arith, e.place, wins.some);
+      more = (_, e.kept);
+    }
 
 pub returns-clause-asked : goal.returns-clause-asked
 returns-clause-asked g c =
     let d = definition_of g.L.StorageT.Id.number c.args.definition.now in
     let text = c.args.text.now in
     let p = c.args.progress.now in
-    let r = c.requires.reached in
+    let r = c.requires.under_way.reached in
     let found = items_by g.L.StorageT.Id.number g.L.LexemeT.Lexeme.seen p.items.items in
     let on_top : c.top_of-state.result ≡ top (plain p.stack.items) = c.top_of-state.ensures ∙ ap (λ s. top (plain s)) c.deref.ensures.value in
     let few : c.enter.new.progress.asked ≤ p.asked + active_count d (top (plain p.stack.items)) =
     subst (λ q. c.enter.new.progress.asked ≤ p.asked + active_count d q) on_top (omega (arith, c.in_ok-enter.ensures.asked, c.in_ok-sight.ensures.asked.counted)) in
-    searches_now d text p.place p.stack.items found p.boundaries p.asked r c.enter.new.progress.asked c.requires.inside few
-
-pub returns-clause-looked : goal.returns-clause-looked
-returns-clause-looked g c on =
-    let d = definition_of g.L.StorageT.Id.number c.args.definition.now in
-    let text = c.args.text.now in
-    let p = c.args.progress.now in
-    let r = c.requires.reached in
-    let on_top : c.top_of-state.result ≡ top (plain p.stack.items) = c.top_of-state.ensures ∙ ap (λ s. top (plain s)) c.deref.ensures.value in
-    let n = c.enter.new.progress in
-    let e = c.in_ok-enter.ensures in
-    let reach = c.in_ok-sight.sight.reach in
-    let decided = subst (λ q. IsDecided d q (drop p.place text) reach) on_top (subst (λ xs. IsDecided d c.top_of-state.result xs reach) c.range_from-rest.ensures.value c.in_ok-sight.ensures.sight.decided) in
-    looked_more d text r.before p.boundaries p.ahead.items p.place p.stack.items p.over r.kept c.requires.looked reach c.in-Some.tile.len decided n.stack.items n.place n.over n.boundaries n.ahead.items
-    e.place (omega (arith, e.over, c.saturating_sub-over.ensures, c.max.ensures)) (e.kept ∙ ap (λ i. p.boundaries ++ record { place = i; runs = n.stack.items } ∷ []) (sym e.place)) (e.ahead ∙ ap (λ i. p.ahead.items ++ capped i ∷ []) (sym e.over))
-
-pub returns-in_default-clause-exact : goal.returns-in_default-clause-exact
-returns-in_default-clause-exact g c =
-    let p = c.args.progress.now in
-    let on_top : c.top_of-state.result ≡ top (plain p.stack.items) = c.top_of-state.ensures ∙ ap (λ s. top (plain s)) c.deref.ensures.value in
-    subst (λ q. c.winner.new.asked ≡ p.asked + untabled_count c.args.definition.now q) on_top (c.in_ok-sight.ensures.asked.exact)
-
-pub returns-then-lacks_id-clause-exact : goal.returns-then-lacks_id-clause-exact
-returns-then-lacks_id-clause-exact g c =
-    let p = c.args.progress.now in
-    let on_top : c.top_of-state.result ≡ top (plain p.stack.items) = c.top_of-state.ensures ∙ ap (λ s. top (plain s)) c.deref.ensures.value in
-    subst (λ q. c.winner.new.asked ≡ p.asked + untabled_count c.args.definition.now q) on_top (c.in_ok-sight.ensures.asked.exact)
-
-pub returns-then-lacks_target-clause-exact : goal.returns-then-lacks_target-clause-exact
-returns-then-lacks_target-clause-exact g c =
-    let p = c.args.progress.now in
-    let on_top : c.top_of-state.result ≡ top (plain p.stack.items) = c.top_of-state.ensures ∙ ap (λ s. top (plain s)) c.deref.ensures.value in
-    subst (λ q. c.winner.new.asked ≡ p.asked + untabled_count c.args.definition.now q) on_top (c.in_ok-sight.ensures.asked.exact)
-
-pub returns-clause-exact : goal.returns-clause-exact
-returns-clause-exact g c =
-    let p = c.args.progress.now in
-    let on_top : c.top_of-state.result ≡ top (plain p.stack.items) = c.top_of-state.ensures ∙ ap (λ s. top (plain s)) c.deref.ensures.value in
-    subst (λ q. c.enter.new.progress.asked ≡ p.asked + untabled_count c.args.definition.now q) on_top (omega (arith, c.in_ok-enter.ensures.asked, c.in_ok-sight.ensures.asked.exact))
+    record {
+      few =
+          searches_now d text p.place p.stack.items found p.boundaries p.asked r c.enter.new.progress.asked c.requires.inside few;
+      exact =
+          subst (λ q. c.enter.new.progress.asked ≡ p.asked + untabled_count c.args.definition.now q) on_top (omega (arith, c.in_ok-enter.ensures.asked, c.in_ok-sight.ensures.asked.exact));
+    }

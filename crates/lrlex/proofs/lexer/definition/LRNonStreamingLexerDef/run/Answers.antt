@@ -34,18 +34,18 @@ tiles-preserved g c =
     let found = items_by g.L.StorageT.Id.number g.L.LexemeT.Lexeme.seen p.items.items in
     let r = c.tiles.invariant.reached in
     let some : 0 < length p.boundaries = omega (arith, length_now d c.args.text.now p.place p.stack.items found p.boundaries p.asked r) in
-    let more = c.in_ok-advance.ensures.more on in
+    let more = (c.in_ok-advance.ensures.goes_on on).more in
     record {
-      here = c.in_ok-advance.ensures.here;
+      here = c.in_ok-advance.ensures.held.0;
       matchers = subst (λ ms. AreMatchers c.args.self.now.table.rules.items ms)
           (sym (taken_back c.advance.new.matchers (drop (length c.advance.new.matchers) c.tiles.matchers.items) c.tiles.matchers.len
-          (omega (arith, c.tiles.matchers.ok.0, c.in_ok-advance.ensures.matchers.0, c.tiles.invariant.matchers.0))))
-          c.in_ok-advance.ensures.matchers;
-      boundary = c.in_ok-advance.ensures.boundary on;
-      reached = c.in_ok-advance.ensures.goes_on on;
-      looked = c.in_ok-advance.ensures.looked on;
+          (omega (arith, c.tiles.matchers.ok.0, c.in_ok-advance.ensures.held.1.0, c.tiles.invariant.matchers.0))))
+          c.in_ok-advance.ensures.held.1;
+      boundary = (c.in_ok-advance.ensures.goes_on on).here.boundary;
+      reached = (c.in_ok-advance.ensures.goes_on on).here.reached;
+      looked = (c.in_ok-advance.ensures.goes_on on).here.looked;
       exact = next_asked c.args.self.now c.args.text.now d p.place p.stack.items found p.boundaries p.asked r 0 some c.tiles.invariant.exact c.advance.new.progress.asked more.0 c.advance.new.progress.boundaries
-          c.tiles-test.true c.in_ok-advance.ensures.exact more.1;
+          c.tiles-test.true c.in_ok-advance.ensures.asked.exact more.1;
     }
 
 pub finished-requires-2-clause-run : goal.finished-requires-2-clause-run
@@ -88,20 +88,20 @@ returns-then-not-branch-clause-run g c =
     let off : c.in_ok-advance.field-0 ≡ false = c.if-not-branch.true in
     subst (λ xs. IsRun d c.args.text.now (items_by g.L.StorageT.Id.number g.L.LexemeT.Lexeme.seen xs) c.finished.result.boundaries) (sym c.finished.ensures.items)
     (subst (IsRun d c.args.text.now (items_by g.L.StorageT.Id.number g.L.LexemeT.Lexeme.seen p.items.items)) (sym c.finished.ensures.boundaries)
-    (run_of d c.args.text.now (items_by g.L.StorageT.Id.number g.L.LexemeT.Lexeme.seen p.items.items) p.boundaries c.tiles.invariant.reached.initial (c.in_ok-advance.ensures.ends off)))
+    (run_of d c.args.text.now (items_by g.L.StorageT.Id.number g.L.LexemeT.Lexeme.seen p.items.items) p.boundaries c.tiles.invariant.reached.initial (c.in_ok-advance.ensures.ends off).lexed))
 
 pub returns-then-not-branch-clause-few : goal.returns-then-not-branch-clause-few
 returns-then-not-branch-clause-few g c =
     let d = definition_of g.L.StorageT.Id.number c.args.self.now in
     let off : c.in_ok-advance.field-0 ≡ false = c.if-not-branch.true in
     few_searches d c.args.text.now c.tiles.progress.boundaries c.finished.result.boundaries c.advance.new.progress.asked c.finished.result.asked
-    c.in_ok-advance.ensures.asked c.finished.ensures.asked (c.finished.ensures.boundaries ∙ c.in_ok-advance.ensures.same off)
+    c.in_ok-advance.ensures.asked.few c.finished.ensures.asked (c.finished.ensures.boundaries ∙ (c.in_ok-advance.ensures.ends off).same)
 
 pub finished-requires-clause-run : goal.finished-requires-clause-run
 finished-requires-clause-run g c =
     let d = definition_of g.L.StorageT.Id.number c.args.self.now in
     let p = c.advance.new.progress in
-    run_of d c.args.text.now (items_by g.L.StorageT.Id.number g.L.LexemeT.Lexeme.seen p.items.items) p.boundaries c.tiles.invariant.reached.initial (c.in_ok-advance.ensures.ends c.if-not-branch.true)
+    run_of d c.args.text.now (items_by g.L.StorageT.Id.number g.L.LexemeT.Lexeme.seen p.items.items) p.boundaries c.tiles.invariant.reached.initial (c.in_ok-advance.ensures.ends c.if-not-branch.true).lexed
 
 pub advance-requires-clause-here : goal.advance-requires-clause-here
 advance-requires-clause-here g c = c.tiles.invariant.here
@@ -127,11 +127,24 @@ returns-then-not-branch-clause-exact g c =
     let r = c.tiles.invariant.reached in
     let some : 0 < length p.boundaries = omega (arith, length_now d c.args.text.now p.place p.stack.items found p.boundaries p.asked r) in
     c.finished.ensures.asked
-    ∙ more_asked c.args.self.now c.args.text.now d p.place p.stack.items found p.boundaries p.asked r 0 some c.tiles.invariant.exact c.advance.new.progress.asked c.tiles-test.true c.in_ok-advance.ensures.exact
-    ∙ ap (asks c.args.self.now c.args.text.now) (sym (c.finished.ensures.boundaries ∙ c.in_ok-advance.ensures.same c.if-not-branch.true))
+    ∙ more_asked c.args.self.now c.args.text.now d p.place p.stack.items found p.boundaries p.asked r 0 some c.tiles.invariant.exact c.advance.new.progress.asked c.tiles-test.true c.in_ok-advance.ensures.asked.exact
+    ∙ ap (asks c.args.self.now c.args.text.now) (sym (c.finished.ensures.boundaries ∙ (c.in_ok-advance.ensures.ends c.if-not-branch.true).same))
 
 pub returns-clause-laws : goal.returns-clause-laws
 returns-clause-laws g c = have_laws _ _ _ _ (returns-clause-run g c)
 
 pub returns-then-not-branch-clause-laws : goal.returns-then-not-branch-clause-laws
 returns-then-not-branch-clause-laws g c = have_laws _ _ _ _ (returns-then-not-branch-clause-run g c)
+
+pub advance-requires-clause-under_way : goal.advance-requires-clause-under_way
+advance-requires-clause-under_way g c = record {
+  boundary = c.tiles.invariant.boundary;
+  reached = c.tiles.invariant.reached;
+  looked = c.tiles.invariant.looked;
+}
+
+pub returns-then-not-branch-clause-asked : goal.returns-then-not-branch-clause-asked
+returns-then-not-branch-clause-asked g c =
+    let d = definition_of g.L.StorageT.Id.number c.args.self.now in
+    subst (λ ms. c.finished.result.asked ≤ searches d c.args.text.now ms) (sym (c.finished.ensures.boundaries ∙ (c.in_ok-advance.ensures.ends c.if-not-branch.true).same))
+    (omega (arith, c.finished.ensures.asked, c.in_ok-advance.ensures.asked.few))

@@ -29,14 +29,14 @@ returns-clause-counts g c =
     let removed = as_span c.new.result in
     let put = c.args.put.now in
     let own : WasRelexed number s.boundaries c.deref-6.result.now removed put r =
-    of_own number s.boundaries c.deref-6.result.now removed put r s.definition.now c.deref-7.result.now e.definition e.text e.asked e.few e.met e.lexed e.exact in
+    of_own number s.boundaries c.deref-6.result.now removed put r s.definition.now c.deref-7.result.now e.of.0 e.of.1 e.asked e.few.0 e.few.1 e.lexed e.exact in
     let here : WasRelexed number s.boundaries c.deref-6.result.now (span c.args.from c.args.to) put r =
     subst (λ b. WasRelexed number s.boundaries c.deref-6.result.now (span c.args.from b) put r) c.new.ensures.end
     (subst (λ a. WasRelexed number s.boundaries c.deref-6.result.now (span a c.new.result.end) put r) c.new.ensures.start own) in
     let P : List Mark → List ℕ → Type 0 = λ olds ahead. WasRelexed number olds ahead (span c.args.from c.args.to) put r in
     let olds : P c.args.self.now.boundaries c.args.self.now.ahead =
     subst (λ (v : Ran _ _). P v.boundaries v.ahead) c.self.view_is (subst (P s.boundaries) c.deref-6.ensures.value here) in
-    of_fields number c.args.self.now.boundaries c.args.self.now.ahead (span c.args.from c.args.to) put _ r olds e.definition (e.text ∙ c.deref-7.ensures)
+    of_fields number c.args.self.now.boundaries c.args.self.now.ahead (span c.args.from c.args.to) put _ r olds e.of.0 (e.of.1 ∙ c.deref-7.ensures)
     (sym (ap (λ (v : Ran _ _). v.boundaries) c.run.view_is)) (sym (ap (λ (v : Ran _ _). v.asked) c.run.view_is)) (sym (ap (λ (v : Ran _ _). v.anew) c.run.view_is))
 
 pub returns-in_err-newlines-clause-refused : goal.returns-in_err-newlines-clause-refused

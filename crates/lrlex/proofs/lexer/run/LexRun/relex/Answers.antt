@@ -18,7 +18,8 @@ returns-clause-counts g c =
     let P : List Mark → List ℕ → Type 0 = λ olds ahead. IfOk c.relexed.result (WasRelexed number olds ahead (as_span edit.removed) edit.put.now) in
     subst (λ (v : Ran _ _). P v.boundaries v.ahead) c.self.view_is
     (subst (P s.boundaries) c.deref-2.ensures.value
-    (of_result number s.boundaries c.deref-2.result.now (as_span edit.removed) edit.put.now c.relexed.result s.definition.now c.args.new.now e.definition e.text e.asked e.few e.met e.lexed e.exact))
+    (of_result number s.boundaries c.deref-2.result.now (as_span edit.removed) edit.put.now c.relexed.result s.definition.now c.args.new.now (IfOk-weaker c.relexed.result _ _ (λ r of. of.0) e.of) (IfOk-weaker c.relexed.result _ _ (λ r of. of.1) e.of) e.asked
+    (IfOk-weaker c.relexed.result _ _ (λ r few. few.0) e.few) (IfOk-weaker c.relexed.result _ _ (λ r few. few.1) e.few) e.lexed e.exact))
 
 pub returns-clause-laws : goal.returns-clause-laws
 returns-clause-laws g c =
