@@ -169,7 +169,8 @@ fn meets(
     requires behind { (j : ℕ) → j < cursor.old
         → (mark_at old.now j).place + (span_start edit.now.removed + length edit.now.put.now) < max
         place (span_start edit.now.removed + length edit.now.put.now) + span_end edit.now.removed }
-    ensures at { TellsMeeting old.now edit.now.removed edit.now.put.now place stack.now cursor.new result }
+    ensures at { TellsMeeting old.now edit.now.removed edit.now.put.now place stack.now cursor.new
+        result }
     ensures none { result ≡ false → span_start edit.now.removed + length edit.now.put.now ≤ place
         → (j : ℕ) → j < length old.now
         → (mark_at old.now j).place + (span_start edit.now.removed + length edit.now.put.now)
