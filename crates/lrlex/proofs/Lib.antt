@@ -33,3 +33,4 @@ pub mod RestLemmas
 pub mod PieceLemmas
 pub mod CountedLemmas
 pub mod DocumentLemmas
+pub mod Utf16Lemmas

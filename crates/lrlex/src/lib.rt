@@ -12,7 +12,7 @@ pub use crate::definitions::LexerDef;
 pub use crate::errors::LRLexError;
 pub use crate::lexer::{
     Document, EditError, LRNonStreamingLexer, LRNonStreamingLexerDef, LexRun, Piece, ahead_laws,
-    decided_laws, item_laws, resume_laws, run_laws, tiling_laws,
+    decided_laws, item_laws, resume_laws, run_laws, tiling_laws, utf16_laws,
 };
 pub use lrlex_base::{
     CTTokenMapBuilder, DefaultLexeme, Edit, Id, Items, LexError, Lexeme, Lexer, LexerTypes,

@@ -5,3 +5,4 @@ pub mod base;
 pub mod editing;
 pub mod lending;
 pub mod lexing;
+pub mod serving;

@@ -7,6 +7,7 @@ ghost use Rattle.lrlex.specs.Nearest.{IsNearest, FitsAt};
 ghost use Rattle.lrlex.specs.Pieces.{ArePieces};
 ghost use Rattle.lrlex.specs.Ran.{IsRunOf, HasItemLaws};
 ghost use Rattle.lrlex.specs.Relexed.{WasRelexed};
+ghost use Rattle.lrlex.specs.Utf16.{utf16_position};
 ghost use Rattle.lrlex.specs.Views.{definition_of};
 ghost use Rattle.lrlex.specs.declared.lexer.document.EditError.TheVariants.{DoesNotFit};
 
@@ -16,7 +17,7 @@ use crate::lexer::definition::LRNonStreamingLexerDef;
 use crate::lexer::pieces::{Piece, pieces_of};
 use crate::lexer::relexing::{Old, relexed};
 use crate::lexer::run::LexRun;
-use crate::lexer::telling::{place_of, text_of};
+use crate::lexer::telling::{place_of, text_of, utf16_position};
 use lrlex_base::{Edit, LexerTypes, NewlineCache, Span};
 use std::alloc::{AllocError, Global};
 use std::marker::Model;
@@ -246,5 +247,16 @@ impl<'lexer, L: LexerTypes<LexErrorT = LRLexError>> Document<'lexer, L> {
             → result ≡ place_of self.now.text at }
     {
         place_of(&self.newlines, &self.text, byte)
+    }
+
+    /// Line and column of the place before this byte as the Language Server Protocol counts them: both from 0, the column in
+    /// code units of UTF-16. Inside a character it is the place before that, and past the text's end the end.
+    pub fn position(&self, byte: usize) -> (usize, usize)
+        ensures fits { IsCharBoundary self.now.text byte
+            → result ≡ utf16_position self.now.text byte }
+        ensures nearest { (at : ℕ) → IsNearest self.now.text byte at
+            → result ≡ utf16_position self.now.text at }
+    {
+        utf16_position(&self.newlines, &self.text, byte)
     }
 }

@@ -1,4 +1,7 @@
-ghost use Rattle.std.specs.Prelude.{◌≡◌, ℕ, ◌+◌, ◌≤◌, List, [], ◌∷◌, length, map, drop, Some, slice_get};
+ghost use Rattle.std.specs.Prelude.{◌≡◌, ℕ, ◌+◌, ◌≤◌, List, [], ◌∷◌, length, map, drop, Some, slice_get, IsUtf8};
+ghost use Rattle.std.specs.Char.Escape.{encode_utf16};
+ghost use Rattle.std.specs.List.{concat};
+ghost use Rattle.std.specs.Str.{chars};
 ghost use Rattle.lrlex_rules.specs.Definition.{Definition};
 ghost use Rattle.lrlex.specs.Tiling.{Item, IsTiling, HasOneTiling, boundaries, items, moved};
 ghost use Rattle.lrlex.specs.Runs.{plain};
@@ -6,6 +9,7 @@ ghost use Rattle.lrlex.specs.Marks.{Mark, most_runs, most_entries};
 ghost use Rattle.lrlex.specs.Peaks.{pushes};
 ghost use Rattle.lrlex.specs.Edits.{items_from};
 ghost use Rattle.lrlex.specs.Reach.{IsLexed};
+ghost use Rattle.lrlex.specs.Utf16.{units};
 
 /// From each stack a text is cut in one way. What a run gives from a boundary on is what the rest of the text gives from the
 /// boundary's stack, moved by its place: so it is a function of that text, that stack and the definition.
@@ -33,4 +37,11 @@ pub fn run_laws()
     ensures few { (d : Definition) (text : List ℕ) (found : List Item) (marks : List Mark)
         (h : IsLexed d text found marks)
         → most_runs marks ≤ 1 + pushes d (0 ∷ []) h.cut }
+{}
+
+/// What columns in code units of UTF-16 are: as many as the encoding of the characters has, and never more than the text has
+/// bytes.
+pub fn utf16_laws()
+    ensures encoded { (cs : List ℕ) → units cs ≡ length (concat (map encode_utf16 cs)) }
+    ensures few { (text : List ℕ) → IsUtf8 text → units (chars text) ≤ length text }
 {}

@@ -5,12 +5,13 @@ ghost use Rattle.lrlex.specs.ItemLaws.{FitsText, AreItemsOf};
 ghost use Rattle.lrlex.specs.Marks.{Mark};
 ghost use Rattle.lrlex.specs.Nearest.{IsNearest};
 ghost use Rattle.lrlex.specs.Reach.{IsRun};
+ghost use Rattle.lrlex.specs.Utf16.{utf16_position};
 ghost use Rattle.lrlex.specs.Views.{definition_of, items_by};
 
 use crate::errors::LRLexError;
 use crate::lexer::definition::LRNonStreamingLexerDef;
 use crate::lexer::run::LexRun;
-use crate::lexer::telling::{place_of, text_of};
+use crate::lexer::telling::{place_of, text_of, utf16_position};
 use lrlex_base::{Items, Lexer, LexerTypes, NewlineCache, NonStreamingLexer, Span};
 use std::alloc::{AllocError, Global};
 use std::marker::PhantomData;
@@ -91,6 +92,17 @@ impl<'lexer, 'input, L: LexerTypes<LexErrorT = LRLexError>> LRNonStreamingLexer<
             → result ≡ place_of (lexer_text self.now) at }
     {
         place_of(&self.input.newlines, self.input.text, byte)
+    }
+
+    /// Line and column of the place before this byte as the Language Server Protocol counts them: both from 0, the column in
+    /// code units of UTF-16. Inside a character it is the place before that, and past the input's end the end.
+    pub fn position(&self, byte: usize) -> (usize, usize)
+        ensures fits { IsCharBoundary (lexer_text self.now) byte
+            → result ≡ utf16_position (lexer_text self.now) byte }
+        ensures nearest { (at : ℕ) → IsNearest (lexer_text self.now) byte at
+            → result ≡ utf16_position (lexer_text self.now) at }
+    {
+        utf16_position(&self.input.newlines, self.input.text, byte)
     }
 }
 
