@@ -294,6 +294,34 @@ fn places_and_texts_at_any_number(rt: HostRuntime) -> Result<(), Fail> {
     Ok(())
 }
 
+/// The positions of these bytes of a document.
+fn positions(alloc: Global, text: &str, bytes: &[usize]) -> Result<String, AllocError> {
+    let mut told = String::new(alloc);
+    if let Some(definition) = defined(alloc, Made::Read(FACES))? {
+        let document: Edited<'_> = Document::new(alloc, &definition, text)?;
+        let lexer = definition.lexer(alloc, text)?;
+        for byte in bytes {
+            let (line, column) = document.position(*byte);
+            separate(&mut told, " ")?;
+            push_number(&mut told, "", line)?;
+            push_number(&mut told, ":", column)?;
+            if lexer.position(*byte) != (line, column) {
+                told.push_str("!")?;
+            }
+        }
+    }
+    Ok(told)
+}
+
+#[test]
+fn positions_from_0_in_code_units_of_utf_16(rt: HostRuntime) -> Result<(), Fail> {
+    let text = "a\n😀b�😀";
+    let got = positions(rt.alloc(), text, &[0, 1, 2, 3, 6, 7, 10, 14, 99])?;
+    let want = "0:0 0:1 1:0 1:0 1:2 1:3 1:4 1:6 1:6";
+    same(&rt, got.as_str(), want, FACES, text);
+    Ok(())
+}
+
 fn highlights(alloc: Global, rules: &str, text: &str) -> Result<String, AllocError> {
     let mut told = String::new(alloc);
     if let Some(definition) = defined(alloc, Made::Read(rules))? {
