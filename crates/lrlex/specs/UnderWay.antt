@@ -59,8 +59,8 @@ pub record HasTakenOver {S X : Type 0} (number : S → ℕ) (seen : X → Seen S
   pub asked : new.asked ≡ old.asked
   pub ahead : AreRaised marks numbers index old.over (length marks) old.ahead.items new.ahead.items
 
--- The cursor stands at the first old boundary that isn't before the place, as it was before the edit; where a meeting was
--- found, that boundary stands there with the same stack.
+-- All old boundaries before the cursor stand before the place, as it was before the edit; where a meeting was found, the one at
+-- the cursor stands there, with the same stack.
 pub record TellsMeeting (old : List Mark) (removed : Span) (put : List ℕ) (at : ℕ) (runs : List (ℕ × ℕ)) (next : ℕ) (found : Bool) : Type 0 where
   pub cursor : next ≤ length old
   pub behind : (j : ℕ) → j < next

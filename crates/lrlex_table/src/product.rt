@@ -2,7 +2,7 @@
 ghost use Rattle.std.specs.Prelude.{◌≡◌, ◌≢◌, ◌+◌, ◌-◌, ◌*◌, ◌<◌, ◌≤◌, ◌++◌, List, length, vec_len, IsTrue, IfOk, IfSome, None, Some};
 ghost use Rattle.regex.specs.Patterns.{Re};
 ghost use Rattle.lrlex_table.specs.Merged.{next_of, IsTableOf};
-ghost use Rattle.lrlex_table.specs.Grids.{first_win, pair_at, IsRun, HasPairOf, IsGridBelow};
+ghost use Rattle.lrlex_table.specs.Grids.{first_win, pair_at, AreEqualCells, HasPairOf, IsGridBelow};
 
 use crate::budget::Budget;
 use crate::index::{Index, hash_of_pair};
@@ -48,8 +48,8 @@ fn run_end(a: &Table, x: u16, b: &Table, y: u16, byte: usize) -> usize
     requires other { y < vec_len b.now.wins }
     ensures past { byte < result }
     ensures within { result ≤ 256 }
-    ensures row { IsRun a.now.cells.items x byte result }
-    ensures other { IsRun b.now.cells.items y byte result }
+    ensures row { AreEqualCells a.now.cells.items x byte result }
+    ensures other { AreEqualCells b.now.cells.items y byte result }
 {
     let (x, y) = (x as usize * 256, y as usize * 256);
     let (to, also) = (a.cells[x + byte], b.cells[y + byte]);

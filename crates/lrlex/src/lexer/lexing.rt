@@ -163,8 +163,7 @@ pub(crate) fn advance<'d, L: LexerTypes>(
     requires inside { progress.old.place < length text.now }
     requires matchers { AreMatchers definition.now.table.rules.items matchers.old }
     requires under_way { IsUnderWay (definition_of L.StorageT.number definition.now)
-        L.StorageT.number
-        L.LexemeT.seen text.now progress.old }
+        L.StorageT.number L.LexemeT.seen text.now progress.old }
     ensures held { IfOk result (λ _. AreOf L.StorageT.number definition.now here.new.state here.new
         × AreMatchers definition.now.table.rules.items matchers.new) }
     ensures goes_on { IfOk result (λ on. on ≡ true
