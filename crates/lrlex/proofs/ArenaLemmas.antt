@@ -1,238 +1,238 @@
--- Boundaries whose stacks are ranges of one list of runs: what one more of each changes.
+-- Boundaries whose stacks are ranges of one list of entries: what one more of each changes.
 use Rattle.std.proofs.Common.{◌≡◌, ℕ, zero, suc, ◌+◌, ◌-◌, ◌<◌, ◌≤◌, max, List, [], ◌∷◌, ◌++◌, All, length, take, drop, get_or, refl, sym, ap, ap₂, ◌∙◌, subst, arith, length-append, length-take-le, take-take, take-add, drop-drop, take-append-drop}
 use Rattle.std.specs.List.{slice_range}
 use Rattle.std.proofs.lemmas.List.{take_all, length-drop, get_or_default, take-append-le, drop-append-le}
 use Rattle.std.proofs.lemmas.List.Elements.{All-head, All-push, All-weaker}
 use Rattle.std.proofs.lemmas.List.Quantifiers.{all_pairs_push}
-use Rattle.lrlex.specs.Marks.{Mark, mark_at, last_runs, most_runs}
-use Rattle.lrlex.specs.Ranges.{no_stretch, last_stretch, stretch_at, runs_of, marks_from, IsRange, AreRising, AreBegun, AreInOrder}
-use Rattle.lrlex.specs.Runs.{Stay}
-use Rattle.lrlex.specs.declared.lexer.boundary.Stretch.{Stretch}
+use Rattle.lrlex.specs.Boundaries.{Boundary, boundary_at, last_entries, most_entries}
+use Rattle.lrlex.specs.Ranges.{no_stretch, last_stretch, stretch_at, entries_of, boundaries_from, IsRange, AreRising, AreBegun, AreInOrder}
+use Rattle.lrlex.specs.Entries.{Stay}
+use Rattle.lrlex.specs.declared.lexer.stretch.Stretch.{Stretch}
 use Rattle.lrlex.proofs.StretchLemmas.{last_stretch-All, begun_by-All, begun_by-all, stretch_at-begun, stretch_at-before, stretch_at-last, last_of_front}
 
--- ---- ranges of a list of runs
+-- ---- ranges of a list of entries
 
 pub slice_range-append : (xs ys : List (ℕ × ℕ)) (a b : ℕ) → a ≤ b → b ≤ length xs → slice_range (xs ++ ys) a b ≡ slice_range xs a b
 slice_range-append xs ys a b le within =
     ap (take (b - a)) (drop-append-le a xs ys (omega arith)) ∙ take-append-le (b - a) (drop a xs) ys (omega (arith, length-drop a xs))
 
 -- the first k of a range
-pub front_of_range : (runs : List (ℕ × ℕ)) (first end k : ℕ) → k ≤ end - first → take k (slice_range runs first end) ≡ slice_range runs first (first + k)
-front_of_range runs first end k le =
+pub front_of_range : (entries : List (ℕ × ℕ)) (first end k : ℕ) → k ≤ end - first → take k (slice_range entries first end) ≡ slice_range entries first (first + k)
+front_of_range entries first end k le =
     let n : first + k - first ≡ k = omega arith in
-    take-take k (end - first) (drop first runs) le ∙ ap (λ i. take i (drop first runs)) (sym n)
+    take-take k (end - first) (drop first entries) le ∙ ap (λ i. take i (drop first entries)) (sym n)
 
-pub length_of_range : (runs : List (ℕ × ℕ)) (first end : ℕ) → end ≤ length runs → length (slice_range runs first end) ≡ end - first
-length_of_range runs first end h = length-take-le (end - first) (drop first runs) (omega (arith, length-drop first runs))
+pub length_of_range : (entries : List (ℕ × ℕ)) (first end : ℕ) → end ≤ length entries → length (slice_range entries first end) ≡ end - first
+length_of_range entries first end h = length-take-le (end - first) (drop first entries) (omega (arith, length-drop first entries))
 
 -- the stack stands where its front does and the rest follows it
-pub follows : (runs stack : List (ℕ × ℕ)) (first k : ℕ) → k ≤ length stack → first + k ≤ length runs → slice_range runs first (first + k) ≡ take k stack →
-    take (length (drop k stack)) (drop (first + k) runs) ≡ drop k stack → slice_range runs first (first + length stack) ≡ stack
-follows runs stack first k some within same rest =
+pub follows : (entries stack : List (ℕ × ℕ)) (first k : ℕ) → k ≤ length stack → first + k ≤ length entries → slice_range entries first (first + k) ≡ take k stack →
+    take (length (drop k stack)) (drop (first + k) entries) ≡ drop k stack → slice_range entries first (first + length stack) ≡ stack
+follows entries stack first k some within same rest =
     let m = length (drop k stack) in
     let n : first + length stack - first ≡ k + m = omega (arith, length-drop k stack) in
     let n' : first + k - first ≡ k = omega arith in
-    ap (λ i. take i (drop first runs)) n ∙ take-add k m (drop first runs)
-    ∙ ap₂ ◌++◌ (ap (λ i. take i (drop first runs)) (sym n') ∙ same) (ap (take m) (drop-drop k first runs) ∙ rest)
+    ap (λ i. take i (drop first entries)) n ∙ take-add k m (drop first entries)
+    ∙ ap₂ ◌++◌ (ap (λ i. take i (drop first entries)) (sym n') ∙ same) (ap (take m) (drop-drop k first entries) ∙ rest)
     ∙ take-append-drop k stack
 
 -- ---- boundaries
 
-pub length-marks_from : (runs : List (ℕ × ℕ)) (ss : List Stretch) (k : ℕ) (ps : List ℕ) → length (marks_from runs ss k ps) ≡ length ps
-length-marks_from runs ss k [] = refl
-length-marks_from runs ss k (p ∷ ps) = ap suc (length-marks_from runs ss (k + 1) ps)
+pub length-boundaries_from : (entries : List (ℕ × ℕ)) (ss : List Stretch) (k : ℕ) (ps : List ℕ) → length (boundaries_from entries ss k ps) ≡ length ps
+length-boundaries_from entries ss k [] = refl
+length-boundaries_from entries ss k (p ∷ ps) = ap suc (length-boundaries_from entries ss (k + 1) ps)
 
-mark_from : (runs : List (ℕ × ℕ)) (ss : List Stretch) (k : ℕ) (ps : List ℕ) (i j : ℕ) → i < length ps → j ≡ k + i →
-    mark_at (marks_from runs ss k ps) i ≡ record { place = get_or ps i 0; runs = runs_of runs (stretch_at ss j) }
-mark_from runs ss k [] i j lt e = absurd (omega arith)
-mark_from runs ss k (p ∷ ps) zero j lt e =
+boundary_place_from : (entries : List (ℕ × ℕ)) (ss : List Stretch) (k : ℕ) (ps : List ℕ) (i j : ℕ) → i < length ps → j ≡ k + i →
+    boundary_at (boundaries_from entries ss k ps) i ≡ record { place = get_or ps i 0; entries = entries_of entries (stretch_at ss j) }
+boundary_place_from entries ss k [] i j lt e = absurd (omega arith)
+boundary_place_from entries ss k (p ∷ ps) zero j lt e =
     let at : k ≡ j = omega arith in
-    ap (λ i. record { place = p; runs = runs_of runs (stretch_at ss i) }) at
-mark_from runs ss k (p ∷ ps) (suc i) j lt e = mark_from runs ss (k + 1) ps i j (omega arith) (omega arith)
+    ap (λ i. record { place = p; entries = entries_of entries (stretch_at ss i) }) at
+boundary_place_from entries ss k (p ∷ ps) (suc i) j lt e = boundary_place_from entries ss (k + 1) ps i j (omega arith) (omega arith)
 
-pub mark_at-marks : (runs : List (ℕ × ℕ)) (ss : List Stretch) (ps : List ℕ) (i : ℕ) → i < length ps →
-    mark_at (marks_from runs ss 0 ps) i ≡ record { place = get_or ps i 0; runs = runs_of runs (stretch_at ss i) }
-mark_at-marks runs ss ps i lt = mark_from runs ss 0 ps i i lt (omega arith)
+pub boundary_at-bounds : (entries : List (ℕ × ℕ)) (ss : List Stretch) (ps : List ℕ) (i : ℕ) → i < length ps →
+    boundary_at (boundaries_from entries ss 0 ps) i ≡ record { place = get_or ps i 0; entries = entries_of entries (stretch_at ss i) }
+boundary_at-bounds entries ss ps i lt = boundary_place_from entries ss 0 ps i i lt (omega arith)
 
-pub within_places : (runs : List (ℕ × ℕ)) (ss : List Stretch) (ps : List ℕ) (ms : List Mark) (i : ℕ) → marks_from runs ss 0 ps ≡ ms → i < length ms → i < length ps
-within_places runs ss ps ms i e lt = omega (arith, length-marks_from runs ss 0 ps, ap length e)
+pub within_places : (entries : List (ℕ × ℕ)) (ss : List Stretch) (ps : List ℕ) (ms : List Boundary) (i : ℕ) → boundaries_from entries ss 0 ps ≡ ms → i < length ms → i < length ps
+within_places entries ss ps ms i e lt = omega (arith, length-boundaries_from entries ss 0 ps, ap length e)
 
-pub place_is : (runs : List (ℕ × ℕ)) (ss : List Stretch) (ps : List ℕ) (ms : List Mark) (i d : ℕ) → marks_from runs ss 0 ps ≡ ms → i < length ms → get_or ps i d ≡ (mark_at ms i).place
-place_is runs ss ps ms i d e lt =
-    let within = within_places runs ss ps ms i e lt in
-    get_or_default ps i d 0 within ∙ ap (λ (m : Mark). m.place) (sym (mark_at-marks runs ss ps i within) ∙ ap (λ ms. mark_at ms i) e)
+pub place_is : (entries : List (ℕ × ℕ)) (ss : List Stretch) (ps : List ℕ) (ms : List Boundary) (i d : ℕ) → boundaries_from entries ss 0 ps ≡ ms → i < length ms → get_or ps i d ≡ (boundary_at ms i).place
+place_is entries ss ps ms i d e lt =
+    let within = within_places entries ss ps ms i e lt in
+    get_or_default ps i d 0 within ∙ ap (λ (m : Boundary). m.place) (sym (boundary_at-bounds entries ss ps i within) ∙ ap (λ ms. boundary_at ms i) e)
 
 -- the stacks agree
-marks_agree : (runs more : List (ℕ × ℕ)) (ss now : List Stretch) (k : ℕ) (ps : List ℕ) →
-    ((i : ℕ) → i < k + length ps → runs_of more (stretch_at now i) ≡ runs_of runs (stretch_at ss i)) → marks_from more now k ps ≡ marks_from runs ss k ps
-marks_agree runs more ss now k [] h = refl
-marks_agree runs more ss now k (p ∷ ps) h =
-    ap₂ (λ r ms. record { place = p; runs = r } ∷ ms) (h k (omega arith)) (marks_agree runs more ss now (k + 1) ps (λ i lt. h i (omega arith)))
+bounds_agree : (entries more : List (ℕ × ℕ)) (ss now : List Stretch) (k : ℕ) (ps : List ℕ) →
+    ((i : ℕ) → i < k + length ps → entries_of more (stretch_at now i) ≡ entries_of entries (stretch_at ss i)) → boundaries_from more now k ps ≡ boundaries_from entries ss k ps
+bounds_agree entries more ss now k [] h = refl
+bounds_agree entries more ss now k (p ∷ ps) h =
+    ap₂ (λ r ms. record { place = p; entries = r } ∷ ms) (h k (omega arith)) (bounds_agree entries more ss now (k + 1) ps (λ i lt. h i (omega arith)))
 
-marks_push : (runs : List (ℕ × ℕ)) (ss : List Stretch) (k : ℕ) (ps : List ℕ) (p j : ℕ) → j ≡ k + length ps →
-    marks_from runs ss k (ps ++ p ∷ []) ≡ marks_from runs ss k ps ++ record { place = p; runs = runs_of runs (stretch_at ss j) } ∷ []
-marks_push runs ss k [] p j e =
+bounds_push : (entries : List (ℕ × ℕ)) (ss : List Stretch) (k : ℕ) (ps : List ℕ) (p j : ℕ) → j ≡ k + length ps →
+    boundaries_from entries ss k (ps ++ p ∷ []) ≡ boundaries_from entries ss k ps ++ record { place = p; entries = entries_of entries (stretch_at ss j) } ∷ []
+bounds_push entries ss k [] p j e =
     let at : k ≡ j = omega arith in
-    ap (λ i. record { place = p; runs = runs_of runs (stretch_at ss i) } ∷ []) at
-marks_push runs ss k (x ∷ ps) p j e = ap (λ ms. record { place = x; runs = runs_of runs (stretch_at ss k) } ∷ ms) (marks_push runs ss (k + 1) ps p j (omega arith))
+    ap (λ i. record { place = p; entries = entries_of entries (stretch_at ss i) } ∷ []) at
+bounds_push entries ss k (x ∷ ps) p j e = ap (λ ms. record { place = x; entries = entries_of entries (stretch_at ss k) } ∷ ms) (bounds_push entries ss (k + 1) ps p j (omega arith))
 
--- ---- the greatest number of runs
+-- ---- the greatest number of entries
 
 max-swap : (a b n : ℕ) → max a (max b n) ≡ max (max a b) n
 max-swap a b n = omega arith
 
-pub most_runs-last : (ms : List Mark) (m : Mark) → most_runs (ms ++ m ∷ []) ≡ max (most_runs ms) (length m.runs)
-most_runs-last [] m = omega arith
-most_runs-last (x ∷ ms) m = ap (max (length x.runs)) (most_runs-last ms m) ∙ max-swap (length x.runs) (most_runs ms) (length m.runs)
+pub most_entries-last : (ms : List Boundary) (m : Boundary) → most_entries (ms ++ m ∷ []) ≡ max (most_entries ms) (length m.entries)
+most_entries-last [] m = omega arith
+most_entries-last (x ∷ ms) m = ap (max (length x.entries)) (most_entries-last ms m) ∙ max-swap (length x.entries) (most_entries ms) (length m.entries)
 
-most_runs-at : (ms : List Mark) (i : ℕ) → length (mark_at ms i).runs ≤ most_runs ms
-most_runs-at [] i = omega arith
-most_runs-at (m ∷ ms) zero = omega arith
-most_runs-at (m ∷ ms) (suc i) = omega (arith, most_runs-at ms i)
+most_entries-at : (ms : List Boundary) (i : ℕ) → length (boundary_at ms i).entries ≤ most_entries ms
+most_entries-at [] i = omega arith
+most_entries-at (m ∷ ms) zero = omega arith
+most_entries-at (m ∷ ms) (suc i) = omega (arith, most_entries-at ms i)
 
 -- ---- the fields
 
-no_range : (runs : List (ℕ × ℕ)) → IsRange (length runs) no_stretch
-no_range runs = record { ordered = omega arith; within = omega arith }
+no_range : (entries : List (ℕ × ℕ)) → IsRange (length entries) no_stretch
+no_range entries = record { ordered = omega arith; within = omega arith }
 
--- the stretch's range has these runs
-pub record Holds (runs : List (ℕ × ℕ)) (s : Stretch) (stack : List (ℕ × ℕ)) : Type 0 where
-  pub range : IsRange (length runs) s
-  pub is : runs_of runs s ≡ stack
+-- the stretch's range has these entries
+pub record Holds (entries : List (ℕ × ℕ)) (s : Stretch) (stack : List (ℕ × ℕ)) : Type 0 where
+  pub range : IsRange (length entries) s
+  pub is : entries_of entries s ≡ stack
 
 -- the stretch that the boundary is in
-pub range_is : {runs : List (ℕ × ℕ)} {ss now : List Stretch} {ps : List ℕ} {peak : ℕ} {ms : List Mark} {s : Stretch} (i : ℕ) → AreInOrder runs ss ps peak → marks_from runs ss 0 ps ≡ ms → i < length ms →
-    s ≡ stretch_at now i → now ≡ ss → Holds runs s (mark_at ms i).runs
-range_is {runs} {ss} {now} {ps} {peak} {ms} {s} i h e lt is e' =
+pub range_is : {entries : List (ℕ × ℕ)} {ss now : List Stretch} {ps : List ℕ} {peak : ℕ} {ms : List Boundary} {s : Stretch} (i : ℕ) → AreInOrder entries ss ps peak → boundaries_from entries ss 0 ps ≡ ms → i < length ms →
+    s ≡ stretch_at now i → now ≡ ss → Holds entries s (boundary_at ms i).entries
+range_is {entries} {ss} {now} {ps} {peak} {ms} {s} i h e lt is e' =
     let at : s ≡ stretch_at ss i = is ∙ ap (λ xs. stretch_at xs i) e' in
     record {
-      range = subst (IsRange (length runs)) (sym at) (begun_by-All (IsRange (length runs)) no_stretch ss i (no_range runs) h.ranges);
-      is = ap (runs_of runs) at ∙ ap (λ (m : Mark). m.runs) (sym (mark_at-marks runs ss ps i (within_places runs ss ps ms i e lt)) ∙ ap (λ ms. mark_at ms i) e);
+      range = subst (IsRange (length entries)) (sym at) (begun_by-All (IsRange (length entries)) no_stretch ss i (no_range entries) h.ranges);
+      is = ap (entries_of entries) at ∙ ap (λ (m : Boundary). m.entries) (sym (boundary_at-bounds entries ss ps i (within_places entries ss ps ms i e lt)) ∙ ap (λ ms. boundary_at ms i) e);
     }
 
 -- the stretch that begins with the boundary
-pub entered_is : {runs : List (ℕ × ℕ)} {ss : List Stretch} {ps : List ℕ} {peak n : ℕ} {ms : List Mark} {s : Stretch} (i : ℕ) → AreInOrder runs ss ps peak → marks_from runs ss 0 ps ≡ ms → i < length ms →
-    AreBegun ss (n + 1) i → n < length ss → s ≡ get_or ss n s → Holds runs s (mark_at ms i).runs
-entered_is {runs} {ss} {ps} {peak} {n} {ms} {s} i h e lt begun within is =
+pub entered_is : {entries : List (ℕ × ℕ)} {ss : List Stretch} {ps : List ℕ} {peak n : ℕ} {ms : List Boundary} {s : Stretch} (i : ℕ) → AreInOrder entries ss ps peak → boundaries_from entries ss 0 ps ≡ ms → i < length ms →
+    AreBegun ss (n + 1) i → n < length ss → s ≡ get_or ss n s → Holds entries s (boundary_at ms i).entries
+entered_is {entries} {ss} {ps} {peak} {n} {ms} {s} i h e lt begun within is =
     range_is i h e lt (is ∙ sym (last_of_front no_stretch ss n s within) ∙ sym (stretch_at-begun begun)) refl
 
 -- two boundaries in one stretch
-pub same_runs : {runs : List (ℕ × ℕ)} {ss : List Stretch} {ps : List ℕ} {peak n j k : ℕ} {ms : List Mark} → AreInOrder runs ss ps peak → marks_from runs ss 0 ps ≡ ms → AreBegun ss n j → AreBegun ss n k →
-    j < length ms → k < length ms → (mark_at ms j).runs ≡ (mark_at ms k).runs
-same_runs {runs} {ss} {ps} {peak} {n} {j} {k} {ms} h e bj bk lj lk =
-    sym (range_is j h e lj refl refl).is ∙ ap (runs_of runs) (stretch_at-begun bj ∙ sym (stretch_at-begun bk)) ∙ (range_is k h e lk refl refl).is
+pub same_entries : {entries : List (ℕ × ℕ)} {ss : List Stretch} {ps : List ℕ} {peak n j k : ℕ} {ms : List Boundary} → AreInOrder entries ss ps peak → boundaries_from entries ss 0 ps ≡ ms → AreBegun ss n j → AreBegun ss n k →
+    j < length ms → k < length ms → (boundary_at ms j).entries ≡ (boundary_at ms k).entries
+same_entries {entries} {ss} {ps} {peak} {n} {j} {k} {ms} h e bj bk lj lk =
+    sym (range_is j h e lj refl refl).is ∙ ap (entries_of entries) (stretch_at-begun bj ∙ sym (stretch_at-begun bk)) ∙ (range_is k h e lk refl refl).is
 
 -- from the last stretch on
 after_last : (ss : List Stretch) (n i : ℕ) → All (λ s. s.from < n) ss → n ≤ i + 1 → stretch_at ss i ≡ last_stretch no_stretch ss
 after_last ss n i h le = begun_by-all no_stretch ss i (All-weaker (λ s. s.from < n) (λ s. s.from ≤ i) (λ s lt. omega arith) ss h)
 
-last_runs-is : (runs : List (ℕ × ℕ)) (ss : List Stretch) (ps : List ℕ) → All (λ s. s.from < length ps) ss → last_runs (marks_from runs ss 0 ps) ≡ runs_of runs (last_stretch no_stretch ss)
-last_runs-is runs [] [] h = refl
-last_runs-is runs (s ∷ ss) [] h = absurd (omega (arith, All-head (λ s. s.from < 0) s ss h))
-last_runs-is runs ss (p ∷ ps) h =
-    let n : length (marks_from runs ss 0 (p ∷ ps)) - 1 ≡ length ps = omega (arith, length-marks_from runs ss 0 (p ∷ ps)) in
-    ap (λ i. (mark_at (marks_from runs ss 0 (p ∷ ps)) i).runs) n
-    ∙ ap (λ (m : Mark). m.runs) (mark_at-marks runs ss (p ∷ ps) (length ps) (omega arith))
-    ∙ ap (runs_of runs) (after_last ss (length (p ∷ ps)) (length ps) h (omega arith))
+last_entries-is : (entries : List (ℕ × ℕ)) (ss : List Stretch) (ps : List ℕ) → All (λ s. s.from < length ps) ss → last_entries (boundaries_from entries ss 0 ps) ≡ entries_of entries (last_stretch no_stretch ss)
+last_entries-is entries [] [] h = refl
+last_entries-is entries (s ∷ ss) [] h = absurd (omega (arith, All-head (λ s. s.from < 0) s ss h))
+last_entries-is entries ss (p ∷ ps) h =
+    let n : length (boundaries_from entries ss 0 (p ∷ ps)) - 1 ≡ length ps = omega (arith, length-boundaries_from entries ss 0 (p ∷ ps)) in
+    ap (λ i. (boundary_at (boundaries_from entries ss 0 (p ∷ ps)) i).entries) n
+    ∙ ap (λ (m : Boundary). m.entries) (boundary_at-bounds entries ss (p ∷ ps) (length ps) (omega arith))
+    ∙ ap (entries_of entries) (after_last ss (length (p ∷ ps)) (length ps) h (omega arith))
 
 -- the last boundary's stretch
-pub last_range : {runs : List (ℕ × ℕ)} {ss now : List Stretch} {ps : List ℕ} {peak : ℕ} {ms : List Mark} {s : Stretch} → AreInOrder runs ss ps peak → marks_from runs ss 0 ps ≡ ms →
-    s ≡ last_stretch no_stretch now → now ≡ ss → Holds runs s (last_runs ms)
-last_range {runs} {ss} {now} {ps} {peak} {ms} {s} h e is e' =
+pub last_range : {entries : List (ℕ × ℕ)} {ss now : List Stretch} {ps : List ℕ} {peak : ℕ} {ms : List Boundary} {s : Stretch} → AreInOrder entries ss ps peak → boundaries_from entries ss 0 ps ≡ ms →
+    s ≡ last_stretch no_stretch now → now ≡ ss → Holds entries s (last_entries ms)
+last_range {entries} {ss} {now} {ps} {peak} {ms} {s} h e is e' =
     let at : s ≡ last_stretch no_stretch ss = is ∙ ap (last_stretch no_stretch) e' in
     record {
-      range = subst (IsRange (length runs)) (sym at) (last_stretch-All (IsRange (length runs)) no_stretch ss (no_range runs) h.ranges);
-      is = ap (runs_of runs) at ∙ sym (last_runs-is runs ss ps h.begun) ∙ ap last_runs e;
+      range = subst (IsRange (length entries)) (sym at) (last_stretch-All (IsRange (length entries)) no_stretch ss (no_range entries) h.ranges);
+      is = ap (entries_of entries) at ∙ sym (last_entries-is entries ss ps h.begun) ∙ ap last_entries e;
     }
 
 -- two ranges that begin at one place
-pub Stay-ranges : {runs old new : List (ℕ × ℕ)} {a b : Stretch} (end : ℕ) → Holds runs a new → Holds runs b old → a.first ≡ b.first → end ≤ a.end → end ≤ b.end → Stay (end - a.first) old new
-Stay-ranges {runs} {old} {new} {a} {b} end ha hb e le lb =
+pub Stay-ranges : {entries old new : List (ℕ × ℕ)} {a b : Stretch} (end : ℕ) → Holds entries a new → Holds entries b old → a.first ≡ b.first → end ≤ a.end → end ≤ b.end → Stay (end - a.first) old new
+Stay-ranges {entries} {old} {new} {a} {b} end ha hb e le lb =
     let k : ℕ = end - a.first in
-    let la = length_of_range runs a.first a.end ha.range.within in
-    let lb' = length_of_range runs b.first b.end hb.range.within in
+    let la = length_of_range entries a.first a.end ha.range.within in
+    let lb' = length_of_range entries b.first b.end hb.range.within in
     record {
       there = omega (arith, ap length hb.is);
       within = omega (arith, ap length ha.is);
       same =
-          ap (take k) (sym ha.is) ∙ front_of_range runs a.first a.end k (omega arith) ∙ ap (λ i. slice_range runs i (i + k)) e
-          ∙ sym (front_of_range runs b.first b.end k (omega arith)) ∙ ap (take k) hb.is;
+          ap (take k) (sym ha.is) ∙ front_of_range entries a.first a.end k (omega arith) ∙ ap (λ i. slice_range entries i (i + k)) e
+          ∙ sym (front_of_range entries b.first b.end k (omega arith)) ∙ ap (take k) hb.is;
     }
 
-room : {runs old stack : List (ℕ × ℕ)} {s : Stretch} {k : ℕ} → Holds runs s old → Stay k old stack → k ≤ s.end - s.first
-room {runs} {old} {stack} {s} {k} h st = omega (arith, st.there, ap length h.is, length_of_range runs s.first s.end h.range.within)
+room : {entries old stack : List (ℕ × ℕ)} {s : Stretch} {k : ℕ} → Holds entries s old → Stay k old stack → k ≤ s.end - s.first
+room {entries} {old} {stack} {s} {k} h st = omega (arith, st.there, ap length h.is, length_of_range entries s.first s.end h.range.within)
 
 -- the stack is the old one
-pub stays_whole : {runs old stack : List (ℕ × ℕ)} {s : Stretch} {k : ℕ} → Holds runs s old → Stay k old stack → k ≡ length stack → k ≡ s.end - s.first → stack ≡ old
-stays_whole {runs} {old} {stack} {s} {k} h st whole all =
-    sym (take_all k stack (omega arith)) ∙ st.same ∙ take_all k old (omega (arith, ap length h.is, length_of_range runs s.first s.end h.range.within))
+pub stays_whole : {entries old stack : List (ℕ × ℕ)} {s : Stretch} {k : ℕ} → Holds entries s old → Stay k old stack → k ≡ length stack → k ≡ s.end - s.first → stack ≡ old
+stays_whole {entries} {old} {stack} {s} {k} h st whole all =
+    sym (take_all k stack (omega arith)) ∙ st.same ∙ take_all k old (omega (arith, ap length h.is, length_of_range entries s.first s.end h.range.within))
 
--- where the runs that stay stand
-pub stays_within : {runs old stack : List (ℕ × ℕ)} {s : Stretch} {k : ℕ} → Holds runs s old → Stay k old stack → s.first + k ≤ length runs
-stays_within {runs} {old} {stack} {s} {k} h st = omega (arith, room h st, h.range.ordered, h.range.within)
+-- where the entries that stay stand
+pub stays_within : {entries old stack : List (ℕ × ℕ)} {s : Stretch} {k : ℕ} → Holds entries s old → Stay k old stack → s.first + k ≤ length entries
+stays_within {entries} {old} {stack} {s} {k} h st = omega (arith, room h st, h.range.ordered, h.range.within)
 
-pub stays_same : {runs old stack : List (ℕ × ℕ)} {s : Stretch} {k : ℕ} → Holds runs s old → Stay k old stack → slice_range runs s.first (s.first + k) ≡ take k stack
-stays_same {runs} {old} {stack} {s} {k} h st = sym (front_of_range runs s.first s.end k (room h st)) ∙ ap (take k) h.is ∙ sym st.same
+pub stays_same : {entries old stack : List (ℕ × ℕ)} {s : Stretch} {k : ℕ} → Holds entries s old → Stay k old stack → slice_range entries s.first (s.first + k) ≡ take k stack
+stays_same {entries} {old} {stack} {s} {k} h st = sym (front_of_range entries s.first s.end k (room h st)) ∙ ap (take k) h.is ∙ sym st.same
 
--- more runs
-pub marks_more_runs : {runs more : List (ℕ × ℕ)} {ss : List Stretch} {ps : List ℕ} {peak : ℕ} → more ≡ runs ++ drop (length runs) more → AreInOrder runs ss ps peak →
-    marks_from more ss 0 ps ≡ marks_from runs ss 0 ps
-marks_more_runs {runs} {more} {ss} {ps} {peak} e h =
-    marks_agree runs more ss ss 0 ps (λ i lt. let s = stretch_at ss i in
-    let r : IsRange (length runs) s = begun_by-All (IsRange (length runs)) no_stretch ss i (no_range runs) h.ranges in
-    ap (λ rs. runs_of rs s) e ∙ slice_range-append runs (drop (length runs) more) s.first s.end r.ordered r.within)
+-- more entries
+pub bounds_more_entries : {entries more : List (ℕ × ℕ)} {ss : List Stretch} {ps : List ℕ} {peak : ℕ} → more ≡ entries ++ drop (length entries) more → AreInOrder entries ss ps peak →
+    boundaries_from more ss 0 ps ≡ boundaries_from entries ss 0 ps
+bounds_more_entries {entries} {more} {ss} {ps} {peak} e h =
+    bounds_agree entries more ss ss 0 ps (λ i lt. let s = stretch_at ss i in
+    let r : IsRange (length entries) s = begun_by-All (IsRange (length entries)) no_stretch ss i (no_range entries) h.ranges in
+    ap (λ rs. entries_of rs s) e ∙ slice_range-append entries (drop (length entries) more) s.first s.end r.ordered r.within)
 
-pub in_order_more_runs : {runs more : List (ℕ × ℕ)} {ss : List Stretch} {ps : List ℕ} {peak : ℕ} → more ≡ runs ++ drop (length runs) more → AreInOrder runs ss ps peak → AreInOrder more ss ps peak
-in_order_more_runs {runs} {more} {ss} {ps} {peak} e h =
-    let long : length runs ≤ length more = omega (arith, ap length e, length-append runs (drop (length runs) more)) in
+pub in_order_more_entries : {entries more : List (ℕ × ℕ)} {ss : List Stretch} {ps : List ℕ} {peak : ℕ} → more ≡ entries ++ drop (length entries) more → AreInOrder entries ss ps peak → AreInOrder more ss ps peak
+in_order_more_entries {entries} {more} {ss} {ps} {peak} e h =
+    let long : length entries ≤ length more = omega (arith, ap length e, length-append entries (drop (length entries) more)) in
     record {
-      ranges = All-weaker (IsRange (length runs)) (IsRange (length more)) (λ s r. record { ordered = r.ordered; within = omega (arith, r.within) }) ss h.ranges;
+      ranges = All-weaker (IsRange (length entries)) (IsRange (length more)) (λ s r. record { ordered = r.ordered; within = omega (arith, r.within) }) ss h.ranges;
       begun = h.begun;
       rising = h.rising;
-      most = h.most ∙ ap most_runs (sym (marks_more_runs e h));
+      most = h.most ∙ ap most_entries (sym (bounds_more_entries e h));
     }
 
 longer : (ss : List Stretch) (ps now : List ℕ) (p : ℕ) → now ≡ ps ++ p ∷ [] → All (λ s. s.from < length ps) ss → All (λ s. s.from < length now) ss
 longer ss ps now p e h = All-weaker (λ s. s.from < length ps) (λ s. s.from < length now) (λ s lt. omega (arith, ap length e, length-append ps (p ∷ []))) ss h
 
 -- one more boundary with the last one's stack
-pub marks_repeat : {runs : List (ℕ × ℕ)} {ss : List Stretch} {ps now : List ℕ} {peak : ℕ} (p : ℕ) → now ≡ ps ++ p ∷ [] → AreInOrder runs ss ps peak →
-    marks_from runs ss 0 now ≡ marks_from runs ss 0 ps ++ record { place = p; runs = last_runs (marks_from runs ss 0 ps) } ∷ []
-marks_repeat {runs} {ss} {ps} {now} {peak} p e h =
-    let same : runs_of runs (stretch_at ss (length ps)) ≡ last_runs (marks_from runs ss 0 ps) =
-    ap (runs_of runs) (after_last ss (length ps) (length ps) h.begun (omega arith)) ∙ sym (last_runs-is runs ss ps h.begun) in
-    ap (marks_from runs ss 0) e ∙ marks_push runs ss 0 ps p (length ps) (omega arith) ∙ ap (λ r. marks_from runs ss 0 ps ++ record { place = p; runs = r } ∷ []) same
+pub bounds_repeat : {entries : List (ℕ × ℕ)} {ss : List Stretch} {ps now : List ℕ} {peak : ℕ} (p : ℕ) → now ≡ ps ++ p ∷ [] → AreInOrder entries ss ps peak →
+    boundaries_from entries ss 0 now ≡ boundaries_from entries ss 0 ps ++ record { place = p; entries = last_entries (boundaries_from entries ss 0 ps) } ∷ []
+bounds_repeat {entries} {ss} {ps} {now} {peak} p e h =
+    let same : entries_of entries (stretch_at ss (length ps)) ≡ last_entries (boundaries_from entries ss 0 ps) =
+    ap (entries_of entries) (after_last ss (length ps) (length ps) h.begun (omega arith)) ∙ sym (last_entries-is entries ss ps h.begun) in
+    ap (boundaries_from entries ss 0) e ∙ bounds_push entries ss 0 ps p (length ps) (omega arith) ∙ ap (λ r. boundaries_from entries ss 0 ps ++ record { place = p; entries = r } ∷ []) same
 
-pub in_order_repeat : {runs : List (ℕ × ℕ)} {ss : List Stretch} {ps now : List ℕ} {peak : ℕ} (p : ℕ) → now ≡ ps ++ p ∷ [] → AreInOrder runs ss ps peak → AreInOrder runs ss now peak
-in_order_repeat {runs} {ss} {ps} {now} {peak} p e h =
-    let old = marks_from runs ss 0 ps in
-    let known = most_runs-at old (length old - 1) in
-    let grown = most_runs-last old (record { place = p; runs = last_runs old }) in
+pub in_order_repeat : {entries : List (ℕ × ℕ)} {ss : List Stretch} {ps now : List ℕ} {peak : ℕ} (p : ℕ) → now ≡ ps ++ p ∷ [] → AreInOrder entries ss ps peak → AreInOrder entries ss now peak
+in_order_repeat {entries} {ss} {ps} {now} {peak} p e h =
+    let old = boundaries_from entries ss 0 ps in
+    let known = most_entries-at old (length old - 1) in
+    let grown = most_entries-last old (record { place = p; entries = last_entries old }) in
     record {
       ranges = h.ranges;
       begun = longer ss ps now p e h.begun;
       rising = h.rising;
-      most = omega (arith, h.most, known, grown, ap most_runs (marks_repeat p e h));
+      most = omega (arith, h.most, known, grown, ap most_entries (bounds_repeat p e h));
     }
 
 -- one more boundary with a stretch of its own
-pub marks_enter : {runs : List (ℕ × ℕ)} {ss now : List Stretch} {ps places : List ℕ} {peak : ℕ} (s : Stretch) (p : ℕ) → now ≡ ss ++ s ∷ [] → places ≡ ps ++ p ∷ [] → s.from ≡ length ps → AreInOrder runs ss ps peak →
-    marks_from runs now 0 places ≡ marks_from runs ss 0 ps ++ record { place = p; runs = runs_of runs s } ∷ []
-marks_enter {runs} {ss} {now} {ps} {places} {peak} s p e e' from h =
-    ap₂ (λ ss ps. marks_from runs ss 0 ps) e e' ∙ marks_push runs (ss ++ s ∷ []) 0 ps p (length ps) (omega arith)
-    ∙ ap₂ (λ ms t. ms ++ record { place = p; runs = runs_of runs t } ∷ [])
-    (marks_agree runs runs ss (ss ++ s ∷ []) 0 ps (λ i lt. ap (runs_of runs) (stretch_at-before ss s i (omega arith))))
+pub bounds_enter : {entries : List (ℕ × ℕ)} {ss now : List Stretch} {ps places : List ℕ} {peak : ℕ} (s : Stretch) (p : ℕ) → now ≡ ss ++ s ∷ [] → places ≡ ps ++ p ∷ [] → s.from ≡ length ps → AreInOrder entries ss ps peak →
+    boundaries_from entries now 0 places ≡ boundaries_from entries ss 0 ps ++ record { place = p; entries = entries_of entries s } ∷ []
+bounds_enter {entries} {ss} {now} {ps} {places} {peak} s p e e' from h =
+    ap₂ (λ ss ps. boundaries_from entries ss 0 ps) e e' ∙ bounds_push entries (ss ++ s ∷ []) 0 ps p (length ps) (omega arith)
+    ∙ ap₂ (λ ms t. ms ++ record { place = p; entries = entries_of entries t } ∷ [])
+    (bounds_agree entries entries ss (ss ++ s ∷ []) 0 ps (λ i lt. ap (entries_of entries) (stretch_at-before ss s i (omega arith))))
     (stretch_at-last ss s (length ps) (omega arith))
 
-pub in_order_enter : {runs : List (ℕ × ℕ)} {ss now : List Stretch} {ps places : List ℕ} {peak top : ℕ} (s : Stretch) (p : ℕ) → now ≡ ss ++ s ∷ [] → places ≡ ps ++ p ∷ [] →
-    s.from ≡ length ps → IsRange (length runs) s → top ≡ max peak (length (runs_of runs s)) → AreInOrder runs ss ps peak → AreInOrder runs now places top
-in_order_enter {runs} {ss} {now} {ps} {places} {peak} {top} s p e e' from range is h =
-    let old = marks_from runs ss 0 ps in
-    let m : Mark = record { place = p; runs = runs_of runs s } in
+pub in_order_enter : {entries : List (ℕ × ℕ)} {ss now : List Stretch} {ps places : List ℕ} {peak top : ℕ} (s : Stretch) (p : ℕ) → now ≡ ss ++ s ∷ [] → places ≡ ps ++ p ∷ [] →
+    s.from ≡ length ps → IsRange (length entries) s → top ≡ max peak (length (entries_of entries s)) → AreInOrder entries ss ps peak → AreInOrder entries now places top
+in_order_enter {entries} {ss} {now} {ps} {places} {peak} {top} s p e e' from range is h =
+    let old = boundaries_from entries ss 0 ps in
+    let m : Boundary = record { place = p; entries = entries_of entries s } in
     let here : s.from < length places = omega (arith, ap length e', length-append ps (p ∷ [])) in
     record {
-      ranges = subst (All (IsRange (length runs))) (sym e) (All-push (IsRange (length runs)) ss s h.ranges range);
+      ranges = subst (All (IsRange (length entries))) (sym e) (All-push (IsRange (length entries)) ss s h.ranges range);
       begun = subst (All (λ t. t.from < length places)) (sym e) (All-push (λ t. t.from < length places) ss s (longer ss ps places p e' h.begun) here);
       rising = subst AreRising (sym e) (all_pairs_push (λ s t. s.from < t.from) ss s h.rising (λ k d lt. omega (arith, h.begun k d lt)));
-      most = is ∙ ap (λ n. max n (length m.runs)) h.most ∙ sym (most_runs-last old m) ∙ ap most_runs (sym (marks_enter s p e e' from h));
+      most = is ∙ ap (λ n. max n (length m.entries)) h.most ∙ sym (most_entries-last old m) ∙ ap most_entries (sym (bounds_enter s p e e' from h));
     }

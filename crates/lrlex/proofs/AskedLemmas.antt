@@ -10,8 +10,8 @@ use Rattle.lrlex_rules.specs.Definition.{Definition}
 use Rattle.lrlex_rules.specs.Parts.{as_state}
 use Rattle.lrlex_table.specs.declared.tables.Tables.{Tables}
 use Rattle.lrlex.specs.Tiling.{Item, top}
-use Rattle.lrlex.specs.Runs.{plain}
-use Rattle.lrlex.specs.Marks.{Mark, bound, no_mark, mark_at}
+use Rattle.lrlex.specs.Entries.{plain}
+use Rattle.lrlex.specs.Boundaries.{Boundary, place_and_stack, no_boundary, boundary_at}
 use Rattle.lrlex.specs.Edits.{Meets}
 use Rattle.lrlex.specs.Reach.{Reached}
 use Rattle.lrlex.specs.Asked.{tables_in, untabled_count, asks_at, asks, IsLastSafe, IsFirstMeeting, WasCutAnew}
@@ -45,65 +45,65 @@ to_the_end xs from = take_all (length xs - from) (drop from xs) (omega (arith, l
 -- ---- sums
 
 module _ {L X S E P Q : Type 0} (def : LRNonStreamingLexerDef L X S E P Q) (text : List ℕ) where
-  asks_append : (xs ys : List Mark) → asks def text (xs ++ ys) ≡ asks def text xs + asks def text ys
-  asks_append xs ys = ap (sum_by (asks_at def (length text))) (map-append bound xs ys) ∙ sum_by-append (asks_at def (length text)) (map bound xs) (map bound ys)
+  asks_append : (xs ys : List Boundary) → asks def text (xs ++ ys) ≡ asks def text xs + asks def text ys
+  asks_append xs ys = ap (sum_by (asks_at def (length text))) (map-append place_and_stack xs ys) ∙ sum_by-append (asks_at def (length text)) (map place_and_stack xs) (map place_and_stack ys)
 
-  asks_one : (m : Mark) → m.place < length text → asks def text (m ∷ []) ≡ untabled_count def (top (plain m.runs))
+  asks_one : (m : Boundary) → m.place < length text → asks def text (m ∷ []) ≡ untabled_count def (top (plain m.entries))
   asks_one m lt =
-      let at : asks_at def (length text) (bound m) ≡ untabled_count def (top (plain m.runs)) = cond-true _ (untabled_count def (top (plain m.runs))) 0 (lt-ltb m.place (length text) lt) in
-      omega (arith, sum_by-cons (asks_at def (length text)) (bound m) [], at)
+      let at : asks_at def (length text) (place_and_stack m) ≡ untabled_count def (top (plain m.entries)) = cond-true _ (untabled_count def (top (plain m.entries))) 0 (lt-ltb m.place (length text) lt) in
+      omega (arith, sum_by-cons (asks_at def (length text)) (place_and_stack m) [], at)
 
-  asks_last : (m : Mark) → length text ≤ m.place → asks def text (m ∷ []) ≡ 0
+  asks_last : (m : Boundary) → length text ≤ m.place → asks def text (m ∷ []) ≡ 0
   asks_last m le =
-      let at : asks_at def (length text) (bound m) ≡ 0 = cond-false _ (untabled_count def (top (plain m.runs))) 0 (le-ltb m.place (length text) le) in
-      omega (arith, sum_by-cons (asks_at def (length text)) (bound m) [], at)
+      let at : asks_at def (length text) (place_and_stack m) ≡ 0 = cond-false _ (untabled_count def (top (plain m.entries))) 0 (le-ltb m.place (length text) le) in
+      omega (arith, sum_by-cons (asks_at def (length text)) (place_and_stack m) [], at)
 
-  pub asks_nowhere : (xs : List Mark) (from n : ℕ) → n ≤ from → asks def text (slice_range xs from n) ≡ 0
+  pub asks_nowhere : (xs : List Boundary) (from n : ℕ) → n ≤ from → asks def text (slice_range xs from n) ≡ 0
   asks_nowhere xs from n le = let none : n - from ≡ 0 = omega arith in ap (λ k. asks def text (take k (drop from xs))) none
 
   -- ---- as a run goes on
 
-  module _ (d : Definition) (place : ℕ) (stack : List (ℕ × ℕ)) (found : List Item) (marks : List Mark) (asked : ℕ) (r : Reached d text place stack found marks asked)
-      (from : ℕ) (le : from < length marks) (count : asked ≡ asks def text (slice_range marks from (length marks - 1))) where
-    abbrev here : Mark
-    here = record { place = place; runs = stack }
+  module _ (d : Definition) (place : ℕ) (stack : List (ℕ × ℕ)) (found : List Item) (bounds : List Boundary) (asked : ℕ) (r : Reached d text place stack found bounds asked)
+      (from : ℕ) (le : from < length bounds) (count : asked ≡ asks def text (slice_range bounds from (length bounds - 1))) where
+    abbrev here : Boundary
+    here = record { place = place; entries = stack }
 
-    before_here : (tail all : List Mark) → all ≡ marks ++ tail → slice_range all from (length marks - 1) ≡ drop from r.before
+    before_here : (tail all : List Boundary) → all ≡ bounds ++ tail → slice_range all from (length bounds - 1) ≡ drop from r.before
     before_here tail all e =
-        let n = length_now d text place stack found marks asked r in
-        ap (λ ms. slice_range ms from (length marks - 1)) (e ∙ ap (λ ms. ms ++ tail) r.kept ∙ append_assoc r.before (here ∷ []) tail)
-        ∙ upto r.before (here ∷ tail) from (length marks - 1) (omega arith) (omega arith)
+        let n = length_now d text place stack found bounds asked r in
+        ap (λ ms. slice_range ms from (length bounds - 1)) (e ∙ ap (λ ms. ms ++ tail) r.kept ∙ append_assoc r.before (here ∷ []) tail)
+        ∙ upto r.before (here ∷ tail) from (length bounds - 1) (omega arith) (omega arith)
 
-    total : asks def text (drop from marks) ≡ asked + asks def text (here ∷ [])
+    total : asks def text (drop from bounds) ≡ asked + asks def text (here ∷ [])
     total =
-        let n = length_now d text place stack found marks asked r in
-        let split : drop from marks ≡ drop from r.before ++ here ∷ [] = ap (drop from) r.kept ∙ drop-append-le from r.before (here ∷ []) (omega arith) in
-        let front = ap (asks def text) (before_here [] marks (sym (append-nil marks))) in
+        let n = length_now d text place stack found bounds asked r in
+        let split : drop from bounds ≡ drop from r.before ++ here ∷ [] = ap (drop from) r.kept ∙ drop-append-le from r.before (here ∷ []) (omega arith) in
+        let front = ap (asks def text) (before_here [] bounds (sym (append-nil bounds))) in
         omega (arith, ap (asks def text) split, asks_append (drop from r.before) (here ∷ []), front, count)
 
     -- by one more tile, or a try at one
-    pub more_asked : (now : ℕ) → place < length text → now ≡ asked + untabled_count def (top (plain stack)) → now ≡ asks def text (drop from marks)
+    pub more_asked : (now : ℕ) → place < length text → now ≡ asked + untabled_count def (top (plain stack)) → now ≡ asks def text (drop from bounds)
     more_asked now lt is = omega (arith, total, asks_one here lt, is)
 
     -- at the text's end nothing is asked
-    pub all_asked : length text ≤ place → asked ≡ asks def text (drop from marks)
+    pub all_asked : length text ≤ place → asked ≡ asks def text (drop from bounds)
     all_asked end = omega (arith, total, asks_last here end)
 
-    pub next_asked : (now : ℕ) (m : Mark) (after : List Mark) → place < length text → now ≡ asked + untabled_count def (top (plain stack)) → after ≡ marks ++ m ∷ [] →
+    pub next_asked : (now : ℕ) (m : Boundary) (after : List Boundary) → place < length text → now ≡ asked + untabled_count def (top (plain stack)) → after ≡ bounds ++ m ∷ [] →
         now ≡ asks def text (slice_range after from (length after - 1))
     next_asked now m after lt is e =
-        let len = length-append marks (m ∷ []) in
+        let len = length-append bounds (m ∷ []) in
         more_asked now lt is
-        ∙ ap (asks def text) (sym (ap (λ ms. slice_range ms from (length after - 1)) e ∙ upto marks (m ∷ []) from (length after - 1) (omega (arith, ap length e, len)) (omega (arith, ap length e, len))))
+        ∙ ap (asks def text) (sym (ap (λ ms. slice_range ms from (length after - 1)) e ∙ upto bounds (m ∷ []) from (length after - 1) (omega (arith, ap length e, len)) (omega (arith, ap length e, len))))
 
 -- ---- whether a boundary meets the old run
 
-pub record IsThere (olds : List Mark) (off at : ℕ) (stack : List ℕ) : Type 0 where
+pub record IsThere (olds : List Boundary) (off at : ℕ) (stack : List ℕ) : Type 0 where
   pub j : ℕ
-  pub m : Mark
+  pub m : Boundary
   pub there : slice_get olds j ≡ Some m
   pub back : m.place + off ≡ at
-  pub same : plain m.runs ≡ stack
+  pub same : plain m.entries ≡ stack
 
 same_or_not : (xs ys : List ℕ) → (xs ≡ ys) ⊎ (xs ≡ ys → ⊥)
 same_or_not xs ys = elim (cases_Bool (bytes_eq xs ys)) [
@@ -111,19 +111,19 @@ same_or_not xs ys = elim (cases_Bool (bytes_eq xs ys)) [
   | inr apart ↦ inr (λ e. true≢false (sym ((bytes_eq-Decides xs ys).1 e) ∙ apart))
 ]
 
-nowhere : (olds : List Mark) (n : Mark) (off at : ℕ) (stack : List ℕ) → (IsThere olds off at stack → ⊥) → (n.place + off ≡ at → plain n.runs ≡ stack → ⊥) →
-    (j : ℕ) (m : Mark) → slice_get (n ∷ olds) j ≡ Some m → m.place + off ≡ at → plain m.runs ≡ stack → ⊥
+nowhere : (olds : List Boundary) (n : Boundary) (off at : ℕ) (stack : List ℕ) → (IsThere olds off at stack → ⊥) → (n.place + off ≡ at → plain n.entries ≡ stack → ⊥) →
+    (j : ℕ) (m : Boundary) → slice_get (n ∷ olds) j ≡ Some m → m.place + off ≡ at → plain m.entries ≡ stack → ⊥
 nowhere olds n off at stack none other zero m is back same =
     let e = same_Some _ _ is in
-    other (ap (λ (x : Mark). x.place + off) e ∙ back) (ap (λ (x : Mark). plain x.runs) e ∙ same)
+    other (ap (λ (x : Boundary). x.place + off) e ∙ back) (ap (λ (x : Boundary). plain x.entries) e ∙ same)
 nowhere olds n off at stack none other (suc j) m is back same = none (record { j = j; m = m; there = is; back = back; same = same })
 
-is_there : (olds : List Mark) (off at : ℕ) (stack : List ℕ) → IsThere olds off at stack ⊎ (IsThere olds off at stack → ⊥)
+is_there : (olds : List Boundary) (off at : ℕ) (stack : List ℕ) → IsThere olds off at stack ⊎ (IsThere olds off at stack → ⊥)
 is_there [] off at stack = inr (λ t. none-some _ t.there)
 is_there (n ∷ olds) off at stack = elim (is_there olds off at stack) [
   | inl t ↦ inl (record { j = suc t.j; m = t.m; there = t.there; back = t.back; same = t.same })
   | inr none ↦ elim (cases_eq (n.place + off) at) [
-    | inl back ↦ elim (same_or_not (plain n.runs) stack) [
+    | inl back ↦ elim (same_or_not (plain n.entries) stack) [
       | inl same ↦ inl (record { j = 0; m = n; there = refl; back = back; same = same })
       | inr other ↦ inr (λ t. nowhere olds n off at stack none (λ b s. other s) t.j t.m t.there t.back t.same)
     ]
@@ -131,28 +131,28 @@ is_there (n ∷ olds) off at stack = elim (is_there olds off at stack) [
   ]
 ]
 
-module _ (d : Definition) (text : List ℕ) (olds marks tail all : List Mark) (numbers : List ℕ) (low high len : ℕ) (place : ℕ) (stack : List (ℕ × ℕ)) (found : List Item) (asked : ℕ)
-    (r : Reached d text place stack found marks asked) (e : all ≡ marks ++ tail) (unmet : (k : ℕ) → k + 1 < length marks → Meets olds marks low high len k → ⊥) where
+module _ (d : Definition) (text : List ℕ) (olds bounds tail all : List Boundary) (numbers : List ℕ) (low high len : ℕ) (place : ℕ) (stack : List (ℕ × ℕ)) (found : List Item) (asked : ℕ)
+    (r : Reached d text place stack found bounds asked) (e : all ≡ bounds ++ tail) (unmet : (k : ℕ) → k + 1 < length bounds → Meets olds bounds low high len k → ⊥) where
   -- the last boundary so far
-  at_last : slice_get all (length marks - 1) ≡ Some (record { place = place; runs = stack })
+  at_last : slice_get all (length bounds - 1) ≡ Some (record { place = place; entries = stack })
   at_last =
-      let n = length_now d text place stack found marks asked r in
-      let l : Mark = record { place = place; runs = stack } in
-      let at : length r.before ≡ length marks - 1 = omega arith in
-      ap (λ ms. slice_get ms (length marks - 1)) e ∙ front_at marks tail (length marks - 1) (omega arith)
-      ∙ ap (λ ms. slice_get ms (length marks - 1)) r.kept ∙ last_at r.before l (length marks - 1) at
+      let n = length_now d text place stack found bounds asked r in
+      let l : Boundary = record { place = place; entries = stack } in
+      let at : length r.before ≡ length bounds - 1 = omega arith in
+      ap (λ ms. slice_get ms (length bounds - 1)) e ∙ front_at bounds tail (length bounds - 1) (omega arith)
+      ∙ ap (λ ms. slice_get ms (length bounds - 1)) r.kept ∙ last_at r.before l (length bounds - 1) at
 
-  pub meets_here : low + len ≤ place → IsThere olds (low + len) (place + high) (plain stack) → Meets olds all low high len (length marks - 1)
-  meets_here past t = record { q = place; runs = stack; at = at_last; past = past; j = t.j; m = t.m; there = t.there; back = t.back; stack = t.same }
+  pub meets_here : low + len ≤ place → IsThere olds (low + len) (place + high) (plain stack) → Meets olds all low high len (length bounds - 1)
+  meets_here past t = record { q = place; entries = stack; at = at_last; past = past; j = t.j; m = t.m; there = t.there; back = t.back; stack = t.same }
 
-  there_by : Meets olds all low high len (length marks - 1) → IsThere olds (low + len) (place + high) (plain stack) × (low + len ≤ place)
+  there_by : Meets olds all low high len (length bounds - 1) → IsThere olds (low + len) (place + high) (plain stack) × (low + len ≤ place)
   there_by m =
       let same = same_Some _ _ (sym m.at ∙ at_last) in
-      let q = ap (λ (x : Mark). x.place) same in
-      (record { j = m.j; m = m.m; there = m.there; back = m.back ∙ ap (λ n. n + high) q; same = m.stack ∙ ap (λ (x : Mark). plain x.runs) same }, omega (arith, m.past, q))
+      let q = ap (λ (x : Boundary). x.place) same in
+      (record { j = m.j; m = m.m; there = m.there; back = m.back ∙ ap (λ n. n + high) q; same = m.stack ∙ ap (λ (x : Boundary). plain x.entries) same }, omega (arith, m.past, q))
 
   -- whether it meets the old run
-  pub meets_or_not : Meets olds all low high len (length marks - 1) ⊎ (Meets olds all low high len (length marks - 1) → ⊥)
+  pub meets_or_not : Meets olds all low high len (length bounds - 1) ⊎ (Meets olds all low high len (length bounds - 1) → ⊥)
   meets_or_not = elim (cases_lt place (low + len)) [
     | inl before ↦ inr (λ m. absurd (omega (arith, (there_by m).1)))
     | inr past ↦ elim (is_there olds (low + len) (place + high) (plain stack)) [
@@ -162,62 +162,62 @@ module _ (d : Definition) (text : List ℕ) (olds marks tail all : List Mark) (n
   ]
 
   -- none meets it before that
-  pub none_before : (j : ℕ) → j < length marks - 1 → Meets olds all low high len j → ⊥
-  none_before j lt m = unmet j (omega arith) (meets_front olds marks tail all low high len j e (omega arith) m)
+  pub none_before : (j : ℕ) → j < length bounds - 1 → Meets olds all low high len j → ⊥
+  none_before j lt m = unmet j (omega arith) (meets_front olds bounds tail all low high len j e (omega arith) m)
 
-  pub first_here : Meets olds all low high len (length marks - 1) → IsFirstMeeting olds all low high len (length marks - 1)
+  pub first_here : Meets olds all low high len (length bounds - 1) → IsFirstMeeting olds all low high len (length bounds - 1)
   first_here m = record { meets = inl m; first = none_before }
 
 -- where none meets it, all boundaries stand before a meeting
-pub none_first : (olds all : List Mark) (low high len : ℕ) → ((k : ℕ) → Meets olds all low high len k → ⊥) → IsFirstMeeting olds all low high len (length all)
+pub none_first : (olds all : List Boundary) (low high len : ℕ) → ((k : ℕ) → Meets olds all low high len k → ⊥) → IsFirstMeeting olds all low high len (length all)
 none_first olds all low high len none = record { meets = inr refl; first = λ j lt m. none j m }
 
 -- ---- what was cut anew
 
-module _ {L X S E P Q : Type 0} (def : LRNonStreamingLexerDef L X S E P Q) (d : Definition) (text : List ℕ) (olds : List Mark) (numbers : List ℕ) (low high len : ℕ)
-    (place : ℕ) (stack : List (ℕ × ℕ)) (found : List Item) (marks : List Mark) (asked : ℕ) (r : Reached d text place stack found marks asked)
-    (from : ℕ) (resumed : IsLastSafe olds numbers low from) (le : from < length marks) (count : asked ≡ asks def text (slice_range marks from (length marks - 1)))
-    (unmet : (k : ℕ) → k + 1 < length marks → Meets olds marks low high len k → ⊥) (all : List Mark) (now anew : ℕ) (tiles : from + anew ≡ length marks - 1) where
+module _ {L X S E P Q : Type 0} (def : LRNonStreamingLexerDef L X S E P Q) (d : Definition) (text : List ℕ) (olds : List Boundary) (numbers : List ℕ) (low high len : ℕ)
+    (place : ℕ) (stack : List (ℕ × ℕ)) (found : List Item) (bounds : List Boundary) (asked : ℕ) (r : Reached d text place stack found bounds asked)
+    (from : ℕ) (resumed : IsLastSafe olds numbers low from) (le : from < length bounds) (count : asked ≡ asks def text (slice_range bounds from (length bounds - 1)))
+    (unmet : (k : ℕ) → k + 1 < length bounds → Meets olds bounds low high len k → ⊥) (all : List Boundary) (now anew : ℕ) (tiles : from + anew ≡ length bounds - 1) where
   -- where the tail was taken over
-  pub cut_to_meeting : (tail : List Mark) → all ≡ marks ++ tail → now ≡ asked → low + len ≤ place → (j : ℕ) → j < length olds → (mark_at olds j).place + (low + len) ≡ place + high →
-      (mark_at olds j).runs ≡ stack → WasCutAnew (asks def text) olds all numbers low high len now anew
+  pub cut_to_meeting : (tail : List Boundary) → all ≡ bounds ++ tail → now ≡ asked → low + len ≤ place → (j : ℕ) → j < length olds → (boundary_at olds j).place + (low + len) ≡ place + high →
+      (boundary_at olds j).entries ≡ stack → WasCutAnew (asks def text) olds all numbers low high len now anew
   cut_to_meeting tail e is past j within back same =
-      let n = length_now d text place stack found marks asked r in
-      let t : IsThere olds (low + len) (place + high) (plain stack) = record { j = j; m = mark_at olds j; there = slice_get-get_or olds j no_mark within; back = back; same = ap (λ xs. plain xs) same } in
+      let n = length_now d text place stack found bounds asked r in
+      let t : IsThere olds (low + len) (place + high) (plain stack) = record { j = j; m = boundary_at olds j; there = slice_get-get_or olds j no_boundary within; back = back; same = ap (λ xs. plain xs) same } in
       record {
         from = from;
-        to = length marks - 1;
+        to = length bounds - 1;
         resumed = resumed;
-        met = first_here d text olds marks tail all numbers low high len place stack found asked r e unmet (meets_here d text olds marks tail all numbers low high len place stack found asked r e unmet past t);
+        met = first_here d text olds bounds tail all numbers low high len place stack found asked r e unmet (meets_here d text olds bounds tail all numbers low high len place stack found asked r e unmet past t);
         searches = is ∙ count
-            ∙ ap (asks def text) (before_here def text d place stack found marks asked r from le count [] marks (sym (append-nil marks)) ∙ sym (before_here def text d place stack found marks asked r from le count tail all e));
-        tiles = omega (arith, tiles, n, ap length e, length-append marks tail);
+            ∙ ap (asks def text) (before_here def text d place stack found bounds asked r from le count [] bounds (sym (append-nil bounds)) ∙ sym (before_here def text d place stack found bounds asked r from le count tail all e));
+        tiles = omega (arith, tiles, n, ap length e, length-append bounds tail);
       }
 
   -- where lexing stopped before the text's end
-  pub cut_to_stop : all ≡ marks → ((k : ℕ) → Meets olds marks low high len k → ⊥) → place < length text → now ≡ asked + untabled_count def (top (plain stack)) →
+  pub cut_to_stop : all ≡ bounds → ((k : ℕ) → Meets olds bounds low high len k → ⊥) → place < length text → now ≡ asked + untabled_count def (top (plain stack)) →
       WasCutAnew (asks def text) olds all numbers low high len now anew
   cut_to_stop e none lt is = record {
     from = from;
     to = length all;
     resumed = resumed;
     met = none_first olds all low high len (λ k m. none k (subst (λ ms. Meets olds ms low high len k) e m));
-    searches = more_asked def text d place stack found marks asked r from le count now lt is ∙ ap (asks def text) (ap (drop from) (sym e) ∙ sym (to_the_end all from));
+    searches = more_asked def text d place stack found bounds asked r from le count now lt is ∙ ap (asks def text) (ap (drop from) (sym e) ∙ sym (to_the_end all from));
     tiles = omega (arith, tiles, ap length e);
   }
 
   -- where it came to the text's end
-  pub cut_to_end : all ≡ marks → length text ≤ place → now ≡ asked → WasCutAnew (asks def text) olds all numbers low high len now anew
+  pub cut_to_end : all ≡ bounds → length text ≤ place → now ≡ asked → WasCutAnew (asks def text) olds all numbers low high len now anew
   cut_to_end e end is =
-      let n = length_now d text place stack found marks asked r in
-      let whole : all ≡ marks ++ [] = e ∙ sym (append-nil marks) in
-      elim (meets_or_not d text olds marks [] all numbers low high len place stack found asked r whole unmet) [
+      let n = length_now d text place stack found bounds asked r in
+      let whole : all ≡ bounds ++ [] = e ∙ sym (append-nil bounds) in
+      elim (meets_or_not d text olds bounds [] all numbers low high len place stack found asked r whole unmet) [
         | inl m ↦ record {
           from = from;
-          to = length marks - 1;
+          to = length bounds - 1;
           resumed = resumed;
-          met = first_here d text olds marks [] all numbers low high len place stack found asked r whole unmet m;
-          searches = is ∙ count ∙ ap (λ ms. asks def text (slice_range ms from (length marks - 1))) (sym e);
+          met = first_here d text olds bounds [] all numbers low high len place stack found asked r whole unmet m;
+          searches = is ∙ count ∙ ap (λ ms. asks def text (slice_range ms from (length bounds - 1))) (sym e);
           tiles = omega (arith, tiles, n, ap length e);
         }
         | inr never ↦ record {
@@ -226,14 +226,14 @@ module _ {L X S E P Q : Type 0} (def : LRNonStreamingLexerDef L X S E P Q) (d : 
           resumed = resumed;
           met = record {
             meets = inr refl;
-            first = λ j lt m. elim (cases_lt (j + 1) (length marks)) [
-              | inl early ↦ none_before d text olds marks [] all numbers low high len place stack found asked r whole unmet j (omega arith) m
+            first = λ j lt m. elim (cases_lt (j + 1) (length bounds)) [
+              | inl early ↦ none_before d text olds bounds [] all numbers low high len place stack found asked r whole unmet j (omega arith) m
               | inr late ↦
-                  let at : j ≡ length marks - 1 = omega (arith, ap length e) in
+                  let at : j ≡ length bounds - 1 = omega (arith, ap length e) in
                   never (subst (Meets olds all low high len) at m)
             ];
           };
-          searches = is ∙ all_asked def text d place stack found marks asked r from le count end ∙ ap (asks def text) (ap (drop from) (sym e) ∙ sym (to_the_end all from));
+          searches = is ∙ all_asked def text d place stack found bounds asked r from le count end ∙ ap (asks def text) (ap (drop from) (sym e) ∙ sym (to_the_end all from));
           tiles = omega (arith, tiles, ap length e);
         }
       ]

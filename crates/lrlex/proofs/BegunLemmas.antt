@@ -3,7 +3,7 @@ use Rattle.std.proofs.Common.{◌≡◌, ℕ, true, List, [], ◌∷◌, Result,
 use Rattle.lrlex_base.specs.Seen.{Seen}
 use Rattle.lrlex_rules.specs.Definition.{Definition}
 use Rattle.lrlex.specs.Active.{is_state}
-use Rattle.lrlex.specs.Marks.{Mark}
+use Rattle.lrlex.specs.Boundaries.{Boundary}
 use Rattle.lrlex.specs.Reach.{Reached}
 use Rattle.lrlex.specs.Decided.{HasLooked}
 use Rattle.lrlex.specs.Views.{items_by}
@@ -11,20 +11,20 @@ use Rattle.lrlex.specs.declared.errors.LRLexError.{LRLexError}
 use Rattle.lrlex.proofs.AheadLemmas.{looked_start}
 use Rattle.lrlex.proofs.ReachLemmas.{Reached-none}
 
-pub begun : {S X : Type 0} (d : Definition) (text : List ℕ) (number : S → ℕ) (see : X → Seen S) (place : ℕ) (stack : List (ℕ × ℕ)) (xs : List (Result X LRLexError)) (marks : List Mark) (asked : ℕ)
-    → place ≡ 0 → stack ≡ (1, 0) ∷ [] → xs ≡ [] → marks ≡ record { place = 0; runs = (1, 0) ∷ [] } ∷ [] → asked ≡ 0 → is_state d 0 ≡ true
-    → Reached d text place stack (items_by number see xs) marks asked
-begun d text number see place stack xs marks asked at is_stack none one unasked initial =
-    subst (λ i. Reached d text i stack (items_by number see xs) marks asked) (sym at)
-    (subst (λ s. Reached d text 0 s (items_by number see xs) marks asked) (sym is_stack)
-    (subst (λ ys. Reached d text 0 ((1, 0) ∷ []) (items_by number see ys) marks asked) (sym none)
+pub begun : {S X : Type 0} (d : Definition) (text : List ℕ) (number : S → ℕ) (see : X → Seen S) (place : ℕ) (stack : List (ℕ × ℕ)) (xs : List (Result X LRLexError)) (bounds : List Boundary) (asked : ℕ)
+    → place ≡ 0 → stack ≡ (1, 0) ∷ [] → xs ≡ [] → bounds ≡ record { place = 0; entries = (1, 0) ∷ [] } ∷ [] → asked ≡ 0 → is_state d 0 ≡ true
+    → Reached d text place stack (items_by number see xs) bounds asked
+begun d text number see place stack xs bounds asked at is_stack none one unasked initial =
+    subst (λ i. Reached d text i stack (items_by number see xs) bounds asked) (sym at)
+    (subst (λ s. Reached d text 0 s (items_by number see xs) bounds asked) (sym is_stack)
+    (subst (λ ys. Reached d text 0 ((1, 0) ∷ []) (items_by number see ys) bounds asked) (sym none)
     (subst (λ ms. Reached d text 0 ((1, 0) ∷ []) [] ms asked) (sym one)
-    (subst (λ n. Reached d text 0 ((1, 0) ∷ []) [] (record { place = 0; runs = (1, 0) ∷ [] } ∷ []) n) (sym unasked) (Reached-none d text initial)))))
+    (subst (λ n. Reached d text 0 ((1, 0) ∷ []) [] (record { place = 0; entries = (1, 0) ∷ [] } ∷ []) n) (sym unasked) (Reached-none d text initial)))))
 
-pub begun_looking : (d : Definition) (text : List ℕ) (marks : List Mark) (ahead : List ℕ) (place over : ℕ)
-    → marks ≡ record { place = 0; runs = (1, 0) ∷ [] } ∷ [] → ahead ≡ 0 ∷ [] → place ≡ 0 → over ≡ 0 → HasLooked d text marks ahead place over
-begun_looking d text marks ahead place over one numbers at none =
-    let m : Mark = record { place = 0; runs = (1, 0) ∷ [] } in
+pub begun_looking : (d : Definition) (text : List ℕ) (bounds : List Boundary) (ahead : List ℕ) (place over : ℕ)
+    → bounds ≡ record { place = 0; entries = (1, 0) ∷ [] } ∷ [] → ahead ≡ 0 ∷ [] → place ≡ 0 → over ≡ 0 → HasLooked d text bounds ahead place over
+begun_looking d text bounds ahead place over one numbers at none =
+    let m : Boundary = record { place = 0; entries = (1, 0) ∷ [] } in
     subst (λ ms. HasLooked d text ms ahead place over) (sym one)
     (subst (λ ns. HasLooked d text (m ∷ []) ns place over) (sym numbers)
     (subst (λ i. HasLooked d text (m ∷ []) (0 ∷ []) i over) (sym at)

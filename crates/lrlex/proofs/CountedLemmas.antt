@@ -5,34 +5,34 @@ use Rattle.lrlex.specs.Active.{is_state}
 use Rattle.lrlex.specs.Asked.{asks, WasCutAnew}
 use Rattle.lrlex.specs.Decided.{IsSafe}
 use Rattle.lrlex.specs.Edits.{Meets}
-use Rattle.lrlex.specs.Marks.{Mark}
+use Rattle.lrlex.specs.Boundaries.{Boundary}
 use Rattle.lrlex.specs.Ran.{Ran}
 use Rattle.lrlex.specs.Reach.{searches}
 use Rattle.lrlex.specs.Relexed.{WasRelexed}
 use Rattle.lrlex.specs.Views.{definition_of}
 use Rattle.lrlex.specs.declared.lexer.definition.LRNonStreamingLexerDef.{LRNonStreamingLexerDef}
 
-abbrev pub Asked : {L X S E P Q : Type 0} → (S → ℕ) → LRNonStreamingLexerDef L X S E P Q → List ℕ → List Mark → ℕ → Type 0
-Asked number d text marks asked = asked ≤ searches (definition_of number d) text marks
+abbrev pub Asked : {L X S E P Q : Type 0} → (S → ℕ) → LRNonStreamingLexerDef L X S E P Q → List ℕ → List Boundary → ℕ → Type 0
+Asked number d text bounds asked = asked ≤ searches (definition_of number d) text bounds
 
-abbrev pub Few : {L X S E P Q : Type 0} → (S → ℕ) → LRNonStreamingLexerDef L X S E P Q → List Mark → ℕ → Type 0
-Few number d marks asked = asked ≤ length marks * length (definition_of number d).rules
+abbrev pub Few : {L X S E P Q : Type 0} → (S → ℕ) → LRNonStreamingLexerDef L X S E P Q → List Boundary → ℕ → Type 0
+Few number d bounds asked = asked ≤ length bounds * length (definition_of number d).rules
 
-abbrev pub Met : {L X S E P Q : Type 0} → (S → ℕ) → List Mark → Span → List ℕ → LRNonStreamingLexerDef L X S E P Q → List ℕ → List Mark → ℕ → Type 0
-Met number old removed put d text marks asked =
-    (k : ℕ) → Meets old marks removed.start removed.end (length put) k → asked ≤ searches (definition_of number d) text (take k marks)
+abbrev pub Met : {L X S E P Q : Type 0} → (S → ℕ) → List Boundary → Span → List ℕ → LRNonStreamingLexerDef L X S E P Q → List ℕ → List Boundary → ℕ → Type 0
+Met number old removed put d text bounds asked =
+    (k : ℕ) → Meets old bounds removed.start removed.end (length put) k → asked ≤ searches (definition_of number d) text (take k bounds)
 
-abbrev pub Lexed : List Mark → List ℕ → Span → List ℕ → List Mark → ℕ → Type 0
-Lexed old ahead removed put marks anew =
+abbrev pub Lexed : List Boundary → List ℕ → Span → List ℕ → List Boundary → ℕ → Type 0
+Lexed old ahead removed put bounds anew =
     (k : ℕ) → k < length old → IsSafe old ahead removed.start k
-    → (anew + k ≤ length marks - 1) × ((j : ℕ) → Meets old marks removed.start removed.end (length put) j → anew + k ≤ j)
+    → (anew + k ≤ length bounds - 1) × ((j : ℕ) → Meets old bounds removed.start removed.end (length put) j → anew + k ≤ j)
 
-abbrev pub Exact : {L X S E P Q : Type 0} → (S → ℕ) → List Mark → List ℕ → Span → List ℕ → LRNonStreamingLexerDef L X S E P Q → List ℕ → List Mark → ℕ → ℕ → Type 0
-Exact number old ahead removed put d text marks asked anew =
-    is_state (definition_of number d) 0 ≡ true → WasCutAnew (asks d text) old marks ahead removed.start removed.end (length put) asked anew
+abbrev pub Exact : {L X S E P Q : Type 0} → (S → ℕ) → List Boundary → List ℕ → Span → List ℕ → LRNonStreamingLexerDef L X S E P Q → List ℕ → List Boundary → ℕ → ℕ → Type 0
+Exact number old ahead removed put d text bounds asked anew =
+    is_state (definition_of number d) 0 ≡ true → WasCutAnew (asks d text) old bounds ahead removed.start removed.end (length put) asked anew
 
 -- so it is with the run's own definition and text
-pub of_own : {L X S E P Q : Type 0} (number : S → ℕ) (old : List Mark) (ahead : List ℕ) (removed : Span) (put : List ℕ) (r : Ran (LRNonStreamingLexerDef L X S E P Q) X)
+pub of_own : {L X S E P Q : Type 0} (number : S → ℕ) (old : List Boundary) (ahead : List ℕ) (removed : Span) (put : List ℕ) (r : Ran (LRNonStreamingLexerDef L X S E P Q) X)
     (d : LRNonStreamingLexerDef L X S E P Q) (text : List ℕ) → r.definition ≡ d → r.text ≡ text →
     Asked number d text r.boundaries r.asked → Few number d r.boundaries r.asked → Met number old removed put d text r.boundaries r.asked → Lexed old ahead removed put r.boundaries r.anew →
     Exact number old ahead removed put d text r.boundaries r.asked r.anew → WasRelexed number old ahead removed put r
@@ -44,7 +44,7 @@ of_own number old ahead removed put r d text is_d is_text asked few met lexed ex
   exact = subst (λ e. Exact number old ahead removed put e r.text r.boundaries r.asked r.anew) (sym is_d) (subst (λ t. Exact number old ahead removed put d t r.boundaries r.asked r.anew) (sym is_text) exact);
 }
 
-pub of_result : {L X S E P Q F : Type 0} (number : S → ℕ) (old : List Mark) (ahead : List ℕ) (removed : Span) (put : List ℕ) (res : Result (Ran (LRNonStreamingLexerDef L X S E P Q) X) F)
+pub of_result : {L X S E P Q F : Type 0} (number : S → ℕ) (old : List Boundary) (ahead : List ℕ) (removed : Span) (put : List ℕ) (res : Result (Ran (LRNonStreamingLexerDef L X S E P Q) X) F)
     (d : LRNonStreamingLexerDef L X S E P Q) (text : List ℕ) → IfOk res (λ r. r.definition ≡ d) → IfOk res (λ r. r.text ≡ text) →
     IfOk res (λ r. Asked number d text r.boundaries r.asked) → IfOk res (λ r. Few number d r.boundaries r.asked) → IfOk res (λ r. Met number old removed put d text r.boundaries r.asked) →
     IfOk res (λ r. Lexed old ahead removed put r.boundaries r.anew) → IfOk res (λ r. Exact number old ahead removed put d text r.boundaries r.asked r.anew) → IfOk res (WasRelexed number old ahead removed put)
@@ -52,13 +52,13 @@ of_result number old ahead removed put (Ok r) d text is_d is_text asked few met 
 of_result number old ahead removed put (Err e) d text is_d is_text asked few met lexed exact = tt
 
 -- and of another with the same fields
-pub of_fields : {L X S E P Q : Type 0} (number : S → ℕ) (old : List Mark) (ahead : List ℕ) (removed : Span) (put : List ℕ) (q r : Ran (LRNonStreamingLexerDef L X S E P Q) X) →
+pub of_fields : {L X S E P Q : Type 0} (number : S → ℕ) (old : List Boundary) (ahead : List ℕ) (removed : Span) (put : List ℕ) (q r : Ran (LRNonStreamingLexerDef L X S E P Q) X) →
     WasRelexed number old ahead removed put r → r.definition ≡ q.definition → r.text ≡ q.text → r.boundaries ≡ q.boundaries → r.asked ≡ q.asked → r.anew ≡ q.anew →
     WasRelexed number old ahead removed put q
-of_fields number old ahead removed put q r w is_d is_text is_marks is_asked is_anew =
+of_fields number old ahead removed put q r w is_d is_text is_bounds is_asked is_anew =
     subst (λ d. WasRelexed number old ahead removed put (record { definition = d; text = q.text; items = q.items; boundaries = q.boundaries; ahead = q.ahead; asked = q.asked; anew = q.anew })) is_d
     (subst (λ text. WasRelexed number old ahead removed put (record { definition = r.definition; text = text; items = q.items; boundaries = q.boundaries; ahead = q.ahead; asked = q.asked; anew = q.anew })) is_text
-    (subst (λ marks. WasRelexed number old ahead removed put (record { definition = r.definition; text = r.text; items = q.items; boundaries = marks; ahead = q.ahead; asked = q.asked; anew = q.anew })) is_marks
+    (subst (λ bounds. WasRelexed number old ahead removed put (record { definition = r.definition; text = r.text; items = q.items; boundaries = bounds; ahead = q.ahead; asked = q.asked; anew = q.anew })) is_bounds
     (subst (λ asked. WasRelexed number old ahead removed put (record { definition = r.definition; text = r.text; items = q.items; boundaries = r.boundaries; ahead = q.ahead; asked = asked; anew = q.anew })) is_asked
     (subst (λ anew. WasRelexed number old ahead removed put (record { definition = r.definition; text = r.text; items = q.items; boundaries = r.boundaries; ahead = q.ahead; asked = r.asked; anew = anew })) is_anew
     (record { asked = w.asked; few = w.few; met = w.met; lexed = w.lexed; exact = w.exact })))))

@@ -15,8 +15,8 @@ use Rattle.lrlex_table.specs.Decided.{IsText, BeginsAlike, IsDecidedBy}
 use Rattle.lrlex_table.proofs.PrefixLemmas.{alike_less, alike_len}
 use Rattle.lrlex.specs.Active.{is_state, active_places}
 use Rattle.lrlex.specs.Tiling.{Item, Wins, top}
-use Rattle.lrlex.specs.Runs.{plain}
-use Rattle.lrlex.specs.Marks.{Mark, no_mark, mark_at}
+use Rattle.lrlex.specs.Entries.{plain}
+use Rattle.lrlex.specs.Boundaries.{Boundary, no_boundary, boundary_at}
 use Rattle.lrlex.specs.Reach.{IsLexed}
 use Rattle.lrlex.specs.Decided.{IsDecided, IsDecidedAt, AreDecided, LooksAhead, IsSafe}
 use Rattle.lrlex.proofs.TilingLemmas.{one_len, one_rule, stuck_or_wins}
@@ -59,50 +59,50 @@ pub decided_none : (d : Definition) (q : ℕ) (text places : List ℕ) (reach : 
 decided_none d q text places reach are none = record { wins = λ other is alike k n w. absurd (stuck_or_wins d q text k n (none_stuck d q text places are none) w) }
 
 -- what follows the edit is decided as before, moved with the text
-pub decided_moved : (d : Definition) (old new : List ℕ) (m : Mark) (place far to : ℕ) → drop m.place old ≡ drop place new → far - m.place ≤ to - place →
-    IsDecidedAt d old far m → IsDecidedAt d new to (record { place = place; runs = m.runs })
+pub decided_moved : (d : Definition) (old new : List ℕ) (m : Boundary) (place far to : ℕ) → drop m.place old ≡ drop place new → far - m.place ≤ to - place →
+    IsDecidedAt d old far m → IsDecidedAt d new to (record { place = place; entries = m.entries })
 decided_moved d old new m place far to same le h =
-    decided_more d (top (plain m.runs)) (drop place new) (far - m.place) (to - place) le (subst (λ xs. IsDecided d (top (plain m.runs)) xs (far - m.place)) same h)
+    decided_more d (top (plain m.entries)) (drop place new) (far - m.place) (to - place) le (subst (λ xs. IsDecided d (top (plain m.entries)) xs (far - m.place)) same h)
 
 -- what the numbers say of a safe boundary
-pub decided_safe : (d : Definition) (text : List ℕ) (marks : List Mark) (ahead : List ℕ) (low k : ℕ) → LooksAhead d text marks ahead → k < length marks → IsSafe marks ahead low k →
-    AreDecided d text marks k low
-decided_safe d text marks ahead low k looks within safe = λ i x lt.
-    let m = get_or (take k marks) i x in
-    let far : ℕ = (mark_at marks k).place + get_or ahead k 0 in
-    decided_more d (top (plain m.runs)) (drop m.place text) (far - m.place) (low - m.place) (omega (arith, safe.before)) (looks.decided k within safe.known i x lt)
+pub decided_safe : (d : Definition) (text : List ℕ) (bounds : List Boundary) (ahead : List ℕ) (low k : ℕ) → LooksAhead d text bounds ahead → k < length bounds → IsSafe bounds ahead low k →
+    AreDecided d text bounds k low
+decided_safe d text bounds ahead low k looks within safe = λ i x lt.
+    let m = get_or (take k bounds) i x in
+    let far : ℕ = (boundary_at bounds k).place + get_or ahead k 0 in
+    decided_more d (top (plain m.entries)) (drop m.place text) (far - m.place) (low - m.place) (omega (arith, safe.before)) (looks.decided k within safe.known i x lt)
 
-module _ (d : Definition) (old new : List ℕ) (low : ℕ) (found : List Item) (marks : List Mark) (h : IsLexed d old found marks) (is : IsText new)
+module _ (d : Definition) (old new : List ℕ) (low : ℕ) (found : List Item) (bounds : List Boundary) (h : IsLexed d old found bounds) (is : IsText new)
     (alike : take low new ≡ take low old) (initial : is_state d 0 ≡ true) where
-  decided_at : (k far i : ℕ) → i < k → k < length marks → AreDecided d old marks k far → IsDecidedAt d old far (mark_at marks i)
+  decided_at : (k far i : ℕ) → i < k → k < length bounds → AreDecided d old bounds k far → IsDecidedAt d old far (boundary_at bounds i)
   decided_at k far i lt within decided =
-      subst (IsDecidedAt d old far) (get_or-take k marks i no_mark lt) (decided i no_mark (omega (arith, length-take-le k marks (omega arith))))
+      subst (IsDecidedAt d old far) (get_or-take k bounds i no_boundary lt) (decided i no_boundary (omega (arith, length-take-le k bounds (omega arith))))
 
-  at_more : (m : Mark) (far : ℕ) → far ≤ low → IsDecidedAt d old far m → IsDecidedAt d old low m
-  at_more m far le h = decided_more d (top (plain m.runs)) (drop m.place old) (far - m.place) (low - m.place) (omega arith) h
+  at_more : (m : Boundary) (far : ℕ) → far ≤ low → IsDecidedAt d old far m → IsDecidedAt d old low m
+  at_more m far le h = decided_more d (top (plain m.entries)) (drop m.place old) (far - m.place) (low - m.place) (omega arith) h
 
-  all_more : (k far : ℕ) → k < length marks → far ≤ low → AreDecided d old marks k far → AreDecided d old marks k low
-  all_more k far within le decided = All-from_get_or (IsDecidedAt d old low) (take k marks) no_mark (λ i lt.
-      at_more (get_or (take k marks) i no_mark) far le (decided i no_mark lt))
+  all_more : (k far : ℕ) → k < length bounds → far ≤ low → AreDecided d old bounds k far → AreDecided d old bounds k low
+  all_more k far within le decided = All-from_get_or (IsDecidedAt d old low) (take k bounds) no_boundary (λ i lt.
+      at_more (get_or (take k bounds) i no_boundary) far le (decided i no_boundary lt))
 
   -- what stands before the edit is decided as before
-  kept_at : (k far i : ℕ) → i < k → k < length marks → far ≤ low → AreDecided d old marks k far → IsDecidedAt d new far (mark_at marks i)
+  kept_at : (k far i : ℕ) → i < k → k < length bounds → far ≤ low → AreDecided d old bounds k far → IsDecidedAt d new far (boundary_at bounds i)
   kept_at k far i lt within le decided =
-      let m = mark_at marks i in
-      let t = tile d old new low found marks h is alike initial i in
-      let q = top (plain m.runs) in
+      let m = boundary_at bounds i in
+      let t = tile d old new low found bounds h is alike initial i in
+      let q = top (plain m.entries) in
       let here = decided_at k far i lt within decided in
-      let kept = kept_up_to d old new low found marks h is alike initial k i within (all_more k far within le decided) (omega arith) in
-      let was = taken_old d old new low found marks h is alike initial i (omega arith) in
-      let now = taken_new d old new low found marks h is alike initial i (omega arith) (at_more m far le here) kept.boundary in
+      let kept = kept_up_to d old new low found bounds h is alike initial k i within (all_more k far within le decided) (omega arith) in
+      let was = taken_old d old new low found bounds h is alike initial i (omega arith) in
+      let now = taken_new d old new low found bounds h is alike initial i (omega arith) (at_more m far le here) kept.boundary in
       let front = alike_less (far - m.place) (low - m.place) (drop m.place old) (drop m.place new) (omega arith) (alike_from low m.place old new alike) in
       decided_by d q (drop m.place new) (far - m.place) t.rule t.len now.wins
       (λ other text same. here.wins other text (same ∙ front) t.rule t.len was.wins)
 
-  pub decided_kept : (k far : ℕ) → k < length marks → far ≤ low → AreDecided d old marks k far → AreDecided d new marks k far
-  decided_kept k far within le decided = All-from_get_or (IsDecidedAt d new far) (take k marks) no_mark (λ i lt.
-      let inside : i < k = omega (arith, length-take-le k marks (omega arith)) in
-      subst (IsDecidedAt d new far) (sym (get_or-take k marks i no_mark inside)) (kept_at k far i inside within le decided))
+  pub decided_kept : (k far : ℕ) → k < length bounds → far ≤ low → AreDecided d old bounds k far → AreDecided d new bounds k far
+  decided_kept k far within le decided = All-from_get_or (IsDecidedAt d new far) (take k bounds) no_boundary (λ i lt.
+      let inside : i < k = omega (arith, length-take-le k bounds (omega arith)) in
+      subst (IsDecidedAt d new far) (sym (get_or-take k bounds i no_boundary inside)) (kept_at k far i inside within le decided))
 
 -- ---- a walk that no rule is asked after
 

@@ -17,7 +17,7 @@ use Rattle.lrlex_rules.specs.Definition.{Definition, Rule}
 use Rattle.lrlex_rules.specs.Patterns.{end_from_zero, match_length, pattern_of}
 use Rattle.lrlex.specs.Active.{is_active, is_state, taken_by, taken_by_any, no_rule, rule_at, lexeme_id, lacks_id}
 use Rattle.lrlex.specs.Tiling.{Tile, Item, Item-set, Lexeme, Error, Wins, IsWinner, top, End, Done, NoMatch, NoId, NoTarget, IsEnd, stack_past, IsTiling, lexeme_of, tile_items, end_items, items}
-use Rattle.lrlex.specs.Marks.{Mark}
+use Rattle.lrlex.specs.Boundaries.{Boundary}
 use Rattle.lrlex.specs.Reach.{IsLexed, IsRun}
 use Rattle.lrlex.specs.ItemLaws.{is_error, HasItsLength, FitsText, HasNamedRule, EndsBefore, GoesOn, last_end, tile_texts, total_len, IsUnnamed, IsUnnamedBetween, IsUnnamedBefore, AreItemsOf, CoverText, HaveLaws}
 use Rattle.lrlex.proofs.KnownLemmas.{known}
@@ -306,8 +306,8 @@ module _ (d : Definition) (cut : List Tile) where
 
 -- ---- the laws, over what lexing answers
 
-module _ (d : Definition) (text : List ℕ) (found : List Item) (marks : List Mark) where
-  module _ (h : IsLexed d text found marks) where
+module _ (d : Definition) (text : List ℕ) (found : List Item) (bounds : List Boundary) where
+  module _ (h : IsLexed d text found bounds) where
     all_sound : All (IsSound d text 0) found
     all_sound = subst (All (IsSound d text 0)) (sym h.items_are) (items_sound d text 0 (0 ∷ []) h.cut h.end (omega arith) (λ b. b) h.tiling)
 
@@ -340,23 +340,23 @@ module _ (d : Definition) (text : List ℕ) (found : List Item) (marks : List Ma
     unnamed_behind none = subst (IsUnnamed d h.cut (last_end 0 found)) (sum_of_tiles none) (gaps_last d h.cut 0 found all_gaps none)
 
   -- a law of all that is lexed holds of each run, if it holds of the one error without a state 0
-  of_run : (P : List Item → Type 0) → IsRun d text found marks → (IsLexed d text found marks → P found) → P (Error 0 0 None ∷ []) → P found
-  of_run P run lexed refused = elim (cases_Bool (is_state d 0)) [
+  of_run : (P : List Item → Type 0) → IsRun d text found bounds → (IsLexed d text found bounds → P found) → P (Error 0 0 None ∷ []) → P found
+  of_run P run lexed stateless = elim (cases_Bool (is_state d 0)) [
     | inl is ↦ lexed (run.lexed is)
-    | inr lacks ↦ subst P (sym (run.refused lacks).items_are) refused
+    | inr lacks ↦ subst P (sym (run.stateless lacks).items_are) stateless
   ]
 
-  all_of_run : (P : Item → Type 0) → IsRun d text found marks → ((x : Item) → IsSound d text 0 x → P x) → P (Error 0 0 None) → All P found
-  all_of_run P run sound refused = of_run (All P) run (λ h. All-weaker (IsSound d text 0) P sound found (all_sound h)) (All-cons P (Error 0 0 None) [] refused (All-nil P))
+  all_of_run : (P : Item → Type 0) → IsRun d text found bounds → ((x : Item) → IsSound d text 0 x → P x) → P (Error 0 0 None) → All P found
+  all_of_run P run sound stateless = of_run (All P) run (λ h. All-weaker (IsSound d text 0) P sound found (all_sound h)) (All-cons P (Error 0 0 None) [] stateless (All-nil P))
 
-  pub have_their_lengths : IsRun d text found marks → All HasItsLength found
+  pub have_their_lengths : IsRun d text found bounds → All HasItsLength found
   have_their_lengths run = all_of_run HasItsLength run sound refl
     where
       sound : (x : Item) → IsSound d text 0 x → HasItsLength x
       sound (Lexeme id start len faulty) s = s.some
       sound (Error start end state) s = s.same
 
-  pub fit_the_text : IsUtf8 text → IsRun d text found marks → All (FitsText text) found
+  pub fit_the_text : IsUtf8 text → IsRun d text found bounds → All (FitsText text) found
   fit_the_text utf8 run = all_of_run (FitsText text) run sound (first, first)
     where
       first : IsCharBoundary text 0
@@ -366,42 +366,42 @@ module _ (d : Definition) (text : List ℕ) (found : List Item) (marks : List Ma
       sound (Lexeme id start len faulty) s = (s.begins first, s.ends)
       sound (Error start end state) s = (s.begins first, subst (IsCharBoundary text) s.same (s.begins first))
 
-  pub have_named_rules : IsRun d text found marks → All (HasNamedRule d) found
+  pub have_named_rules : IsRun d text found bounds → All (HasNamedRule d) found
   have_named_rules run = all_of_run (HasNamedRule d) run sound tt
     where
       sound : (x : Item) → IsSound d text 0 x → HasNamedRule d x
       sound (Lexeme id start len faulty) s = s.named
       sound (Error start end state) s = tt
 
-  pairs_of_run : IsRun d text found marks → AllPairs IsBefore found
+  pairs_of_run : IsRun d text found bounds → AllPairs IsBefore found
   pairs_of_run run = of_run (AllPairs IsBefore) run all_before (one_item IsBefore (Error 0 0 None))
 
-  pub stand_in_order : IsRun d text found marks → AllPairs EndsBefore found
+  pub stand_in_order : IsRun d text found bounds → AllPairs EndsBefore found
   stand_in_order run i j x lt within = (pairs_of_run run i j x lt within).0
 
-  pub end_by_an_error : IsRun d text found marks → AllPairs GoesOn found
+  pub end_by_an_error : IsRun d text found bounds → AllPairs GoesOn found
   end_by_an_error run i j x lt within = (pairs_of_run run i j x lt within).1
 
-module _ (d : Definition) (text : List ℕ) (found : List Item) (marks : List Mark) where
-  pub are_items : IsRun d text found marks → AreItemsOf d text found
+module _ (d : Definition) (text : List ℕ) (found : List Item) (bounds : List Boundary) where
+  pub are_items : IsRun d text found bounds → AreItemsOf d text found
   are_items run = record {
-    lengths = have_their_lengths d text found marks run;
-    fit = λ utf8. fit_the_text d text found marks utf8 run;
-    named = have_named_rules d text found marks run;
-    in_order = stand_in_order d text found marks run;
-    error_last = end_by_an_error d text found marks run;
+    lengths = have_their_lengths d text found bounds run;
+    fit = λ utf8. fit_the_text d text found bounds utf8 run;
+    named = have_named_rules d text found bounds run;
+    in_order = stand_in_order d text found bounds run;
+    error_last = end_by_an_error d text found bounds run;
   }
 
-  cover_text : (h : IsLexed d text found marks) → CoverText d text found h.cut
+  cover_text : (h : IsLexed d text found bounds) → CoverText d text found h.cut
   cover_text h = record {
-    before = unnamed_before d text found marks h;
-    between = unnamed_between d text found marks h;
-    behind = λ none. unnamed_behind d text found marks h none;
-    joined = λ none. joined_tiles d text found marks h none;
-    sum = λ none. sum_of_tiles d text found marks h none;
+    before = unnamed_before d text found bounds h;
+    between = unnamed_between d text found bounds h;
+    behind = λ none. unnamed_behind d text found bounds h none;
+    joined = λ none. joined_tiles d text found bounds h none;
+    sum = λ none. sum_of_tiles d text found bounds h none;
   }
 
-  pub have_laws : IsRun d text found marks → HaveLaws d text found marks
+  pub have_laws : IsRun d text found bounds → HaveLaws d text found bounds
   have_laws run = record { items = are_items run; tiles = cover_text }
 
 -- ---- a run that is known to be there
@@ -409,15 +409,15 @@ module _ (d : Definition) (text : List ℕ) (found : List Item) (marks : List Ma
 items_prop : (xs ys : List Item) → IsProp (xs ≡ ys)
 items_prop xs ys = Prim.hlevel (props, Item-set)
 
-marks_prop : (xs ys : List Mark) → IsProp (xs ≡ ys)
-marks_prop xs ys = Prim.hlevel props
+boundaries_prop : (xs ys : List Boundary) → IsProp (xs ≡ ys)
+boundaries_prop xs ys = Prim.hlevel props
 
 -- it is one
-pub known_run : (d : Definition) (text : List ℕ) (found : List Item) (marks : List Mark) → ∥ IsRun d text found marks ∥₁ → IsRun d text found marks
-known_run d text found marks t = record {
-  lexed = λ is. known d text found marks is t;
-  refused = λ lacks. record {
-    items_are = ∥∥₁_elim t (items_prop found (Error 0 0 None ∷ [])) (λ r. (r.refused lacks).items_are);
-    boundaries_are = ∥∥₁_elim t (marks_prop marks []) (λ r. (r.refused lacks).boundaries_are);
+pub known_run : (d : Definition) (text : List ℕ) (found : List Item) (bounds : List Boundary) → ∥ IsRun d text found bounds ∥₁ → IsRun d text found bounds
+known_run d text found bounds t = record {
+  lexed = λ is. known d text found bounds is t;
+  stateless = λ lacks. record {
+    items_are = ∥∥₁_elim t (items_prop found (Error 0 0 None ∷ [])) (λ r. (r.stateless lacks).items_are);
+    boundaries_are = ∥∥₁_elim t (boundaries_prop bounds []) (λ r. (r.stateless lacks).boundaries_are);
   };
 }

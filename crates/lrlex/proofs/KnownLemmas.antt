@@ -7,9 +7,9 @@ use Rattle.std.proofs.lemmas.List.{drop-drop, length-drop, get_or-map, length-ma
 use Rattle.lrlex_rules.specs.Definition.{Definition}
 use Rattle.lrlex.specs.Active.{is_state}
 use Rattle.lrlex.specs.Tiling.{Item, Item-set, End, IsTiling, stack_past, items, boundaries}
-use Rattle.lrlex.specs.Runs.{Differ, AreRuns}
-use Rattle.lrlex.specs.Marks.{Mark, bound, no_mark, mark_at}
-use Rattle.lrlex.specs.Edits.{IsSortedRuns}
+use Rattle.lrlex.specs.Entries.{Differ, AreEntries}
+use Rattle.lrlex.specs.Boundaries.{Boundary, place_and_stack, no_boundary, boundary_at}
+use Rattle.lrlex.specs.Edits.{AreSorted}
 use Rattle.lrlex.specs.Reach.{IsLexed, IsRun}
 use Rattle.lrlex.specs.Tiling.{Tile}
 use Rattle.lrlex.proofs.BestLemmas.{HasTiling, a_tiling}
@@ -21,12 +21,12 @@ Differ-prop [] = Unit-prop
 Differ-prop (r ∷ []) = Unit-prop
 Differ-prop (r ∷ s ∷ rs) = ×_prop (→_prop (λ x y. absurd x)) (Differ-prop (s ∷ rs))
 
-module _ (d : Definition) (text : List ℕ) (found : List Item) (marks : List Mark) (initial : is_state d 0 ≡ true) (t : ∥ IsRun d text found marks ∥₁) where
+module _ (d : Definition) (text : List ℕ) (found : List Item) (bounds : List Boundary) (initial : is_state d 0 ≡ true) (t : ∥ IsRun d text found bounds ∥₁) where
   tiling : HasTiling d text (0 ∷ [])
   tiling = a_tiling d text (0 ∷ [])
 
   -- a run that is known to be there is one
-  pub known : IsLexed d text found marks
+  pub known : IsLexed d text found bounds
   known = record {
     cut = tiling.tiles;
     end = tiling.end;
@@ -35,12 +35,12 @@ module _ (d : Definition) (text : List ℕ) (found : List Item) (marks : List Ma
     items_are = ∥∥₁_elim t (items_prop found (items d 0 tiling.tiles tiling.end)) (λ r. let h = r.lexed initial in
         let same = one_tiling d text (0 ∷ []) h.cut tiling.tiles h.end tiling.end h.tiling tiling.is in
         h.items_are ∙ ap₂ (items d 0) same.tiles same.end);
-    boundaries_are = ∥∥₁_elim t (bounds_prop (map bound marks) (boundaries d 0 (0 ∷ []) tiling.tiles)) (λ r. let h = r.lexed initial in
+    boundaries_are = ∥∥₁_elim t (bounds_prop (map place_and_stack bounds) (boundaries d 0 (0 ∷ []) tiling.tiles)) (λ r. let h = r.lexed initial in
         let same = one_tiling d text (0 ∷ []) h.cut tiling.tiles h.end tiling.end h.tiling tiling.is in
         h.boundaries_are ∙ ap (boundaries d 0 (0 ∷ [])) same.tiles);
-    runs = λ k m within. record {
-      some = λ i x below. ∥∥₁_elim t le_prop (λ r. ((r.lexed initial).runs k m within).some i x below);
-      differ = ∥∥₁_elim t (Differ-prop (get_or marks k m).runs) (λ r. ((r.lexed initial).runs k m within).differ);
+    entries = λ k m within. record {
+      some = λ i x below. ∥∥₁_elim t le_prop (λ r. ((r.lexed initial).entries k m within).some i x below);
+      differ = ∥∥₁_elim t (Differ-prop (get_or bounds k m).entries) (λ r. ((r.lexed initial).entries k m within).differ);
     };
   } where
     items_prop : (xs ys : List Item) → IsProp (xs ≡ ys)
@@ -64,24 +64,24 @@ rising_bounds d text place stack (t ∷ ts) e is le (suc i) (suc j) lt within b 
     let rest = subst (λ w. IsTiling d w (stack_past d stack t) ts e) (drop-drop t.len place text) is.1 in
     rising_bounds d text (place + t.len) (stack_past d stack t) ts e rest (omega (arith, n, length-drop place text)) i j (omega arith) (omega arith) b c
 
-pub sorted : (d : Definition) (text : List ℕ) (found : List Item) (marks : List Mark) → IsLexed d text found marks → IsSortedRuns marks
-sorted d text found marks h = record {
+pub sorted : (d : Definition) (text : List ℕ) (found : List Item) (bounds : List Boundary) → IsLexed d text found bounds → AreSorted bounds
+sorted d text found bounds h = record {
   rising = λ i j lt within.
-      let len : length (boundaries d 0 (0 ∷ []) h.cut) ≡ length marks = ap length (sym h.boundaries_are) ∙ length-map marks bound in
-      let r = rising_bounds d text 0 (0 ∷ []) h.cut h.end h.tiling (omega arith) i j lt (omega arith) (bound no_mark) (bound no_mark) in
-      let a : (get_or (boundaries d 0 (0 ∷ []) h.cut) i (bound no_mark)).0 ≡ (mark_at marks i).place = ap (λ bs. (get_or bs i (bound no_mark)).0) (sym h.boundaries_are) ∙ ap (λ (b : ℕ × List ℕ). b.0) (get_or-map bound marks i no_mark (bound no_mark) (omega arith)) in
-      let b : (get_or (boundaries d 0 (0 ∷ []) h.cut) j (bound no_mark)).0 ≡ (mark_at marks j).place = ap (λ bs. (get_or bs j (bound no_mark)).0) (sym h.boundaries_are) ∙ ap (λ (b : ℕ × List ℕ). b.0) (get_or-map bound marks j no_mark (bound no_mark) (omega arith)) in
+      let len : length (boundaries d 0 (0 ∷ []) h.cut) ≡ length bounds = ap length (sym h.boundaries_are) ∙ length-map bounds place_and_stack in
+      let r = rising_bounds d text 0 (0 ∷ []) h.cut h.end h.tiling (omega arith) i j lt (omega arith) (place_and_stack no_boundary) (place_and_stack no_boundary) in
+      let a : (get_or (boundaries d 0 (0 ∷ []) h.cut) i (place_and_stack no_boundary)).0 ≡ (boundary_at bounds i).place = ap (λ bs. (get_or bs i (place_and_stack no_boundary)).0) (sym h.boundaries_are) ∙ ap (λ (b : ℕ × List ℕ). b.0) (get_or-map place_and_stack bounds i no_boundary (place_and_stack no_boundary) (omega arith)) in
+      let b : (get_or (boundaries d 0 (0 ∷ []) h.cut) j (place_and_stack no_boundary)).0 ≡ (boundary_at bounds j).place = ap (λ bs. (get_or bs j (place_and_stack no_boundary)).0) (sym h.boundaries_are) ∙ ap (λ (b : ℕ × List ℕ). b.0) (get_or-map place_and_stack bounds j no_boundary (place_and_stack no_boundary) (omega arith)) in
       omega (arith, r, a, b);
-  runs = h.runs;
+  entries = h.entries;
 }
 
-none_there : (marks : List Mark) (k : ℕ) → marks ≡ [] → k < length marks → ⊥
-none_there marks k e lt = absurd (omega (arith, ap length e))
+none_there : (bounds : List Boundary) (k : ℕ) → bounds ≡ [] → k < length bounds → ⊥
+none_there bounds k e lt = absurd (omega (arith, ap length e))
 
-by_state : (d : Definition) (text : List ℕ) (found : List Item) (marks : List Mark) → ∥ IsRun d text found marks ∥₁ → (k : ℕ) → k < length marks → (b : Bool) → is_state d 0 ≡ b → AreRuns (mark_at marks k).runs
-by_state d text found marks t k lt true e = (known d text found marks e t).runs k no_mark lt
-by_state d text found marks t k lt false e = absurd (∥∥₁_elim t (λ x y. absurd x) (λ r. none_there marks k (r.refused e).boundaries_are lt))
+by_state : (d : Definition) (text : List ℕ) (found : List Item) (bounds : List Boundary) → ∥ IsRun d text found bounds ∥₁ → (k : ℕ) → k < length bounds → (b : Bool) → is_state d 0 ≡ b → AreEntries (boundary_at bounds k).entries
+by_state d text found bounds t k lt true e = (known d text found bounds e t).entries k no_boundary lt
+by_state d text found bounds t k lt false e = absurd (∥∥₁_elim t (λ x y. absurd x) (λ r. none_there bounds k (r.stateless e).boundaries_are lt))
 
--- each stack of a run is of runs
-pub stack_runs : (d : Definition) (text : List ℕ) (found : List Item) (marks : List Mark) → ∥ IsRun d text found marks ∥₁ → (k : ℕ) → k < length marks → AreRuns (mark_at marks k).runs
-stack_runs d text found marks t k lt = by_state d text found marks t k lt (is_state d 0) refl
+-- each stack of a run is of entries
+pub stack_entries : (d : Definition) (text : List ℕ) (found : List Item) (bounds : List Boundary) → ∥ IsRun d text found bounds ∥₁ → (k : ℕ) → k < length bounds → AreEntries (boundary_at bounds k).entries
+stack_entries d text found bounds t k lt = by_state d text found bounds t k lt (is_state d 0) refl

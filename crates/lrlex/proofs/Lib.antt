@@ -13,7 +13,7 @@ pub mod PeakLemmas
 pub mod PlaceLemmas
 pub mod ReachLemmas
 pub mod RelexLemmas
-pub mod RunsLemmas
+pub mod EntryLemmas
 pub mod ScanLemmas
 pub mod SpliceLemmas
 pub mod StretchLemmas

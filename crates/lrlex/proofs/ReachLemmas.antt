@@ -10,13 +10,13 @@ use Rattle.std.proofs.Math.Nat.{mul-le-mul_right}
 use Rattle.lrlex_rules.specs.Definition.{Definition}
 use Rattle.lrlex.specs.Active.{active_count, is_state, rule_at}
 use Rattle.lrlex.specs.Tiling.{Item, Error, top, Wins, End, IsTaken, IsEnd, IsWinner, stack_past, stack_after, or_initial, IsTiling, tile_items, end_items, items, boundaries, asked_at}
-use Rattle.lrlex.specs.Runs.{plain, AreRuns}
-use Rattle.lrlex.specs.Marks.{Mark, bound, no_mark, mark_at, last_runs}
+use Rattle.lrlex.specs.Entries.{plain, AreEntries}
+use Rattle.lrlex.specs.Boundaries.{Boundary, place_and_stack, no_boundary, boundary_at, last_entries}
 use Rattle.lrlex.specs.Reach.{Reached, IsLexed, IsRun, searches}
 use Rattle.lrlex.specs.Tiling.{Tile}
 use Rattle.lrlex_rules.specs.declared.states.StartStateOperation.{StartStateOperation}
 use Rattle.lrlex_rules.specs.declared.states.StartStateOperation.TheVariants.{ReplaceStack, Push, Pop}
-use Rattle.lrlex.proofs.RunsLemmas.{runs-one}
+use Rattle.lrlex.proofs.EntryLemmas.{entries-one}
 use Rattle.lrlex.proofs.TilingLemmas.{only_one}
 use Rattle.lrlex.proofs.CountLemmas.{asked_at-le}
 
@@ -26,7 +26,7 @@ AreStates d = All (λ q. is_state d q ≡ true)
 pub one_state : (d : Definition) (q : ℕ) → is_state d q ≡ true → AreStates d (q ∷ [])
 one_state d q h = All-push (λ q. is_state d q ≡ true) [] q (All-nil (λ q. is_state d q ≡ true)) h
 
-pub Reached-none : (d : Definition) (text : List ℕ) → is_state d 0 ≡ true → Reached d text 0 ((1, 0) ∷ []) [] (record { place = 0; runs = (1, 0) ∷ [] } ∷ []) 0
+pub Reached-none : (d : Definition) (text : List ℕ) → is_state d 0 ≡ true → Reached d text 0 ((1, 0) ∷ []) [] (record { place = 0; entries = (1, 0) ∷ [] } ∷ []) 0
 Reached-none d text zero_is = record {
   cut = [];
   before = [];
@@ -34,7 +34,7 @@ Reached-none d text zero_is = record {
   gives = λ ts e. refl;
   enters = λ ts. refl;
   kept = refl;
-  runs = All-push (λ (m : Mark). AreRuns m.runs) [] (record { place = 0; runs = (1, 0) ∷ [] }) (All-nil (λ (m : Mark). AreRuns m.runs)) (runs-one 0);
+  entries = All-push (λ (m : Boundary). AreEntries m.entries) [] (record { place = 0; entries = (1, 0) ∷ [] }) (All-nil (λ (m : Boundary). AreEntries m.entries)) (entries-one 0);
   asks = omega arith;
   few = omega arith;
   deep = omega arith;
@@ -91,49 +91,49 @@ searches-le : (d : Definition) (end : ℕ) (bs : List (ℕ × List ℕ)) → sum
 searches-le d end [] = omega arith
 searches-le d end (b ∷ bs) = omega (arith, sum_by-cons (asked_at d end) b bs, asked_at-le d end b, searches-le d end bs)
 
-pub searches-few : (d : Definition) (text : List ℕ) (marks : List Mark) → searches d text marks ≤ length marks * length d.rules
-searches-few d text marks = subst (λ n. searches d text marks ≤ n * length d.rules) (length-map marks bound) (searches-le d (length text) (map bound marks))
+pub searches-few : (d : Definition) (text : List ℕ) (bounds : List Boundary) → searches d text bounds ≤ length bounds * length d.rules
+searches-few d text bounds = subst (λ n. searches d text bounds ≤ n * length d.rules) (length-map bounds place_and_stack) (searches-le d (length text) (map place_and_stack bounds))
 
 -- ---- one more tile
 
-module _ (d : Definition) (text : List ℕ) (place : ℕ) (stack : List (ℕ × ℕ)) (found : List Item) (marks : List Mark) (asked : ℕ) (r : Reached d text place stack found marks asked) where
-  pub bounds_now : map bound marks ≡ map bound r.before ++ (place, plain stack) ∷ []
-  bounds_now = ap (map bound) r.kept ∙ map_push bound r.before _
+module _ (d : Definition) (text : List ℕ) (place : ℕ) (stack : List (ℕ × ℕ)) (found : List Item) (bounds : List Boundary) (asked : ℕ) (r : Reached d text place stack found bounds asked) where
+  pub bounds_now : map place_and_stack bounds ≡ map place_and_stack r.before ++ (place, plain stack) ∷ []
+  bounds_now = ap (map place_and_stack) r.kept ∙ map_push place_and_stack r.before _
 
-  pub searches_now : (now : ℕ) → place < length text → now ≤ asked + active_count d (top (plain stack)) → now ≤ searches d text marks
+  pub searches_now : (now : ℕ) → place < length text → now ≤ asked + active_count d (top (plain stack)) → now ≤ searches d text bounds
   searches_now now within few =
       let at : asked_at d (length text) (place, plain stack) ≡ active_count d (top (plain stack)) = cond-true _ (active_count d (top (plain stack))) 0 (lt-ltb place (length text) within) in
       let one = sum_by-cons (asked_at d (length text)) (place, plain stack) [] in
-      let all = sum_by-append (asked_at d (length text)) (map bound r.before) ((place, plain stack) ∷ []) in
-      let same : searches d text marks ≡ sum_by (asked_at d (length text)) (map bound r.before ++ (place, plain stack) ∷ []) = ap (sum_by (asked_at d (length text))) bounds_now in
+      let all = sum_by-append (asked_at d (length text)) (map place_and_stack r.before) ((place, plain stack) ∷ []) in
+      let same : searches d text bounds ≡ sum_by (asked_at d (length text)) (map place_and_stack r.before ++ (place, plain stack) ∷ []) = ap (sum_by (asked_at d (length text))) bounds_now in
       omega (arith, r.asks, few, at, one, all, same)
 
-  pub asked_now : asked ≤ searches d text marks
+  pub asked_now : asked ≤ searches d text bounds
   asked_now =
-      let all = sum_by-append (asked_at d (length text)) (map bound r.before) ((place, plain stack) ∷ []) in
-      let same : searches d text marks ≡ sum_by (asked_at d (length text)) (map bound r.before ++ (place, plain stack) ∷ []) = ap (sum_by (asked_at d (length text))) bounds_now in
+      let all = sum_by-append (asked_at d (length text)) (map place_and_stack r.before) ((place, plain stack) ∷ []) in
+      let same : searches d text bounds ≡ sum_by (asked_at d (length text)) (map place_and_stack r.before ++ (place, plain stack) ∷ []) = ap (sum_by (asked_at d (length text))) bounds_now in
       omega (arith, r.asks, all, same)
 
-  pub last_now : last_runs marks ≡ stack
+  pub last_now : last_entries bounds ≡ stack
   last_now =
-      let n : length r.before ≡ length marks - 1 = omega (arith, ap length r.kept, length-append r.before (record { place = place; runs = stack } ∷ [])) in
-      ap (λ i. (mark_at marks i).runs) (sym n) ∙ ap (λ ms. (mark_at ms (length r.before)).runs) r.kept
-      ∙ ap (λ (m : Mark). m.runs) (get_or_at r.before (record { place = place; runs = stack }) [] no_mark (length r.before) refl)
+      let n : length r.before ≡ length bounds - 1 = omega (arith, ap length r.kept, length-append r.before (record { place = place; entries = stack } ∷ [])) in
+      ap (λ i. (boundary_at bounds i).entries) (sym n) ∙ ap (λ ms. (boundary_at ms (length r.before)).entries) r.kept
+      ∙ ap (λ (m : Boundary). m.entries) (get_or_at r.before (record { place = place; entries = stack }) [] no_boundary (length r.before) refl)
 
-  pub runs_now : AreRuns stack
-  runs_now = (All-pop (λ (m : Mark). AreRuns m.runs) marks r.before (Some (record { place = place; runs = stack })) r.kept r.runs).1
+  pub entries_now : AreEntries stack
+  entries_now = (All-pop (λ (m : Boundary). AreEntries m.entries) bounds r.before (Some (record { place = place; entries = stack })) r.kept r.entries).1
 
-  pub length_now : length marks ≡ length r.before + 1
-  length_now = omega (arith, ap length r.kept, length-append r.before (record { place = place; runs = stack } ∷ []))
+  pub length_now : length bounds ≡ length r.before + 1
+  length_now = omega (arith, ap length r.kept, length-append r.before (record { place = place; entries = stack } ∷ []))
 
-  pub Reached-more : (next : List (ℕ × ℕ)) (more : List Item) (after : List Mark) (now : ℕ) (t : Tile) →
+  pub Reached-more : (next : List (ℕ × ℕ)) (more : List Item) (after : List Boundary) (now : ℕ) (t : Tile) →
       place < length text → IsTaken d (drop place text) (plain stack) t → now ≤ asked + active_count d (top (plain stack)) →
-      AreRuns next → plain next ≡ stack_past d (plain stack) t → more ≡ found ++ tile_items d place t →
-      after ≡ marks ++ record { place = place + t.len; runs = next } ∷ [] →
+      AreEntries next → plain next ≡ stack_past d (plain stack) t → more ≡ found ++ tile_items d place t →
+      after ≡ bounds ++ record { place = place + t.len; entries = next } ∷ [] →
       Reached d text (place + t.len) next more after now
-  Reached-more next more after now t within taken few runs moved given kept = record {
+  Reached-more next more after now t within taken few entries moved given kept = record {
     cut = r.cut ++ t ∷ [];
-    before = marks;
+    before = bounds;
     goes_on = λ ts e h.
         let rest = subst (λ s. IsTiling d (drop (place + t.len) text) s ts e) moved h in
         let next = r.goes_on (t ∷ ts) e (taken, subst (λ w. IsTiling d w (stack_past d (plain stack) t) ts e) (sym (drop-drop t.len place text)) rest) in
@@ -144,10 +144,10 @@ module _ (d : Definition) (text : List ℕ) (place : ℕ) (stack : List (ℕ × 
         ∙ ap (λ xs. xs ++ items d (place + t.len) ts e) (sym given);
     enters = λ ts.
         ap (boundaries d 0 (0 ∷ [])) (append_assoc r.cut (t ∷ []) ts) ∙ r.enters (t ∷ ts)
-        ∙ sym (append_assoc (map bound r.before) ((place, plain stack) ∷ []) (boundaries d (place + t.len) (stack_past d (plain stack) t) ts))
+        ∙ sym (append_assoc (map place_and_stack r.before) ((place, plain stack) ∷ []) (boundaries d (place + t.len) (stack_past d (plain stack) t) ts))
         ∙ ap₂ ◌++◌ (sym bounds_now) (ap (λ s. boundaries d (place + t.len) s ts) (sym moved));
     kept = kept;
-    runs = subst (All (λ (m : Mark). AreRuns m.runs)) (sym kept) (All-push (λ (m : Mark). AreRuns m.runs) marks _ r.runs runs);
+    entries = subst (All (λ (m : Boundary). AreEntries m.entries)) (sym kept) (All-push (λ (m : Boundary). AreEntries m.entries) bounds _ r.entries entries);
     asks = searches_now now within few;
     few = omega (arith, length_now, r.few, taken.wins.some);
     deep = omega (arith, length_now, r.deep, sound.deep, ap length moved);
@@ -159,7 +159,7 @@ module _ (d : Definition) (text : List ℕ) (place : ℕ) (stack : List (ℕ × 
     sound = sound_after d (plain stack) (rule_at d t.rule).target r.initial r.states r.some taken.has_target
 
   -- a run that ends here
-  pub ended : (all : List Item) (e : End) → IsEnd d (drop place text) (plain stack) e → all ≡ found ++ end_items d place e → IsLexed d text all marks
+  pub ended : (all : List Item) (e : End) → IsEnd d (drop place text) (plain stack) e → all ≡ found ++ end_items d place e → IsLexed d text all bounds
   ended all e end is =
       let tiling = r.goes_on [] e end in
       record {
@@ -169,7 +169,7 @@ module _ (d : Definition) (text : List ℕ) (place : ℕ) (stack : List (ℕ × 
         only = only_one d text (r.cut ++ []) e tiling;
         items_are = is ∙ sym (r.gives [] e);
         boundaries_are = bounds_now ∙ sym (r.enters []);
-        runs = r.runs;
+        entries = r.entries;
       }
 
 -- the counter has room for one more search by each rule
@@ -189,18 +189,18 @@ nothing_left text place h = nil_from_length (drop place text) (omega (arith, len
 pub something_left : (text : List ℕ) (place : ℕ) → place < length text → drop place text ≢ []
 something_left text place h e = let none : length (drop place text) ≡ 0 = ap length e in absurd (omega (arith, length-drop place text))
 
-pub run_of : (d : Definition) (text : List ℕ) (found : List Item) (marks : List Mark) → is_state d 0 ≡ true → IsLexed d text found marks → IsRun d text found marks
-run_of d text found marks z h = record { lexed = λ e. h; refused = λ e. absurd (true≢false (sym z ∙ e)) }
+pub run_of : (d : Definition) (text : List ℕ) (found : List Item) (bounds : List Boundary) → is_state d 0 ≡ true → IsLexed d text found bounds → IsRun d text found bounds
+run_of d text found bounds z h = record { lexed = λ e. h; stateless = λ e. absurd (true≢false (sym z ∙ e)) }
 
 -- the searches before a boundary are no more than those of all
-pub few_searches : (d : Definition) (text : List ℕ) (marks ms : List Mark) (asked now : ℕ) → asked ≤ searches d text marks → now ≡ asked → ms ≡ marks → now ≤ length ms * length d.rules
-few_searches d text marks ms asked now h e at =
-    subst (λ m. now ≤ length m * length d.rules) (sym at) (omega (arith, searches-few d text marks))
+pub few_searches : (d : Definition) (text : List ℕ) (bounds ms : List Boundary) (asked now : ℕ) → asked ≤ searches d text bounds → now ≡ asked → ms ≡ bounds → now ≤ length ms * length d.rules
+few_searches d text bounds ms asked now h e at =
+    subst (λ m. now ≤ length m * length d.rules) (sym at) (omega (arith, searches-few d text bounds))
 
 -- a run without a state 0
-pub refused_of : (d : Definition) (text : List ℕ) (found : List Item) (marks : List Mark) → is_state d 0 ≡ false → found ≡ Error 0 0 None ∷ [] → marks ≡ [] →
-    IsRun d text found marks
-refused_of d text found marks e items none = record {
+pub stateless_of : (d : Definition) (text : List ℕ) (found : List Item) (bounds : List Boundary) → is_state d 0 ≡ false → found ≡ Error 0 0 None ∷ [] → bounds ≡ [] →
+    IsRun d text found bounds
+stateless_of d text found bounds e items none = record {
   lexed = λ z. absurd (true≢false (sym z ∙ e));
-  refused = λ z. record { items_are = items; boundaries_are = none };
+  stateless = λ z. record { items_are = items; boundaries_are = none };
 }

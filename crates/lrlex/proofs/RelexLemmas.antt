@@ -3,8 +3,8 @@ use Rattle.std.proofs.Common.{◌≡◌, ℕ, ◌+◌, ◌-◌, ◌<◌, ◌≤�
 use Rattle.std.specs.Bool.{Decides}
 use Rattle.std.proofs.lemmas.Bool.{eqb-true}
 use Rattle.std.proofs.lemmas.List.{length-drop, get_or-drop, map_more, get_or_at}
-use Rattle.lrlex.specs.Marks.{Mark, no_mark, mark_at, last_runs}
-use Rattle.lrlex.specs.Edits.{IsMovableMark}
+use Rattle.lrlex.specs.Boundaries.{Boundary, no_boundary, boundary_at, last_entries}
+use Rattle.lrlex.specs.Edits.{IsMovableBoundary}
 
 -- ---- the same pairs
 
@@ -21,24 +21,24 @@ pair_decides a b = (
 
 -- ---- the tail of the old boundaries
 
-pub movable_at : (old : List Mark) (i next p q : ℕ) → All (IsMovableMark p q) (drop (i + 1) old) → i + 1 ≤ next → next < length old → IsMovableMark p q (mark_at old next)
+pub movable_at : (old : List Boundary) (i next p q : ℕ) → All (IsMovableBoundary p q) (drop (i + 1) old) → i + 1 ≤ next → next < length old → IsMovableBoundary p q (boundary_at old next)
 movable_at old i next p q h le within =
     let k : ℕ = next - (i + 1) in
     let at : (i + 1) + k ≡ next = omega arith in
-    subst (IsMovableMark p q) (get_or-drop (i + 1) old k no_mark ∙ ap (mark_at old) at) (h k no_mark (omega (arith, length-drop (i + 1) old)))
+    subst (IsMovableBoundary p q) (get_or-drop (i + 1) old k no_boundary ∙ ap (boundary_at old) at) (h k no_boundary (omega (arith, length-drop (i + 1) old)))
 
-pub last_runs-push : (ms : List Mark) (m : Mark) → last_runs (ms ++ m ∷ []) ≡ m.runs
-last_runs-push ms m =
+pub last_entries-push : (ms : List Boundary) (m : Boundary) → last_entries (ms ++ m ∷ []) ≡ m.entries
+last_entries-push ms m =
     let n : length ms ≡ length (ms ++ m ∷ []) - 1 = omega (arith, length-append ms (m ∷ [])) in
-    ap (λ i. (mark_at (ms ++ m ∷ []) i).runs) (sym n) ∙ ap (λ (x : Mark). x.runs) (get_or_at ms m [] no_mark (length ms) refl)
+    ap (λ i. (boundary_at (ms ++ m ∷ []) i).entries) (sym n) ∙ ap (λ (x : Boundary). x.entries) (get_or_at ms m [] no_boundary (length ms) refl)
 
-pub tail_more : (base self now old : List Mark) (f : Mark → Mark) (i next : ℕ) → i + 1 ≤ next → next < length old →
-    self ≡ base ++ map f (take (next - (i + 1)) (drop (i + 1) old)) → now ≡ self ++ f (mark_at old next) ∷ [] →
+pub tail_more : (base self now old : List Boundary) (f : Boundary → Boundary) (i next : ℕ) → i + 1 ≤ next → next < length old →
+    self ≡ base ++ map f (take (next - (i + 1)) (drop (i + 1) old)) → now ≡ self ++ f (boundary_at old next) ∷ [] →
     now ≡ base ++ map f (take (next + 1 - (i + 1)) (drop (i + 1) old))
 tail_more base self now old f i next le within was is =
     let k : ℕ = next - (i + 1) in
     let at : (i + 1) + k ≡ next = omega arith in
     let more : k + 1 ≡ next + 1 - (i + 1) = omega arith in
-    let step = map_more f (drop (i + 1) old) k no_mark (omega (arith, length-drop (i + 1) old)) in
-    is ∙ ap (λ xs. xs ++ f (mark_at old next) ∷ []) was ∙ append_assoc base (map f (take k (drop (i + 1) old))) (f (mark_at old next) ∷ [])
-    ∙ ap (λ xs. base ++ xs) (ap (λ x. map f (take k (drop (i + 1) old)) ++ f x ∷ []) (sym (get_or-drop (i + 1) old k no_mark ∙ ap (mark_at old) at)) ∙ sym step ∙ ap (λ n. map f (take n (drop (i + 1) old))) more)
+    let step = map_more f (drop (i + 1) old) k no_boundary (omega (arith, length-drop (i + 1) old)) in
+    is ∙ ap (λ xs. xs ++ f (boundary_at old next) ∷ []) was ∙ append_assoc base (map f (take k (drop (i + 1) old))) (f (boundary_at old next) ∷ [])
+    ∙ ap (λ xs. base ++ xs) (ap (λ x. map f (take k (drop (i + 1) old)) ++ f x ∷ []) (sym (get_or-drop (i + 1) old k no_boundary ∙ ap (boundary_at old) at)) ∙ sym step ∙ ap (λ n. map f (take n (drop (i + 1) old))) more)

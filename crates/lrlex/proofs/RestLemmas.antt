@@ -2,8 +2,8 @@
 use Rattle.std.proofs.Common.{◌≡◌, ℕ, ◌+◌, List, [], ◌∷◌, map, drop, Some, slice_get, sym, ap, ◌∙◌, arith}
 use Rattle.lrlex_rules.specs.Definition.{Definition}
 use Rattle.lrlex.specs.Tiling.{Item, IsTiling, HasOneTiling, items, moved}
-use Rattle.lrlex.specs.Runs.{plain}
-use Rattle.lrlex.specs.Marks.{Mark}
+use Rattle.lrlex.specs.Entries.{plain}
+use Rattle.lrlex.specs.Boundaries.{Boundary}
 use Rattle.lrlex.specs.Edits.{items_from}
 use Rattle.lrlex.specs.Reach.{IsLexed}
 use Rattle.lrlex.proofs.TilingLemmas.{one_tiling}
@@ -21,16 +21,16 @@ one_way d text stack =
       only = λ ts e is. let same = one_tiling d text stack ts h.tiles e h.end is h.is in (same.tiles, same.end);
     }
 
-module _ (d : Definition) (text : List ℕ) (found : List Item) (marks : List Mark) (h : IsLexed d text found marks) (k : ℕ) (m : Mark) (at : slice_get marks k ≡ Some m) where
-  boundary : AtBoundary d text h.cut h.end found marks k m
+module _ (d : Definition) (text : List ℕ) (found : List Item) (bounds : List Boundary) (h : IsLexed d text found bounds) (k : ℕ) (m : Boundary) (at : slice_get bounds k ≡ Some m) where
+  boundary : AtBoundary d text h.cut h.end found bounds k m
   boundary = record { tiling = h.tiling; items_are = h.items_are; boundaries_are = h.boundaries_are; at = at }
 
-  pub rest_tiling : IsTiling d (drop m.place text) (plain m.runs) (drop k h.cut) h.end
-  rest_tiling = tail_tiling d text 0 (0 ∷ []) h.cut h.end k m.place (plain m.runs) h.tiling (at_bound d text h.cut h.end found marks k m boundary)
+  pub rest_tiling : IsTiling d (drop m.place text) (plain m.entries) (drop k h.cut) h.end
+  rest_tiling = tail_tiling d text 0 (0 ∷ []) h.cut h.end k m.place (plain m.entries) h.tiling (at_bound d text h.cut h.end found bounds k m boundary)
 
   pub rest_items : items_from m.place found ≡ map (moved m.place) (items d 0 (drop k h.cut) h.end)
   rest_items =
       let z : m.place + 0 ≡ m.place = omega arith in
-      tail_items d text h.cut h.end found marks k m boundary
+      tail_items d text h.cut h.end found bounds k m boundary
       ∙ ap (λ i. items d i (drop k h.cut) h.end) (sym z)
       ∙ items_moved d m.place 0 (drop k h.cut) h.end

@@ -11,8 +11,8 @@ use Rattle.lrlex_rules.specs.Definition.{Definition}
 use Rattle.lrlex_table.specs.Decided.{IsText}
 use Rattle.lrlex.specs.Active.{is_state}
 use Rattle.lrlex.specs.Tiling.{Tile, Item, Lexeme, Error, rebased, End, top, IsTaken, stack_past, IsTiling, tile_items, items, lexemes, boundaries}
-use Rattle.lrlex.specs.Runs.{plain, AreRuns}
-use Rattle.lrlex.specs.Marks.{Mark, bound, no_mark, mark_at}
+use Rattle.lrlex.specs.Entries.{plain, AreEntries}
+use Rattle.lrlex.specs.Boundaries.{Boundary, place_and_stack, no_boundary, boundary_at}
 use Rattle.lrlex.specs.Edits.{begins_before}
 use Rattle.lrlex.specs.Reach.{Reached, IsLexed}
 use Rattle.lrlex.specs.Decided.{IsDecidedAt, AreDecided, items_before, GoesOn, BeginAlike}
@@ -114,18 +114,18 @@ lexemes_more d place stack (t ∷ ts) (suc n) p s at lt =
     ∙ sym (append_assoc (tile_items d place t) (lexemes d (place + t.len) (take n ts)) (tile_items d p (get_or ts n no_tile)))
 
 -- a run of the new text comes to the old boundary n by the first n of the old tiles
-pub record Kept (d : Definition) (new : List ℕ) (cut : List Tile) (marks : List Mark) (n : ℕ) : Type 0 where
-  pub reached : Reached d new (mark_at marks n).place (mark_at marks n).runs (lexemes d 0 (take n cut)) (take (n + 1) marks) 0
-  pub goes_on : (ts : List Tile) (e : End) → IsTiling d (drop (mark_at marks n).place new) (plain (mark_at marks n).runs) ts e → IsTiling d new (0 ∷ []) (take n cut ++ ts) e
-  pub boundary : IsCharBoundary new (mark_at marks n).place
+pub record Kept (d : Definition) (new : List ℕ) (cut : List Tile) (bounds : List Boundary) (n : ℕ) : Type 0 where
+  pub reached : Reached d new (boundary_at bounds n).place (boundary_at bounds n).entries (lexemes d 0 (take n cut)) (take (n + 1) bounds) 0
+  pub goes_on : (ts : List Tile) (e : End) → IsTiling d (drop (boundary_at bounds n).place new) (plain (boundary_at bounds n).entries) ts e → IsTiling d new (0 ∷ []) (take n cut ++ ts) e
+  pub boundary : IsCharBoundary new (boundary_at bounds n).place
 
-module _ (d : Definition) (old new : List ℕ) (low : ℕ) (found : List Item) (marks : List Mark) (h : IsLexed d old found marks) (is : IsText new)
+module _ (d : Definition) (old new : List ℕ) (low : ℕ) (found : List Item) (bounds : List Boundary) (h : IsLexed d old found bounds) (is : IsText new)
     (alike : take low new ≡ take low old) (initial : is_state d 0 ≡ true) where
-  at_mark : (n : ℕ) → n < length marks → AtBoundary d old h.cut h.end found marks n (mark_at marks n)
-  at_mark n lt = record { tiling = h.tiling; items_are = h.items_are; boundaries_are = h.boundaries_are; at = slice_get-get_or marks n no_mark lt }
+  at_boundary : (n : ℕ) → n < length bounds → AtBoundary d old h.cut h.end found bounds n (boundary_at bounds n)
+  at_boundary n lt = record { tiling = h.tiling; items_are = h.items_are; boundaries_are = h.boundaries_are; at = slice_get-get_or bounds n no_boundary lt }
 
-  there : (n : ℕ) → n < length marks → slice_get (boundaries d 0 (0 ∷ []) h.cut) n ≡ Some (bound (mark_at marks n))
-  there n lt = at_bound d old h.cut h.end found marks n (mark_at marks n) (at_mark n lt)
+  there : (n : ℕ) → n < length bounds → slice_get (boundaries d 0 (0 ∷ []) h.cut) n ≡ Some (place_and_stack (boundary_at bounds n))
+  there n lt = at_bound d old h.cut h.end found bounds n (boundary_at bounds n) (at_boundary n lt)
 
   pub tile : ℕ → Tile
   tile n = get_or h.cut n no_tile
@@ -134,21 +134,21 @@ module _ (d : Definition) (old new : List ℕ) (low : ℕ) (found : List Item) (
   unfolding tile
   tile_is n t at = get_or_from_slice_get h.cut n t no_tile at
 
-  within_cut : (n : ℕ) → n + 1 < length marks → n < length h.cut
-  within_cut n lt = omega (arith, tiles_are d old found marks h)
+  within_cut : (n : ℕ) → n + 1 < length bounds → n < length h.cut
+  within_cut n lt = omega (arith, tiles_are d old found bounds h)
 
   -- the old tile at boundary n
-  pub taken_old : (n : ℕ) → n + 1 < length marks → IsTaken d (drop (mark_at marks n).place old) (plain (mark_at marks n).runs) (tile n)
+  pub taken_old : (n : ℕ) → n + 1 < length bounds → IsTaken d (drop (boundary_at bounds n).place old) (plain (boundary_at bounds n).entries) (tile n)
   unfolding tile
   taken_old n lt =
-      let tail = tail_tiling d old 0 (0 ∷ []) h.cut h.end n (mark_at marks n).place (plain (mark_at marks n).runs) h.tiling (there n (omega arith)) in
-      (subst (λ us. IsTiling d (drop (mark_at marks n).place old) (plain (mark_at marks n).runs) us h.end) (drop-cons h.cut n no_tile (within_cut n lt)) tail).0
+      let tail = tail_tiling d old 0 (0 ∷ []) h.cut h.end n (boundary_at bounds n).place (plain (boundary_at bounds n).entries) h.tiling (there n (omega arith)) in
+      (subst (λ us. IsTiling d (drop (boundary_at bounds n).place old) (plain (boundary_at bounds n).entries) us h.end) (drop-cons h.cut n no_tile (within_cut n lt)) tail).0
 
   -- the same tile of the new text
-  pub taken_new : (n : ℕ) → n + 1 < length marks → IsDecidedAt d old low (mark_at marks n) → IsCharBoundary new (mark_at marks n).place →
-      IsTaken d (drop (mark_at marks n).place new) (plain (mark_at marks n).runs) (tile n)
+  pub taken_new : (n : ℕ) → n + 1 < length bounds → IsDecidedAt d old low (boundary_at bounds n) → IsCharBoundary new (boundary_at bounds n).place →
+      IsTaken d (drop (boundary_at bounds n).place new) (plain (boundary_at bounds n).entries) (tile n)
   taken_new n lt decided cut =
-      let m = mark_at marks n in
+      let m = boundary_at bounds n in
       let t = taken_old n lt in
       record {
         wins = decided.wins (drop m.place new) (text_from new m.place is cut) (alike_from low m.place old new alike) (tile n).rule (tile n).len t.wins;
@@ -157,30 +157,30 @@ module _ (d : Definition) (old new : List ℕ) (low : ℕ) (found : List Item) (
       }
 
   -- where it leads
-  pub next_mark : (n : ℕ) → n + 1 < length marks → bound (mark_at marks (n + 1)) ≡ ((mark_at marks n).place + (tile n).len, stack_past d (plain (mark_at marks n).runs) (tile n))
+  pub next_boundary : (n : ℕ) → n + 1 < length bounds → place_and_stack (boundary_at bounds (n + 1)) ≡ ((boundary_at bounds n).place + (tile n).len, stack_past d (plain (boundary_at bounds n).entries) (tile n))
   unfolding tile
-  next_mark n lt =
-      let m = mark_at marks n in
+  next_boundary n lt =
+      let m = boundary_at bounds n in
       same_Some _ _ (sym (there (n + 1) lt) ∙ sym (slice_get-drop (boundaries d 0 (0 ∷ []) h.cut) n 1)
-      ∙ ap (λ bs. slice_get bs 1) (boundaries_tail d 0 (0 ∷ []) h.cut n m.place (plain m.runs) (there n (omega arith)) ∙ ap (boundaries d m.place (plain m.runs)) (drop-cons h.cut n no_tile (within_cut n lt)))
-      ∙ next_bound d m.place (plain m.runs) (get_or h.cut n no_tile) (drop (suc n) h.cut))
+      ∙ ap (λ bs. slice_get bs 1) (boundaries_tail d 0 (0 ∷ []) h.cut n m.place (plain m.entries) (there n (omega arith)) ∙ ap (boundaries d m.place (plain m.entries)) (drop-cons h.cut n no_tile (within_cut n lt)))
+      ∙ next_bound d m.place (plain m.entries) (get_or h.cut n no_tile) (drop (suc n) h.cut))
 
-  pub first_mark : 0 < length marks → bound (mark_at marks 0) ≡ (0, 0 ∷ [])
-  first_mark lt = same_Some _ _ (sym (there 0 lt) ∙ first_bound d 0 (0 ∷ []) h.cut)
+  pub first_boundary : 0 < length bounds → place_and_stack (boundary_at bounds 0) ≡ (0, 0 ∷ [])
+  first_boundary lt = same_Some _ _ (sym (there 0 lt) ∙ first_bound d 0 (0 ∷ []) h.cut)
 
-  none_kept : 0 < length marks → Kept d new h.cut marks 0
+  none_kept : 0 < length bounds → Kept d new h.cut bounds 0
   none_kept lt =
-      let place : (mark_at marks 0).place ≡ 0 = ap (λ (b : ℕ × List ℕ). b.0) (first_mark lt) in
-      let stack : plain (mark_at marks 0).runs ≡ 0 ∷ [] = ap (λ (b : ℕ × List ℕ). b.1) (first_mark lt) in
+      let place : (boundary_at bounds 0).place ≡ 0 = ap (λ (b : ℕ × List ℕ). b.0) (first_boundary lt) in
+      let stack : plain (boundary_at bounds 0).entries ≡ 0 ∷ [] = ap (λ (b : ℕ × List ℕ). b.1) (first_boundary lt) in
       record {
         reached = record {
           cut = [];
           before = [];
-          goes_on = λ ts e t. subst (λ (b : ℕ × List ℕ). IsTiling d (drop b.0 new) b.1 ts e) (first_mark lt) t;
+          goes_on = λ ts e t. subst (λ (b : ℕ × List ℕ). IsTiling d (drop b.0 new) b.1 ts e) (first_boundary lt) t;
           gives = λ ts e. ap (λ p. items d p ts e) (sym place);
-          enters = λ ts. ap (λ (b : ℕ × List ℕ). boundaries d b.0 b.1 ts) (sym (first_mark lt));
-          kept = take_more marks 0 no_mark lt;
-          runs = All-take (λ m. AreRuns m.runs) 1 marks h.runs;
+          enters = λ ts. ap (λ (b : ℕ × List ℕ). boundaries d b.0 b.1 ts) (sym (first_boundary lt));
+          kept = take_more bounds 0 no_boundary lt;
+          entries = All-take (λ m. AreEntries m.entries) 1 bounds h.entries;
           asks = omega arith;
           few = omega arith;
           deep = omega (arith, ap length stack);
@@ -188,81 +188,81 @@ module _ (d : Definition) (old new : List ℕ) (low : ℕ) (found : List Item) (
           initial = initial;
           states = subst (AreStates d) (sym stack) (one_state d 0 initial);
         };
-        goes_on = λ ts e t. subst (λ (b : ℕ × List ℕ). IsTiling d (drop b.0 new) b.1 ts e) (first_mark lt) t;
+        goes_on = λ ts e t. subst (λ (b : ℕ × List ℕ). IsTiling d (drop b.0 new) b.1 ts e) (first_boundary lt) t;
         boundary = subst (IsCharBoundary new) (sym place) (IsCharBoundary-start new is.utf8);
       }
 
-  one_more : (n : ℕ) → n + 1 < length marks → IsDecidedAt d old low (mark_at marks n) → Kept d new h.cut marks n → Kept d new h.cut marks (n + 1)
+  one_more : (n : ℕ) → n + 1 < length bounds → IsDecidedAt d old low (boundary_at bounds n) → Kept d new h.cut bounds n → Kept d new h.cut bounds (n + 1)
   unfolding tile
   one_more n lt decided kept =
-      let m = mark_at marks n in
-      let next = mark_at marks (n + 1) in
+      let m = boundary_at bounds n in
+      let next = boundary_at bounds (n + 1) in
       let t = tile n in
       let taken = taken_new n lt decided kept.boundary in
-      let len = Wins-le d (top (plain m.runs)) (drop m.place new) t.rule t.len taken.wins in
+      let len = Wins-le d (top (plain m.entries)) (drop m.place new) t.rule t.len taken.wins in
       let rest = length-drop m.place new in
-      let place : m.place + t.len ≡ next.place = sym (ap (λ (b : ℕ × List ℕ). b.0) (next_mark n lt)) in
-      let stack : plain next.runs ≡ stack_past d (plain m.runs) t = ap (λ (b : ℕ × List ℕ). b.1) (next_mark n lt) in
-      let two = take_more marks (n + 1) no_mark lt in
+      let place : m.place + t.len ≡ next.place = sym (ap (λ (b : ℕ × List ℕ). b.0) (next_boundary n lt)) in
+      let stack : plain next.entries ≡ stack_past d (plain m.entries) t = ap (λ (b : ℕ × List ℕ). b.1) (next_boundary n lt) in
+      let two = take_more bounds (n + 1) no_boundary lt in
       record {
         reached =
-            subst (λ p. Reached d new p next.runs (lexemes d 0 (take (n + 1) h.cut)) (take (n + 1 + 1) marks) 0) place
-            (Reached-more d new m.place m.runs (lexemes d 0 (take n h.cut)) (take (n + 1) marks) 0 kept.reached next.runs (lexemes d 0 (take (n + 1) h.cut)) (take (n + 1 + 1) marks) 0 t
-            (omega (arith, len, rest, taken.wins.some)) taken (omega arith) (h.runs (n + 1) no_mark lt) stack
-            (lexemes_more d 0 (0 ∷ []) h.cut n m.place (plain m.runs) (there n (omega arith)) (within_cut n lt))
-            (two ∙ ap (λ p. take (n + 1) marks ++ record { place = p; runs = next.runs } ∷ []) (sym place)));
+            subst (λ p. Reached d new p next.entries (lexemes d 0 (take (n + 1) h.cut)) (take (n + 1 + 1) bounds) 0) place
+            (Reached-more d new m.place m.entries (lexemes d 0 (take n h.cut)) (take (n + 1) bounds) 0 kept.reached next.entries (lexemes d 0 (take (n + 1) h.cut)) (take (n + 1 + 1) bounds) 0 t
+            (omega (arith, len, rest, taken.wins.some)) taken (omega arith) (h.entries (n + 1) no_boundary lt) stack
+            (lexemes_more d 0 (0 ∷ []) h.cut n m.place (plain m.entries) (there n (omega arith)) (within_cut n lt))
+            (two ∙ ap (λ p. take (n + 1) bounds ++ record { place = p; entries = next.entries } ∷ []) (sym place)));
         goes_on = λ ts e tail.
             let behind = subst (λ s. IsTiling d (drop next.place new) s ts e) stack tail in
-            let from = subst (λ w. IsTiling d w (stack_past d (plain m.runs) t) ts e) (sym (drop-drop t.len m.place new ∙ ap (λ p. drop p new) place)) behind in
+            let from = subst (λ w. IsTiling d w (stack_past d (plain m.entries) t) ts e) (sym (drop-drop t.len m.place new ∙ ap (λ p. drop p new) place)) behind in
             subst (λ us. IsTiling d new (0 ∷ []) us e) (sym (append_assoc (take n h.cut) (t ∷ []) ts) ∙ ap (λ xs. xs ++ ts) (sym (take_more h.cut n no_tile (within_cut n lt))))
             (kept.goes_on (t ∷ ts) e (taken, from));
         boundary =
             subst (IsCharBoundary new) place
-            (IsCharBoundary-from_rest new m.place t.len (omega (arith, len, rest, taken.wins.some)) (Wins-cut d (top (plain m.runs)) (drop m.place new) t.rule t.len taken.wins));
+            (IsCharBoundary-from_rest new m.place t.len (omega (arith, len, rest, taken.wins.some)) (Wins-cut d (top (plain m.entries)) (drop m.place new) t.rule t.len taken.wins));
       }
 
   -- the first k tiles stay
-  pub kept_up_to : (k n : ℕ) → k < length marks → AreDecided d old marks k low → n ≤ k → Kept d new h.cut marks n
+  pub kept_up_to : (k n : ℕ) → k < length bounds → AreDecided d old bounds k low → n ≤ k → Kept d new h.cut bounds n
   kept_up_to k zero lt decided le = none_kept (omega arith)
   kept_up_to k (suc n) lt decided le =
       let next : n + 1 ≡ suc n = omega arith in
-      let here : IsDecidedAt d old low (mark_at marks n) = subst (IsDecidedAt d old low) (get_or-take k marks n no_mark (omega arith)) (decided n no_mark (omega (arith, length-take-le k marks (omega arith)))) in
-      subst (Kept d new h.cut marks) next (one_more n (omega arith) here (kept_up_to k n lt decided (omega arith)))
+      let here : IsDecidedAt d old low (boundary_at bounds n) = subst (IsDecidedAt d old low) (get_or-take k bounds n no_boundary (omega arith)) (decided n no_boundary (omega (arith, length-take-le k bounds (omega arith)))) in
+      subst (Kept d new h.cut bounds) next (one_more n (omega arith) here (kept_up_to k n lt decided (omega arith)))
 
   -- ---- what this says
 
-  front_items : (k : ℕ) → k < length marks → items_before (mark_at marks k).place found ≡ lexemes d 0 (take k h.cut)
-  front_items k lt = part_before (mark_at marks k).place found _ _ (parted d old h.cut h.end found marks k (mark_at marks k) (at_mark k lt))
+  front_items : (k : ℕ) → k < length bounds → items_before (boundary_at bounds k).place found ≡ lexemes d 0 (take k h.cut)
+  front_items k lt = part_before (boundary_at bounds k).place found _ _ (parted d old h.cut h.end found bounds k (boundary_at bounds k) (at_boundary k lt))
 
-  pub goes_on_from : (k : ℕ) → k < length marks → AreDecided d old marks k low → GoesOn d new found marks k
+  pub goes_on_from : (k : ℕ) → k < length bounds → AreDecided d old bounds k low → GoesOn d new found bounds k
   goes_on_from k lt decided =
-      let m = mark_at marks k in
+      let m = boundary_at bounds k in
       let kept = kept_up_to k k lt decided (omega arith) in
       record {
-        reached = subst (λ xs. Reached d new m.place m.runs xs (take (k + 1) marks) 0) (sym (front_items k lt)) kept.reached;
+        reached = subst (λ xs. Reached d new m.place m.entries xs (take (k + 1) bounds) 0) (sym (front_items k lt)) kept.reached;
         boundary = kept.boundary;
       }
 
-  pub begin_alike : (other_found : List Item) (other_marks : List Mark) (o : IsLexed d new other_found other_marks) (k : ℕ) → k < length marks → AreDecided d old marks k low →
-      BeginAlike h.cut o.cut found other_found marks other_marks k
-  begin_alike other_found other_marks o k lt decided =
-      let m = mark_at marks k in
+  pub begin_alike : (other_found : List Item) (other_bounds : List Boundary) (o : IsLexed d new other_found other_bounds) (k : ℕ) → k < length bounds → AreDecided d old bounds k low →
+      BeginAlike h.cut o.cut found other_found bounds other_bounds k
+  begin_alike other_found other_bounds o k lt decided =
+      let m = boundary_at bounds k in
       let kept = kept_up_to k k lt decided (omega arith) in
       let r = kept.reached in
-      let s = plain m.runs in
+      let s = plain m.entries in
       let rest = a_tiling d (drop m.place new) s in
       let one = o.only (take k h.cut ++ rest.tiles) rest.end (kept.goes_on rest.tiles rest.end rest.is) in
       let two = o.only (r.cut ++ rest.tiles) rest.end (r.goes_on rest.tiles rest.end rest.is) in
       let front = lexemes d 0 (take k h.cut) in
-      let before = (parted d old h.cut h.end found marks k m (at_mark k lt)).before in
+      let before = (parted d old h.cut h.end found bounds k m (at_boundary k lt)).before in
       let from = tail_from d new m.place s rest.tiles rest.end 0 m.place s rest.is kept.boundary.0 (first_bound d m.place s rest.tiles) in
       record {
-        tiles = ap (take k) (sym one.0) ∙ take_at (take k h.cut) rest.tiles k (length-take-le k h.cut (omega (arith, tiles_are d old found marks h)));
+        tiles = ap (take k) (sym one.0) ∙ take_at (take k h.cut) rest.tiles k (length-take-le k h.cut (omega (arith, tiles_are d old found bounds h)));
         boundaries =
-            sym (take-map bound (k + 1) other_marks) ∙ ap (take (k + 1)) (o.boundaries_are ∙ ap (boundaries d 0 (0 ∷ [])) (sym two.0) ∙ r.enters rest.tiles)
-            ∙ front_bounds d m.place s rest.tiles (map bound r.before) (k + 1)
-            (omega (arith, length-map r.before bound, length_now d new m.place m.runs front (take (k + 1) marks) 0 r, length-take-le (k + 1) marks (omega arith)))
-            ∙ sym (bounds_now d new m.place m.runs front (take (k + 1) marks) 0 r);
+            sym (take-map place_and_stack (k + 1) other_bounds) ∙ ap (take (k + 1)) (o.boundaries_are ∙ ap (boundaries d 0 (0 ∷ [])) (sym two.0) ∙ r.enters rest.tiles)
+            ∙ front_bounds d m.place s rest.tiles (map place_and_stack r.before) (k + 1)
+            (omega (arith, length-map r.before place_and_stack, length_now d new m.place m.entries front (take (k + 1) bounds) 0 r, length-take-le (k + 1) bounds (omega arith)))
+            ∙ sym (bounds_now d new m.place m.entries front (take (k + 1) bounds) 0 r);
         items =
             ap (items_before m.place) (o.items_are ∙ sym (ap₂ (items d 0) two.0 two.1) ∙ r.gives rest.tiles rest.end) ∙ front_before m.place front (items d m.place rest.tiles rest.end) before from
             ∙ sym (front_items k lt);

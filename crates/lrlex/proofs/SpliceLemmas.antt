@@ -6,9 +6,9 @@ use Rattle.std.proofs.lemmas.List.{map-append, drop-map}
 use Rattle.std.proofs.lemmas.List.Elements.{All-append, All-map, All-drop}
 use Rattle.lrlex_rules.specs.Definition.{Definition}
 use Rattle.lrlex.specs.Tiling.{Item, End, stack_past, IsTiling, items, boundaries, rebased, lexemes}
-use Rattle.lrlex.specs.Runs.{plain, AreRuns}
-use Rattle.lrlex.specs.Marks.{Mark, bound}
-use Rattle.lrlex.specs.Edits.{begins_before, items_from, moved_mark}
+use Rattle.lrlex.specs.Entries.{plain, AreEntries}
+use Rattle.lrlex.specs.Boundaries.{Boundary, place_and_stack}
+use Rattle.lrlex.specs.Edits.{begins_before, items_from, moved_boundary}
 use Rattle.lrlex.specs.Reach.{Reached, IsLexed}
 use Rattle.lrlex.specs.Tiling.{Tile}
 use Rattle.lrlex.proofs.TilingLemmas.{only_one}
@@ -54,21 +54,21 @@ map_twice : {A B C : Type 0} (f : B → C) (g : A → B) (xs : List A) → map f
 map_twice f g [] = refl
 map_twice f g (x ∷ xs) = ap (λ ys. f (g x) ∷ ys) (map_twice f g xs)
 
-pub record AtBoundary (d : Definition) (text : List ℕ) (ts : List Tile) (e : End) (found : List Item) (marks : List Mark) (j : ℕ) (m : Mark) : Type 0 where
+pub record AtBoundary (d : Definition) (text : List ℕ) (ts : List Tile) (e : End) (found : List Item) (bounds : List Boundary) (j : ℕ) (m : Boundary) : Type 0 where
   pub tiling : IsTiling d text (0 ∷ []) ts e
   pub items_are : found ≡ items d 0 ts e
-  pub boundaries_are : map bound marks ≡ boundaries d 0 (0 ∷ []) ts
-  pub at : slice_get marks j ≡ Some m
+  pub boundaries_are : map place_and_stack bounds ≡ boundaries d 0 (0 ∷ []) ts
+  pub at : slice_get bounds j ≡ Some m
 
-module _ (d : Definition) (text : List ℕ) (ts : List Tile) (e : End) (found : List Item) (marks : List Mark) (j : ℕ) (m : Mark) (b : AtBoundary d text ts e found marks j m) where
-  pub at_bound : slice_get (boundaries d 0 (0 ∷ []) ts) j ≡ Some (m.place, plain m.runs)
-  at_bound = ap (λ bs. slice_get bs j) (sym b.boundaries_are) ∙ slice_get-map bound marks j ∙ ap (option_map bound) b.at
+module _ (d : Definition) (text : List ℕ) (ts : List Tile) (e : End) (found : List Item) (bounds : List Boundary) (j : ℕ) (m : Boundary) (b : AtBoundary d text ts e found bounds j m) where
+  pub at_bound : slice_get (boundaries d 0 (0 ∷ []) ts) j ≡ Some (m.place, plain m.entries)
+  at_bound = ap (λ bs. slice_get bs j) (sym b.boundaries_are) ∙ slice_get-map place_and_stack bounds j ∙ ap (option_map place_and_stack) b.at
 
   pub parted : IsParted m.place found (lexemes d 0 (take j ts)) (items d m.place (drop j ts) e)
   parted = record {
-    is = b.items_are ∙ items_tail d 0 (0 ∷ []) ts e j m.place (plain m.runs) at_bound;
-    before = lexemes_before d text 0 (0 ∷ []) ts e j m.place (plain m.runs) b.tiling at_bound;
-    from = tail_from d text 0 (0 ∷ []) ts e j m.place (plain m.runs) b.tiling (omega arith) at_bound;
+    is = b.items_are ∙ items_tail d 0 (0 ∷ []) ts e j m.place (plain m.entries) at_bound;
+    before = lexemes_before d text 0 (0 ∷ []) ts e j m.place (plain m.entries) b.tiling at_bound;
+    from = tail_from d text 0 (0 ∷ []) ts e j m.place (plain m.entries) b.tiling (omega arith) at_bound;
   }
 
   pub tail_items : items_from m.place found ≡ items d m.place (drop j ts) e
@@ -77,28 +77,28 @@ module _ (d : Definition) (text : List ℕ) (ts : List Tile) (e : End) (found : 
   pub in_order : IsPartitionedBy (begins_before m.place) found
   in_order = part_order m.place found _ _ parted
 
-  tail_bounds : map bound (drop j marks) ≡ boundaries d m.place (plain m.runs) (drop j ts)
-  tail_bounds = sym (drop-map bound j marks) ∙ ap (drop j) b.boundaries_are ∙ boundaries_tail d 0 (0 ∷ []) ts j m.place (plain m.runs) at_bound
+  tail_bounds : map place_and_stack (drop j bounds) ≡ boundaries d m.place (plain m.entries) (drop j ts)
+  tail_bounds = sym (drop-map place_and_stack j bounds) ∙ ap (drop j) b.boundaries_are ∙ boundaries_tail d 0 (0 ∷ []) ts j m.place (plain m.entries) at_bound
 
-  pub moved_bounds : (q : ℕ) → boundaries d q (plain m.runs) (drop j ts) ≡ (q, plain m.runs) ∷ map bound (map (moved_mark m.place q) (drop (j + 1) marks))
+  pub moved_bounds : (q : ℕ) → boundaries d q (plain m.entries) (drop j ts) ≡ (q, plain m.entries) ∷ map place_and_stack (map (moved_boundary m.place q) (drop (j + 1) bounds))
   unfolding shift
   moved_bounds q =
       let z : q + 0 ≡ q = omega arith in
       let y : m.place + 0 ≡ m.place = omega arith in
       let f : (m.place + q) - m.place ≡ q = omega arith in
-      ap (λ i. boundaries d i (plain m.runs) (drop j ts)) (sym z)
-      ∙ boundaries_shifted d m.place q 0 (plain m.runs) (drop j ts)
-      ∙ ap (λ i. map (shift m.place q) (boundaries d i (plain m.runs) (drop j ts))) y
-      ∙ ap (map (shift m.place q)) (sym tail_bounds ∙ ap (map bound) (drop_found marks j m b.at))
-      ∙ ap₂ (λ i (bs : List (ℕ × List ℕ)). (i, plain m.runs) ∷ bs) f
-      (map_twice (shift m.place q) bound (drop (j + 1) marks) ∙ sym (map_twice bound (moved_mark m.place q) (drop (j + 1) marks)))
+      ap (λ i. boundaries d i (plain m.entries) (drop j ts)) (sym z)
+      ∙ boundaries_shifted d m.place q 0 (plain m.entries) (drop j ts)
+      ∙ ap (λ i. map (shift m.place q) (boundaries d i (plain m.entries) (drop j ts))) y
+      ∙ ap (map (shift m.place q)) (sym tail_bounds ∙ ap (map place_and_stack) (drop_found bounds j m b.at))
+      ∙ ap₂ (λ i (bs : List (ℕ × List ℕ)). (i, plain m.entries) ∷ bs) f
+      (map_twice (shift m.place q) place_and_stack (drop (j + 1) bounds) ∙ sym (map_twice place_and_stack (moved_boundary m.place q) (drop (j + 1) bounds)))
 
 -- a run that meets the old one, with the old tail moved
-pub spliced : (d : Definition) (old new : List ℕ) (ts : List Tile) (e : End) (found marks_found : List Item) (marks olds : List Mark) (j q : ℕ) (m : Mark) (stack : List (ℕ × ℕ)) (asked : ℕ) →
-    (r : Reached d new q stack found marks asked) → (b : AtBoundary d old ts e marks_found olds j m) → All (λ x. AreRuns x.runs) olds →
-    m.runs ≡ stack → drop m.place old ≡ drop q new →
-    IsLexed d new (found ++ map (rebased m.place q) (items_from m.place marks_found)) (marks ++ map (moved_mark m.place q) (drop (j + 1) olds))
-spliced d old new ts e found old_found marks olds j q m stack asked r b runs stacks same = record {
+pub spliced : (d : Definition) (old new : List ℕ) (ts : List Tile) (e : End) (found bounds_found : List Item) (bounds olds : List Boundary) (j q : ℕ) (m : Boundary) (stack : List (ℕ × ℕ)) (asked : ℕ) →
+    (r : Reached d new q stack found bounds asked) → (b : AtBoundary d old ts e bounds_found olds j m) → All (λ x. AreEntries x.entries) olds →
+    m.entries ≡ stack → drop m.place old ≡ drop q new →
+    IsLexed d new (found ++ map (rebased m.place q) (items_from m.place bounds_found)) (bounds ++ map (moved_boundary m.place q) (drop (j + 1) olds))
+spliced d old new ts e found old_found bounds olds j q m stack asked r b entries stacks same = record {
   cut = r.cut ++ drop j ts;
   end = e;
   tiling = whole;
@@ -107,16 +107,16 @@ spliced d old new ts e found old_found marks olds j q m stack asked r b runs sta
       ap (λ xs. found ++ map (rebased m.place q) xs) (tail_items d old ts e old_found olds j m b)
       ∙ ap (λ xs. found ++ xs) (sym (items_rebased d m.place q (drop j ts) e)) ∙ sym (r.gives (drop j ts) e);
   boundaries_are =
-      map-append bound marks _ ∙ ap (λ xs. xs ++ map bound (map (moved_mark m.place q) (drop (j + 1) olds))) (bounds_now d new q stack found marks asked r)
-      ∙ append_assoc (map bound r.before) ((q, plain stack) ∷ []) _
-      ∙ ap (λ xs. map bound r.before ++ xs) (ap (λ s. (q, plain s) ∷ map bound (map (moved_mark m.place q) (drop (j + 1) olds))) (sym stacks)
+      map-append place_and_stack bounds _ ∙ ap (λ xs. xs ++ map place_and_stack (map (moved_boundary m.place q) (drop (j + 1) olds))) (bounds_now d new q stack found bounds asked r)
+      ∙ append_assoc (map place_and_stack r.before) ((q, plain stack) ∷ []) _
+      ∙ ap (λ xs. map place_and_stack r.before ++ xs) (ap (λ s. (q, plain s) ∷ map place_and_stack (map (moved_boundary m.place q) (drop (j + 1) olds))) (sym stacks)
       ∙ sym (moved_bounds d old ts e old_found olds j m b q) ∙ ap (λ s. boundaries d q (plain s) (drop j ts)) stacks)
       ∙ sym (r.enters (drop j ts));
-  runs = All-append (λ (x : Mark). AreRuns x.runs) marks _ r.runs
-      (All-map (λ (x : Mark). AreRuns x.runs) (moved_mark m.place q) (drop (j + 1) olds) (All-drop (λ x. AreRuns x.runs) (j + 1) olds runs));
+  entries = All-append (λ (x : Boundary). AreEntries x.entries) bounds _ r.entries
+      (All-map (λ (x : Boundary). AreEntries x.entries) (moved_boundary m.place q) (drop (j + 1) olds) (All-drop (λ x. AreEntries x.entries) (j + 1) olds entries));
 } where
   whole : IsTiling d new (0 ∷ []) (r.cut ++ drop j ts) e
   whole =
       r.goes_on (drop j ts) e (subst (λ s. IsTiling d (drop q new) (plain s) (drop j ts) e) stacks
-      (subst (λ rest. IsTiling d rest (plain m.runs) (drop j ts) e) same
-      (tail_tiling d old 0 (0 ∷ []) ts e j m.place (plain m.runs) b.tiling (at_bound d old ts e old_found olds j m b))))
+      (subst (λ rest. IsTiling d rest (plain m.entries) (drop j ts) e) same
+      (tail_tiling d old 0 (0 ∷ []) ts e j m.place (plain m.entries) b.tiling (at_bound d old ts e old_found olds j m b))))

@@ -6,7 +6,7 @@ use Rattle.std.proofs.lemmas.List.Elements.{All-head, All-tail, All-more, All-we
 use Rattle.std.specs.List.Sorted.{IsPartitionedBy}
 use Rattle.std.proofs.lemmas.List.Sorted.{IsPartitionedBy-leb}
 use Rattle.lrlex.specs.Ranges.{AreBegun, AreRising, no_stretch, last_stretch, begun_by, stretch_at}
-use Rattle.lrlex.specs.declared.lexer.boundary.Stretch.{Stretch}
+use Rattle.lrlex.specs.declared.lexer.stretch.Stretch.{Stretch}
 
 pub last_stretch-some : (b s : Stretch) (ss : List Stretch) → slice_get ss (length ss - 1) ≡ Some s → last_stretch b ss ≡ s
 last_stretch-some b s [] h = cc

@@ -407,11 +407,11 @@ single_back pattern new old n made kept k s is =
     elim (cases_lt k (length new)) [
       | inl lt ↦ made k s (slice_get-get_or new k s lt ∙ ap Some (sym (get_or_append_left new rest s k lt) ∙ here))
       | inr ge ↦
-          let bound : k < length old = omega (arith, length-take n (new ++ rest), length-append new rest, length-drop (length new) old) in
+          let place_and_stack : k < length old = omega (arith, length-take n (new ++ rest), length-append new rest, length-drop (length new) old) in
           let place : length new + (k - length new) ≡ k = omega arith in
           let there : get_or (new ++ rest) k s ≡ get_or old k s =
           get_or-append_right new rest (length new) k s refl ge ∙ get_or-drop (length new) old (k - length new) s ∙ ap (λ j. get_or old j s) place in
-          kept k s (slice_get-get_or old k s bound ∙ ap Some (sym there ∙ here))
+          kept k s (slice_get-get_or old k s place_and_stack ∙ ap Some (sym there ∙ here))
     ]
 
 module _ {S : Type 0} (rules : List (code.Rule S)) (active : List (List ℕ)) where

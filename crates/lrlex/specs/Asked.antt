@@ -4,7 +4,7 @@ use Rattle.std.specs.List.{position, sum_by}
 use Rattle.lrlex_rules.specs.Parts.{as_state}
 use Rattle.lrlex_table.specs.declared.tables.Tables.{Tables}
 use Rattle.lrlex.specs.Tiling.{top}
-use Rattle.lrlex.specs.Marks.{Mark, bound}
+use Rattle.lrlex.specs.Boundaries.{Boundary, place_and_stack}
 use Rattle.lrlex.specs.Edits.{Meets}
 use Rattle.lrlex.specs.Decided.{IsSafe}
 use Rattle.lrlex.specs.declared.lexer.definition.LRNonStreamingLexerDef.{LRNonStreamingLexerDef}
@@ -23,23 +23,23 @@ abbrev pub asks_at : {L X S E P Q : Type 0} → LRNonStreamingLexerDef L X S E P
 asks_at d end b = if nat_lt b.0 end then untabled_count d (top b.1) else 0
 
 -- the searches at all of these boundaries
-abbrev pub asks : {L X S E P Q : Type 0} → LRNonStreamingLexerDef L X S E P Q → List ℕ → List Mark → ℕ
-asks d text marks = sum_by (asks_at d (length text)) (map bound marks)
+abbrev pub asks : {L X S E P Q : Type 0} → LRNonStreamingLexerDef L X S E P Q → List ℕ → List Boundary → ℕ
+asks d text bounds = sum_by (asks_at d (length text)) (map place_and_stack bounds)
 
 -- the last boundary that is safe for an edit from `low` on
-pub record IsLastSafe (marks : List Mark) (ahead : List ℕ) (low k : ℕ) : Type 0 where
-  pub within : k < length marks
-  pub safe : IsSafe marks ahead low k
-  pub last : (j : ℕ) → k < j → j < length marks → ¬ (IsSafe marks ahead low j)
+pub record IsLastSafe (bounds : List Boundary) (ahead : List ℕ) (low k : ℕ) : Type 0 where
+  pub within : k < length bounds
+  pub safe : IsSafe bounds ahead low k
+  pub last : (j : ℕ) → k < j → j < length bounds → ¬ (IsSafe bounds ahead low j)
 
 -- the first boundary that meets the old run, or the number of boundaries where none does
-pub record IsFirstMeeting (old new : List Mark) (low high len k : ℕ) : Type 0 where
+pub record IsFirstMeeting (old new : List Boundary) (low high len k : ℕ) : Type 0 where
   pub meets : Meets old new low high len k ⊎ (k ≡ length new)
   pub first : (j : ℕ) → j < k → ¬ (Meets old new low high len j)
 
 -- What lexing again takes, after the bytes from low to high gave way to so many others: it cuts tiles from the last safe
 -- boundary up to the first that meets the old run, and searches at the boundaries between.
-pub record WasCutAnew (asks : List Mark → ℕ) (old new : List Mark) (ahead : List ℕ) (low high len asked anew : ℕ) : Type 0 where
+pub record WasCutAnew (asks : List Boundary → ℕ) (old new : List Boundary) (ahead : List ℕ) (low high len asked anew : ℕ) : Type 0 where
   pub from : ℕ
   pub to : ℕ
   pub resumed : IsLastSafe old ahead low from

@@ -3,7 +3,7 @@ use Rattle.std.specs.Prelude.{◌≡◌, ℕ, ◌+◌, ◌<◌, ◌≤◌, Bool,
 use Rattle.std.specs.List.{AllPairs, AllAdjacentBelow, concat, list_any, sum_by}
 use Rattle.lrlex_rules.specs.Definition.{Definition, Rule}
 use Rattle.lrlex.specs.Active.{rule_at}
-use Rattle.lrlex.specs.Marks.{Mark}
+use Rattle.lrlex.specs.Boundaries.{Boundary}
 use Rattle.lrlex.specs.Reach.{IsLexed}
 use Rattle.lrlex.specs.Tiling.{Tile, Item, Lexeme, Error}
 
@@ -90,6 +90,6 @@ pub record CoverText (d : Definition) (text : List ℕ) (found : List Item) (cut
   pub sum : list_any is_error found ≡ false → total_len cut ≡ length text
 
 -- both, of what a run found
-pub record HaveLaws (d : Definition) (text : List ℕ) (found : List Item) (marks : List Mark) : Type 0 where
+pub record HaveLaws (d : Definition) (text : List ℕ) (found : List Item) (bounds : List Boundary) : Type 0 where
   pub items : AreItemsOf d text found
-  pub tiles : (h : IsLexed d text found marks) → CoverText d text found h.cut
+  pub tiles : (h : IsLexed d text found bounds) → CoverText d text found h.cut

@@ -3,7 +3,7 @@ use Rattle.std.specs.Prelude.{◌≡◌, ℕ, ◌+◌, false, List, [], length, 
 use Rattle.lrlex_base.specs.Spans.{span, as_span}
 use Rattle.lrlex_rules.specs.Definition.{Definition}
 use Rattle.lrlex.specs.Active.{is_state, rule_at}
-use Rattle.lrlex.specs.Marks.{Mark, mark_at}
+use Rattle.lrlex.specs.Boundaries.{Boundary, boundary_at}
 use Rattle.lrlex.specs.Reach.{IsLexed}
 use Rattle.lrlex.specs.Tiling.{Item, Tile}
 use Rattle.lrlex.specs.declared.lexer.pieces.Piece.{Piece}
@@ -16,11 +16,11 @@ pub record IsPiece (d : Definition) (text : List ℕ) (place : ℕ) (t : Tile) (
   pub text_is : p.text.now ≡ slice_range text place (place + t.len)
 
 -- these are the tiles, one by one: each begins at its boundary
-pub record AreTiles (d : Definition) (text : List ℕ) (marks : List Mark) (cut : List Tile) (ps : List Piece) : Type 0 where
+pub record AreTiles (d : Definition) (text : List ℕ) (bounds : List Boundary) (cut : List Tile) (ps : List Piece) : Type 0 where
   pub many : length ps ≡ length cut
-  pub each : (k : ℕ) (t : Tile) (p : Piece) → slice_get cut k ≡ Some t → slice_get ps k ≡ Some p → IsPiece d text (mark_at marks k).place t p
+  pub each : (k : ℕ) (t : Tile) (p : Piece) → slice_get cut k ≡ Some t → slice_get ps k ≡ Some p → IsPiece d text (boundary_at bounds k).place t p
 
 -- the pieces of a run: the tiles of its one tiling, and none without a state 0
-pub record ArePieces (d : Definition) (text : List ℕ) (marks : List Mark) (ps : List Piece) : Type 0 where
-  pub tiles : (found : List Item) (h : IsLexed d text found marks) → AreTiles d text marks h.cut ps
+pub record ArePieces (d : Definition) (text : List ℕ) (bounds : List Boundary) (ps : List Piece) : Type 0 where
+  pub tiles : (found : List Item) (h : IsLexed d text found bounds) → AreTiles d text bounds h.cut ps
   pub stateless : is_state d 0 ≡ false → ps ≡ []

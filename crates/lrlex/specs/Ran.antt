@@ -1,7 +1,7 @@
 -- What a run has found, as plain data.
 use Rattle.std.specs.Prelude.{ℕ, List, Result}
 use Rattle.lrlex_base.specs.Seen.{Seen}
-use Rattle.lrlex.specs.Marks.{Mark}
+use Rattle.lrlex.specs.Boundaries.{Boundary}
 use Rattle.lrlex.specs.ItemLaws.{HaveLaws}
 use Rattle.lrlex.specs.Reach.{IsRun}
 use Rattle.lrlex.specs.Views.{definition_of, items_by}
@@ -14,7 +14,7 @@ pub record Ran (D X : Type 0) : Type 0 where
   pub definition : D
   pub text : List ℕ
   pub items : List (Result X LRLexError)
-  pub boundaries : List Mark
+  pub boundaries : List Boundary
   pub ahead : List ℕ
   pub asked : ℕ
   pub anew : ℕ

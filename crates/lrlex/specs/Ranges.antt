@@ -1,8 +1,8 @@
--- Boundaries whose stacks are ranges of one list of runs.
+-- Boundaries whose stacks are ranges of one list of entries.
 use Rattle.std.specs.Prelude.{◌≡◌, ℕ, ◌+◌, ◌<◌, ◌≤◌, List, All, [], ◌∷◌, nat_le, if◌then◌else◌, length, take, drop, slice_range}
 use Rattle.std.specs.List.{AllPairs}
-use Rattle.lrlex.specs.Marks.{Mark, most_runs}
-use Rattle.lrlex.specs.declared.lexer.boundary.Stretch.{Stretch}
+use Rattle.lrlex.specs.Boundaries.{Boundary, most_entries}
+use Rattle.lrlex.specs.declared.lexer.stretch.Stretch.{Stretch}
 
 -- what stands before the first stretch
 abbrev pub no_stretch : Stretch
@@ -22,13 +22,13 @@ begun_by before (s ∷ ss) k = begun_by (if nat_le s.from k then s else before) 
 abbrev pub stretch_at : List Stretch → ℕ → Stretch
 stretch_at ss k = begun_by no_stretch ss k
 
-abbrev pub runs_of : List (ℕ × ℕ) → Stretch → List (ℕ × ℕ)
-runs_of runs s = slice_range runs s.first s.end
+abbrev pub entries_of : List (ℕ × ℕ) → Stretch → List (ℕ × ℕ)
+entries_of entries s = slice_range entries s.first s.end
 
 -- the boundaries at these places, the first of which is the one at k
-abbrev pub marks_from : List (ℕ × ℕ) → List Stretch → ℕ → List ℕ → List Mark
-marks_from runs ss k [] = []
-marks_from runs ss k (p ∷ ps) = record { place = p; runs = runs_of runs (stretch_at ss k) } ∷ marks_from runs ss (k + 1) ps
+abbrev pub boundaries_from : List (ℕ × ℕ) → List Stretch → ℕ → List ℕ → List Boundary
+boundaries_from entries ss k [] = []
+boundaries_from entries ss k (p ∷ ps) = record { place = p; entries = entries_of entries (stretch_at ss k) } ∷ boundaries_from entries ss (k + 1) ps
 
 -- the range lies in the list
 pub record IsRange (len : ℕ) (s : Stretch) : Type 0 where
@@ -46,8 +46,8 @@ pub record AreBegun (ss : List Stretch) (n k : ℕ) : Type 0 where
   pub later : All (λ s. k < s.from) (drop n ss)
 
 -- the fields of the program's boundaries, once they are lists
-pub record AreInOrder (runs : List (ℕ × ℕ)) (ss : List Stretch) (ps : List ℕ) (peak : ℕ) : Type 0 where
-  pub ranges : All (IsRange (length runs)) ss
+pub record AreInOrder (entries : List (ℕ × ℕ)) (ss : List Stretch) (ps : List ℕ) (peak : ℕ) : Type 0 where
+  pub ranges : All (IsRange (length entries)) ss
   pub begun : All (λ s. s.from < length ps) ss
   pub rising : AreRising ss
-  pub most : peak ≡ most_runs (marks_from runs ss 0 ps)
+  pub most : peak ≡ most_entries (boundaries_from entries ss 0 ps)

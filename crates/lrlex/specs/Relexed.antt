@@ -5,7 +5,7 @@ use Rattle.lrlex.specs.Active.{is_state}
 use Rattle.lrlex.specs.Asked.{asks, WasCutAnew}
 use Rattle.lrlex.specs.Decided.{IsSafe}
 use Rattle.lrlex.specs.Edits.{Meets}
-use Rattle.lrlex.specs.Marks.{Mark}
+use Rattle.lrlex.specs.Boundaries.{Boundary}
 use Rattle.lrlex.specs.Ran.{Ran}
 use Rattle.lrlex.specs.Reach.{searches}
 use Rattle.lrlex.specs.Views.{definition_of}
@@ -14,7 +14,7 @@ use Rattle.lrlex.specs.declared.lexer.definition.LRNonStreamingLexerDef.{LRNonSt
 -- The counts of a run of the text after an edit, where the old run had these boundaries, with these numbers of bytes that the
 -- tiles before each looked past it, and the bytes of the span gave way to so many others: no more searches than a run of its
 -- own, none past the boundary at which it meets the old run, and no tile anew before a safe boundary or past the meeting.
-pub record WasRelexed {L X S E P Q : Type 0} (number : S → ℕ) (old : List Mark) (ahead : List ℕ) (removed : Span) (put : List ℕ)
+pub record WasRelexed {L X S E P Q : Type 0} (number : S → ℕ) (old : List Boundary) (ahead : List ℕ) (removed : Span) (put : List ℕ)
     (r : Ran (LRNonStreamingLexerDef L X S E P Q) X) : Type 0 where
   pub asked : r.asked ≤ searches (definition_of number r.definition) r.text r.boundaries
   pub few : r.asked ≤ length r.boundaries * length (definition_of number r.definition).rules

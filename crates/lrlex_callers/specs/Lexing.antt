@@ -5,7 +5,7 @@ use Rattle.std.specs.List.{filter_map}
 use Rattle.lrlex.specs.Words.{Definition, Rule, Edit, Fits, as_span, edited}
 use Rattle.lrlex.specs.Ids.{name_of}
 use Rattle.lrlex.specs.Tiling.{Item, Lexeme, Error}
-use Rattle.lrlex.specs.Marks.{Mark}
+use Rattle.lrlex.specs.Boundaries.{Boundary}
 use Rattle.lrlex.specs.Reach.{IsRun}
 
 -- a lexeme's name and its text; an error has none
@@ -16,8 +16,8 @@ word_of rules text (Error start end state) = None
 -- the names and the texts of the lexemes that the definition gives for the text, in order
 pub record AreWords (d : Definition) (text : List ℕ) (words : List (List ℕ × List ℕ)) : Type 0 where
   pub found : List Item
-  pub marks : List Mark
-  pub run : IsRun d text found marks
+  pub bounds : List Boundary
+  pub run : IsRun d text found bounds
   pub are : words ≡ filter_map (word_of d.rules text) found
 
 -- a name and a text of the program

@@ -1,7 +1,7 @@
 //! Lexing a text, and lexing it again after edits.
 ghost use Rattle.std.specs.Prelude.{◌≡◌, ◌↔◌, List, IfOk, IfSome, IsSome, map};
 ghost use Rattle.lrlex.specs.Lexers.{lexer_items, lexer_text};
-ghost use Rattle.lrlex.specs.Marks.{Mark};
+ghost use Rattle.lrlex.specs.Boundaries.{Boundary};
 ghost use Rattle.lrlex.specs.Reach.{IsRun};
 ghost use Rattle.lrlex.specs.Views.{definition_of, items_by};
 ghost use Rattle.lrlex_callers.specs.Lexing.{AreWords, shown, AreSteps, text_after};
@@ -43,10 +43,10 @@ pub fn lexer_after<'d, 't, L: LexerTypes<LexErrorT = LRLexError>>(
     ensures made { IfOk result (λ made. IsSome made ↔ AreSteps text.now steps.now) }
     ensures text { IfOk result (λ made. IfSome made (λ lexer. lexer_text lexer
         ≡ text_after text.now (map (λ s. s.0) steps.now))) }
-    ensures run { IfOk result (λ made. IfSome made (λ lexer. (marks : List Mark)
+    ensures run { IfOk result (λ made. IfSome made (λ lexer. (bounds : List Boundary)
         × IsRun (definition_of L.StorageT.number definition.now)
         (text_after text.now (map (λ s. s.0) steps.now))
-        (items_by L.StorageT.number L.LexemeT.seen (lexer_items lexer)) marks)) }
+        (items_by L.StorageT.number L.LexemeT.seen (lexer_items lexer)) bounds)) }
 {
     let mut now = text;
     let mut run = definition.run(alloc, now)?;

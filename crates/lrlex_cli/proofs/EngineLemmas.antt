@@ -9,7 +9,7 @@ use Rattle.lrlex.specs.declared.errors.LRLexError.{LRLexError}
 use Rattle.lrlex_rules.specs.declared.faults.LexBuildError.{LexBuildError}
 use Rattle.lrlex_rules.specs.Definition.{Definition, Rule}
 use Rattle.lrlex.specs.Active.{is_state}
-use Rattle.lrlex.specs.Marks.{Mark}
+use Rattle.lrlex.specs.Boundaries.{Boundary}
 use Rattle.lrlex_rules.specs.Outcome.{outcome}
 use Rattle.lrlex.specs.Reach.{IsRun}
 use Rattle.lrlex_rules.specs.Answer.{seen, settings, refused_by, as_faults}
@@ -87,13 +87,13 @@ ended q x old new (Err (Write e)) text stopped same ends h = (x, subst (AppendsF
 
 -- A run of the definition that the rule text says has found these items, and their lines were written.
 pub ran : {D S X : Type 0} (number : S → ℕ) (see : X → Seen S) (view : D → Definition)
-    (q : Request) (built : Result D (Vec LexBuildError Global)) (def : D) (xs : List (Result X LRLexError)) (marks : List Mark)
+    (q : Request) (built : Result D (Vec LexBuildError Global)) (def : D) (xs : List (Result X LRLexError)) (bounds : List Boundary)
     (rules : List Rule) (old new : Option (List ℕ)) (r : Result Ended EngineFault)
     → built ≡ Ok def → seen view as_faults built ≡ outcome (settings q.flags q.greatest (refused_by built)) q.rules
-    → IfOk built (λ d. is_state (view d) 0 ≡ true) → IsRun (view def) q.input (items_by number see xs) marks
+    → IfOk built (λ d. is_state (view d) 0 ≡ true) → IsRun (view def) q.input (items_by number see xs) bounds
     → rules ≡ (view def).rules → EndsWriting old new r (lines rules q.input (items_by number see xs)) (list_any (λ x. is_err x) xs)
     → IsEngineRun q old new r
-ran number see view q built def xs marks rules old new r is says initial run same wrote =
+ran number see view q built def xs bounds rules old new r is says initial run same wrote =
     let P : Result _ (Vec LexBuildError Global) → Type 0 = λ b. seen view as_faults b ≡ outcome (settings q.flags q.greatest (refused_by b)) q.rules in
     let I : Result _ (Vec LexBuildError Global) → Type 0 = λ b. IfOk b (λ d. is_state (view d) 0 ≡ true) in
     let l = run.lexed (subst I is initial) in

@@ -1,33 +1,33 @@
 ghost use Rattle.std.specs.Prelude.{◌≡◌, ℕ, ◌+◌, ◌-◌, ◌<◌, ◌≤◌, List, All, [], ◌∷◌, ◌++◌, length, map, take, drop, nat_le, IfOk, OnOk};
-ghost use Rattle.lrlex.specs.Marks.{mark_at, last_runs, most_runs};
-ghost use Rattle.lrlex.specs.Edits.{moved_mark, IsMovableMark};
-ghost use Rattle.lrlex.specs.Ranges.{AreBegun, AreRising, IsRange, runs_of, stretch_at};
-ghost use Rattle.lrlex.specs.Runs.{Stay};
+ghost use Rattle.lrlex.specs.Boundaries.{boundary_at, last_entries, most_entries};
+ghost use Rattle.lrlex.specs.Edits.{moved_boundary, IsMovableBoundary};
+ghost use Rattle.lrlex.specs.Ranges.{AreBegun, AreRising, IsRange, entries_of, stretch_at};
+ghost use Rattle.lrlex.specs.Entries.{Stay};
 
-use crate::lexer::boundary::{Stretch, last_of, stored};
 use crate::lexer::room::append;
+use crate::lexer::stretch::{Stretch, last_of, stored};
 use std::alloc::{AllocError, Global};
 use std::marker::Model;
 
-/// Boundaries with their stacks. A stack that stays is kept once for all boundaries in a row that have it, and runs that
-/// stay from one stack to the next once, where the list of runs has room.
+/// Boundaries with their stacks. A stack that stays is kept once for all boundaries in a row that have it, and entries that
+/// stay from one stack to the next once, where the list of entries has room.
 #[derive(Drop)]
 pub(crate) struct Boundaries {
     places: Vec<usize>,
     stretches: Vec<Stretch>,
-    runs: Vec<(usize, usize)>,
+    entries: Vec<(usize, usize)>,
     peak: usize,
 }
 
 impl Model for Boundaries {
     ghost use Rattle.std.specs.Prelude.{List};
-    ghost use Rattle.lrlex.specs.Marks.{Mark};
+    ghost use Rattle.lrlex.specs.Boundaries.{Boundary};
 
-    ghost Value = { List Mark };
+    ghost Value = { List Boundary };
 
-    ghost use Rattle.lrlex.specs.Arena.{marks_of, AreKept};
+    ghost use Rattle.lrlex.specs.Arena.{boundaries_of, AreKept};
 
-    ghost view = { marks_of };
+    ghost view = { boundaries_of };
 
     ghost invariant = { AreKept };
 }
@@ -52,20 +52,20 @@ fn stretch_of(stretches: &[Stretch], index: usize) -> Stretch
     last_of(&stretches[..begun(stretches, index)])
 }
 
-/// The runs of the stretch's stack.
-fn range_of(runs: &[(usize, usize)], stretch: Stretch) -> &[(usize, usize)]
-    requires { IsRange (length runs.now) stretch }
-    ensures { result.now ≡ runs_of runs.now stretch }
+/// The entries of the stretch's stack.
+fn range_of(entries: &[(usize, usize)], stretch: Stretch) -> &[(usize, usize)]
+    requires { IsRange (length entries.now) stretch }
+    ensures { result.now ≡ entries_of entries.now stretch }
 {
-    &runs[stretch.first..stretch.end]
+    &entries[stretch.first..stretch.end]
 }
 
-/// How many runs from the bottom the stretch is known to share with the one before.
+/// How many entries from the bottom the stretch is known to share with the one before.
 fn shared(before: Stretch, here: Stretch) -> usize
     requires before { before.first ≤ before.end }
     requires here { here.first ≤ here.end }
-    ensures { (runs : List (ℕ × ℕ)) → IsRange (length runs) before → IsRange (length runs) here
-        → Stay result (runs_of runs before) (runs_of runs here) }
+    ensures { (entries : List (ℕ × ℕ)) → IsRange (length entries) before → IsRange (length entries) here
+        → Stay result (entries_of entries before) (entries_of entries here) }
 {
     if here.first == before.first {
         here.end.min(before.end) - here.first
@@ -81,7 +81,7 @@ impl Boundaries {
         Boundaries {
             places: Vec::new(alloc),
             stretches: Vec::new(alloc),
-            runs: Vec::new(alloc),
+            entries: Vec::new(alloc),
             peak: 0,
         }
     }
@@ -93,7 +93,7 @@ impl Boundaries {
         Ok(Boundaries {
             places: Vec::with_capacity(alloc, many)?,
             stretches: Vec::new(alloc),
-            runs: Vec::new(alloc),
+            entries: Vec::new(alloc),
             peak: 0,
         })
     }
@@ -107,22 +107,22 @@ impl Boundaries {
 
     pub(crate) fn place(&self, index: usize) -> usize
         requires { index < length self.now }
-        ensures { result ≡ (mark_at self.now index).place }
+        ensures { result ≡ (boundary_at self.now index).place }
     {
         self.places[index]
     }
 
-    /// The runs of the boundary's stack, from bottom to top.
+    /// The entries of the boundary's stack, from bottom to top.
     pub(crate) fn stack(&self, index: usize) -> &[(usize, usize)]
         requires { index < length self.now }
-        ensures { result.now ≡ (mark_at self.now index).runs }
+        ensures { result.now ≡ (boundary_at self.now index).entries }
     {
-        range_of(&self.runs, stretch_of(&self.stretches, index))
+        range_of(&self.entries, stretch_of(&self.stretches, index))
     }
 
-    /// The greatest number of runs of a stack.
+    /// The greatest number of entries of a stack.
     pub(crate) fn peak(&self) -> usize
-        ensures { result ≡ most_runs self.now }
+        ensures { result ≡ most_entries self.now }
     {
         self.peak
     }
@@ -131,29 +131,29 @@ impl Boundaries {
     #[inline(always)]
     pub(crate) fn repeat(&mut self, place: usize) -> Result<(), AllocError>
         ensures { OnOk result (self.new ≡ self.old
-            ++ record { place = place; runs = last_runs self.old } ∷ []) }
+            ++ record { place = place; entries = last_entries self.old } ∷ []) }
     {
         append(&mut self.places, place)?;
         Ok(())
     }
 
-    /// Adds a boundary, whose first `kept` runs are those of the last one.
+    /// Adds a boundary, whose first `kept` entries are those of the last one.
     pub(crate) fn push(
         &mut self,
         place: usize,
         stack: &[(usize, usize)],
         kept: usize,
     ) -> Result<(), AllocError>
-        requires { Stay kept (last_runs self.old) stack.now }
+        requires { Stay kept (last_entries self.old) stack.now }
         ensures { OnOk result (self.new ≡ self.old
-            ++ record { place = place; runs = stack.now } ∷ []) }
+            ++ record { place = place; entries = stack.now } ∷ []) }
     {
         let last = last_of(&self.stretches);
         if kept == stack.len() && kept == last.end - last.first {
             return self.repeat(place);
         }
         let from = self.places.len();
-        let (first, end) = stored(&mut self.runs, last.first, kept, stack)?;
+        let (first, end) = stored(&mut self.entries, last.first, kept, stack)?;
         self.places.push(place)?;
         self.stretches.push(Stretch { from, first, end })?;
         self.peak = self.peak.max(stack.len());
@@ -169,25 +169,25 @@ impl Boundaries {
         to: usize,
     ) -> Result<(), AllocError>
         requires within { index < length old.now }
-        requires last { last_runs self.old ≡ (mark_at old.now index).runs }
-        requires movable { All (IsMovableMark (mark_at old.now index).place to)
+        requires last { last_entries self.old ≡ (boundary_at old.now index).entries }
+        requires movable { All (IsMovableBoundary (boundary_at old.now index).place to)
             (drop (index + 1) old.now) }
         ensures { OnOk result (self.new ≡ self.old
-            ++ map (moved_mark (mark_at old.now index).place to) (drop (index + 1) old.now)) }
+            ++ map (moved_boundary (boundary_at old.now index).place to) (drop (index + 1) old.now)) }
     {
         let from = old.place(index);
         let len = old.len();
         let mut entered = begun(&old.stretches, index);
         self.places.reserve(len - index)?;
         self.stretches.reserve(old.stretches.len() - entered)?;
-        self.runs.reserve(old.runs.len())?;
+        self.entries.reserve(old.entries.len())?;
         'tail: for next in index + 1..len {
             let place = old.place(next) - from + to;
             if entered < old.stretches.len() && old.stretches[entered].from == next {
                 let before = last_of(&old.stretches[..entered]);
                 let here = old.stretches[entered];
                 entered += 1;
-                self.push(place, range_of(&old.runs, here), shared(before, here))?;
+                self.push(place, range_of(&old.entries, here), shared(before, here))?;
             } else {
                 self.repeat(place)?;
             }
@@ -210,7 +210,7 @@ impl Boundaries {
                 let before = last_of(&old.stretches[..entered]);
                 let here = old.stretches[entered];
                 entered += 1;
-                self.push(place, range_of(&old.runs, here), shared(before, here))?;
+                self.push(place, range_of(&old.entries, here), shared(before, here))?;
             } else {
                 self.repeat(place)?;
             }

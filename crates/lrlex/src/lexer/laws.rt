@@ -4,8 +4,8 @@ ghost use Rattle.std.specs.List.{concat};
 ghost use Rattle.std.specs.Str.{chars};
 ghost use Rattle.lrlex_rules.specs.Definition.{Definition};
 ghost use Rattle.lrlex.specs.Tiling.{Item, IsTiling, HasOneTiling, boundaries, items, moved};
-ghost use Rattle.lrlex.specs.Runs.{plain};
-ghost use Rattle.lrlex.specs.Marks.{Mark, most_runs, most_entries};
+ghost use Rattle.lrlex.specs.Entries.{plain};
+ghost use Rattle.lrlex.specs.Boundaries.{Boundary, most_entries, most_entry_count};
 ghost use Rattle.lrlex.specs.Peaks.{pushes};
 ghost use Rattle.lrlex.specs.Edits.{items_from};
 ghost use Rattle.lrlex.specs.Reach.{IsLexed};
@@ -15,28 +15,28 @@ ghost use Rattle.lrlex.specs.Utf16.{units};
 /// boundary's stack, moved by its place: so it is a function of that text, that stack and the definition.
 pub fn tiling_laws()
     ensures one { (d : Definition) (text stack : List ℕ) → HasOneTiling d text stack }
-    ensures rest { (d : Definition) (text : List ℕ) (found : List Item) (marks : List Mark)
-        (h : IsLexed d text found marks) (k : ℕ) (m : Mark)
-        → slice_get marks k ≡ Some m → IsTiling d (drop m.place text) (plain m.runs)
+    ensures rest { (d : Definition) (text : List ℕ) (found : List Item) (bounds : List Boundary)
+        (h : IsLexed d text found bounds) (k : ℕ) (m : Boundary)
+        → slice_get bounds k ≡ Some m → IsTiling d (drop m.place text) (plain m.entries)
         (drop k h.cut) h.end }
-    ensures moved { (d : Definition) (text : List ℕ) (found : List Item) (marks : List Mark)
-        (h : IsLexed d text found marks) (k : ℕ) (m : Mark)
-        → slice_get marks k ≡ Some m → items_from m.place found
+    ensures moved { (d : Definition) (text : List ℕ) (found : List Item) (bounds : List Boundary)
+        (h : IsLexed d text found bounds) (k : ℕ) (m : Boundary)
+        → slice_get bounds k ≡ Some m → items_from m.place found
         ≡ map (moved m.place) (items d 0 (drop k h.cut) h.end) }
 {}
 
-/// What a run's boundaries say: one more than the tiles, the greatest number of runs of equal neighbours in a stack,
+/// What a run's boundaries say: one more than the tiles, the greatest number of entries of a stack,
 /// and that this is at most one more than the number of tiles that push a state other than the top.
 pub fn run_laws()
-    ensures tiles { (d : Definition) (text : List ℕ) (found : List Item) (marks : List Mark)
-        (h : IsLexed d text found marks)
-        → length marks ≡ length h.cut + 1 }
-    ensures peak { (d : Definition) (text : List ℕ) (found : List Item) (marks : List Mark)
-        (h : IsLexed d text found marks)
-        → most_runs marks ≡ most_entries (boundaries d 0 (0 ∷ []) h.cut) }
-    ensures few { (d : Definition) (text : List ℕ) (found : List Item) (marks : List Mark)
-        (h : IsLexed d text found marks)
-        → most_runs marks ≤ 1 + pushes d (0 ∷ []) h.cut }
+    ensures tiles { (d : Definition) (text : List ℕ) (found : List Item) (bounds : List Boundary)
+        (h : IsLexed d text found bounds)
+        → length bounds ≡ length h.cut + 1 }
+    ensures peak { (d : Definition) (text : List ℕ) (found : List Item) (bounds : List Boundary)
+        (h : IsLexed d text found bounds)
+        → most_entries bounds ≡ most_entry_count (boundaries d 0 (0 ∷ []) h.cut) }
+    ensures few { (d : Definition) (text : List ℕ) (found : List Item) (bounds : List Boundary)
+        (h : IsLexed d text found bounds)
+        → most_entries bounds ≤ 1 + pushes d (0 ∷ []) h.cut }
 {}
 
 /// What columns in code units of UTF-16 are: as many as the encoding of the characters has, and never more than the text has

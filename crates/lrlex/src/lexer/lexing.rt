@@ -3,8 +3,8 @@ ghost use Rattle.lrlex.specs.Active.{is_state, lexeme_id};
 ghost use Rattle.lrlex_rules.specs.Parts.{as_rule};
 ghost use Rattle.lrlex.specs.Asked.{untabled_count};
 ghost use Rattle.lrlex.specs.Tiling.{Error, top, stack_after, lexeme_of};
-ghost use Rattle.lrlex.specs.Runs.{plain, AreRuns};
-ghost use Rattle.lrlex.specs.Marks.{Mark, last_runs};
+ghost use Rattle.lrlex.specs.Entries.{plain, AreEntries};
+ghost use Rattle.lrlex.specs.Boundaries.{Boundary, last_entries};
 ghost use Rattle.lrlex.specs.Reach.{Reached, IsLexed, searches};
 ghost use Rattle.lrlex.specs.Decided.{HasLooked, capped};
 ghost use Rattle.lrlex.specs.Tables.{AreMatchers};
@@ -52,7 +52,7 @@ pub(crate) fn begin<X: Copy>(alloc: Global, text: &str) -> Result<Progress<X>, A
     ensures stack { IfOk result (λ p. p.stack.items ≡ (1, 0) ∷ []) }
     ensures items { IfOk result (λ p. p.items.items ≡ []) }
     ensures boundaries { IfOk result (λ p. p.boundaries
-        ≡ record { place = 0; runs = (1, 0) ∷ [] } ∷ []) }
+        ≡ record { place = 0; entries = (1, 0) ∷ [] } ∷ []) }
     ensures asked { IfOk result (λ p. p.asked ≡ 0) }
     ensures ahead { IfOk result (λ p. p.ahead.items ≡ 0 ∷ []) }
     ensures over { IfOk result (λ p. p.over ≡ 0) }
@@ -131,9 +131,9 @@ fn enter<X: Copy>(
     place: usize,
     over: usize,
 ) -> Result<(), AllocError>
-    requires runs { AreRuns progress.old.stack.items }
+    requires entries { AreEntries progress.old.stack.items }
     requires room { length (plain progress.old.stack.items) + 1 < 2 ^ 64 }
-    requires last { last_runs progress.old.boundaries ≡ progress.old.stack.items }
+    requires last { last_entries progress.old.boundaries ≡ progress.old.stack.items }
     ensures { OnOk result (HasEntered progress.old progress.new target place over) }
 {
     progress.place = place;

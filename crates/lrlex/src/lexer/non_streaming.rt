@@ -2,7 +2,7 @@ ghost use Rattle.std.specs.Prelude.{◌≡◌, ℕ, List, [], All, IfOk, IsCharB
 ghost use Rattle.lrlex_base.specs.Spans.{Fits, span_start, span_end};
 ghost use Rattle.lrlex_base.specs.Places.{AreBreaksOf, place_of};
 ghost use Rattle.lrlex.specs.ItemLaws.{FitsText, AreItemsOf};
-ghost use Rattle.lrlex.specs.Marks.{Mark};
+ghost use Rattle.lrlex.specs.Boundaries.{Boundary};
 ghost use Rattle.lrlex.specs.Nearest.{IsNearest};
 ghost use Rattle.lrlex.specs.Reach.{IsRun};
 ghost use Rattle.lrlex.specs.Utf16.{utf16_position};
@@ -176,9 +176,9 @@ impl<L: LexerTypes<LexErrorT = LRLexError>> LRNonStreamingLexerDef<L> {
         input: &'input str,
     ) -> Result<LRNonStreamingLexer<'lexer, 'input, L>, AllocError>
         ensures text { IfOk result (λ lexer. lexer_text lexer ≡ input.now) }
-        ensures run { IfOk result (λ lexer. (marks : List Mark)
+        ensures run { IfOk result (λ lexer. (bounds : List Boundary)
             × IsRun (definition_of L.StorageT.number self.now) input.now
-            (items_by L.StorageT.number L.LexemeT.seen (lexer_items lexer)) marks) }
+            (items_by L.StorageT.number L.LexemeT.seen (lexer_items lexer)) bounds) }
         ensures fit { IfOk result (λ lexer. All (FitsText input.now)
             (items_by L.StorageT.number L.LexemeT.seen (lexer_items lexer))) }
         ensures laws { IfOk result (λ lexer. AreItemsOf (definition_of L.StorageT.number self.now)

@@ -3,10 +3,10 @@ ghost use Rattle.lrlex.specs.Active.{is_state};
 ghost use Rattle.lrlex_base.specs.Spans.{span_start, span_end, as_span, Fits};
 ghost use Rattle.lrlex_base.specs.Edits.{edited};
 ghost use Rattle.lrlex.specs.Tiling.{rebased};
-ghost use Rattle.lrlex.specs.Marks.{mark_at, last_runs};
+ghost use Rattle.lrlex.specs.Boundaries.{boundary_at, last_entries};
 ghost use Rattle.std.specs.List.Sorted.{IsPartitionedBy};
-ghost use Rattle.lrlex.specs.Edits.{IsMovable, IsMovableMark, begins_before, items_from, moved_mark, Meets, IsSortedRuns};
-ghost use Rattle.lrlex.specs.Runs.{plain, AreRuns};
+ghost use Rattle.lrlex.specs.Edits.{IsMovable, IsMovableBoundary, begins_before, items_from, moved_boundary, Meets, AreSorted};
+ghost use Rattle.lrlex.specs.Entries.{plain, AreEntries};
 ghost use Rattle.lrlex.specs.Reach.{IsRun, searches};
 ghost use Rattle.lrlex.specs.Asked.{asks, WasCutAnew};
 ghost use Rattle.lrlex.specs.Decided.{AreRaised, IsSafe, LooksAhead};
@@ -20,7 +20,7 @@ use crate::lexer::boundaries::Boundaries;
 use crate::lexer::definition::LRNonStreamingLexerDef;
 use crate::lexer::lexing::{Progress, advance};
 use crate::lexer::resuming::{append_raised, resume, up_to};
-use crate::lexer::run::{LexRun, finished, refused};
+use crate::lexer::run::{LexRun, finished, stateless};
 use crate::lexer::searching::no_matchers;
 use lrlex_base::{Edit, LexError, Lexeme, LexerTypes, Span};
 use std::alloc::{AllocError, Global};
@@ -112,9 +112,9 @@ fn append_moved<L: LexerTypes<LexErrorT = LRLexError>>(
 fn first_from(boundaries: &Boundaries, cursor: usize, place: usize) -> usize
     requires { cursor ≤ length boundaries.now }
     ensures within { result ≤ length boundaries.now }
-    ensures skipped { (j : ℕ) → cursor ≤ j → j < result → (mark_at boundaries.now j).place < place }
+    ensures skipped { (j : ℕ) → cursor ≤ j → j < result → (boundary_at boundaries.now j).place < place }
     ensures forward { cursor ≤ result }
-    ensures stops { result < length boundaries.now → place ≤ (mark_at boundaries.now result).place }
+    ensures stops { result < length boundaries.now → place ≤ (boundary_at boundaries.now result).place }
 {
     let mut next = cursor;
     'walk: while next < boundaries.len() {
@@ -129,11 +129,11 @@ fn first_from(boundaries: &Boundaries, cursor: usize, place: usize) -> usize
 /// Whether the boundary is there, stands at the place and has the stack.
 fn is_at(boundaries: &Boundaries, index: usize, place: usize, stack: &[(usize, usize)]) -> bool
     ensures within { result ≡ true → index < length boundaries.now }
-    ensures place { result ≡ true → (mark_at boundaries.now index).place ≡ place }
-    ensures stack { result ≡ true → (mark_at boundaries.now index).runs ≡ stack.now }
+    ensures place { result ≡ true → (boundary_at boundaries.now index).place ≡ place }
+    ensures stack { result ≡ true → (boundary_at boundaries.now index).entries ≡ stack.now }
     ensures none { result ≡ false → index < length boundaries.now
-        → (mark_at boundaries.now index).place ≡ place
-        → (mark_at boundaries.now index).runs ≢ stack.now }
+        → (boundary_at boundaries.now index).place ≡ place
+        → (boundary_at boundaries.now index).entries ≢ stack.now }
 {
     if index >= boundaries.len() || boundaries.place(index) != place {
         return false;
@@ -143,9 +143,9 @@ fn is_at(boundaries: &Boundaries, index: usize, place: usize, stack: &[(usize, u
 
 /// How many old boundaries stand before what follows the edit.
 fn behind(old: &Boundaries, edit: &Edit<'_>) -> usize
-    requires { IsSortedRuns old.now }
+    requires { AreSorted old.now }
     ensures within { result ≤ length old.now }
-    ensures before { (j : ℕ) → j < result → (mark_at old.now j).place < span_end edit.now.removed }
+    ensures before { (j : ℕ) → j < result → (boundary_at old.now j).place < span_end edit.now.removed }
 {
     let end = edit.removed.end();
     if end == 0 { 0 } else { up_to(old, end - 1) }
@@ -160,21 +160,21 @@ fn meets(
     place: usize,
     stack: &[(usize, usize)],
 ) -> bool
-    requires sorted { IsSortedRuns old.now }
-    requires stack { AreRuns stack.now }
+    requires sorted { AreSorted old.now }
+    requires stack { AreEntries stack.now }
     requires put { span_start edit.now.removed + length edit.now.put.now < 2 ^ 64 }
     requires room { place + span_end edit.now.removed < span_start edit.now.removed + length
         edit.now.put.now + 2 ^ 64 }
     requires cursor { cursor.old ≤ length old.now }
     requires behind { (j : ℕ) → j < cursor.old
-        → (mark_at old.now j).place + (span_start edit.now.removed + length edit.now.put.now) < max
+        → (boundary_at old.now j).place + (span_start edit.now.removed + length edit.now.put.now) < max
         place (span_start edit.now.removed + length edit.now.put.now) + span_end edit.now.removed }
     ensures at { TellsMeeting old.now edit.now.removed edit.now.put.now place stack.now cursor.new
         result }
     ensures none { result ≡ false → span_start edit.now.removed + length edit.now.put.now ≤ place
         → (j : ℕ) → j < length old.now
-        → (mark_at old.now j).place + (span_start edit.now.removed + length edit.now.put.now)
-        ≡ place + span_end edit.now.removed → plain (mark_at old.now j).runs ≢ plain stack.now }
+        → (boundary_at old.now j).place + (span_start edit.now.removed + length edit.now.put.now)
+        ≡ place + span_end edit.now.removed → plain (boundary_at old.now j).entries ≢ plain stack.now }
 {
     let put_end = edit.removed.start() + edit.put.len();
     if place < put_end {
@@ -202,17 +202,17 @@ fn take_over<L: LexerTypes<LexErrorT = LRLexError>>(
     progress: &mut Progress<L::LexemeT>,
 ) -> Result<(), AllocError>
     requires within { index < length old.now.boundaries.now }
-    requires in_order { IsPartitionedBy (begins_before (mark_at old.now.boundaries.now index).place)
+    requires in_order { IsPartitionedBy (begins_before (boundary_at old.now.boundaries.now index).place)
         (map (item_of L.StorageT.number L.LexemeT.seen) old.now.items.now) }
-    requires items { All (IsMovable (mark_at old.now.boundaries.now index).place progress.old.place)
-        (items_from (mark_at old.now.boundaries.now index).place
+    requires items { All (IsMovable (boundary_at old.now.boundaries.now index).place progress.old.place)
+        (items_from (boundary_at old.now.boundaries.now index).place
         (map (item_of L.StorageT.number L.LexemeT.seen) old.now.items.now)) }
-    requires last { last_runs progress.old.boundaries
-        ≡ (mark_at old.now.boundaries.now index).runs }
-    requires boundaries { All (IsMovableMark (mark_at old.now.boundaries.now index).place
+    requires last { last_entries progress.old.boundaries
+        ≡ (boundary_at old.now.boundaries.now index).entries }
+    requires boundaries { All (IsMovableBoundary (boundary_at old.now.boundaries.now index).place
         progress.old.place)
         (drop (index + 1) old.now.boundaries.now) }
-    requires sorted { IsSortedRuns old.now.boundaries.now }
+    requires sorted { AreSorted old.now.boundaries.now }
     requires numbers { length old.now.ahead.now ≡ length old.now.boundaries.now }
     ensures { OnOk result (HasTakenOver L.StorageT.number L.LexemeT.seen old.now.items.now
         old.now.boundaries.now old.now.ahead.now index progress.old progress.new) }
@@ -269,7 +269,7 @@ pub(crate) fn relexed<'lexer, 'new, L: LexerTypes<LexErrorT = LRLexError>>(
 {
     let definition = old.definition;
     if !definition.is_state(0) {
-        return refused(alloc, definition, new);
+        return stateless(alloc, definition, new);
     }
     let mut matchers = no_matchers(alloc, &definition.table.rules)?;
     let mut progress = resume(alloc, old, edit, new)?;

@@ -5,11 +5,11 @@ ghost use Rattle.lrlex_rules.specs.Definition.{Definition};
 ghost use Rattle.lrlex_table.specs.Decided.{IsText};
 ghost use Rattle.lrlex.specs.Active.{is_state};
 ghost use Rattle.lrlex.specs.Tiling.{Item};
-ghost use Rattle.lrlex.specs.Marks.{Mark, mark_at};
+ghost use Rattle.lrlex.specs.Boundaries.{Boundary, boundary_at};
 ghost use Rattle.lrlex.specs.Reach.{IsLexed, IsRun, Reached};
 ghost use Rattle.lrlex.specs.Asked.{IsLastSafe};
 ghost use Rattle.lrlex.specs.Decided.{IsDecided, IsDecidedAt, AreDecided, LooksAhead, IsSafe, GoesOn, BeginAlike, HasLooked, AreRaised};
-ghost use Rattle.lrlex.specs.Edits.{IsSortedRuns};
+ghost use Rattle.lrlex.specs.Edits.{AreSorted};
 ghost use Rattle.std.specs.List.Sorted.{IsPartitionedBy};
 ghost use Rattle.lrlex.specs.Edits.{begins_before};
 ghost use Rattle.lrlex.specs.Decided.{items_before};
@@ -28,16 +28,16 @@ use std::alloc::{AllocError, Global};
 /// boundary k.
 pub fn resume_laws()
     ensures goes_on { (d : Definition) (old new put : List ℕ) (low high : ℕ) (found : List Item)
-        (marks : List Mark) (k : ℕ)
+        (bounds : List Boundary) (k : ℕ)
         → is_state d 0 ≡ true → IsText new → low ≤ length old → new ≡ edited old (span low high) put
-        → IsLexed d old found marks
-        → k < length marks → AreDecided d old marks k low → GoesOn d new found marks k }
+        → IsLexed d old found bounds
+        → k < length bounds → AreDecided d old bounds k low → GoesOn d new found bounds k }
     ensures same { (d : Definition) (old new put : List ℕ) (low high : ℕ)
-        (found other_found : List Item) (marks other_marks : List Mark) (k : ℕ)
+        (found other_found : List Item) (bounds other_bounds : List Boundary) (k : ℕ)
         → is_state d 0 ≡ true → IsText new → low ≤ length old → new ≡ edited old (span low high) put
-        → (h : IsLexed d old found marks) (other : IsLexed d new other_found other_marks)
-        → k < length marks → AreDecided d old marks k low
-        → BeginAlike h.cut other.cut found other_found marks other_marks k }
+        → (h : IsLexed d old found bounds) (other : IsLexed d new other_found other_bounds)
+        → k < length bounds → AreDecided d old bounds k low
+        → BeginAlike h.cut other.cut found other_found bounds other_bounds k }
 {}
 
 /// How far the bytes go that decide what wins: the text and its end decide it, more bytes decide it too, before an edit the
@@ -48,46 +48,46 @@ pub fn decided_laws()
     ensures more { (d : Definition) (q : ℕ) (text : List ℕ) (reach more : ℕ) → reach ≤ more
         → IsDecided d q text reach → IsDecided d q text more }
     ensures kept { (d : Definition) (old new put : List ℕ) (low high : ℕ) (found : List Item)
-        (marks : List Mark) (k far : ℕ)
+        (bounds : List Boundary) (k far : ℕ)
         → is_state d 0 ≡ true → IsText new → low ≤ length old → new ≡ edited old (span low high) put
-        → IsLexed d old found marks
-        → k < length marks → far ≤ low → AreDecided d old marks k far
-        → AreDecided d new marks k far }
-    ensures safe { (d : Definition) (text : List ℕ) (marks : List Mark) (ahead : List ℕ) (low k : ℕ)
-        → LooksAhead d text marks ahead → k < length marks → IsSafe marks ahead low k
-        → AreDecided d text marks k low }
-    ensures moved { (d : Definition) (old new : List ℕ) (m : Mark) (place far to : ℕ)
+        → IsLexed d old found bounds
+        → k < length bounds → far ≤ low → AreDecided d old bounds k far
+        → AreDecided d new bounds k far }
+    ensures safe { (d : Definition) (text : List ℕ) (bounds : List Boundary) (ahead : List ℕ) (low k : ℕ)
+        → LooksAhead d text bounds ahead → k < length bounds → IsSafe bounds ahead low k
+        → AreDecided d text bounds k low }
+    ensures moved { (d : Definition) (old new : List ℕ) (m : Boundary) (place far to : ℕ)
         → drop m.place old ≡ drop place new
         → far - m.place ≤ to - place → IsDecidedAt d old far m
-        → IsDecidedAt d new to (record { place = place; runs = m.runs }) }
+        → IsDecidedAt d new to (record { place = place; entries = m.entries }) }
 {}
 
 /// How the numbers that tell how far the tiles looked grow with a run, and that those up to a safe boundary stay.
 pub fn ahead_laws()
-    ensures start { (d : Definition) (text : List ℕ) (m : Mark)
+    ensures start { (d : Definition) (text : List ℕ) (m : Boundary)
         → LooksAhead d text (m ∷ []) (0 ∷ []) }
-    ensures step { (d : Definition) (text : List ℕ) (marks : List Mark) (k far at : ℕ)
-        → k < length marks → AreDecided d text marks k far
-        → IsDecidedAt d text at (mark_at marks k) → AreDecided d text marks (k + 1) (max far at) }
-    ensures more { (d : Definition) (text : List ℕ) (marks : List Mark) (ahead : List ℕ) (m : Mark)
-        (far n : ℕ) → 0 < length marks → LooksAhead d text marks ahead
-        → AreDecided d text (marks ++ m ∷ []) (length marks) far → (n < 255 → far ≤ m.place + n)
-        → LooksAhead d text (marks ++ m ∷ []) (ahead ++ n ∷ []) }
+    ensures step { (d : Definition) (text : List ℕ) (bounds : List Boundary) (k far at : ℕ)
+        → k < length bounds → AreDecided d text bounds k far
+        → IsDecidedAt d text at (boundary_at bounds k) → AreDecided d text bounds (k + 1) (max far at) }
+    ensures more { (d : Definition) (text : List ℕ) (bounds : List Boundary) (ahead : List ℕ) (m : Boundary)
+        (far n : ℕ) → 0 < length bounds → LooksAhead d text bounds ahead
+        → AreDecided d text (bounds ++ m ∷ []) (length bounds) far → (n < 255 → far ≤ m.place + n)
+        → LooksAhead d text (bounds ++ m ∷ []) (ahead ++ n ∷ []) }
     ensures kept { (d : Definition) (old new put : List ℕ) (low high : ℕ) (found : List Item)
-        (marks : List Mark) (ahead : List ℕ) (k : ℕ)
+        (bounds : List Boundary) (ahead : List ℕ) (k : ℕ)
         → is_state d 0 ≡ true → IsText new → low ≤ length old → new ≡ edited old (span low high) put
-        → IsLexed d old found marks
-        → k < length marks → LooksAhead d old marks ahead → IsSafe marks ahead low k
-        → LooksAhead d new (take (k + 1) marks) (take (k + 1) ahead) }
+        → IsLexed d old found bounds
+        → k < length bounds → LooksAhead d old bounds ahead → IsSafe bounds ahead low k
+        → LooksAhead d new (take (k + 1) bounds) (take (k + 1) ahead) }
 {}
 
 /// How many boundaries stand at the place or before it.
 pub(crate) fn up_to(boundaries: &Boundaries, place: usize) -> usize
-    requires { IsSortedRuns boundaries.now }
+    requires { AreSorted boundaries.now }
     ensures within { result ≤ length boundaries.now }
-    ensures up_to { (j : ℕ) → j < result → (mark_at boundaries.now j).place ≤ place }
+    ensures up_to { (j : ℕ) → j < result → (boundary_at boundaries.now j).place ≤ place }
     ensures past { (j : ℕ) → result ≤ j → j < length boundaries.now
-        → place < (mark_at boundaries.now j).place }
+        → place < (boundary_at boundaries.now j).place }
 {
     let mut from = 0usize;
     let mut to = boundaries.len();
@@ -116,7 +116,7 @@ fn is_safe(boundaries: &Boundaries, ahead: &[u8], index: usize, place: usize) ->
 
 /// The last boundary before which the tiles are known to have looked at no byte from the place on.
 pub(crate) fn last_safe(boundaries: &Boundaries, ahead: &[u8], place: usize) -> usize
-    requires sorted { IsSortedRuns boundaries.now }
+    requires sorted { AreSorted boundaries.now }
     requires numbers { length ahead.now ≡ length boundaries.now }
     requires some { 0 < length boundaries.now }
     requires first { IsSafe boundaries.now ahead.now place 0 }
@@ -229,7 +229,7 @@ pub(crate) fn append_raised(
 ) -> Result<(), AllocError>
     requires within { index < length old.now }
     requires numbers { length numbers.now ≡ length old.now }
-    requires sorted { IsSortedRuns old.now }
+    requires sorted { AreSorted old.now }
     ensures { OnOk result (AreRaised old.now numbers.now index over
         (length old.now) ahead.old.items ahead.new.items) }
 {

@@ -1,7 +1,7 @@
 ghost use Rattle.std.specs.Prelude.{◌≡◌, ◌+◌, ◌-◌, ◌*◌, ◌<◌, ◌≤◌, true, false, [], length, vec_len, IfOk, slice_index};
 ghost use Rattle.lrlex.specs.Active.{is_state};
-ghost use Rattle.lrlex.specs.Marks.{mark_at, most_runs};
-ghost use Rattle.lrlex.specs.Runs.{AreRuns};
+ghost use Rattle.lrlex.specs.Boundaries.{boundary_at, most_entries};
+ghost use Rattle.lrlex.specs.Entries.{AreEntries};
 ghost use Rattle.lrlex.specs.Reach.{Reached, IsLexed, IsRun, searches};
 ghost use Rattle.lrlex.specs.Asked.{asks};
 ghost use Rattle.lrlex.specs.Decided.{LooksAhead};
@@ -103,9 +103,9 @@ impl<'lexer, 'input, L: LexerTypes<LexErrorT = LRLexError>> LexRun<'lexer, 'inpu
         self.anew
     }
 
-    /// The greatest number of runs of equal neighbours in a stack of a boundary.
+    /// The greatest number of entries of a boundary's stack.
     pub fn entries_peak(&self) -> usize
-        ensures { result ≡ most_runs self.now.boundaries }
+        ensures { result ≡ most_entries self.now.boundaries }
     {
         self.boundaries.peak()
     }
@@ -120,7 +120,7 @@ impl<'lexer, 'input, L: LexerTypes<LexErrorT = LRLexError>> LexRun<'lexer, 'inpu
     /// Where the boundary stands.
     pub fn place(&self, index: usize) -> usize
         requires { index < length self.now.boundaries }
-        ensures { result ≡ (mark_at self.now.boundaries index).place }
+        ensures { result ≡ (boundary_at self.now.boundaries index).place }
     {
         self.boundaries.place(index)
     }
@@ -133,18 +133,18 @@ impl<'lexer, 'input, L: LexerTypes<LexErrorT = LRLexError>> LexRun<'lexer, 'inpu
         self.ahead[index]
     }
 
-    /// The boundary's stack from bottom to top, as runs of a count and a state.
+    /// The boundary's stack from bottom to top, as entries: each a count of equal neighbours and their state.
     pub fn stack(&self, index: usize) -> &[(usize, usize)]
         requires { index < length self.now.boundaries }
-        ensures stack { result.now ≡ (mark_at self.now.boundaries index).runs }
-        ensures runs { AreRuns result.now }
+        ensures stack { result.now ≡ (boundary_at self.now.boundaries index).entries }
+        ensures entries { AreEntries result.now }
     {
         self.boundaries.stack(index)
     }
 }
 
 /// The run of a definition without a state 0.
-pub(crate) fn refused<'lexer, 'input, L: LexerTypes<LexErrorT = LRLexError>>(
+pub(crate) fn stateless<'lexer, 'input, L: LexerTypes<LexErrorT = LRLexError>>(
     alloc: Global,
     definition: &'lexer LRNonStreamingLexerDef<L>,
     text: &'input str,
@@ -227,7 +227,7 @@ impl<L: LexerTypes<LexErrorT = LRLexError>> LRNonStreamingLexerDef<L> {
         ensures lexed { IfOk result (λ r. r.anew ≡ length r.boundaries - 1) }
     {
         if !self.is_state(0) {
-            return refused(alloc, self, text);
+            return stateless(alloc, self, text);
         }
         let mut matchers = no_matchers(alloc, &self.table.rules)?;
         let mut progress = begin(alloc, text)?;

@@ -105,7 +105,7 @@ fn is_better(rule: usize, len: usize, best: Tile) -> bool
 /// The place of the active rule with this number, among so many rules. Where all are active, nothing waits for the list, which
 /// would cost each tile.
 #[inline(always)]
-fn place_of(active: &[usize], rules: usize, number: usize) -> usize
+fn active_place(active: &[usize], rules: usize, number: usize) -> usize
     requires within { number < length active.now }
     requires all { length active.now ≡ rules → (i : ℕ) → i < rules → slice_index active.now i ≡ i }
     ensures { result ≡ slice_index active.now number }
@@ -171,7 +171,7 @@ pub(crate) fn winner<'d, L: LexerTypes>(
         return Ok(Sight { tile: None, reach });
     }
     let tile = Some(Tile {
-        rule: place_of(active, definition.table.rules.len(), best.rule),
+        rule: active_place(active, definition.table.rules.len(), best.rule),
         len: best.len,
     });
     Ok(Sight { tile, reach })

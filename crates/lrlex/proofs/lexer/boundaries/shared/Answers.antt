@@ -3,5 +3,5 @@ use Rattle.lrlex.proofs.ArenaLemmas.{Stay-ranges}
 use Rattle.lrlex.proofs.lexer.boundaries.shared.Goals as goal
 
 pub returns-then-here-before : goal.returns-then-here-before
-returns-then-here-before c runs b h =
+returns-then-here-before c entries b h =
     Stay-ranges c.min.result (record { range = h; is = refl }) (record { range = b; is = refl }) c.if-here-before.true (omega arith) (omega arith)

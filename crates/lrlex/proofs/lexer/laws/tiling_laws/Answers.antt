@@ -4,6 +4,6 @@ use Rattle.lrlex.proofs.lexer.laws.tiling_laws.Goals as goal
 pub returns : goal.returns
 returns c = record {
   one = λ d text stack. one_way d text stack;
-  rest = λ d text found marks h k m at. rest_tiling d text found marks h k m at;
-  moved = λ d text found marks h k m at. rest_items d text found marks h k m at;
+  rest = λ d text found bounds h k m at. rest_tiling d text found bounds h k m at;
+  moved = λ d text found bounds h k m at. rest_items d text found bounds h k m at;
 }

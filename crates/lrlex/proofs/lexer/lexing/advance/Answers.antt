@@ -6,11 +6,11 @@ use Rattle.lrlex.specs.Active.{active_count, lacks_id, lacks_target, lexeme_id}
 use Rattle.lrlex.specs.Asked.{untabled_count}
 use Rattle.lrlex.specs.Tiling.{Tile, Item, Error, top, IsStuck, IsTaken, stack_after, lexeme_of, tile_items, NoMatch, NoId, NoTarget}
 use Rattle.lrlex_rules.specs.Parts.{as_rule}
-use Rattle.lrlex.specs.Runs.{plain}
+use Rattle.lrlex.specs.Entries.{plain}
 use Rattle.lrlex.specs.Reach.{Reached}
 use Rattle.lrlex.specs.Views.{definition_of, items_by}
 use Rattle.lrlex.proofs.ViewLemmas.{rule_read}
-use Rattle.lrlex.proofs.ReachLemmas.{Reached-more, ended, runs_now, searches_now, searches-few, last_now, room_for, wins_at, something_left}
+use Rattle.lrlex.proofs.ReachLemmas.{Reached-more, ended, entries_now, searches_now, searches-few, last_now, room_for, wins_at, something_left}
 use Rattle.lrlex.specs.Decided.{IsDecided, capped}
 use Rattle.lrlex.proofs.AheadLemmas.{looked_more}
 use Rattle.lrlex.proofs.lexer.lexing.advance.Goals as goal
@@ -25,10 +25,10 @@ winner-requires-clause-room g c =
     (omega (arith, few, r.asks)) in
     omega (arith, c.args.definition.now.table.rules.ok.0, room)
 
-pub enter-requires-clause-runs : goal.enter-requires-clause-runs
-enter-requires-clause-runs g c =
+pub enter-requires-clause-entries : goal.enter-requires-clause-entries
+enter-requires-clause-entries g c =
     let p = c.args.progress.now in
-    runs_now (definition_of g.L.StorageT.Id.number c.args.definition.now) c.args.text.now p.place p.stack.items (items_by g.L.StorageT.Id.number g.L.LexemeT.Lexeme.seen p.items.items) p.boundaries p.asked c.requires.under_way.reached
+    entries_now (definition_of g.L.StorageT.Id.number c.args.definition.now) c.args.text.now p.place p.stack.items (items_by g.L.StorageT.Id.number g.L.LexemeT.Lexeme.seen p.items.items) p.boundaries p.asked c.requires.under_way.reached
 
 pub enter-requires-clause-last : goal.enter-requires-clause-last
 enter-requires-clause-last g c =
@@ -180,11 +180,11 @@ returns-clause-goes_on g c on =
         reached =
             subst (λ i. Reached d text i n.stack.items (items_by g.L.StorageT.Id.number g.L.LexemeT.Lexeme.seen n.items.items) n.boundaries n.asked) (sym e.place)
             (Reached-more d text p.place p.stack.items found p.boundaries p.asked r n.stack.items (items_by g.L.StorageT.Id.number g.L.LexemeT.Lexeme.seen n.items.items) n.boundaries n.asked t c.requires.inside taken few
-            e.runs (e.moved ∙ ap (stack_after (plain p.stack.items)) c.target_state.ensures ∙ sym (ap (λ (x : Rule). stack_after (plain p.stack.items) x.target) rule_is)) more
+            e.entries (e.moved ∙ ap (stack_after (plain p.stack.items)) c.target_state.ensures ∙ sym (ap (λ (x : Rule). stack_after (plain p.stack.items) x.target) rule_is)) more
             e.kept);
         looked =
             looked_more d text r.before p.boundaries p.ahead.items p.place p.stack.items p.over r.kept c.requires.under_way.looked reach c.in-Some.tile.len decided n.stack.items n.place n.over n.boundaries n.ahead.items
-            e.place (omega (arith, e.over, c.saturating_sub-over.ensures, c.max.ensures)) (e.kept ∙ ap (λ i. p.boundaries ++ record { place = i; runs = n.stack.items } ∷ []) (sym e.place)) (e.ahead ∙ ap (λ i. p.ahead.items ++ capped i ∷ []) (sym e.over));
+            e.place (omega (arith, e.over, c.saturating_sub-over.ensures, c.max.ensures)) (e.kept ∙ ap (λ i. p.boundaries ++ record { place = i; entries = n.stack.items } ∷ []) (sym e.place)) (e.ahead ∙ ap (λ i. p.ahead.items ++ capped i ∷ []) (sym e.over));
       };
       grows = omega (arith, e.place, wins.some);
       more = (_, e.kept);

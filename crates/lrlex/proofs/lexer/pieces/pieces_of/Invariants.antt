@@ -1,6 +1,6 @@
 use Rattle.std.proofs.Common.{◌≡◌, ℕ, List, Some, length, slice_get, IsCharBoundary}
 use Rattle.lrlex.specs.AtHand.{AreOf}
-use Rattle.lrlex.specs.Marks.{mark_at}
+use Rattle.lrlex.specs.Boundaries.{boundary_at}
 use Rattle.lrlex.specs.Pieces.{IsPiece}
 use Rattle.lrlex.specs.Reach.{IsLexed}
 use Rattle.lrlex.specs.Tables.{AreMatchers}
@@ -15,7 +15,7 @@ invariant-tiles g l = record {
   here : AreOf g.L.StorageT.Id.number l.definition l.here.state l.here;
   boundary : IsCharBoundary l.text l.place;
   many : length l.pieces.items ≡ l.index;
-  at : (found : List Item) → IsLexed (definition_of g.L.StorageT.Id.number l.definition) l.text found l.boundaries → (mark_at l.boundaries l.index).place ≡ l.place;
+  at : (found : List Item) → IsLexed (definition_of g.L.StorageT.Id.number l.definition) l.text found l.boundaries → (boundary_at l.boundaries l.index).place ≡ l.place;
   first : (found : List Item) (h : IsLexed (definition_of g.L.StorageT.Id.number l.definition) l.text found l.boundaries) (k : ℕ) (t : Tile) (p : Piece)
-      → slice_get h.cut k ≡ Some t → slice_get l.pieces.items k ≡ Some p → IsPiece (definition_of g.L.StorageT.Id.number l.definition) l.text (mark_at l.boundaries k).place t p;
+      → slice_get h.cut k ≡ Some t → slice_get l.pieces.items k ≡ Some p → IsPiece (definition_of g.L.StorageT.Id.number l.definition) l.text (boundary_at l.boundaries k).place t p;
 }

@@ -1,12 +1,12 @@
 use Rattle.std.proofs.Common.{ℕ, ◌-◌, ◌<◌, ◌≤◌, length}
-use Rattle.lrlex.specs.Marks.{mark_at}
+use Rattle.lrlex.specs.Boundaries.{boundary_at}
 use Rattle.lrlex.proofs.lexer.relexing.first_from.Given as goal
 
 abbrev pub invariant-walk : goal.invariant-walk
 invariant-walk l = record {
   from : l.cursor ≤ l.next;
   within : l.next ≤ length l.boundaries;
-  skipped : (j : ℕ) → l.cursor ≤ j → j < l.next → (mark_at l.boundaries j).place < l.place;
+  skipped : (j : ℕ) → l.cursor ≤ j → j < l.next → (boundary_at l.boundaries j).place < l.place;
 }
 
 abbrev pub decreases-walk : goal.decreases-walk

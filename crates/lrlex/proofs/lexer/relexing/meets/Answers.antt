@@ -1,8 +1,8 @@
 use Rattle.std.proofs.Common.{◌≡◌, inl, inr, ap, ◌∙◌, arith}
 use Rattle.std.proofs.lemmas.Bool.{cases_lt}
-use Rattle.lrlex.specs.Marks.{no_mark, mark_at}
-use Rattle.lrlex.specs.Runs.{plain}
-use Rattle.lrlex.proofs.RunsLemmas.{same_runs}
+use Rattle.lrlex.specs.Boundaries.{no_boundary, boundary_at}
+use Rattle.lrlex.specs.Entries.{plain}
+use Rattle.lrlex.proofs.EntryLemmas.{same_entries}
 use Rattle.lrlex.proofs.lexer.relexing.meets.Goals as goal
 
 pub returns-clause-none : goal.returns-clause-none
@@ -19,7 +19,7 @@ returns-clause-none c off past j within at same =
         | inr there ↦
             let e : cur ≡ j = omega arith in
             let stops = c.first_from.ensures.stops (omega arith) in
-            c.is_at.ensures.none off (omega arith) (omega (arith, ap (λ i. (mark_at old i).place) e))
-            (same_runs (mark_at old cur).runs c.args.stack.now (c.requires.sorted.runs cur no_mark (omega arith)) c.requires.stack (ap (λ i. plain (mark_at old i).runs) e ∙ same))
+            c.is_at.ensures.none off (omega arith) (omega (arith, ap (λ i. (boundary_at old i).place) e))
+            (same_entries (boundary_at old cur).entries c.args.stack.now (c.requires.sorted.entries cur no_boundary (omega arith)) c.requires.stack (ap (λ i. plain (boundary_at old i).entries) e ∙ same))
       ]
     ]

@@ -1,8 +1,8 @@
 use Rattle.std.proofs.Common.{◌≡◌, ℕ, ◌+◌, ◌-◌, ◌<◌, [], ◌∷◌, ◌++◌, length, map, drop, sym, ap, ◌∙◌, subst, arith, append-nil, length-append}
 use Rattle.lrlex.specs.Tiling.{Done, rebased}
-use Rattle.lrlex.specs.Runs.{plain, AreRuns}
-use Rattle.lrlex.specs.Marks.{mark_at}
-use Rattle.lrlex.specs.Edits.{Meets, items_from, moved_mark}
+use Rattle.lrlex.specs.Entries.{plain, AreEntries}
+use Rattle.lrlex.specs.Boundaries.{boundary_at}
+use Rattle.lrlex.specs.Edits.{Meets, items_from, moved_boundary}
 use Rattle.lrlex.specs.Reach.{IsLexed, IsRun}
 use Rattle.lrlex.specs.Tables.{AreMatchers}
 use Rattle.lrlex.specs.AtHand.{AreOf}
@@ -14,9 +14,9 @@ use Rattle.lrlex.specs.Decided.{LooksAhead}
 use Rattle.lrlex.proofs.AheadLemmas.{looks_known}
 use Rattle.lrlex.proofs.RaisedLemmas.{looks_taken_over}
 use Rattle.lrlex.proofs.ViewLemmas.{taken_back}
-use Rattle.lrlex.proofs.ReachLemmas.{ended, nothing_left, run_of, runs_now, last_now, few_searches, length_now}
+use Rattle.lrlex.proofs.ReachLemmas.{ended, nothing_left, run_of, entries_now, last_now, few_searches, length_now}
 use Rattle.lrlex.proofs.KnownLemmas.{known, sorted}
-use Rattle.lrlex.proofs.MeetLemmas.{whole, olds_in_order, items_movable, marks_movable, met, few_met, none_met, meets_front, rest_same, few_anew, unmet_before}
+use Rattle.lrlex.proofs.MeetLemmas.{whole, olds_in_order, items_movable, bounds_movable, met, few_met, none_met, meets_front, rest_same, few_anew, unmet_before}
 use Rattle.lrlex.specs.Asked.{IsLastSafe}
 use Rattle.lrlex.proofs.AskedLemmas.{asks_nowhere, next_asked, cut_to_meeting, cut_to_stop, cut_to_end}
 use Rattle.lrlex.proofs.lexer.relexing.relexed.Goals as goal
@@ -63,7 +63,7 @@ meets-requires-clause-stack g c =
     let p = c.tiles.progress in
     let found = items_by g.L.StorageT.Id.number g.L.LexemeT.Lexeme.seen p.items.items in
     let r = c.tiles.invariant.reached in
-    subst AreRuns (sym c.deref-in-tiles.ensures.value) (runs_now d new p.place p.stack.items found p.boundaries p.asked r)
+    subst AreEntries (sym c.deref-in-tiles.ensures.value) (entries_now d new p.place p.stack.items found p.boundaries p.asked r)
 
 pub take_over-requires-clause-in_order : goal.take_over-requires-clause-in_order
 take_over-requires-clause-in_order g c =
@@ -77,7 +77,7 @@ take_over-requires-clause-in_order g c =
     let r = c.tiles.invariant.reached in
     let h = known d s.text.now (items_by g.L.StorageT.Id.number g.L.LexemeT.Lexeme.seen s.items.now) s.boundaries.now r.initial c.requires.known.1 in
     let j = c.meets.new.cursor in
-    let stacks : (mark_at s.boundaries.now j).runs ≡ p.stack.items = c.meets.ensures.at.stack c.if-meets.true ∙ c.deref-in-tiles.ensures.value in
+    let stacks : (boundary_at s.boundaries.now j).entries ≡ p.stack.items = c.meets.ensures.at.stack c.if-meets.true ∙ c.deref-in-tiles.ensures.value in
     olds_in_order d s.text.now new edit.removed.start edit.removed.end edit.put.now (items_by g.L.StorageT.Id.number g.L.LexemeT.Lexeme.seen s.items.now) s.boundaries.now h p.place p.stack.items found p.boundaries p.asked r
     j (c.meets.ensures.at.within c.if-meets.true) edit.removed.in_order c.requires.applies.0.1.0 c.requires.applies.1 (c.meets.ensures.at.past c.if-meets.true) (c.meets.ensures.at.place c.if-meets.true) stacks
 
@@ -93,7 +93,7 @@ take_over-requires-clause-items g c =
     let r = c.tiles.invariant.reached in
     let h = known d s.text.now (items_by g.L.StorageT.Id.number g.L.LexemeT.Lexeme.seen s.items.now) s.boundaries.now r.initial c.requires.known.1 in
     let j = c.meets.new.cursor in
-    let stacks : (mark_at s.boundaries.now j).runs ≡ p.stack.items = c.meets.ensures.at.stack c.if-meets.true ∙ c.deref-in-tiles.ensures.value in
+    let stacks : (boundary_at s.boundaries.now j).entries ≡ p.stack.items = c.meets.ensures.at.stack c.if-meets.true ∙ c.deref-in-tiles.ensures.value in
     items_movable d s.text.now new edit.removed.start edit.removed.end edit.put.now (items_by g.L.StorageT.Id.number g.L.LexemeT.Lexeme.seen s.items.now) s.boundaries.now h p.place p.stack.items found p.boundaries p.asked r
     j (c.meets.ensures.at.within c.if-meets.true) edit.removed.in_order c.requires.applies.0.1.0 c.requires.applies.1 (c.meets.ensures.at.past c.if-meets.true) (c.meets.ensures.at.place c.if-meets.true) stacks c.tiles.invariant.boundary.0 (omega arith)
 
@@ -109,8 +109,8 @@ take_over-requires-clause-boundaries g c =
     let r = c.tiles.invariant.reached in
     let h = known d s.text.now (items_by g.L.StorageT.Id.number g.L.LexemeT.Lexeme.seen s.items.now) s.boundaries.now r.initial c.requires.known.1 in
     let j = c.meets.new.cursor in
-    let stacks : (mark_at s.boundaries.now j).runs ≡ p.stack.items = c.meets.ensures.at.stack c.if-meets.true ∙ c.deref-in-tiles.ensures.value in
-    marks_movable d s.text.now new edit.removed.start edit.removed.end edit.put.now (items_by g.L.StorageT.Id.number g.L.LexemeT.Lexeme.seen s.items.now) s.boundaries.now h p.place p.stack.items found p.boundaries p.asked r
+    let stacks : (boundary_at s.boundaries.now j).entries ≡ p.stack.items = c.meets.ensures.at.stack c.if-meets.true ∙ c.deref-in-tiles.ensures.value in
+    bounds_movable d s.text.now new edit.removed.start edit.removed.end edit.put.now (items_by g.L.StorageT.Id.number g.L.LexemeT.Lexeme.seen s.items.now) s.boundaries.now h p.place p.stack.items found p.boundaries p.asked r
     j (c.meets.ensures.at.within c.if-meets.true) edit.removed.in_order c.requires.applies.0.1.0 c.requires.applies.1 (c.meets.ensures.at.past c.if-meets.true) (c.meets.ensures.at.place c.if-meets.true) stacks c.tiles.invariant.boundary.0 (omega arith)
 
 pub finished-requires-clause-run : goal.finished-requires-clause-run
@@ -125,13 +125,13 @@ finished-requires-clause-run g c =
     let r = c.tiles.invariant.reached in
     let h = known d s.text.now (items_by g.L.StorageT.Id.number g.L.LexemeT.Lexeme.seen s.items.now) s.boundaries.now r.initial c.requires.known.1 in
     let j = c.meets.new.cursor in
-    let stacks : (mark_at s.boundaries.now j).runs ≡ p.stack.items = c.meets.ensures.at.stack c.if-meets.true ∙ c.deref-in-tiles.ensures.value in
-    let items_is : items_by g.L.StorageT.Id.number g.L.LexemeT.Lexeme.seen c.take_over.new.progress.items.items ≡ found ++ map (rebased (mark_at s.boundaries.now j).place p.place) (items_from (mark_at s.boundaries.now j).place (items_by g.L.StorageT.Id.number g.L.LexemeT.Lexeme.seen s.items.now)) =
+    let stacks : (boundary_at s.boundaries.now j).entries ≡ p.stack.items = c.meets.ensures.at.stack c.if-meets.true ∙ c.deref-in-tiles.ensures.value in
+    let items_is : items_by g.L.StorageT.Id.number g.L.LexemeT.Lexeme.seen c.take_over.new.progress.items.items ≡ found ++ map (rebased (boundary_at s.boundaries.now j).place p.place) (items_from (boundary_at s.boundaries.now j).place (items_by g.L.StorageT.Id.number g.L.LexemeT.Lexeme.seen s.items.now)) =
     c.in_ok-take_over.ensures.items in
-    let marks_is : c.take_over.new.progress.boundaries ≡ p.boundaries ++ map (moved_mark (mark_at s.boundaries.now j).place p.place) (drop (j + 1) s.boundaries.now) =
+    let bounds_is : c.take_over.new.progress.boundaries ≡ p.boundaries ++ map (moved_boundary (boundary_at s.boundaries.now j).place p.place) (drop (j + 1) s.boundaries.now) =
     c.in_ok-take_over.ensures.boundaries in
     let lexed : IsLexed d new (items_by g.L.StorageT.Id.number g.L.LexemeT.Lexeme.seen c.take_over.new.progress.items.items) c.take_over.new.progress.boundaries =
-    subst (λ xs. IsLexed d new xs c.take_over.new.progress.boundaries) (sym items_is) (subst (IsLexed d new _) (sym marks_is) (whole d s.text.now new edit.removed.start edit.removed.end edit.put.now (items_by g.L.StorageT.Id.number g.L.LexemeT.Lexeme.seen s.items.now) s.boundaries.now h p.place p.stack.items found p.boundaries p.asked r
+    subst (λ xs. IsLexed d new xs c.take_over.new.progress.boundaries) (sym items_is) (subst (IsLexed d new _) (sym bounds_is) (whole d s.text.now new edit.removed.start edit.removed.end edit.put.now (items_by g.L.StorageT.Id.number g.L.LexemeT.Lexeme.seen s.items.now) s.boundaries.now h p.place p.stack.items found p.boundaries p.asked r
     j (c.meets.ensures.at.within c.if-meets.true) edit.removed.in_order c.requires.applies.0.1.0 c.requires.applies.1 (c.meets.ensures.at.past c.if-meets.true) (c.meets.ensures.at.place c.if-meets.true) stacks)) in
     run_of d new (items_by g.L.StorageT.Id.number g.L.LexemeT.Lexeme.seen c.take_over.new.progress.items.items) c.take_over.new.progress.boundaries r.initial lexed
 
@@ -147,13 +147,13 @@ returns-then-meets-clause-run g c =
     let r = c.tiles.invariant.reached in
     let h = known d s.text.now (items_by g.L.StorageT.Id.number g.L.LexemeT.Lexeme.seen s.items.now) s.boundaries.now r.initial c.requires.known.1 in
     let j = c.meets.new.cursor in
-    let stacks : (mark_at s.boundaries.now j).runs ≡ p.stack.items = c.meets.ensures.at.stack c.if-meets.true ∙ c.deref-in-tiles.ensures.value in
-    let items_is : items_by g.L.StorageT.Id.number g.L.LexemeT.Lexeme.seen c.take_over.new.progress.items.items ≡ found ++ map (rebased (mark_at s.boundaries.now j).place p.place) (items_from (mark_at s.boundaries.now j).place (items_by g.L.StorageT.Id.number g.L.LexemeT.Lexeme.seen s.items.now)) =
+    let stacks : (boundary_at s.boundaries.now j).entries ≡ p.stack.items = c.meets.ensures.at.stack c.if-meets.true ∙ c.deref-in-tiles.ensures.value in
+    let items_is : items_by g.L.StorageT.Id.number g.L.LexemeT.Lexeme.seen c.take_over.new.progress.items.items ≡ found ++ map (rebased (boundary_at s.boundaries.now j).place p.place) (items_from (boundary_at s.boundaries.now j).place (items_by g.L.StorageT.Id.number g.L.LexemeT.Lexeme.seen s.items.now)) =
     c.in_ok-take_over.ensures.items in
-    let marks_is : c.take_over.new.progress.boundaries ≡ p.boundaries ++ map (moved_mark (mark_at s.boundaries.now j).place p.place) (drop (j + 1) s.boundaries.now) =
+    let bounds_is : c.take_over.new.progress.boundaries ≡ p.boundaries ++ map (moved_boundary (boundary_at s.boundaries.now j).place p.place) (drop (j + 1) s.boundaries.now) =
     c.in_ok-take_over.ensures.boundaries in
     let lexed : IsLexed d new (items_by g.L.StorageT.Id.number g.L.LexemeT.Lexeme.seen c.take_over.new.progress.items.items) c.take_over.new.progress.boundaries =
-    subst (λ xs. IsLexed d new xs c.take_over.new.progress.boundaries) (sym items_is) (subst (IsLexed d new _) (sym marks_is) (whole d s.text.now new edit.removed.start edit.removed.end edit.put.now (items_by g.L.StorageT.Id.number g.L.LexemeT.Lexeme.seen s.items.now) s.boundaries.now h p.place p.stack.items found p.boundaries p.asked r
+    subst (λ xs. IsLexed d new xs c.take_over.new.progress.boundaries) (sym items_is) (subst (IsLexed d new _) (sym bounds_is) (whole d s.text.now new edit.removed.start edit.removed.end edit.put.now (items_by g.L.StorageT.Id.number g.L.LexemeT.Lexeme.seen s.items.now) s.boundaries.now h p.place p.stack.items found p.boundaries p.asked r
     j (c.meets.ensures.at.within c.if-meets.true) edit.removed.in_order c.requires.applies.0.1.0 c.requires.applies.1 (c.meets.ensures.at.past c.if-meets.true) (c.meets.ensures.at.place c.if-meets.true) stacks)) in
     subst (λ xs. IsRun d new (items_by g.L.StorageT.Id.number g.L.LexemeT.Lexeme.seen xs) c.finished.result.boundaries) (sym c.finished.ensures.items)
     (subst (IsRun d new (items_by g.L.StorageT.Id.number g.L.LexemeT.Lexeme.seen c.take_over.new.progress.items.items)) (sym c.finished.ensures.boundaries)
@@ -258,8 +258,8 @@ returns-then-not-is_state-clause-lexed g c =
     let s = c.args.old.now in
     let edit = c.args.edit.now in
     let olds = items_by g.L.StorageT.Id.number g.L.LexemeT.Lexeme.seen s.items.now in
-    let none : length s.boundaries.now ≡ 0 = ∥∥₁_elim c.requires.known.1 (Prim.hlevel props) (λ (t : IsRun d s.text.now olds s.boundaries.now). ap length (t.refused (sym c.if-not-is_state.ensures)).boundaries_are) in
-    IfOk-weaker c.refused.result _ _ (λ x e k lt safe. absurd (omega (arith, none, lt))) c.refused.ensures.none
+    let none : length s.boundaries.now ≡ 0 = ∥∥₁_elim c.requires.known.1 (Prim.hlevel props) (λ (t : IsRun d s.text.now olds s.boundaries.now). ap length (t.stateless (sym c.if-not-is_state.ensures)).boundaries_are) in
+    IfOk-weaker c.stateless.result _ _ (λ x e k lt safe. absurd (omega (arith, none, lt))) c.stateless.ensures.none
 
 pub behind-cursor-requires : goal.behind-cursor-requires
 behind-cursor-requires g c =
@@ -305,7 +305,7 @@ finished-requires-clause-looks g c =
     let r = c.tiles.invariant.reached in
     let h = known d s.text.now olds s.boundaries.now r.initial c.requires.known.1 in
     let j = c.meets.new.cursor in
-    let stacks : (mark_at s.boundaries.now j).runs ≡ p.stack.items = c.meets.ensures.at.stack c.if-meets.true ∙ c.deref-in-tiles.ensures.value in
+    let stacks : (boundary_at s.boundaries.now j).entries ≡ p.stack.items = c.meets.ensures.at.stack c.if-meets.true ∙ c.deref-in-tiles.ensures.value in
     let same = rest_same d s.text.now new edit.removed.start edit.removed.end edit.put.now olds s.boundaries.now h p.place p.stack.items found p.boundaries p.asked r
     j (c.meets.ensures.at.within c.if-meets.true) edit.removed.in_order c.requires.applies.0.1.0 c.requires.applies.1 (c.meets.ensures.at.past c.if-meets.true) (c.meets.ensures.at.place c.if-meets.true) stacks in
     subst (λ ms. LooksAhead d new ms c.take_over.new.progress.ahead.items) (sym c.in_ok-take_over.ensures.boundaries)

@@ -1,6 +1,6 @@
 use Rattle.std.proofs.Common.{◌≡◌, ℕ, ◌+◌, ◌-◌, ◌<◌, ◌≤◌, max, length, slice_range, IsCharBoundary}
 use Rattle.lrlex.specs.Reach.{Reached}
-use Rattle.lrlex.specs.Marks.{mark_at}
+use Rattle.lrlex.specs.Boundaries.{boundary_at}
 use Rattle.lrlex.specs.Edits.{Meets}
 use Rattle.lrlex.specs.Asked.{asks}
 use Rattle.lrlex.specs.Decided.{HasLooked}
@@ -19,7 +19,7 @@ invariant-tiles g l = record {
   kept : l.kept ≤ length l.progress.boundaries;
   exact : l.progress.asked ≡ asks l.definition l.new (slice_range l.progress.boundaries (l.kept - 1) (length l.progress.boundaries - 1));
   cursor : l.cursor ≤ length l.old.boundaries.now;
-  behind : (j : ℕ) → j < l.cursor → (mark_at l.old.boundaries.now j).place + (l.edit.removed.start + length l.edit.put.now) < max l.progress.place (l.edit.removed.start + length l.edit.put.now) + l.edit.removed.end;
+  behind : (j : ℕ) → j < l.cursor → (boundary_at l.old.boundaries.now j).place + (l.edit.removed.start + length l.edit.put.now) < max l.progress.place (l.edit.removed.start + length l.edit.put.now) + l.edit.removed.end;
   unmet : (k : ℕ) → k + 1 < length l.progress.boundaries → Meets l.old.boundaries.now l.progress.boundaries l.edit.removed.start l.edit.removed.end (length l.edit.put.now) k → ⊥;
 }
 

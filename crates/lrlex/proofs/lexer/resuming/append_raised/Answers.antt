@@ -1,7 +1,7 @@
 use Rattle.std.proofs.Common.{◌≡◌, ℕ, ◌+◌, ◌-◌, ◌<◌, ◌≤◌, ◌++◌, max, length, drop, get_or, sym, ap, ◌∙◌, subst, inl, inr, arith, rules}
 use Rattle.std.proofs.lemmas.Bool.{cases_lt}
 use Rattle.std.proofs.lemmas.List.{take_all, length-drop}
-use Rattle.lrlex.specs.Marks.{mark_at}
+use Rattle.lrlex.specs.Boundaries.{boundary_at}
 use Rattle.lrlex.specs.Decided.{AreRaised, capped}
 use Rattle.lrlex.proofs.RaisedLemmas.{enough_raised, raised_push, raised_rest}
 use Rattle.lrlex.proofs.lexer.resuming.append_raised.Goals.{in-Some, in-None}
@@ -14,9 +14,9 @@ near-preserved c =
     let j = c.args.index in
     let over = c.args.over in
     let next = c.near.next in
-    let far : (j < c.match-checked_add.far) × (c.match-checked_add.far ≤ length old) × ((k : ℕ) → c.match-checked_add.far ≤ k → k < length old → (mark_at old j).place + over < (mark_at old k).place) = elim c.match-checked_add.branch [
+    let far : (j < c.match-checked_add.far) × (c.match-checked_add.far ≤ length old) × ((k : ℕ) → c.match-checked_add.far ≤ k → k < length old → (boundary_at old j).place + over < (boundary_at old k).place) = elim c.match-checked_add.branch [
       | in-Some w ↦
-          let sum : w.in-Some.end ≡ (mark_at old j).place + over = search (rules, arith) in
+          let sum : w.in-Some.end ≡ (boundary_at old j).place + over = search (rules, arith) in
           let e = w.up_to-far.ensures in (
             elim (cases_lt j c.match-checked_add.far) [
               | inl lt ↦ lt
@@ -32,7 +32,7 @@ near-preserved c =
       )
     ] in
     let n = c.max.result in
-    let is : n ≡ max (get_or numbers next 0) (capped (over - ((mark_at old next).place - (mark_at old j).place))) =
+    let is : n ≡ max (get_or numbers next 0) (capped (over - ((boundary_at old next).place - (boundary_at old j).place))) =
     omega (arith, c.max.ensures, c.capped.ensures, c.saturating_sub-rest.ensures, c.place.ensures, c.place-from.ensures) in
     subst (AreRaised old numbers j over (next + 1) c.args.ahead.now.items) (sym c.in_ok-push.ensures.items)
     (raised_push old numbers j over c.args.ahead.now.items next c.near.ahead.items n c.near.invariant (omega arith)
@@ -45,9 +45,9 @@ returns c =
     let j = c.args.index in
     let over = c.args.over in
     let next = c.near.next in
-    let far : (j < c.match-checked_add.far) × (c.match-checked_add.far ≤ length old) × ((k : ℕ) → c.match-checked_add.far ≤ k → k < length old → (mark_at old j).place + over < (mark_at old k).place) = elim c.match-checked_add.branch [
+    let far : (j < c.match-checked_add.far) × (c.match-checked_add.far ≤ length old) × ((k : ℕ) → c.match-checked_add.far ≤ k → k < length old → (boundary_at old j).place + over < (boundary_at old k).place) = elim c.match-checked_add.branch [
       | in-Some w ↦
-          let sum : w.in-Some.end ≡ (mark_at old j).place + over = search (rules, arith) in
+          let sum : w.in-Some.end ≡ (boundary_at old j).place + over = search (rules, arith) in
           let e = w.up_to-far.ensures in (
             elim (cases_lt j c.match-checked_add.far) [
               | inl lt ↦ lt

@@ -5,7 +5,7 @@ use Rattle.std.proofs.lemmas.Bool.{cases_lt}
 use Rattle.std.proofs.lemmas.List.{length-take-le, get_or-take}
 use Rattle.lrlex_table.specs.Decided.{IsText}
 use Rattle.lrlex_table.proofs.ByteLemmas.{are_bytes}
-use Rattle.lrlex.specs.Marks.{Mark, no_mark, mark_at}
+use Rattle.lrlex.specs.Boundaries.{Boundary, no_boundary, boundary_at}
 use Rattle.lrlex.specs.Reach.{Reached}
 use Rattle.lrlex.specs.Decided.{IsSafe, HasLooked, items_before}
 use Rattle.lrlex.specs.Views.{definition_of, item_of, items_by}
@@ -81,7 +81,7 @@ returns g c =
     let p = c.in_ok-progress.progress in
     let e = c.in_ok-progress.ensures in
     let gone = going d o.text.now new edit.put.now low edit.removed.end found o.boundaries.now o.ahead.now c.requires.initial is le c.requires.gives h looks k c.last_safe-index.ensures.within safe in
-    let front = items_before (mark_at o.boundaries.now k).place found in
+    let front = items_before (boundary_at o.boundaries.now k).place found in
     let kept : items_by g.L.StorageT.Id.number g.L.LexemeT.Lexeme.seen p.items.items ≡ front =
     ap (items_by g.L.StorageT.Id.number g.L.LexemeT.Lexeme.seen) e.items ∙ c.items_before-before.ensures
     ∙ ap (λ i. items_before i found) c.place.ensures in
@@ -92,20 +92,20 @@ returns g c =
     record {
       reached =
           subst (λ i. Reached d new i p.stack.items now p.boundaries p.asked) (sym e.place)
-          (subst (λ s. Reached d new (mark_at o.boundaries.now k).place s now p.boundaries p.asked) (sym e.stack)
-          (subst (λ xs. Reached d new (mark_at o.boundaries.now k).place (mark_at o.boundaries.now k).runs xs p.boundaries p.asked) (sym kept)
-          (subst (λ ms. Reached d new (mark_at o.boundaries.now k).place (mark_at o.boundaries.now k).runs front ms p.asked) (sym e.boundaries)
-          (subst (λ n. Reached d new (mark_at o.boundaries.now k).place (mark_at o.boundaries.now k).runs front (take (k + 1) o.boundaries.now) n) (sym e.asked) gone.reached))));
+          (subst (λ s. Reached d new (boundary_at o.boundaries.now k).place s now p.boundaries p.asked) (sym e.stack)
+          (subst (λ xs. Reached d new (boundary_at o.boundaries.now k).place (boundary_at o.boundaries.now k).entries xs p.boundaries p.asked) (sym kept)
+          (subst (λ ms. Reached d new (boundary_at o.boundaries.now k).place (boundary_at o.boundaries.now k).entries front ms p.asked) (sym e.boundaries)
+          (subst (λ n. Reached d new (boundary_at o.boundaries.now k).place (boundary_at o.boundaries.now k).entries front (take (k + 1) o.boundaries.now) n) (sym e.asked) gone.reached))));
       looked =
           subst (λ i. HasLooked d new p.boundaries p.ahead.items i p.over) (sym e.place)
-          (subst (λ ms. HasLooked d new ms p.ahead.items (mark_at o.boundaries.now k).place p.over) (sym e.boundaries)
-          (subst (λ ns. HasLooked d new (take (k + 1) o.boundaries.now) ns (mark_at o.boundaries.now k).place p.over) (sym e.ahead) looked));
+          (subst (λ ms. HasLooked d new ms p.ahead.items (boundary_at o.boundaries.now k).place p.over) (sym e.boundaries)
+          (subst (λ ns. HasLooked d new (take (k + 1) o.boundaries.now) ns (boundary_at o.boundaries.now k).place p.over) (sym e.ahead) looked));
       boundary =
           subst (IsCharBoundary new) (sym e.place) gone.boundary;
       before =
           λ j lt.
-          let place : (mark_at p.boundaries j).place ≡ (mark_at o.boundaries.now j).place =
-          ap (λ ms. (mark_at ms j).place) e.boundaries ∙ ap (λ (m : Mark). m.place) (get_or-take (k + 1) o.boundaries.now j no_mark (omega (arith, count, lt))) in
+          let place : (boundary_at p.boundaries j).place ≡ (boundary_at o.boundaries.now j).place =
+          ap (λ ms. (boundary_at ms j).place) e.boundaries ∙ ap (λ (m : Boundary). m.place) (get_or-take (k + 1) o.boundaries.now j no_boundary (omega (arith, count, lt))) in
           omega (arith, place, safe.before, (sorted d o.text.now found o.boundaries.now h).rising j k (omega (arith, count, lt)) c.last_safe-index.ensures.within);
       last =
           λ j lt is.

@@ -155,8 +155,8 @@ others-preserved g c =
       }
     ]
 
-pub place_of-requires-clause-all : goal.place_of-requires-clause-all
-place_of-requires-clause-all g c same i lt =
+pub active_place-requires-clause-all : goal.active_place-requires-clause-all
+active_place-requires-clause-all g c same i lt =
     let d = definition_of g.L.StorageT.Id.number c.args.definition.now in
     let q = c.args.state in
     let places = c.args.here.active.now in
@@ -228,7 +228,7 @@ returns-clause-sight g c =
     let q = c.args.state in
     record {
       winner =
-          subst (λ r. Wins d c.args.state text r best.len) (sym c.place_of.ensures)
+          subst (λ r. Wins d c.args.state text r best.len) (sym c.active_place.ensures)
           (best_wins d c.args.state text c.args.here.active.now t.asked.items c.requires.here.active t refl c.requires.here.tables c.others.index best.rule best.len
           (omega (arith, c.others-test.false, ap length c.asked-index-end.ensures)) c.others.invariant.best (omega (arith, c.if-best-eq0.false)));
       decided = elim c.if-is_empty.branch [

@@ -3,7 +3,7 @@ use Rattle.lrlex.proofs.ArenaLemmas.{within_places, place_is}
 use Rattle.lrlex.proofs.lexer.boundaries.Boundaries.place.Goals as goal
 
 pub index-requires : goal.index-requires
-index-requires c = omega (arith, within_places c.self.inside.runs.items c.self.inside.stretches.items _ _ _ c.self.view_is c.requires)
+index-requires c = omega (arith, within_places c.self.inside.entries.items c.self.inside.stretches.items _ _ _ c.self.view_is c.requires)
 
 pub returns : goal.returns
-returns c = c.index.ensures ∙ place_is c.self.inside.runs.items c.self.inside.stretches.items _ _ _ c.index.result.now c.self.view_is c.requires
+returns c = c.index.ensures ∙ place_is c.self.inside.entries.items c.self.inside.stretches.items _ _ _ c.index.result.now c.self.view_is c.requires

@@ -1,6 +1,6 @@
 use Rattle.std.proofs.Common.{[], ◌∷◌, ◌++◌, max, length, ap, ap₂, sym, arith, ◌∙◌}
-use Rattle.lrlex.specs.declared.lexer.boundary.Stretch.{Stretch}
-use Rattle.lrlex.proofs.ArenaLemmas.{last_range, stays_whole, stays_within, stays_same, in_order_more_runs, in_order_repeat, in_order_enter, marks_more_runs, marks_enter}
+use Rattle.lrlex.specs.declared.lexer.stretch.Stretch.{Stretch}
+use Rattle.lrlex.proofs.ArenaLemmas.{last_range, stays_whole, stays_within, stays_same, in_order_more_entries, in_order_repeat, in_order_enter, bounds_more_entries, bounds_enter}
 use Rattle.lrlex.proofs.lexer.boundaries.Boundaries.push.Goals as goal
 
 pub overflow_sub-last : goal.overflow_sub-last
@@ -21,14 +21,14 @@ stored-requires-clause-same c =
     stays_same (last_range c.self.invariant c.self.view_is c.last_of-last.ensures c.deref.ensures.value) c.requires
 
 pub invariant_of-self : goal.invariant_of-self
-invariant_of-self c = in_order_more_runs c.stored.ensures.longer c.self.invariant
+invariant_of-self c = in_order_more_entries c.stored.ensures.longer c.self.invariant
 
 pub invariant_of-self-in_err-push : goal.invariant_of-self-in_err-push
-invariant_of-self-in_err-push c = rw c.in_err-push.ensures.items (in_order_more_runs c.stored.ensures.longer c.self.invariant)
+invariant_of-self-in_err-push c = rw c.in_err-push.ensures.items (in_order_more_entries c.stored.ensures.longer c.self.invariant)
 
 pub invariant_of-self-in_err-push-2 : goal.invariant_of-self-in_err-push-2
 invariant_of-self-in_err-push-2 c =
-    rw c.in_err-push-2.ensures.items (in_order_repeat c.args.place c.in_ok-push.ensures.items (in_order_more_runs c.stored.ensures.longer c.self.invariant))
+    rw c.in_err-push-2.ensures.items (in_order_repeat c.args.place c.in_ok-push.ensures.items (in_order_more_entries c.stored.ensures.longer c.self.invariant))
 
 pub invariant_of-self-2 : goal.invariant_of-self-2
 invariant_of-self-2 c =
@@ -36,11 +36,11 @@ invariant_of-self-2 c =
     let top = c.max-self-inside.ensures ∙ ap (λ stack. max c.self.inside.peak (length stack)) (sym c.in_ok-first.ensures.stack) in
     in_order_enter s c.args.place c.in_ok-push-2.ensures.items c.in_ok-push.ensures.items (omega arith)
     (record { ordered = c.in_ok-first.ensures.ordered; within = c.in_ok-first.ensures.within }) top
-    (in_order_more_runs c.stored.ensures.longer c.self.invariant)
+    (in_order_more_entries c.stored.ensures.longer c.self.invariant)
 
 pub returns : goal.returns
 returns c =
     let s : Stretch = record { from = c.len-from.result; first = c.in_ok-first.first; end = c.in_ok-first.end } in
-    marks_enter s c.args.place c.in_ok-push-2.ensures.items c.in_ok-push.ensures.items (omega arith) (in_order_more_runs c.stored.ensures.longer c.self.invariant)
-    ∙ ap₂ (λ ms stack. ms ++ record { place = c.args.place; runs = stack } ∷ [])
-    (marks_more_runs c.stored.ensures.longer c.self.invariant ∙ c.self.view_is) c.in_ok-first.ensures.stack
+    bounds_enter s c.args.place c.in_ok-push-2.ensures.items c.in_ok-push.ensures.items (omega arith) (in_order_more_entries c.stored.ensures.longer c.self.invariant)
+    ∙ ap₂ (λ ms stack. ms ++ record { place = c.args.place; entries = stack } ∷ [])
+    (bounds_more_entries c.stored.ensures.longer c.self.invariant ∙ c.self.view_is) c.in_ok-first.ensures.stack

@@ -1,6 +1,6 @@
 use Rattle.std.proofs.Common.{◌≡◌, ℕ, List, sym, ap, ◌∙◌, subst, arith, IsCharBoundary}
 use Rattle.lrlex_base.specs.Spans.{Fits, span, as_span}
-use Rattle.lrlex.specs.Marks.{Mark}
+use Rattle.lrlex.specs.Boundaries.{Boundary}
 use Rattle.lrlex.specs.Ran.{Ran, IsRunOf}
 use Rattle.lrlex.specs.Reach.{IsRun}
 use Rattle.lrlex.specs.Relexed.{WasRelexed}
@@ -33,7 +33,7 @@ returns-clause-counts g c =
     let here : WasRelexed number s.boundaries c.deref-6.result.now (span c.args.from c.args.to) put r =
     subst (λ b. WasRelexed number s.boundaries c.deref-6.result.now (span c.args.from b) put r) c.new.ensures.end
     (subst (λ a. WasRelexed number s.boundaries c.deref-6.result.now (span a c.new.result.end) put r) c.new.ensures.start own) in
-    let P : List Mark → List ℕ → Type 0 = λ olds ahead. WasRelexed number olds ahead (span c.args.from c.args.to) put r in
+    let P : List Boundary → List ℕ → Type 0 = λ olds ahead. WasRelexed number olds ahead (span c.args.from c.args.to) put r in
     let olds : P c.args.self.now.boundaries c.args.self.now.ahead =
     subst (λ (v : Ran _ _). P v.boundaries v.ahead) c.self.view_is (subst (P s.boundaries) c.deref-6.ensures.value here) in
     of_fields number c.args.self.now.boundaries c.args.self.now.ahead (span c.args.from c.args.to) put _ r olds e.of.0 (e.of.1 ∙ c.deref-7.ensures)

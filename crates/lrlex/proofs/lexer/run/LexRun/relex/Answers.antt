@@ -2,7 +2,7 @@
 use Rattle.std.proofs.Common.{ℕ, IfOk, List, subst}
 use Rattle.std.proofs.lemmas.Result.{IfOk-weaker}
 use Rattle.lrlex_base.specs.Spans.{as_span}
-use Rattle.lrlex.specs.Marks.{Mark}
+use Rattle.lrlex.specs.Boundaries.{Boundary}
 use Rattle.lrlex.specs.Ran.{Ran, IsRunOf, HasItemLaws}
 use Rattle.lrlex.specs.Relexed.{WasRelexed}
 use Rattle.lrlex.proofs.CountedLemmas.{of_result}
@@ -15,7 +15,7 @@ returns-clause-counts g c =
     let number = g.L.StorageT.Id.number in
     let s = c.self.inside in
     let e = c.relexed.ensures in
-    let P : List Mark → List ℕ → Type 0 = λ olds ahead. IfOk c.relexed.result (WasRelexed number olds ahead (as_span edit.removed) edit.put.now) in
+    let P : List Boundary → List ℕ → Type 0 = λ olds ahead. IfOk c.relexed.result (WasRelexed number olds ahead (as_span edit.removed) edit.put.now) in
     subst (λ (v : Ran _ _). P v.boundaries v.ahead) c.self.view_is
     (subst (P s.boundaries) c.deref-2.ensures.value
     (of_result number s.boundaries c.deref-2.result.now (as_span edit.removed) edit.put.now c.relexed.result s.definition.now c.args.new.now (IfOk-weaker c.relexed.result _ _ (λ r of. of.0) e.of) (IfOk-weaker c.relexed.result _ _ (λ r of. of.1) e.of) e.asked

@@ -7,7 +7,7 @@ use Rattle.std.proofs.lemmas.List.{get_or_at}
 use Rattle.std.proofs.lemmas.List.Elements.{All-pop, All-push, All-nil, All-head, All-tail}
 use Rattle.std.proofs.Common.{◌≢◌, cond, eq-eqb, subst, Some, slice_get, slice_index, ◌-◌, take, false, true≢false, ◌==◌, ◌≡◌, ℕ, zero, suc, ◌+◌, ◌<◌, List, [], ◌∷◌, ◌++◌, length, replicate, refl, sym, ap, ◌∙◌, arith, append_assoc, append-nil, length-append}
 use Rattle.std.proofs.lemmas.List.{length-replicate}
-use Rattle.lrlex.specs.Runs.{plain, Differ, AreRuns, begins_with, entries}
+use Rattle.lrlex.specs.Entries.{plain, Differ, AreEntries, begins_with_state, entry_count}
 
 pub plain-append : (xs ys : List (ℕ × ℕ)) → plain (xs ++ ys) ≡ plain xs ++ plain ys
 plain-append [] ys = refl
@@ -51,9 +51,9 @@ popped old a s e some = kept a some ∙ ap or_initial (sym (front_of a s)) ∙ a
 pub some_plain : (xs : List (ℕ × ℕ)) (n q : ℕ) → 0 < n → 0 < length (plain (xs ++ (n, q) ∷ []))
 some_plain xs n q h = omega (arith, length-plain-last xs n q)
 
-pub some_of_runs : (rs : List (ℕ × ℕ)) → AreRuns rs → 0 < length rs → 0 < length (plain rs)
-some_of_runs [] h some = absurd (omega arith)
-some_of_runs (r ∷ rs) h some =
+pub some_of_entries : (rs : List (ℕ × ℕ)) → AreEntries rs → 0 < length rs → 0 < length (plain rs)
+some_of_entries [] h some = absurd (omega arith)
+some_of_entries (r ∷ rs) h some =
     let first : 0 < r.0 = h.some 0 r (omega arith) in
     omega (arith, length-append (replicate r.0 r.1) (plain rs), length-replicate r.0 r.1)
 
@@ -78,29 +78,29 @@ differ-more [] r s d h = (h, tt)
 differ-more (x ∷ []) r s d h = (d.0, (h, tt))
 differ-more (x ∷ y ∷ xs) r s d h = (d.0, differ-more (y ∷ xs) r s d.1 h)
 
-pub runs-front : (xs : List (ℕ × ℕ)) (r : ℕ × ℕ) → AreRuns (xs ++ r ∷ []) → AreRuns xs
-runs-front xs r h = record {
+pub entries-front : (xs : List (ℕ × ℕ)) (r : ℕ × ℕ) → AreEntries (xs ++ r ∷ []) → AreEntries xs
+entries-front xs r h = record {
   some = (All-pop (λ x. 0 < x.0) (xs ++ r ∷ []) xs (Some r) refl h.some).0;
   differ = differ-front xs r h.differ;
 }
 
-pub runs-last : (xs : List (ℕ × ℕ)) (r : ℕ × ℕ) → AreRuns (xs ++ r ∷ []) → 0 < r.0
-runs-last xs r h = (All-pop (λ x. 0 < x.0) (xs ++ r ∷ []) xs (Some r) refl h.some).1
+pub entries-last : (xs : List (ℕ × ℕ)) (r : ℕ × ℕ) → AreEntries (xs ++ r ∷ []) → 0 < r.0
+entries-last xs r h = (All-pop (λ x. 0 < x.0) (xs ++ r ∷ []) xs (Some r) refl h.some).1
 
-pub runs-raised : (xs : List (ℕ × ℕ)) (n m q : ℕ) → AreRuns (xs ++ (n, q) ∷ []) → 0 < m → AreRuns (xs ++ (m, q) ∷ [])
-runs-raised xs n m q h some = record {
-  some = All-push (λ x. 0 < x.0) xs (m, q) (runs-front xs (n, q) h).some some;
+pub entries-raised : (xs : List (ℕ × ℕ)) (n m q : ℕ) → AreEntries (xs ++ (n, q) ∷ []) → 0 < m → AreEntries (xs ++ (m, q) ∷ [])
+entries-raised xs n m q h some = record {
+  some = All-push (λ x. 0 < x.0) xs (m, q) (entries-front xs (n, q) h).some some;
   differ = differ-raised xs n m q h.differ;
 }
 
-pub runs-more : (xs : List (ℕ × ℕ)) (r : ℕ × ℕ) (q : ℕ) → AreRuns (xs ++ r ∷ []) → r.1 ≢ q → AreRuns ((xs ++ r ∷ []) ++ (1, q) ∷ [])
-runs-more xs r q h other = record {
+pub entries-more : (xs : List (ℕ × ℕ)) (r : ℕ × ℕ) (q : ℕ) → AreEntries (xs ++ r ∷ []) → r.1 ≢ q → AreEntries ((xs ++ r ∷ []) ++ (1, q) ∷ [])
+entries-more xs r q h other = record {
   some = All-push (λ x. 0 < x.0) (xs ++ r ∷ []) (1, q) h.some (omega arith);
   differ = differ-more xs r (1, q) h.differ other;
 }
 
-pub runs-one : (q : ℕ) → AreRuns ((1, q) ∷ [])
-runs-one q = record { some = All-push (λ x. 0 < x.0) [] (1, q) (All-nil (λ x. 0 < x.0)) (omega arith); differ = tt }
+pub entries-one : (q : ℕ) → AreEntries ((1, q) ∷ [])
+entries-one q = record { some = All-push (λ x. 0 < x.0) [] (1, q) (All-nil (λ x. 0 < x.0)) (omega arith); differ = tt }
 
 pub top-last : (xs : List ℕ) (q : ℕ) → top (xs ++ q ∷ []) ≡ q
 top-last xs q =
@@ -114,15 +114,15 @@ top_plain xs (suc n) q h =
     ap top (plain-last xs (suc n) q ∙ ap (λ zs. plain xs ++ zs) (replicate-last n q) ∙ sym (append_assoc (plain xs) (replicate n q) (q ∷ [])))
     ∙ top-last (plain xs ++ replicate n q) q
 
--- ---- equal stacks have equal runs
+-- ---- equal stacks have equal entries
 
 onto : ℕ → List (ℕ × ℕ) → List (ℕ × ℕ)
 onto q [] = (1, q) ∷ []
 onto q (r ∷ rs) = cond (r.1 == q) ((suc r.0, r.1) ∷ rs) ((1, q) ∷ r ∷ rs)
 
-runs_of : List ℕ → List (ℕ × ℕ)
-runs_of [] = []
-runs_of (q ∷ qs) = onto q (runs_of qs)
+entries_of : List ℕ → List (ℕ × ℕ)
+entries_of [] = []
+entries_of (q ∷ qs) = onto q (entries_of qs)
 
 onto_other : (q : ℕ) (n : ℕ) (rs : List (ℕ × ℕ)) → Differ ((n, q) ∷ rs) → onto q rs ≡ (1, q) ∷ rs
 unfolding onto
@@ -133,53 +133,53 @@ differ-any : (n m q : ℕ) (rs : List (ℕ × ℕ)) → Differ ((n, q) ∷ rs) �
 differ-any n m q [] d = tt
 differ-any n m q (r ∷ rs) d = d
 
-runs_of-run : (n q : ℕ) (s : List ℕ) (rs : List (ℕ × ℕ)) → Differ ((n, q) ∷ rs) → runs_of s ≡ rs → runs_of (replicate (suc n) q ++ s) ≡ (suc n, q) ∷ rs
-unfolding onto runs_of
-runs_of-run zero q s rs d e = ap (onto q) e ∙ onto_other q 0 rs d
-runs_of-run (suc n) q s rs d e =
-    ap (onto q) (runs_of-run n q s rs (differ-any (suc n) n q rs d) e) ∙ cond-true _ ((suc (suc n), q) ∷ rs) ((1, q) ∷ (suc n, q) ∷ rs) (eq-eqb q q refl)
+entries_of-run : (n q : ℕ) (s : List ℕ) (rs : List (ℕ × ℕ)) → Differ ((n, q) ∷ rs) → entries_of s ≡ rs → entries_of (replicate (suc n) q ++ s) ≡ (suc n, q) ∷ rs
+unfolding onto entries_of
+entries_of-run zero q s rs d e = ap (onto q) e ∙ onto_other q 0 rs d
+entries_of-run (suc n) q s rs d e =
+    ap (onto q) (entries_of-run n q s rs (differ-any (suc n) n q rs d) e) ∙ cond-true _ ((suc (suc n), q) ∷ rs) ((1, q) ∷ (suc n, q) ∷ rs) (eq-eqb q q refl)
 
 differ-rest : (r : ℕ × ℕ) (rs : List (ℕ × ℕ)) → Differ (r ∷ rs) → Differ rs
 differ-rest r [] d = tt
 differ-rest r (s ∷ rs) d = d.1
 
-runs-rest : (r : ℕ × ℕ) (rs : List (ℕ × ℕ)) → AreRuns (r ∷ rs) → AreRuns rs
-runs-rest r rs h = record { some = All-tail (λ x. 0 < x.0) r rs h.some; differ = differ-rest r rs h.differ }
+entries-rest : (r : ℕ × ℕ) (rs : List (ℕ × ℕ)) → AreEntries (r ∷ rs) → AreEntries rs
+entries-rest r rs h = record { some = All-tail (λ x. 0 < x.0) r rs h.some; differ = differ-rest r rs h.differ }
 
-with_count : (n : ℕ) → 0 < n → (q : ℕ) (rs : List (ℕ × ℕ)) → Differ ((n - 1, q) ∷ rs) → runs_of (plain rs) ≡ rs → runs_of (replicate n q ++ plain rs) ≡ (n, q) ∷ rs
+with_count : (n : ℕ) → 0 < n → (q : ℕ) (rs : List (ℕ × ℕ)) → Differ ((n - 1, q) ∷ rs) → entries_of (plain rs) ≡ rs → entries_of (replicate n q ++ plain rs) ≡ (n, q) ∷ rs
 with_count zero h q rs d e = absurd (omega arith)
-with_count (suc n) h q rs d e = runs_of-run n q (plain rs) rs (differ-any (suc n - 1) n q rs d) e
+with_count (suc n) h q rs d e = entries_of-run n q (plain rs) rs (differ-any (suc n - 1) n q rs d) e
 
-runs_of-plain : (rs : List (ℕ × ℕ)) → AreRuns rs → runs_of (plain rs) ≡ rs
-unfolding runs_of
-runs_of-plain [] h = refl
-runs_of-plain (r ∷ rs) h = with_count r.0 (All-head (λ x. 0 < x.0) r rs h.some) r.1 rs (differ-any r.0 (r.0 - 1) r.1 rs h.differ) (runs_of-plain rs (runs-rest r rs h))
+entries_of-plain : (rs : List (ℕ × ℕ)) → AreEntries rs → entries_of (plain rs) ≡ rs
+unfolding entries_of
+entries_of-plain [] h = refl
+entries_of-plain (r ∷ rs) h = with_count r.0 (All-head (λ x. 0 < x.0) r rs h.some) r.1 rs (differ-any r.0 (r.0 - 1) r.1 rs h.differ) (entries_of-plain rs (entries-rest r rs h))
 
-pub same_runs : (xs ys : List (ℕ × ℕ)) → AreRuns xs → AreRuns ys → plain xs ≡ plain ys → xs ≡ ys
-same_runs xs ys h k e = sym (runs_of-plain xs h) ∙ ap runs_of e ∙ runs_of-plain ys k
+pub same_entries : (xs ys : List (ℕ × ℕ)) → AreEntries xs → AreEntries ys → plain xs ≡ plain ys → xs ≡ ys
+same_entries xs ys h k e = sym (entries_of-plain xs h) ∙ ap entries_of e ∙ entries_of-plain ys k
 
--- ---- a stack has as many runs as it has entries
+-- ---- a list of entries is as long as its stack has entries
 
-begins_run : (n : ℕ) → 0 < n → (r q : ℕ) (s : List ℕ) → r ≢ q → begins_with (replicate n r ++ s) q ≡ false
+begins_run : (n : ℕ) → 0 < n → (r q : ℕ) (s : List ℕ) → r ≢ q → begins_with_state (replicate n r ++ s) q ≡ false
 begins_run zero h r q s other = absurd (omega arith)
 begins_run (suc n) h r q s other = ne_eqb r q other
 
-begins_other : (n q : ℕ) (rs : List (ℕ × ℕ)) → AreRuns ((n, q) ∷ rs) → begins_with (plain rs) q ≡ false
+begins_other : (n q : ℕ) (rs : List (ℕ × ℕ)) → AreEntries ((n, q) ∷ rs) → begins_with_state (plain rs) q ≡ false
 begins_other n q [] h = refl
 begins_other n q (r ∷ rs) h = begins_run r.0 (All-head (λ x. 0 < x.0) r rs (All-tail (λ x. 0 < x.0) (n, q) (r ∷ rs) h.some)) r.1 q (plain rs) (λ e. h.differ.0 (sym e))
 
-entries-run : (n q : ℕ) (s : List ℕ) → begins_with s q ≡ false → entries (replicate (suc n) q ++ s) ≡ entries s + 1
-entries-run zero q s e = cond-false _ (entries s) (entries s + 1) e
-entries-run (suc n) q s e = cond-true _ (entries (replicate (suc n) q ++ s)) (entries (replicate (suc n) q ++ s) + 1) (eq-eqb q q refl) ∙ entries-run n q s e
+entry_count-run : (n q : ℕ) (s : List ℕ) → begins_with_state s q ≡ false → entry_count (replicate (suc n) q ++ s) ≡ entry_count s + 1
+entry_count-run zero q s e = cond-false _ (entry_count s) (entry_count s + 1) e
+entry_count-run (suc n) q s e = cond-true _ (entry_count (replicate (suc n) q ++ s)) (entry_count (replicate (suc n) q ++ s) + 1) (eq-eqb q q refl) ∙ entry_count-run n q s e
 
-entries-some : (n : ℕ) → 0 < n → (q : ℕ) (s : List ℕ) → begins_with s q ≡ false → entries (replicate n q ++ s) ≡ entries s + 1
-entries-some zero h q s e = absurd (omega arith)
-entries-some (suc n) h q s e = entries-run n q s e
+entry_count-some : (n : ℕ) → 0 < n → (q : ℕ) (s : List ℕ) → begins_with_state s q ≡ false → entry_count (replicate n q ++ s) ≡ entry_count s + 1
+entry_count-some zero h q s e = absurd (omega arith)
+entry_count-some (suc n) h q s e = entry_count-run n q s e
 
-pub entries-plain : (rs : List (ℕ × ℕ)) → AreRuns rs → entries (plain rs) ≡ length rs
-entries-plain [] h = refl
-entries-plain (r ∷ rs) h =
-    omega (arith, entries-some r.0 (All-head (λ x. 0 < x.0) r rs h.some) r.1 (plain rs) (begins_other r.0 r.1 rs h), entries-plain rs (runs-rest r rs h))
+pub entry_count-plain : (rs : List (ℕ × ℕ)) → AreEntries rs → entry_count (plain rs) ≡ length rs
+entry_count-plain [] h = refl
+entry_count-plain (r ∷ rs) h =
+    omega (arith, entry_count-some r.0 (All-head (λ x. 0 < x.0) r rs h.some) r.1 (plain rs) (begins_other r.0 r.1 rs h), entry_count-plain rs (entries-rest r rs h))
 
 -- ---- the last run
 
@@ -196,10 +196,10 @@ has_last (y ∷ z ∷ xs) (suc i) x n at =
     let h = has_last (z ∷ xs) i x (omega arith) at in
     record { front = y ∷ h.front; is = ap (λ zs. y ∷ zs) h.is }
 
-pub top_of_last : (rs : List (ℕ × ℕ)) (r : ℕ × ℕ) → AreRuns rs → Some r ≡ slice_get rs (length rs - 1) → r.1 ≡ top (plain rs)
+pub top_of_last : (rs : List (ℕ × ℕ)) (r : ℕ × ℕ) → AreEntries rs → Some r ≡ slice_get rs (length rs - 1) → r.1 ≡ top (plain rs)
 top_of_last [] r h at = absurd (none-some _ (sym at))
 top_of_last (s ∷ rs) r h at =
     let n : length (s ∷ rs) ≡ suc (length (s ∷ rs) - 1) = omega arith in
     let l = has_last (s ∷ rs) (length (s ∷ rs) - 1) r n (sym at) in
-    let some = runs-last l.front r (subst AreRuns l.is h) in
+    let some = entries-last l.front r (subst AreEntries l.is h) in
     sym (ap (λ xs. top (plain xs)) l.is ∙ top_plain l.front r.0 r.1 some)
