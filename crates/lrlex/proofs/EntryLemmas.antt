@@ -1,4 +1,4 @@
--- What a change of the last run does to the plain stack.
+-- What a change of the last entry does to the plain stack.
 use Rattle.std.proofs.Math.Seq.{take-append_seam}
 use Rattle.lrlex.specs.Tiling.{top, or_initial}
 use Rattle.std.proofs.lemmas.Bool.{cond-true, cond-false, ne_eqb}
