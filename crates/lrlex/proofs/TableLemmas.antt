@@ -14,9 +14,8 @@ use Rattle.regex_hir.specs.Text.{is_some_and}
 use Rattle.regex.specs.Patterns.{Re, SameCaptures, empty}
 use Rattle.lrlex_rules.specs.Definition.{Definition, Rule}
 use Rattle.lrlex_rules.specs.Patterns.{match_length, pattern_of}
-use Rattle.lrlex_rules.specs.Parts.{as_rule, as_state}
+use Rattle.lrlex_rules.specs.Parts.{RuleParts, as_rule, as_state}
 use Rattle.lrlex_rules.specs.declared.states.StartState as start
-use Rattle.lrlex_rules.specs.declared.rules.Rule as code
 use Rattle.lrlex_table.specs.Merged.{next_rows, pattern_at, IsTableOf, IsLongest, NoneMatches}
 use Rattle.lrlex_table.specs.Tables.{AreSingle, is_among, is_tabled, AreRising, AreTablesOf, IsBestAmong}
 use Rattle.lrlex_table.specs.declared.single.Single.{Single}
@@ -304,7 +303,7 @@ module _ (d : Definition) (q : ℕ) (text places others : List ℕ) (are : place
     best_stuck none = none_stuck d q text places are (none_of here text (looked_at t.parts.items others n) (looked_all n past) k len best none)
 
 -- what a rule of the program matches, and its pattern among those of the active rules
-pub asked_is : {S : Type 0} (number : S → ℕ) (d : Definition) (rules : List (code.Rule S)) → d.rules ≡ map (as_rule number) rules → (places text : List ℕ) (k place n : ℕ) (r : code.Rule S) →
+pub asked_is : {S : Type 0} (number : S → ℕ) (d : Definition) (rules : List (RuleParts S)) → d.rules ≡ map (as_rule number) rules → (places text : List ℕ) (k place n : ℕ) (r : RuleParts S) →
     k < length places → place ≡ get_or places k 0 → place < length rules → r ≡ get_or rules place r →
     n ≡ match_length (pattern_of (as_rule number r)) text → n ≡ match_length (pattern_at (patterns_on d.rules places) k) text
 asked_is number d rules same places text k place n r lt at within read is =
@@ -314,13 +313,13 @@ asked_is number d rules same places text k place n r lt at within read is =
 -- ---- the tables of a definition
 
 -- which patterns stand at places does not rest on the rules' ids
-pattern_by : {S : Type 0} (f g : S → ℕ) (o : Option (code.Rule S)) →
+pattern_by : {S : Type 0} (f g : S → ℕ) (o : Option (RuleParts S)) →
     pattern_of (unwrap_or (option_map (as_rule f) o) no_rule) ≡ pattern_of (unwrap_or (option_map (as_rule g) o) no_rule)
 unfolding pattern_of
 pattern_by f g None = refl
 pattern_by f g (Some r) = refl
 
-pub patterns_by : {S : Type 0} (f g : S → ℕ) (rules : List (code.Rule S)) (places : List ℕ) →
+pub patterns_by : {S : Type 0} (f g : S → ℕ) (rules : List (RuleParts S)) (places : List ℕ) →
     patterns_on (map (as_rule f) rules) places ≡ patterns_on (map (as_rule g) rules) places
 patterns_by f g rules [] = refl
 patterns_by f g rules (i ∷ places) =
@@ -329,7 +328,7 @@ patterns_by f g rules (i ∷ places) =
     ∙ ap (λ o. pattern_of (unwrap_or o no_rule)) (sym (slice_get-map (as_rule g) rules i)))
     (patterns_by f g rules places)
 
-pub pattern_here : {S : Type 0} (f g : S → ℕ) (r : code.Rule S) → pattern_of (as_rule f r) ≡ pattern_of (as_rule g r)
+pub pattern_here : {S : Type 0} (f g : S → ℕ) (r : RuleParts S) → pattern_of (as_rule f r) ≡ pattern_of (as_rule g r)
 unfolding pattern_of
 pattern_here f g r = refl
 
@@ -340,7 +339,7 @@ wins_within d q text k n w = elim (cases_lt k (length d.rules)) [
 ]
 
 -- the places that the program keeps for the first state with the id
-pub active_at : {S : Type 0} (active : List (Vec ℕ Global)) (states : List start.StartState) (rules : List (code.Rule S)) (i id : ℕ) →
+pub active_at : {S : Type 0} (active : List (Vec ℕ Global)) (states : List start.StartState) (rules : List (RuleParts S)) (i id : ℕ) →
     map (λ v. v.items) active ≡ map (λ s. active_places (map as_state states) (map (as_rule (λ _. 0)) rules) (as_state s).id) states →
     Some i ≡ position (λ s. (as_state s).id == id) states →
     get_or (map (λ v. v.items) active) i [] ≡ active_places (map as_state states) (map (as_rule (λ _. 0)) rules) id
@@ -360,14 +359,14 @@ alike_one p r same zero lt = same
 alike_one p r same (suc k) lt = absurd (omega arith)
 
 -- the table of a rule's compiled pattern is that of its pattern
-pub alone_serves : {S : Type 0} (number : S → ℕ) (o : Option Table) (p : Re) (r : code.Rule S) → SameCaptures p (pattern_of (as_rule number r)) →
+pub alone_serves : {S : Type 0} (number : S → ℕ) (o : Option Table) (p : Re) (r : RuleParts S) → SameCaptures p (pattern_of (as_rule number r)) →
     IfSome o (IsTableOf (p ∷ [])) → IfSome o (IsTableOf (pattern_of (as_rule (λ _. 0) r) ∷ []))
 alone_serves number None p r same is = tt
 alone_serves number (Some t) p r same is =
     let own = pattern_of (as_rule (λ _. 0) r) in
     serves_alike (next_rows t) t.wins.items t.start (p ∷ []) (own ∷ []) refl (alike_one p own (subst (SameCaptures p) (pattern_here number (λ _. 0) r) same)) is
 
-pub pattern_in_at : {S : Type 0} (rules : List (code.Rule S)) (i : ℕ) (r : code.Rule S) → slice_get rules i ≡ Some r →
+pub pattern_in_at : {S : Type 0} (rules : List (RuleParts S)) (i : ℕ) (r : RuleParts S) → slice_get rules i ≡ Some r →
     pattern_in (map (as_rule (λ _. 0)) rules) i ≡ pattern_of (as_rule (λ _. 0) r)
 pattern_in_at rules i r at = ap (λ u. pattern_of (unwrap_or u no_rule)) (slice_get-map (as_rule (λ _. 0)) rules i ∙ ap (option_map (as_rule (λ _. 0))) at)
 
@@ -414,7 +413,7 @@ single_back pattern new old n made kept k s is =
           kept k s (slice_get-get_or old k s place_and_stack ∙ ap Some (sym there ∙ here))
     ]
 
-module _ {S : Type 0} (rules : List (code.Rule S)) (active : List (List ℕ)) where
+module _ {S : Type 0} (rules : List (RuleParts S)) (active : List (List ℕ)) where
   pub served_none : (tables : List Tables) → AreServed rules active tables []
   served_none tables i j t is = absurd (none-some _ is)
 
@@ -465,7 +464,7 @@ first_place p xs None i some none e = absurd (position_none p xs none some)
 first_place p xs (Some k) i some at e = ap Some e ∙ at
 
 -- the tables of a state are those of its active rules
-pub tables_at_state : {S : Type 0} (number : S → ℕ) (active : List (Vec ℕ Global)) (tables : List Tables) (at : List ℕ) (states : List start.StartState) (rules : List (code.Rule S)) (i j id : ℕ) (t : Tables) →
+pub tables_at_state : {S : Type 0} (number : S → ℕ) (active : List (Vec ℕ Global)) (tables : List Tables) (at : List ℕ) (states : List start.StartState) (rules : List (RuleParts S)) (i j id : ℕ) (t : Tables) →
     map (λ v. v.items) active ≡ map (λ s. active_places (map as_state states) (map (as_rule (λ _. 0)) rules) (as_state s).id) states →
     ∥ AreServed rules (map (λ v. v.items) active) tables at ∥₁ → Some i ≡ position (λ s. (as_state s).id == id) states → slice_get at i ≡ Some j → slice_get tables j ≡ Some t →
     ∥ AreTablesOf (patterns_on (map (as_rule number) rules) (active_places (map as_state states) (map (as_rule number) rules) id)) t ∥₁
@@ -489,7 +488,7 @@ patterns_owned ids rules [] = refl
 patterns_owned ids rules (i ∷ places) =
     ap₂ ◌∷◌ (ap (λ o. pattern_of (unwrap_or o no_rule)) (slice_get-map (with_own_id ids) rules i) ∙ own_pattern ids (slice_get rules i)) (patterns_owned ids rules places)
 
-pub served_with_ids : {S : Type 0} (number : S → ℕ) (ids : List ℕ → Option ℕ) (old new : List (code.Rule S)) →
+pub served_with_ids : {S : Type 0} (number : S → ℕ) (ids : List ℕ → Option ℕ) (old new : List (RuleParts S)) →
     map (as_rule number) new ≡ map (with_own_id ids) (map (as_rule number) old) → (active : List (List ℕ)) (tables : List Tables) (at : List ℕ) →
     AreServed old active tables at → AreServed new active tables at
 served_with_ids number ids old new e active tables at s i j t is has =

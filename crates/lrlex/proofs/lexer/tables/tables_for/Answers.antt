@@ -1,17 +1,16 @@
 use Rattle.std.proofs.Common.{rules, ℕ, List, ◌≡◌, ◌+◌, ◌<◌, [], ◌∷◌, ◌++◌, map, length, All, get_or, option_map, refl, sym, ap, ◌∙◌, subst, arith}
 use Rattle.std.proofs.lemmas.List.{length_push, get_or_default}
 use Rattle.std.proofs.lemmas.Option.{slice_get-map, slice_get_read, get_or_from_slice_get}
-use Rattle.lrlex_rules.specs.Parts.{as_rule}
+use Rattle.lrlex_rules.specs.Parts.{RuleParts, as_rule}
 use Rattle.lrlex.specs.Tables.{AreServed, patterns_on, pattern_in}
 use Rattle.lrlex_table.specs.Tables.{AreSingle, AreTablesOf}
 use Rattle.lrlex_table.specs.declared.single.Single.{Single}
 use Rattle.lrlex_table.specs.declared.tables.Tables.{Tables}
-use Rattle.lrlex_rules.specs.declared.rules.Rule as code
 use Rattle.lrlex.proofs.TableLemmas.{single_back, served_shared, served_own, below_more}
 use Rattle.lrlex.proofs.lexer.tables.tables_for.Goals as goal
 use Rattle.lrlex.proofs.lexer.tables.tables_for.Goals.{in-Some+in_ok-push-in-Some, in-None+in_ok-push-in-None+in_ok-made-in-None+in_ok-push-in-None-2+in_ok-insert-in-None}
 
-joined_states : {S : Type 0} (rules : List (code.Rule S)) (lists : List (List ℕ)) (i : ℕ) (at : List ℕ) (tables : List Tables) (new_at : List ℕ) (new_tables : List Tables) → at ≡ new_at → tables ≡ new_tables →
+joined_states : {S : Type 0} (rules : List (RuleParts S)) (lists : List (List ℕ)) (i : ℕ) (at : List ℕ) (tables : List Tables) (new_at : List ℕ) (new_tables : List Tables) → at ≡ new_at → tables ≡ new_tables →
     length new_at ≡ i + 1 → All (λ j. j < length new_tables) new_at → AreServed rules lists new_tables new_at →
     (singles : List Single) → AreSingle (pattern_in (map (as_rule (λ _. 0)) rules)) singles →
     record { made : length at ≡ i + 1; within : All (λ j. j < length tables) at; served : AreServed rules lists tables at; single : AreSingle (pattern_in (map (as_rule (λ _. 0)) rules)) singles }
