@@ -25,11 +25,14 @@ pattern_in rules i = pattern_of (unwrap_or (slice_get rules i) no_rule)
 abbrev pub patterns_on : List Rule → List ℕ → List Re
 patterns_on rules places = map (pattern_in rules) places
 
--- state i has the tables at the place that `at` gives, and they are those of its active rules
-abbrev pub AreServed : {S : Type 0} → List (RuleParts S) → List (List ℕ) → List Tables → List ℕ → Type 0
-AreServed rules active tables at =
-    (i j : ℕ) (t : Tables) → slice_get at i ≡ Some j → slice_get tables j ≡ Some t →
-    AreTablesOf (patterns_on (map (as_rule (λ _. 0)) rules) (slice_index_or active i [])) t
+-- the list at a place
+abbrev pub list_in : List (List ℕ) → ℕ → List ℕ
+list_in lists j = slice_index_or lists j []
+
+-- each list of rules has its tables at its place
+abbrev pub AreServed : {S : Type 0} → List (RuleParts S) → List (List ℕ) → List Tables → Type 0
+AreServed rules lists tables =
+    (j : ℕ) (t : Tables) → slice_get tables j ≡ Some t → AreTablesOf (patterns_on (map (as_rule (λ _. 0)) rules) (list_in lists j)) t
 
 -- a matcher, where there is one, is that of the rule
 abbrev pub IsMatcherOf : {S : Type 0} → RuleParts S → Option (Box Matcher Global) → Type 0
