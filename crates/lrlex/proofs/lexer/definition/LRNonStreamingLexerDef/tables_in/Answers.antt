@@ -11,18 +11,19 @@ pub returns : goal.returns
 returns g c =
     let d = c.args.self.now in
     let i = c.unwrap_or-index.result in
-    let j = c.index.result.now in
+    let j = c.index-list.result.now in
     let found : Some i ≡ position (λ s. (as_state s).id == c.args.id) d.table.start_states.items =
     first_place (λ s. (as_state s).id == c.args.id) d.table.start_states.items _ i
     (sym (list_any-map as_state (λ s. s.id == c.args.id) d.table.start_states.items) ∙ c.requires)
     (rw c.deref.ensures.value at c.position_of.ensures) c.unwrap_or-index.ensures in
     let within = position_within (λ s. (as_state s).id == c.args.id) d.table.start_states.items i found in
     let has : i < length d.table.tables_at.items = omega (arith, d.table.each) in
-    let inside : j < length d.table.tables.items = subst (λ n. n < length d.table.tables.items) (sym c.index.ensures) (d.table.within i j has) in
-    let at = slice_get_read d.table.tables_at.items (length d.table.tables_at.items) i j refl has c.index.ensures in
-    let are = slice_get_read d.table.tables.items (length d.table.tables.items) j c.index-2.result.now refl inside c.index-2.ensures in
+    let inside : j < length d.table.tables.items = subst (λ n. n < length d.table.tables.items) (sym c.index-list.ensures) (d.table.within i j has) in
+    let at = slice_get_read d.table.tables_at.items (length d.table.tables_at.items) i j refl has c.index-list.ensures in
+    let are = slice_get_read d.table.tables.items (length d.table.tables.items) j c.index.result.now refl inside c.index.ensures in
     record {
-      served = tables_at_state g.L.StorageT.Id.number d.table.active.items d.table.tables.items d.table.tables_at.items d.table.start_states.items d.table.rules.items i j c.args.id c.index-2.result.now
+      list = are;
+      served = tables_at_state g.L.StorageT.Id.number d.table.active.items d.table.tables.items d.table.tables_at.items d.table.start_states.items d.table.rules.items i j c.args.id c.index.result.now
           d.table.lists d.table.served found at are;
-      untabled = untabled_here d c.args.id i j c.index-2.result.now found at are;
+      untabled = untabled_here d c.args.id i j c.index.result.now found at are;
     }
