@@ -5,11 +5,11 @@ use Rattle.lrlex.proofs.lexer.searching.Searcher.winner.Goals as goal
 
 pub winner_by-requires-clause-held : goal.winner_by-requires-clause-held
 winner_by-requires-clause-held g c =
-    let is = c.requires.searcher.1.0 in (
+    let is = c.requires.searcher.1 in (
       subst (AreMatchers c.args.definition.now.table.rules.items) (sym c.deref_mut.ensures.value) is.matchers,
       is.lists,
-      c.requires.searcher.1.1 ∙ ap (drop c.args.place) (sym is.text),
-      omega (arith, c.requires.searcher.1.2, ap length is.text),
+      c.requires.searcher.2 ∙ ap (drop c.args.place) (sym is.text),
+      omega (arith, c.requires.searcher.3, ap length is.text),
     )
 
 pub returns-clause-searcher : goal.returns-clause-searcher
