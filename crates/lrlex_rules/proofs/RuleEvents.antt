@@ -13,9 +13,9 @@ use Rattle.lrlex_rules.specs.Event.FaultKind.{TooManyRules}
 use Rattle.lrlex_rules.specs.Event.Subject.{RuleName}
 use Rattle.lrlex_rules.specs.Text.{Piece}
 use Rattle.lrlex_rules.specs.Escape.{trim_head}
-use Rattle.lrlex_rules.specs.RuleLine.{RuleParts, Pattern, pattern_of, split}
-use Rattle.lrlex_rules.specs.Outcome.{Settings, rule_event, pattern_event, parts_event, split_event, rule_named, is_verbatim, line_event}
-use Rattle.lrlex_rules.specs.Reading.{Represents, Adds, AddsRefused, AddsLine, Suits, IsRefused, hits, refused_in, refused_of, as_fault}
+use Rattle.lrlex_rules.specs.RuleLine.{RuleParts, Pattern, read_pattern, split}
+use Rattle.lrlex_rules.specs.Outcome.{Settings, rule_event, pattern_event, parts_event, split_event, rule_with_name, is_verbatim, line_event}
+use Rattle.lrlex_rules.specs.Builder.{Represents, Adds, AddsRefused, AddsLine, Suits, IsRefused, hits, refused_in, refused_of, as_fault}
 use Rattle.lrlex_rules.specs.Parts.{as_state, as_rule}
 use Rattle.lrlex_rules.specs.Merge.{with_duplicate}
 use Rattle.regex.specs.declared.error.Error.{Error}
@@ -104,26 +104,26 @@ posix_is : (flags : LexFlags) (s : Settings) → resolved s.flags ≡ flags → 
 posix_is flags s h = ap (λ (f : LexFlags). unwrap_or f.posix_escapes false) h
 
 module _ {S : Type 0} (number : S → ℕ) (flags : LexFlags) (greatest : ℕ) (old : Builder S) (o : ℕ) (parts : RuleParts) where
-  pub duplicate_is : (original : Rule) → Some original ≡ rule_named (map (as_rule number) old.rules.list.items) parts.label.name
+  pub duplicate_is : (original : Rule) → Some original ≡ rule_with_name (map (as_rule number) old.rules.list.items) parts.label.name
       → (s : Settings) (events : List Event) → Represents number flags old events → Duplicate RuleName original.name_span parts.label.span ≡ split_event s events o (Ok parts)
-  duplicate_is original found s events was = ap (parts_event s events o parts) (found ∙ ap (λ (rs : List Rule). rule_named rs parts.label.name) was.rules)
+  duplicate_is original found s events was = ap (parts_event s events o parts) (found ∙ ap (λ (rs : List Rule). rule_with_name rs parts.label.name) was.rules)
 
-  module _ (none : None ≡ rule_named (map (as_rule number) old.rules.list.items) parts.label.name) where
+  module _ (none : None ≡ rule_with_name (map (as_rule number) old.rules.list.items) parts.label.name) where
     unnamed : (s : Settings) (events : List Event) → Represents number flags old events → parts_event s events o parts None ≡ split_event s events o (Ok parts)
-    unnamed s events was = ap (parts_event s events o parts) (none ∙ ap (λ (rs : List Rule). rule_named rs parts.label.name) was.rules)
+    unnamed s events was = ap (parts_event s events o parts) (none ∙ ap (λ (rs : List Rule). rule_with_name rs parts.label.name) was.rules)
 
-    pattern_here : (r : Result Pattern Fault) → r ≡ pattern_of (unwrap_or flags.posix_escapes false) (map as_state old.states.list.items) o (trim_head parts.head)
-        → (s : Settings) → Suits s flags greatest → (events : List Event) → Represents number flags old events → r ≡ pattern_of (has_posix_escapes s.flags) (states_of events) o (trim_head parts.head)
+    pattern_here : (r : Result Pattern Fault) → r ≡ read_pattern (unwrap_or flags.posix_escapes false) (map as_state old.states.list.items) o (trim_head parts.head)
+        → (s : Settings) → Suits s flags greatest → (events : List Event) → Represents number flags old events → r ≡ read_pattern (has_posix_escapes s.flags) (states_of events) o (trim_head parts.head)
     pattern_here r e s suits events was =
-        e ∙ ap (λ (b : Bool). pattern_of b (map as_state old.states.list.items) o (trim_head parts.head)) (sym (posix_is flags s suits.flags_are))
-        ∙ ap (λ (ss : List StartState). pattern_of (has_posix_escapes s.flags) ss o (trim_head parts.head)) was.states
+        e ∙ ap (λ (b : Bool). read_pattern b (map as_state old.states.list.items) o (trim_head parts.head)) (sym (posix_is flags s suits.flags_are))
+        ∙ ap (λ (ss : List StartState). read_pattern (has_posix_escapes s.flags) ss o (trim_head parts.head)) was.states
 
-    pub offered_is : (pattern : Pattern) → Ok pattern ≡ pattern_of (unwrap_or flags.posix_escapes false) (map as_state old.states.list.items) o (trim_head parts.head)
+    pub offered_is : (pattern : Pattern) → Ok pattern ≡ read_pattern (unwrap_or flags.posix_escapes false) (map as_state old.states.list.items) o (trim_head parts.head)
         → (s : Settings) → Suits s flags greatest → (events : List Event) → Represents number flags old events → rule_event s (rules_of events) o parts pattern ≡ split_event s events o (Ok parts)
     offered_is pattern e s suits events was =
         ap (λ (r : Result Pattern Fault). pattern_event s (rules_of events) o parts r) (pattern_here (Ok pattern) e s suits events was) ∙ unnamed s events was
 
-    pub unread_is : (f : Fault) → Err f ≡ pattern_of (unwrap_or flags.posix_escapes false) (map as_state old.states.list.items) o (trim_head parts.head)
+    pub unread_is : (f : Fault) → Err f ≡ read_pattern (unwrap_or flags.posix_escapes false) (map as_state old.states.list.items) o (trim_head parts.head)
         → (s : Settings) → Suits s flags greatest → (events : List Event) → Represents number flags old events → Fatal f ≡ split_event s events o (Ok parts)
     unread_is f e s suits events was =
         ap (λ (r : Result Pattern Fault). pattern_event s (rules_of events) o parts r) (pattern_here (Err f) e s suits events was) ∙ unnamed s events was
@@ -137,7 +137,7 @@ split_is number flags old s events line r was h e =
     let there : r ≡ split (states_of events) line = e ∙ ap (λ (ss : List StartState). split ss line) was.states in
     ap (split_event s events line.at) there ∙ sym (rw h refl)
 
-pub line_duplicate : {S : Type 0} (number : S → ℕ) (flags : LexFlags) (greatest : ℕ) (old new : Builder S) (o : ℕ) (parts : RuleParts) (original : Rule) → old.is_refused ≡ false → Some original ≡ rule_named (map (as_rule number) old.rules.list.items) parts.label.name
+pub line_duplicate : {S : Type 0} (number : S → ℕ) (flags : LexFlags) (greatest : ℕ) (old new : Builder S) (o : ℕ) (parts : RuleParts) (original : Rule) → old.is_refused ≡ false → Some original ≡ rule_with_name (map (as_rule number) old.rules.list.items) parts.label.name
     → new.states ≡ old.states → new.rules ≡ old.rules → new.is_refused ≡ old.is_refused → map as_fault new.errors.list.items ≡ with_duplicate RuleName original.name_span parts.label.span (map as_fault old.errors.list.items)
     → AddsLine number flags greatest old new o (λ s events. split_event s events o (Ok parts))
 line_duplicate number flags greatest old new o parts original calm found ss rs re errors s suits events was hit =

@@ -13,17 +13,17 @@ ghost use Rattle.lrlex_rules.specs.Kinds.{as_kind, is_regex_error};
 ghost use Rattle.lrlex_rules.specs.Merge.{tells_duplicates};
 ghost use Rattle.lrlex_rules.specs.Faults.{IsPlaced};
 ghost use Rattle.lrlex_rules.specs.Laws.{IsLawful};
-ghost use Rattle.lrlex_rules.specs.Reading.{as_piece, as_parts, as_pattern, AddsLine, ReadsLines, AreApart, MarkAt, IsAnswer, AreOwnRefusals, as_definition, refused_of, Represents, Adds, AddsRefused, Reads, EndBy, line_end};
+ghost use Rattle.lrlex_rules.specs.Builder.{as_piece, as_parts, as_pattern, AddsLine, ReadsLines, AreApart, MarkAt, IsAnswer, AreOwnRefusals, as_definition, refused_of, Represents, Adds, AddsRefused, Reads, EndBy, line_end};
 
 use crate::faults::{LexBuildError, LexErrorKind};
 use crate::flags::LexFlags;
 use crate::parser::declaration::{declares_exclusive, is_state_name};
 use crate::parser::duplicates::{Faults, Named};
+use crate::parser::escapes::trim_head;
 use crate::parser::names::{Rules, States};
-use crate::parser::rule_line::{Parts, Pattern, pattern_of, split};
+use crate::parser::rule_line::{Parts, Pattern, read_pattern, split};
 use crate::parser::text::{
     Line, begins_with_white, behind, first_word, is_white, next_name, read_section, skip_blanks,
-    trim_head,
 };
 use crate::rules::Rule;
 use crate::states::StartState;
@@ -260,7 +260,7 @@ impl<'t, StorageT: Id> Builder<'t, StorageT> {
         }
         let posix = flags.posix_escapes.unwrap_or(false);
         let head = trim_head(parts.head);
-        match pattern_of(alloc, &self.states, at, head, posix)? {
+        match read_pattern(alloc, &self.states, at, head, posix)? {
             Ok(pattern) => self.add_rule(alloc, at, parts, pattern, flags),
             Err(fatal) => self.refuse(alloc, fatal.kind, fatal.at),
         }

@@ -4,7 +4,7 @@ use Rattle.std.specs.Option.{IfSome}
 use Rattle.lrlex_rules.specs.declared.parser.text.Line.{Line}
 use Rattle.lrlex_rules.specs.Event.{Event}
 use Rattle.lrlex_rules.specs.Text.{piece}
-use Rattle.lrlex_rules.specs.Reading.{MarkAt, Represents, as_piece}
+use Rattle.lrlex_rules.specs.Builder.{MarkAt, Represents, as_piece}
 use Rattle.lrlex_rules.proofs.Rising.{lines_apart}
 use Rattle.lrlex_rules.proofs.Whole.{on_both, section_place, rules_endless, rules_white, rules_routines}
 use Rattle.lrlex_rules.proofs.parser.builder.Builder.rules.Goals as goal
