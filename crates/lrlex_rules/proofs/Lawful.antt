@@ -26,7 +26,7 @@ use Rattle.lrlex_rules.specs.Event.Event.{NewState, NewRule, Verbatim, Refused, 
 use Rattle.lrlex_rules.specs.Declaration.{Declared, trimmed_lines, section_lines, section_end, declarations, initial, state_named, new_or_duplicate, state_event}
 use Rattle.lrlex_rules.specs.Declaration.Declared.{Name, Wrong}
 use Rattle.lrlex_rules.specs.Escape.{trim_head, unescape}
-use Rattle.lrlex_rules.specs.RuleLine.{is_greater, in_angles, after_angles, target_of, name_part, is_unnamed, is_quoted_by, is_quoted, RuleLabel, label_of, RuleParts, parts_of_word, split, Pattern, cons_both, state_id, state_ids, all_ids, listed_ids, listed_names, read_pattern}
+use Rattle.lrlex_rules.specs.RuleLine.{is_greater, in_angles, after_angles, target_of, name_part, is_unnamed, is_quoted_by, is_quoted, RuleLabel, label_of, LineParts, parts_of_word, split, Pattern, cons_both, state_id, state_ids, all_ids, listed_ids, listed_names, read_pattern}
 use Rattle.lrlex_rules.specs.Outcome.{Settings, events_after, then_fatal, has_name, rule_with_name, rule_event, pattern_event, parts_event, split_event, is_verbatim, line_event, rules_section, end_events, rules_events, events_of, faults_after, definition_or_faults, outcome}
 use Rattle.lrlex_rules.specs.Laws.{RuleIdsArePlaces, StateIdsArePlaces, RuleNamesDiffer, StateNamesDiffer, IsNameAt, RuleNamesStand, StateNamesStand, PatternsAreRewritten, IsLawful}
 use Rattle.lrlex_rules.proofs.Placed.{IsPiece, suffix, cut_pieces, trimmed_end, last_at}
@@ -158,7 +158,7 @@ abbrev LabelStands : List ℕ → Result RuleLabel Fault → Type 0
 LabelStands text (Ok l) = IfSome l.name (IsNameAt text l.span)
 LabelStands text (Err f) = Unit {0}
 
-abbrev PartsStand : List ℕ → Result RuleParts Fault → Type 0
+abbrev PartsStand : List ℕ → Result LineParts Fault → Type 0
 PartsStand text (Ok p) = IfSome p.label.name (IsNameAt text p.label.span)
 PartsStand text (Err f) = Unit {0}
 
@@ -252,7 +252,7 @@ module _ (text : List ℕ) (s : Settings) (o : ℕ) (earlier : List Event) (a : 
   abbrev Good : Event → Type 0
   Good e = IsGoodEvent text (has_posix_escapes s.flags) earlier e
 
-  rule_event_good : (parts : RuleParts) (pattern : Pattern) → rule_with_name (rules_of earlier) parts.label.name ≡ None → IfSome parts.label.name (IsNameAt text parts.label.span)
+  rule_event_good : (parts : LineParts) (pattern : Pattern) → rule_with_name (rules_of earlier) parts.label.name ≡ None → IfSome parts.label.name (IsNameAt text parts.label.span)
       → (pattern.start_states ≡ [] → unescape (has_posix_escapes s.flags) pattern.text ≡ pattern.text) → Good (rule_event s (rules_of earlier) o parts pattern)
   rule_event_good parts pattern new there steady =
       let made : Event = NewRule (record {
@@ -268,17 +268,17 @@ module _ (text : List ℕ) (s : Settings) (o : ℕ) (earlier : List Event) (a : 
       either Good (nat_lt s.greatest_id (length (rules_of earlier))) (Fatal (fault_at TooManyRules o)) (if is_refused_here then Refused o pattern.text else made) (record { rule = tt; state = tt })
       (either Good is_refused_here (Refused o pattern.text) made (record { rule = tt; state = tt }) (record { rule = record { id = refl; new = new; there = there; steady = steady }; state = tt }))
 
-  pattern_event_good : (parts : RuleParts) (r : Result Pattern Fault) → rule_with_name (rules_of earlier) parts.label.name ≡ None → IfSome parts.label.name (IsNameAt text parts.label.span)
+  pattern_event_good : (parts : LineParts) (r : Result Pattern Fault) → rule_with_name (rules_of earlier) parts.label.name ≡ None → IfSome parts.label.name (IsNameAt text parts.label.span)
       → PatternIsSteady (has_posix_escapes s.flags) r → Good (pattern_event s (rules_of earlier) o parts r)
   pattern_event_good parts (Ok pattern) new there steady = rule_event_good parts pattern new there steady
   pattern_event_good parts (Err f) new there steady = record { rule = tt; state = tt }
 
-  parts_event_good : (parts : RuleParts) (original : Option Rule) → rule_with_name (rules_of earlier) parts.label.name ≡ original → IfSome parts.label.name (IsNameAt text parts.label.span) → Good (parts_event s earlier o parts original)
+  parts_event_good : (parts : LineParts) (original : Option Rule) → rule_with_name (rules_of earlier) parts.label.name ≡ original → IfSome parts.label.name (IsNameAt text parts.label.span) → Good (parts_event s earlier o parts original)
   parts_event_good parts (Some original) new there = record { rule = tt; state = tt }
   parts_event_good parts None new there =
       pattern_event_good parts (read_pattern (has_posix_escapes s.flags) (states_of earlier) o (trim_head parts.head)) new there (pattern_steady (has_posix_escapes s.flags) (states_of earlier) o (trim_head parts.head) a.some)
 
-  split_event_good : (r : Result RuleParts Fault) → PartsStand text r → Good (split_event s earlier o r)
+  split_event_good : (r : Result LineParts Fault) → PartsStand text r → Good (split_event s earlier o r)
   split_event_good (Err f) h = record { rule = tt; state = tt }
   split_event_good (Ok parts) h = parts_event_good parts (rule_with_name (rules_of earlier) parts.label.name) refl h
 

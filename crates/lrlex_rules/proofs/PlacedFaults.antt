@@ -25,7 +25,7 @@ use Rattle.lrlex_rules.specs.Event.Event.{NewState, NewRule, Duplicate, Verbatim
 use Rattle.lrlex_rules.specs.Declaration.{Declared, ends_section, is_skipped, section_lines, section_end, declares_exclusive, first_word, is_state_name, declared_name, declared_names, declared_by, trimmed_lines, declarations, initial, state_named, new_or_duplicate, state_event}
 use Rattle.lrlex_rules.specs.Declaration.Declared.{Name, Wrong}
 use Rattle.lrlex_rules.specs.Escape.{trim_head, unescape}
-use Rattle.lrlex_rules.specs.RuleLine.{is_greater, in_angles, after_angles, target, target_name, operation_of, state_id, target_of, name_part, is_unnamed, is_quoted_by, is_quoted, RuleLabel, label_of, RuleParts, parts_of_word, split, Pattern, listed_ids, listed_names, read_pattern}
+use Rattle.lrlex_rules.specs.RuleLine.{is_greater, in_angles, after_angles, target, target_name, operation_of, state_id, target_of, name_part, is_unnamed, is_quoted_by, is_quoted, RuleLabel, label_of, LineParts, parts_of_word, split, Pattern, listed_ids, listed_names, read_pattern}
 use Rattle.lrlex_rules.specs.Outcome.{Settings, events_after, then_fatal, has_name, rule_with_name, rule_event, pattern_event, parts_event, split_event, is_verbatim, line_event, rules_section, end_events, rules_events, events_of, same_subject, duplicate_of, kind_of, fault_of, faults_after, definition_or_faults, outcome}
 use Rattle.lrlex_rules.specs.Faults.{IsPlaced}
 use Rattle.lrlex_rules.specs.Builder.{as_fault}
@@ -183,7 +183,7 @@ abbrev LabelFits : List ℕ → Result RuleLabel Fault → Type 0
 LabelFits text (Ok l) = SpanFits text l.span
 LabelFits text (Err f) = FaultFits text f
 
-abbrev PartsFit : List ℕ → Result RuleParts Fault → Type 0
+abbrev PartsFit : List ℕ → Result LineParts Fault → Type 0
 PartsFit text (Ok p) = SpanFits text p.label.span
 PartsFit text (Err f) = FaultFits text f
 
@@ -311,7 +311,7 @@ named_fits text rules None a = tt
 named_fits text rules (Some n) a = only_first (RuleFits text) (has_name n) (find (has_name n) rules) (found (RuleFits text) (has_name n) rules a)
 
 module _ (text : List ℕ) (s : Settings) (o : ℕ) (b : IsCharBoundary text o) where
-  rule_event_fits : (rules : List Rule) (parts : RuleParts) (pattern : Pattern) → SpanFits text parts.label.span → EventFits text (rule_event s rules o parts pattern)
+  rule_event_fits : (rules : List Rule) (parts : LineParts) (pattern : Pattern) → SpanFits text parts.label.span → EventFits text (rule_event s rules o parts pattern)
   rule_event_fits rules parts pattern h =
       let made : Event = NewRule (record {
         id = Some (length rules);
@@ -326,17 +326,17 @@ module _ (text : List ℕ) (s : Settings) (o : ℕ) (b : IsCharBoundary text o) 
       either (EventFits text) (nat_lt s.greatest_id (length rules)) (Fatal (fault_at TooManyRules o)) (if is_refused_here then Refused o pattern.text else made) (fits_at text TooManyRules o b)
       (either (EventFits text) is_refused_here (Refused o pattern.text) made b h)
 
-  pattern_event_fits : (rules : List Rule) (parts : RuleParts) (r : Result Pattern Fault) → SpanFits text parts.label.span → ErrFits text r → EventFits text (pattern_event s rules o parts r)
+  pattern_event_fits : (rules : List Rule) (parts : LineParts) (r : Result Pattern Fault) → SpanFits text parts.label.span → ErrFits text r → EventFits text (pattern_event s rules o parts r)
   pattern_event_fits rules parts (Ok pattern) h k = rule_event_fits rules parts pattern h
   pattern_event_fits rules parts (Err f) h k = k
 
-  parts_event_fits : (earlier : List Event) (parts : RuleParts) (original : Option Rule) → SpanFits text parts.label.span → IfSome original (RuleFits text) → EventFits text (parts_event s earlier o parts original)
+  parts_event_fits : (earlier : List Event) (parts : LineParts) (original : Option Rule) → SpanFits text parts.label.span → IfSome original (RuleFits text) → EventFits text (parts_event s earlier o parts original)
   parts_event_fits earlier parts (Some original) h k = (k, h)
   parts_event_fits earlier parts None h k =
       let r = read_pattern (has_posix_escapes s.flags) (states_of earlier) o (trim_head parts.head) in
       pattern_event_fits (rules_of earlier) parts r h (pattern_fits text (has_posix_escapes s.flags) (states_of earlier) o (trim_head parts.head) b)
 
-  split_event_fits : (earlier : List Event) (r : Result RuleParts Fault) → All (EventFits text) earlier → PartsFit text r → EventFits text (split_event s earlier o r)
+  split_event_fits : (earlier : List Event) (r : Result LineParts Fault) → All (EventFits text) earlier → PartsFit text r → EventFits text (split_event s earlier o r)
   split_event_fits earlier (Err f) a h = h
   split_event_fits earlier (Ok parts) a h = parts_event_fits earlier parts (rule_with_name (rules_of earlier) parts.label.name) h (named_fits text (rules_of earlier) parts.label.name (rules_fit text earlier a))
 

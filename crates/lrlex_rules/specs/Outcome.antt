@@ -15,7 +15,7 @@ use Rattle.lrlex_rules.specs.Event.Event.{NewState, NewRule, Duplicate, Verbatim
 use Rattle.lrlex_rules.specs.Event.Subject.{StateName, RuleName}
 use Rattle.lrlex_rules.specs.Declaration.{initial, declarations, trimmed_lines, state_event, section_lines, section_end}
 use Rattle.lrlex_rules.specs.Escape.{trim_head}
-use Rattle.lrlex_rules.specs.RuleLine.{RuleParts, Pattern, split, read_pattern}
+use Rattle.lrlex_rules.specs.RuleLine.{LineParts, Pattern, split, read_pattern}
 
 -- what the build is asked with: the flags, the greatest value of the token id type, and the rule line, if any, whose pattern `regex` refused
 pub record Settings : Type 0 where
@@ -40,7 +40,7 @@ abbrev pub rule_with_name : List Rule → Option (List ℕ) → Option Rule
 rule_with_name rules name = option_and_then (λ (n : List ℕ). find (has_name n) rules) name
 
 -- A pattern makes a new rule, unless there are too many or `regex` refuses it. The rule's id is the number of rules before it.
-abbrev pub rule_event : Settings → List Rule → ℕ → RuleParts → Pattern → Event
+abbrev pub rule_event : Settings → List Rule → ℕ → LineParts → Pattern → Event
 rule_event s rules o parts pattern =
     if nat_lt s.greatest_id (length rules) then Fatal (fault_at TooManyRules o)
     else (if option_map_or (λ (x : ℕ). x == o) s.refused false then Refused o pattern.text
@@ -54,16 +54,16 @@ rule_event s rules o parts pattern =
       config = config_of s.flags;
     }))
 
-abbrev pub pattern_event : Settings → List Rule → ℕ → RuleParts → Result Pattern Fault → Event
+abbrev pub pattern_event : Settings → List Rule → ℕ → LineParts → Result Pattern Fault → Event
 pattern_event s rules o parts (Ok pattern) = rule_event s rules o parts pattern
 pattern_event s rules o parts (Err fault) = Fatal fault
 
 -- a line's parts make a duplicate of an earlier rule, a new rule or a fatal fault
-abbrev pub parts_event : Settings → List Event → ℕ → RuleParts → Option Rule → Event
+abbrev pub parts_event : Settings → List Event → ℕ → LineParts → Option Rule → Event
 parts_event s earlier o parts (Some original) = Duplicate RuleName original.name_span parts.label.span
 parts_event s earlier o parts None = pattern_event s (rules_of earlier) o parts (read_pattern (has_posix_escapes s.flags) (states_of earlier) o (trim_head parts.head))
 
-abbrev pub split_event : Settings → List Event → ℕ → Result RuleParts Fault → Event
+abbrev pub split_event : Settings → List Event → ℕ → Result LineParts Fault → Event
 split_event s earlier o (Err fault) = Fatal fault
 split_event s earlier o (Ok parts) = parts_event s earlier o parts (rule_with_name (rules_of earlier) parts.label.name)
 

@@ -76,19 +76,19 @@ abbrev pub label_of : ℕ → List ℕ → Result RuleLabel Fault
 label_of blank word = label_in blank (blank + 1 + length word) (name_part word)
 
 -- the parts of a rule line
-pub record RuleParts : Type 0 where
+pub record LineParts : Type 0 where
   pub head : List ℕ
   pub target : Option (ℕ × StartStateOperation)
   pub label : RuleLabel
 
-abbrev pub parts_of_word : List StartState → List ℕ → ℕ → List ℕ → Result RuleParts Fault
+abbrev pub parts_of_word : List StartState → List ℕ → ℕ → List ℕ → Result LineParts Fault
 parts_of_word states head blank word = do
   target ← target_of states blank word
   label ← label_of blank word
   Ok (record { head = head; target = target; label = label })
 
 -- a rule line's parts round its last blank, or its first fault
-abbrev pub split : List StartState → Piece → Result RuleParts Fault
+abbrev pub split : List StartState → Piece → Result LineParts Fault
 split states line =
     let text = trim_end line.text in
     let head = before_last is_blank text in

@@ -258,7 +258,7 @@ impl<'t, StorageT: Id> Builder<'t, StorageT> {
             let found = parts.label.span;
             return self.errors.add_duplicate(alloc, Named::Rule, first, found);
         }
-        let posix = flags.posix_escapes.unwrap_or(false);
+        let posix = flags.has_posix_escapes();
         let head = trim_head(parts.head);
         match read_pattern(alloc, &self.states, at, head, posix)? {
             Ok(pattern) => self.add_rule(alloc, at, parts, pattern, flags),
@@ -340,7 +340,7 @@ impl<'t, StorageT: Id> Builder<'t, StorageT> {
     {
         let section = skip_blanks(behind(text, 0, mark));
         let at = text.len() - section.len();
-        let comments = flags.allow_wholeline_comments.unwrap_or(false);
+        let comments = flags.allows_comments();
         let rules = read_section(alloc, section, at, comments, false)?;
         self.lines(alloc, rules.lines.as_slice(), flags)?;
         let Some(end) = rules.end else {
@@ -360,7 +360,7 @@ impl<'t, StorageT: Id> Builder<'t, StorageT> {
             (ReadsLines StorageT.number flags.now StorageT.greatest self.old self.new
             (λ s events. file_events s (allows_comments flags.now) text.now events)) }
     {
-        let comments = flags.allow_wholeline_comments.unwrap_or(false);
+        let comments = flags.allows_comments();
         let declared = read_section(alloc, text, 0, comments, true)?;
         self.declarations(alloc, declared.lines.as_slice())?;
         match declared.end {

@@ -13,7 +13,7 @@ use Rattle.lrlex_rules.proofs.parser.builder.Builder.read.Goals as goal
 pub returns-in-Some : goal.returns-in-Some
 returns-in-Some g c =
     let flags = c.args.flags.now in
-    let all = declared_all c.args.text.now c.unwrap_or-comments.result flags c.as_slice.result.now c.unwrap_or-comments.ensures (ap (map as_piece) c.as_slice.ensures.value ∙ c.in_ok-declared.ensures.lines) in
+    let all = declared_all c.args.text.now c.allows_comments-comments.result flags c.as_slice.result.now c.allows_comments-comments.ensures (ap (map as_piece) c.as_slice.ensures.value ∙ c.in_ok-declared.ensures.lines) in
     let end : Some (as_piece c.in-Some.mark) ≡ section_end (trimmed_lines c.args.text.now) = ap (option_map as_piece) (sym c.in-Some.is) ∙ declared_end c.args.text.now c.in_ok-declared.declared.end c.in_ok-declared.ensures.end in
     on_ok c.rules.result (λ reads s suits events was same.
     let so_far = c.in_ok-declarations.ensures flags events was in
@@ -24,7 +24,7 @@ returns-in-Some g c =
 pub returns : goal.returns
 returns g c =
     let flags = c.args.flags.now in
-    let all = declared_all c.args.text.now c.unwrap_or-comments.result flags c.as_slice.result.now c.unwrap_or-comments.ensures (ap (map as_piece) c.as_slice.ensures.value ∙ c.in_ok-declared.ensures.lines) in
+    let all = declared_all c.args.text.now c.allows_comments-comments.result flags c.as_slice.result.now c.allows_comments-comments.ensures (ap (map as_piece) c.as_slice.ensures.value ∙ c.in_ok-declared.ensures.lines) in
     let end : None ≡ section_end (trimmed_lines c.args.text.now) = ap (option_map as_piece) (sym c.in-None.is) ∙ declared_end c.args.text.now c.in_ok-declared.declared.end c.in_ok-declared.ensures.end in
     on_ok c.then_refuse.result (λ reads s suits events was same.
     let so_far = c.in_ok-declarations.ensures flags events was in
