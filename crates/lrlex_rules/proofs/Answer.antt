@@ -11,7 +11,7 @@ use Rattle.lrlex_rules.specs.Definition.{StartState, Rule, Definition}
 use Rattle.lrlex_rules.specs.Event.Event.{NewState}
 use Rattle.lrlex_rules.specs.Declaration.{Declared, initial, state_event, declarations, section_end, trimmed_lines}
 use Rattle.lrlex_rules.specs.Outcome.{Settings, events_after, rules_events, events_of, faults_after, definition_or_faults, outcome}
-use Rattle.lrlex_rules.specs.Reading.{Represents, settings, refused_in, refused_of, as_fault}
+use Rattle.lrlex_rules.specs.Builder.{Represents, settings, refused_in, refused_of, as_fault}
 use Rattle.lrlex_rules.specs.Parts.{as_state, as_rule}
 
 some_faults : (flags : LexFlags) (events : List Event) (fs : List Fault) → eqb (length fs) 0 ≡ false → Err fs ≡ definition_or_faults flags events fs

@@ -15,7 +15,7 @@ use Rattle.lrlex_rules.specs.Declaration.{state_named, state_event, new_or_dupli
 use Rattle.lrlex_rules.specs.Declaration.Declared.{Name, Wrong}
 use Rattle.lrlex_rules.specs.Outcome.{faults_after}
 use Rattle.lrlex_rules.specs.Merge.{with_duplicate}
-use Rattle.lrlex_rules.specs.Reading.{Represents, Adds, as_fault, kind_error, regex_errors, IsRefused, AreRefusals}
+use Rattle.lrlex_rules.specs.Builder.{Represents, Adds, as_fault, kind_error, regex_errors, IsRefused, AreRefusals}
 use Rattle.lrlex_rules.specs.Parts.{as_state, as_rule}
 use Rattle.lrlex_rules.specs.declared.parser.builder.Builder.{Builder}
 use Rattle.lrlex_rules.specs.declared.flags.LexFlags.{LexFlags}

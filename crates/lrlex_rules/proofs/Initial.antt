@@ -4,7 +4,7 @@ use Rattle.std.specs.Prelude.{◌+◌, if◌then◌else◌}
 use Rattle.lrlex_rules.specs.declared.flags.LexFlags.{LexFlags}
 use Rattle.lrlex_rules.specs.Definition.{StartState, Definition}
 use Rattle.lrlex_rules.specs.Flags.{allows_comments}
-use Rattle.lrlex_rules.specs.Text.{Piece, is_white, lines}
+use Rattle.lrlex_rules.specs.Text.{Piece, is_white, cut_lines}
 use Rattle.lrlex_rules.specs.Event.{Event, Fault, FaultKind, fault_at, is_refused, states_of}
 use Rattle.lrlex_rules.specs.Event.Event.{NewState, Fatal}
 use Rattle.lrlex_rules.specs.Event.FaultKind.{PrematureEnd, RoutinesNotSupported}
@@ -36,8 +36,8 @@ begins_rules : (s : Settings) (text : List ℕ) (declared : List Event) (mark : 
 begins_rules s text declared None h = begins_then declared PrematureEnd _ h
 begins_rules s text declared (Some mark) h =
     let rest = rules_section text mark in
-    begins_end text (events_after (line_event s) declared (section_lines (allows_comments s.flags) (lines rest))) (section_end (lines rest))
-    (begins_after (line_event s) declared (section_lines (allows_comments s.flags) (lines rest)) h)
+    begins_end text (events_after (line_event s) declared (section_lines (allows_comments s.flags) (cut_lines rest))) (section_end (cut_lines rest))
+    (begins_after (line_event s) declared (section_lines (allows_comments s.flags) (cut_lines rest)) h)
 
 begins_all : (s : Settings) (text : List ℕ) → Begins (events_of s text)
 begins_all s text =

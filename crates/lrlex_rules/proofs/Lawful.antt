@@ -19,15 +19,15 @@ use Rattle.lrlex_rules.specs.declared.flags.LexFlags.{LexFlags}
 use Rattle.lrlex_rules.specs.declared.states.StartStateOperation.{StartStateOperation}
 use Rattle.lrlex_rules.specs.Flags.{has_posix_escapes, allows_comments, config_of}
 use Rattle.lrlex_rules.specs.Definition.{StartState, Rule, Definition}
-use Rattle.lrlex_rules.specs.Text.{Piece, piece, lines, trim_end, trim_text, begins_with, same_text, is_white}
+use Rattle.lrlex_rules.specs.Text.{Piece, piece, cut_lines, trim_end, trim_text, begins_with, same_text, is_white}
 use Rattle.lrlex_rules.specs.Event.{span_of, Fault, FaultKind, fault_at, ◌>>=◌, Event, new_state, new_rule, states_of, rules_of, is_refused}
 use Rattle.lrlex_rules.specs.Event.FaultKind.{InvalidName, UnknownStartState, InvalidStartState, MissingSpace, TooManyRules, PrematureEnd, RoutinesNotSupported}
 use Rattle.lrlex_rules.specs.Event.Event.{NewState, NewRule, Verbatim, Refused, Fatal}
 use Rattle.lrlex_rules.specs.Declaration.{Declared, trimmed_lines, section_lines, section_end, declarations, initial, state_named, new_or_duplicate, state_event}
 use Rattle.lrlex_rules.specs.Declaration.Declared.{Name, Wrong}
 use Rattle.lrlex_rules.specs.Escape.{trim_head, unescape}
-use Rattle.lrlex_rules.specs.RuleLine.{is_greater, in_angles, after_angles, target_of, name_part, is_unnamed, is_quoted_by, is_quoted, RuleLabel, label_of, RuleParts, parts_of_word, split, Pattern, cons_both, state_id, state_ids, ids_of, listed_ids, listed_names, pattern_of}
-use Rattle.lrlex_rules.specs.Outcome.{Settings, events_after, then_fatal, has_name, rule_named, rule_event, pattern_event, parts_event, split_event, is_verbatim, line_event, rules_section, end_events, rules_events, events_of, faults_after, definition_or_faults, outcome}
+use Rattle.lrlex_rules.specs.RuleLine.{is_greater, in_angles, after_angles, target_of, name_part, is_unnamed, is_quoted_by, is_quoted, RuleLabel, label_of, LineParts, parts_of_word, split, Pattern, cons_both, state_id, state_ids, all_ids, listed_ids, listed_names, read_pattern}
+use Rattle.lrlex_rules.specs.Outcome.{Settings, events_after, then_fatal, has_name, rule_with_name, rule_event, pattern_event, parts_event, split_event, is_verbatim, line_event, rules_section, end_events, rules_events, events_of, faults_after, definition_or_faults, outcome}
 use Rattle.lrlex_rules.specs.Laws.{RuleIdsArePlaces, StateIdsArePlaces, RuleNamesDiffer, StateNamesDiffer, IsNameAt, RuleNamesStand, StateNamesStand, PatternsAreRewritten, IsLawful}
 use Rattle.lrlex_rules.proofs.Placed.{IsPiece, suffix, cut_pieces, trimmed_end, last_at}
 use Rattle.lrlex_rules.proofs.PlacedFaults.{either, DeclaredFits, all_declared, either_quote, EndsWord, name_stands, section_pieces, trimmed_pieces, section_fits, MarkFits, mark_fits}
@@ -106,7 +106,7 @@ piece_name text x p = piece_range text x 0 (length x.text) x.at (x.at + length x
 -- ---- rules and states
 record IsGoodRule (text : List ℕ) (posix : Bool) (before : List Rule) (r : Rule) : Type 0 where
   id : r.id ≡ Some (length before)
-  new : rule_named before r.name ≡ None
+  new : rule_with_name before r.name ≡ None
   there : IfSome r.name (IsNameAt text r.name_span)
   steady : r.start_states ≡ [] → unescape posix r.re_str ≡ r.re_str
 
@@ -158,7 +158,7 @@ abbrev LabelStands : List ℕ → Result RuleLabel Fault → Type 0
 LabelStands text (Ok l) = IfSome l.name (IsNameAt text l.span)
 LabelStands text (Err f) = Unit {0}
 
-abbrev PartsStand : List ℕ → Result RuleParts Fault → Type 0
+abbrev PartsStand : List ℕ → Result LineParts Fault → Type 0
 PartsStand text (Ok p) = IfSome p.label.name (IsNameAt text p.label.span)
 PartsStand text (Err f) = Unit {0}
 
@@ -224,9 +224,9 @@ both_some (Some id) (Some ids) = omega arith
 listed_some : (states : List StartState) (names : List (List ℕ)) → 0 < length states → 0 < length names → HasSome (listed_ids states names)
 listed_some states [] h k = absurd (omega arith)
 listed_some states (name ∷ []) h k =
-    let size : length (ids_of states) ≡ length states = length-map states (λ (s : StartState). s.id) in
-    let all : HasSome (Some (ids_of states)) = omega arith in
-    either HasSome (same_text (trim_text name) (codes "*")) (Some (ids_of states)) (state_ids states (name ∷ [])) all (both_some (state_id states (trim_text name)) (Some []))
+    let size : length (all_ids states) ≡ length states = length-map states (λ (s : StartState). s.id) in
+    let all : HasSome (Some (all_ids states)) = omega arith in
+    either HasSome (same_text (trim_text name) (codes "*")) (Some (all_ids states)) (state_ids states (name ∷ [])) all (both_some (state_id states (trim_text name)) (Some []))
 listed_some states (name ∷ n ∷ ns) h k = both_some (state_id states (trim_text name)) (state_ids states (n ∷ ns))
 
 abbrev PatternIsSteady : Bool → Result Pattern Fault → Type 0
@@ -237,7 +237,7 @@ listed_steady : (posix : Bool) (head : List ℕ) (f : Fault) (ids : Option (List
 listed_steady posix head f None h = tt
 listed_steady posix head f (Some ids) h = λ e. let none = ap (length {A = ℕ}) e in absurd (omega arith)
 
-pattern_steady : (posix : Bool) (states : List StartState) (o : ℕ) (head : List ℕ) → 0 < length states → PatternIsSteady posix (pattern_of posix states o head)
+pattern_steady : (posix : Bool) (states : List StartState) (o : ℕ) (head : List ℕ) → 0 < length states → PatternIsSteady posix (read_pattern posix states o head)
 pattern_steady posix states o head h =
     let names = listed_names (in_angles head) in
     let ids = listed_ids states names in
@@ -252,7 +252,7 @@ module _ (text : List ℕ) (s : Settings) (o : ℕ) (earlier : List Event) (a : 
   abbrev Good : Event → Type 0
   Good e = IsGoodEvent text (has_posix_escapes s.flags) earlier e
 
-  rule_event_good : (parts : RuleParts) (pattern : Pattern) → rule_named (rules_of earlier) parts.label.name ≡ None → IfSome parts.label.name (IsNameAt text parts.label.span)
+  rule_event_good : (parts : LineParts) (pattern : Pattern) → rule_with_name (rules_of earlier) parts.label.name ≡ None → IfSome parts.label.name (IsNameAt text parts.label.span)
       → (pattern.start_states ≡ [] → unescape (has_posix_escapes s.flags) pattern.text ≡ pattern.text) → Good (rule_event s (rules_of earlier) o parts pattern)
   rule_event_good parts pattern new there steady =
       let made : Event = NewRule (record {
@@ -268,19 +268,19 @@ module _ (text : List ℕ) (s : Settings) (o : ℕ) (earlier : List Event) (a : 
       either Good (nat_lt s.greatest_id (length (rules_of earlier))) (Fatal (fault_at TooManyRules o)) (if is_refused_here then Refused o pattern.text else made) (record { rule = tt; state = tt })
       (either Good is_refused_here (Refused o pattern.text) made (record { rule = tt; state = tt }) (record { rule = record { id = refl; new = new; there = there; steady = steady }; state = tt }))
 
-  pattern_event_good : (parts : RuleParts) (r : Result Pattern Fault) → rule_named (rules_of earlier) parts.label.name ≡ None → IfSome parts.label.name (IsNameAt text parts.label.span)
+  pattern_event_good : (parts : LineParts) (r : Result Pattern Fault) → rule_with_name (rules_of earlier) parts.label.name ≡ None → IfSome parts.label.name (IsNameAt text parts.label.span)
       → PatternIsSteady (has_posix_escapes s.flags) r → Good (pattern_event s (rules_of earlier) o parts r)
   pattern_event_good parts (Ok pattern) new there steady = rule_event_good parts pattern new there steady
   pattern_event_good parts (Err f) new there steady = record { rule = tt; state = tt }
 
-  parts_event_good : (parts : RuleParts) (original : Option Rule) → rule_named (rules_of earlier) parts.label.name ≡ original → IfSome parts.label.name (IsNameAt text parts.label.span) → Good (parts_event s earlier o parts original)
+  parts_event_good : (parts : LineParts) (original : Option Rule) → rule_with_name (rules_of earlier) parts.label.name ≡ original → IfSome parts.label.name (IsNameAt text parts.label.span) → Good (parts_event s earlier o parts original)
   parts_event_good parts (Some original) new there = record { rule = tt; state = tt }
   parts_event_good parts None new there =
-      pattern_event_good parts (pattern_of (has_posix_escapes s.flags) (states_of earlier) o (trim_head parts.head)) new there (pattern_steady (has_posix_escapes s.flags) (states_of earlier) o (trim_head parts.head) a.some)
+      pattern_event_good parts (read_pattern (has_posix_escapes s.flags) (states_of earlier) o (trim_head parts.head)) new there (pattern_steady (has_posix_escapes s.flags) (states_of earlier) o (trim_head parts.head) a.some)
 
-  split_event_good : (r : Result RuleParts Fault) → PartsStand text r → Good (split_event s earlier o r)
+  split_event_good : (r : Result LineParts Fault) → PartsStand text r → Good (split_event s earlier o r)
   split_event_good (Err f) h = record { rule = tt; state = tt }
-  split_event_good (Ok parts) h = parts_event_good parts (rule_named (rules_of earlier) parts.label.name) refl h
+  split_event_good (Ok parts) h = parts_event_good parts (rule_with_name (rules_of earlier) parts.label.name) refl h
 
 line_good : (text : List ℕ) (s : Settings) (earlier : List Event) (line : Piece) → AreGood text (has_posix_escapes s.flags) earlier → IsPiece text line → IsGoodEvent text (has_posix_escapes s.flags) earlier (line_event s earlier line)
 line_good text s earlier line a p =
@@ -302,7 +302,7 @@ module _ (text : List ℕ) (s : Settings) (u : IsUtf8 text) where
   rules_good declared None a h = good_then text (has_posix_escapes s.flags) declared PrematureEnd (length text) a
   rules_good declared (Some mark) a h =
       let rest = rules_section text mark in
-      let ls = lines rest in
+      let ls = cut_lines rest in
       let pieces = cut_pieces is_line_sep text rest (section_fits text mark u h.0 h.1) in
       let said = section_lines (allows_comments s.flags) ls in
       end_good (events_after (line_event s) declared said) (section_end ls)
@@ -357,7 +357,7 @@ module _ (text : List ℕ) (d : Definition) (g : IsGoodDefinition text d) where
 
   rule_names : RuleNamesDiffer d
   rule_names j k a b m n lt ha hb ea eb =
-      let none : find (has_name n) (take k d.rules) ≡ None = ap (rule_named (take k d.rules)) (sym eb) ∙ (g.rules k b hb).new in
+      let none : find (has_name n) (take k d.rules) ≡ None = ap (rule_with_name (take k d.rules)) (sym eb) ∙ (g.rules k b hb).new in
       let other : has_name n a ≡ false = find_none (has_name n) (take k d.rules) j a none (get_take d.rules j k a lt ha) in
       differ m n (ap (λ (o : Option (List ℕ)). option_map_or (λ (x : List ℕ). same_text x n) o false) (sym ea) ∙ other)
 

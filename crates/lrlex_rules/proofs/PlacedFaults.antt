@@ -18,17 +18,17 @@ use Rattle.lrlex_rules.specs.declared.flags.LexFlags.{LexFlags}
 use Rattle.lrlex_rules.specs.declared.states.StartStateOperation.{StartStateOperation}
 use Rattle.lrlex_rules.specs.Flags.{has_posix_escapes, allows_comments, config_of}
 use Rattle.lrlex_rules.specs.Definition.{StartState, Rule, Definition}
-use Rattle.lrlex_rules.specs.Text.{Piece, piece, cut, lines, trim, trim_end, begins_with, same_text, is_empty, is_white}
+use Rattle.lrlex_rules.specs.Text.{Piece, piece, cut, cut_lines, trim, trim_end, begins_with, same_text, is_empty, is_white}
 use Rattle.lrlex_rules.specs.Event.{span_of, FaultKind, Fault, fault, fault_at, ◌>>=◌, Subject, Event, new_state, new_rule, states_of, rules_of, is_refused}
 use Rattle.lrlex_rules.specs.Event.FaultKind.{UnknownDeclaration, InvalidStartStateName, InvalidName, UnknownStartState, InvalidStartState, MissingSpace, TooManyRules, RegexError, VerbatimNotSupported, PrematureEnd, RoutinesNotSupported}
 use Rattle.lrlex_rules.specs.Event.Event.{NewState, NewRule, Duplicate, Verbatim, Refused, Fatal}
 use Rattle.lrlex_rules.specs.Declaration.{Declared, ends_section, is_skipped, section_lines, section_end, declares_exclusive, first_word, is_state_name, declared_name, declared_names, declared_by, trimmed_lines, declarations, initial, state_named, new_or_duplicate, state_event}
 use Rattle.lrlex_rules.specs.Declaration.Declared.{Name, Wrong}
 use Rattle.lrlex_rules.specs.Escape.{trim_head, unescape}
-use Rattle.lrlex_rules.specs.RuleLine.{is_greater, in_angles, after_angles, target, target_name, operation_of, state_id, target_of, name_part, is_unnamed, is_quoted_by, is_quoted, RuleLabel, label_of, RuleParts, parts_of_word, split, Pattern, listed_ids, listed_names, pattern_of}
-use Rattle.lrlex_rules.specs.Outcome.{Settings, events_after, then_fatal, has_name, rule_named, rule_event, pattern_event, parts_event, split_event, is_verbatim, line_event, rules_section, end_events, rules_events, events_of, same_subject, duplicate_of, kind_of, fault_of, faults_after, definition_or_faults, outcome}
+use Rattle.lrlex_rules.specs.RuleLine.{is_greater, in_angles, after_angles, target, target_name, operation_of, state_id, target_of, name_part, is_unnamed, is_quoted_by, is_quoted, RuleLabel, label_of, LineParts, parts_of_word, split, Pattern, listed_ids, listed_names, read_pattern}
+use Rattle.lrlex_rules.specs.Outcome.{Settings, events_after, then_fatal, has_name, rule_with_name, rule_event, pattern_event, parts_event, split_event, is_verbatim, line_event, rules_section, end_events, rules_events, events_of, same_subject, duplicate_of, kind_of, fault_of, faults_after, definition_or_faults, outcome}
 use Rattle.lrlex_rules.specs.Faults.{IsPlaced}
-use Rattle.lrlex_rules.specs.Reading.{as_fault}
+use Rattle.lrlex_rules.specs.Builder.{as_fault}
 use Rattle.lrlex_rules.proofs.Angles.{quoted_start}
 use Rattle.lrlex_rules.proofs.Blanks.{blank_low}
 use Rattle.lrlex_rules.proofs.Marks.{percent}
@@ -115,7 +115,7 @@ section_pieces text comments ls a =
 
 pub trimmed_pieces : (text : List ℕ) → IsUtf8 text → All (IsPiece text) (trimmed_lines text)
 trimmed_pieces text u =
-    let ls = lines (piece 0 text) in
+    let ls = cut_lines (piece 0 text) in
     All-map (IsPiece text) trim ls (All-weaker (IsPiece text) (λ x. IsPiece text (trim x)) (trimmed text) ls (cut_pieces is_line_sep text (piece 0 text) (whole_text text u)))
 
 pub all_declared : (text : List ℕ) (comments : Bool) → IsUtf8 text → All (DeclaredFits text) (declarations comments text)
@@ -183,7 +183,7 @@ abbrev LabelFits : List ℕ → Result RuleLabel Fault → Type 0
 LabelFits text (Ok l) = SpanFits text l.span
 LabelFits text (Err f) = FaultFits text f
 
-abbrev PartsFit : List ℕ → Result RuleParts Fault → Type 0
+abbrev PartsFit : List ℕ → Result LineParts Fault → Type 0
 PartsFit text (Ok p) = SpanFits text p.label.span
 PartsFit text (Err f) = FaultFits text f
 
@@ -296,7 +296,7 @@ split_case text states o t true e p =
 split_fits : (text : List ℕ) (states : List StartState) (line : Piece) → IsPiece text line → PartsFit text (split states line)
 split_fits text states line p = split_case text states line.at (trim_end line.text) (list_any is_blank (trim_end line.text)) refl (trimmed_end text line p)
 
-pattern_fits : (text : List ℕ) (posix : Bool) (states : List StartState) (o : ℕ) (head : List ℕ) → IsCharBoundary text o → ErrFits text (pattern_of posix states o head)
+pattern_fits : (text : List ℕ) (posix : Bool) (states : List StartState) (o : ℕ) (head : List ℕ) → IsCharBoundary text o → ErrFits text (read_pattern posix states o head)
 pattern_fits text posix states o head b =
     let ids = listed_ids states (listed_names (in_angles head)) in
     let made : Option Pattern = option_map (λ (ids : List ℕ). record { start_states = ids; text = after_angles head }) ids in
@@ -306,12 +306,12 @@ pattern_fits text posix states o head b =
     either (ErrFits text) (not (begins_with (codes "<") head)) (Ok (record { start_states = []; text = unescape posix head })) inner tt inner_fits
 
 -- ---- the events of a rule line
-named_fits : (text : List ℕ) (rules : List Rule) (name : Option (List ℕ)) → All (RuleFits text) rules → IfSome (rule_named rules name) (RuleFits text)
+named_fits : (text : List ℕ) (rules : List Rule) (name : Option (List ℕ)) → All (RuleFits text) rules → IfSome (rule_with_name rules name) (RuleFits text)
 named_fits text rules None a = tt
 named_fits text rules (Some n) a = only_first (RuleFits text) (has_name n) (find (has_name n) rules) (found (RuleFits text) (has_name n) rules a)
 
 module _ (text : List ℕ) (s : Settings) (o : ℕ) (b : IsCharBoundary text o) where
-  rule_event_fits : (rules : List Rule) (parts : RuleParts) (pattern : Pattern) → SpanFits text parts.label.span → EventFits text (rule_event s rules o parts pattern)
+  rule_event_fits : (rules : List Rule) (parts : LineParts) (pattern : Pattern) → SpanFits text parts.label.span → EventFits text (rule_event s rules o parts pattern)
   rule_event_fits rules parts pattern h =
       let made : Event = NewRule (record {
         id = Some (length rules);
@@ -326,19 +326,19 @@ module _ (text : List ℕ) (s : Settings) (o : ℕ) (b : IsCharBoundary text o) 
       either (EventFits text) (nat_lt s.greatest_id (length rules)) (Fatal (fault_at TooManyRules o)) (if is_refused_here then Refused o pattern.text else made) (fits_at text TooManyRules o b)
       (either (EventFits text) is_refused_here (Refused o pattern.text) made b h)
 
-  pattern_event_fits : (rules : List Rule) (parts : RuleParts) (r : Result Pattern Fault) → SpanFits text parts.label.span → ErrFits text r → EventFits text (pattern_event s rules o parts r)
+  pattern_event_fits : (rules : List Rule) (parts : LineParts) (r : Result Pattern Fault) → SpanFits text parts.label.span → ErrFits text r → EventFits text (pattern_event s rules o parts r)
   pattern_event_fits rules parts (Ok pattern) h k = rule_event_fits rules parts pattern h
   pattern_event_fits rules parts (Err f) h k = k
 
-  parts_event_fits : (earlier : List Event) (parts : RuleParts) (original : Option Rule) → SpanFits text parts.label.span → IfSome original (RuleFits text) → EventFits text (parts_event s earlier o parts original)
+  parts_event_fits : (earlier : List Event) (parts : LineParts) (original : Option Rule) → SpanFits text parts.label.span → IfSome original (RuleFits text) → EventFits text (parts_event s earlier o parts original)
   parts_event_fits earlier parts (Some original) h k = (k, h)
   parts_event_fits earlier parts None h k =
-      let r = pattern_of (has_posix_escapes s.flags) (states_of earlier) o (trim_head parts.head) in
+      let r = read_pattern (has_posix_escapes s.flags) (states_of earlier) o (trim_head parts.head) in
       pattern_event_fits (rules_of earlier) parts r h (pattern_fits text (has_posix_escapes s.flags) (states_of earlier) o (trim_head parts.head) b)
 
-  split_event_fits : (earlier : List Event) (r : Result RuleParts Fault) → All (EventFits text) earlier → PartsFit text r → EventFits text (split_event s earlier o r)
+  split_event_fits : (earlier : List Event) (r : Result LineParts Fault) → All (EventFits text) earlier → PartsFit text r → EventFits text (split_event s earlier o r)
   split_event_fits earlier (Err f) a h = h
-  split_event_fits earlier (Ok parts) a h = parts_event_fits earlier parts (rule_named (rules_of earlier) parts.label.name) h (named_fits text (rules_of earlier) parts.label.name (rules_fit text earlier a))
+  split_event_fits earlier (Ok parts) a h = parts_event_fits earlier parts (rule_with_name (rules_of earlier) parts.label.name) h (named_fits text (rules_of earlier) parts.label.name (rules_fit text earlier a))
 
 line_fits : (text : List ℕ) (s : Settings) (earlier : List Event) (line : Piece) → All (EventFits text) earlier → IsPiece text line → EventFits text (line_event s earlier line)
 line_fits text s earlier line a p =
@@ -382,7 +382,7 @@ rules_fits : (text : List ℕ) (s : Settings) (declared : List Event) (o : Optio
 rules_fits text s declared None u a h = fatal_fits text declared PrematureEnd (length text) a (IsCharBoundary-end text)
 rules_fits text s declared (Some mark) u a h =
     let rest = rules_section text mark in
-    let ls = lines rest in
+    let ls = cut_lines rest in
     let pieces = cut_pieces is_line_sep text rest (section_fits text mark u h.0 h.1) in
     let said = section_lines (allows_comments s.flags) ls in
     end_fits text (events_after (line_event s) declared said) (section_end ls)

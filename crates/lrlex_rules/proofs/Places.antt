@@ -12,7 +12,7 @@ use Rattle.std.specs.List.{find, position, position_or_len, slice_get}
 use Rattle.std.specs.Str.{bytes_eq}
 use Rattle.std.proofs.lemmas.List.Folds.{find_at, position_or_len_push}
 use Rattle.std.proofs.lemmas.Slice.Eq.{bytes_eq-Decides}
-use Rattle.lrlex_rules.specs.Parts.{is_name, place_if_named}
+use Rattle.lrlex_rules.specs.Parts.{is_name, index_if_named}
 use Rattle.lrlex_base.specs.Spans.{Span, span, as_span, span_start, span_end}
 use Rattle.lrlex_base.specs.declared.spans.Span.{Span as TheSpan}
 use Rattle.lrlex_rules.specs.declared.faults.LexBuildError.{LexBuildError}
@@ -20,7 +20,7 @@ use Rattle.lrlex_rules.specs.declared.faults.LexErrorKind.{LexErrorKind}
 use Rattle.lrlex_rules.specs.Faults.{fault_kind, fault_spans}
 use Rattle.lrlex_rules.specs.Event.{fault}
 use Rattle.lrlex_rules.specs.Kinds.{as_kind}
-use Rattle.lrlex_rules.specs.Reading.{as_fault}
+use Rattle.lrlex_rules.specs.Builder.{as_fault}
 
 pub span_from : (s : TheSpan) (start end : ℕ) → span_start s ≡ start → span_end s ≡ end → as_span s ≡ span start end
 span_from s start end h k = ap (λ (n : ℕ). span n (span_end s)) h ∙ ap (λ (n : ℕ). span start n) k
@@ -72,11 +72,11 @@ noted_by name q f place true h e = or_else (f q) (Some place) (ap (λ (x : List 
 noted_by name q f place false h e = sym (option_or-None (f q))
 
 -- one more name noted
-pub noted : (name q : List ℕ) (f : List ℕ → Option ℕ) (place : ℕ) → is_some (f name) ≡ false → cond (bytes_eq name q) (Some place) (f q) ≡ option_or (f q) (place_if_named (Some name) place q)
+pub noted : (name q : List ℕ) (f : List ℕ → Option ℕ) (place : ℕ) → is_some (f name) ≡ false → cond (bytes_eq name q) (Some place) (f q) ≡ option_or (f q) (index_if_named (Some name) place q)
 noted name q f place h = noted_by name q f place (bytes_eq name q) h refl
 
 -- one more item, and its name noted
 pub placed_push : {X : Type 0} (name : X → Option (List ℕ)) (f g : List ℕ → Option ℕ) (xs : List X) (x : X) → ((q : List ℕ) → f q ≡ position (λ y. is_name q (name y)) xs)
-    → ((q : List ℕ) → g q ≡ option_or (f q) (place_if_named (name x) (length xs) q)) → (q : List ℕ) → g q ≡ position (λ y. is_name q (name y)) (xs ++ x ∷ [])
+    → ((q : List ℕ) → g q ≡ option_or (f q) (index_if_named (name x) (length xs) q)) → (q : List ℕ) → g q ≡ position (λ y. is_name q (name y)) (xs ++ x ∷ [])
 placed_push {X} name f g xs x was now q =
-    now q ∙ ap (λ (o : Option ℕ). option_or o (place_if_named (name x) (length xs) q)) (was q) ∙ sym (position-push (λ (y : X). is_name q (name y)) xs x)
+    now q ∙ ap (λ (o : Option ℕ). option_or o (index_if_named (name x) (length xs) q)) (was q) ∙ sym (position-push (λ (y : X). is_name q (name y)) xs x)

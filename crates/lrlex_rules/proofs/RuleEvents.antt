@@ -13,9 +13,9 @@ use Rattle.lrlex_rules.specs.Event.FaultKind.{TooManyRules}
 use Rattle.lrlex_rules.specs.Event.Subject.{RuleName}
 use Rattle.lrlex_rules.specs.Text.{Piece}
 use Rattle.lrlex_rules.specs.Escape.{trim_head}
-use Rattle.lrlex_rules.specs.RuleLine.{RuleParts, Pattern, pattern_of, split}
-use Rattle.lrlex_rules.specs.Outcome.{Settings, rule_event, pattern_event, parts_event, split_event, rule_named, is_verbatim, line_event}
-use Rattle.lrlex_rules.specs.Reading.{Represents, Adds, AddsRefused, AddsLine, Suits, IsRefused, hits, refused_in, refused_of, as_fault}
+use Rattle.lrlex_rules.specs.RuleLine.{LineParts, Pattern, read_pattern, split}
+use Rattle.lrlex_rules.specs.Outcome.{Settings, rule_event, pattern_event, parts_event, split_event, rule_with_name, is_verbatim, line_event}
+use Rattle.lrlex_rules.specs.Builder.{Represents, Adds, AddsRefused, AddsLine, Suits, IsRefused, hits, refused_in, refused_of, as_fault}
 use Rattle.lrlex_rules.specs.Parts.{as_state, as_rule}
 use Rattle.lrlex_rules.specs.Merge.{with_duplicate}
 use Rattle.regex.specs.declared.error.Error.{Error}
@@ -46,7 +46,7 @@ module _ {S : Type 0} (number : S → ℕ) (flags : LexFlags) (greatest : ℕ) (
       → ((s : Settings) → Suits s flags greatest → (events : List Event) → Represents number flags old events → e s events ≡ e' s events) → AddsLine number flags greatest old new o e → AddsLine number flags greatest old new o e'
   line_same e e' same adds s suits events was hit = let P : Event → Type 0 = λ x. Represents number flags new (events ++ x ∷ []) in subst P (same s suits events was) (adds s suits events was hit)
 
-  module _ (parts : RuleParts) (pattern : Pattern) where
+  module _ (parts : LineParts) (pattern : Pattern) where
     -- too many rules
     too_many : (s : Settings) (rules : List Rule) → s.greatest_id < length rules → Fatal (fault_at TooManyRules o) ≡ rule_event s rules o parts pattern
     too_many s rules h = sym (rw (lt_test s.greatest_id (length rules) h) refl)
@@ -89,7 +89,7 @@ module _ {S : Type 0} (number : S → ℕ) (flags : LexFlags) (greatest : ℕ) (
         subst P (kept s (rules_of events) (omega arith) no) (adds (with_id (length (rules_of events)) s.flags) as_one events was)
 
 -- a rule of these parts
-pub rule_made : (parts : RuleParts) (pattern : Pattern) (flags : LexFlags) (r : Rule) (k n : ℕ) (name : Option (List ℕ))
+pub rule_made : (parts : LineParts) (pattern : Pattern) (flags : LexFlags) (r : Rule) (k n : ℕ) (name : Option (List ℕ))
     → r ≡ record { id = Some k; name = name; name_span = parts.label.span; re_str = pattern.text; start_states = pattern.start_states; target = parts.target; config = config_of flags } → k ≡ n → name ≡ parts.label.name
     → r ≡ record { id = Some n; name = parts.label.name; name_span = parts.label.span; re_str = pattern.text; start_states = pattern.start_states; target = parts.target; config = config_of flags }
 rule_made parts pattern flags r k n name e count named =
@@ -103,27 +103,27 @@ at_most greatest n h = omega arith
 posix_is : (flags : LexFlags) (s : Settings) → resolved s.flags ≡ flags → has_posix_escapes s.flags ≡ unwrap_or flags.posix_escapes false
 posix_is flags s h = ap (λ (f : LexFlags). unwrap_or f.posix_escapes false) h
 
-module _ {S : Type 0} (number : S → ℕ) (flags : LexFlags) (greatest : ℕ) (old : Builder S) (o : ℕ) (parts : RuleParts) where
-  pub duplicate_is : (original : Rule) → Some original ≡ rule_named (map (as_rule number) old.rules.list.items) parts.label.name
+module _ {S : Type 0} (number : S → ℕ) (flags : LexFlags) (greatest : ℕ) (old : Builder S) (o : ℕ) (parts : LineParts) where
+  pub duplicate_is : (original : Rule) → Some original ≡ rule_with_name (map (as_rule number) old.rules.list.items) parts.label.name
       → (s : Settings) (events : List Event) → Represents number flags old events → Duplicate RuleName original.name_span parts.label.span ≡ split_event s events o (Ok parts)
-  duplicate_is original found s events was = ap (parts_event s events o parts) (found ∙ ap (λ (rs : List Rule). rule_named rs parts.label.name) was.rules)
+  duplicate_is original found s events was = ap (parts_event s events o parts) (found ∙ ap (λ (rs : List Rule). rule_with_name rs parts.label.name) was.rules)
 
-  module _ (none : None ≡ rule_named (map (as_rule number) old.rules.list.items) parts.label.name) where
+  module _ (none : None ≡ rule_with_name (map (as_rule number) old.rules.list.items) parts.label.name) where
     unnamed : (s : Settings) (events : List Event) → Represents number flags old events → parts_event s events o parts None ≡ split_event s events o (Ok parts)
-    unnamed s events was = ap (parts_event s events o parts) (none ∙ ap (λ (rs : List Rule). rule_named rs parts.label.name) was.rules)
+    unnamed s events was = ap (parts_event s events o parts) (none ∙ ap (λ (rs : List Rule). rule_with_name rs parts.label.name) was.rules)
 
-    pattern_here : (r : Result Pattern Fault) → r ≡ pattern_of (unwrap_or flags.posix_escapes false) (map as_state old.states.list.items) o (trim_head parts.head)
-        → (s : Settings) → Suits s flags greatest → (events : List Event) → Represents number flags old events → r ≡ pattern_of (has_posix_escapes s.flags) (states_of events) o (trim_head parts.head)
+    pattern_here : (r : Result Pattern Fault) → r ≡ read_pattern (unwrap_or flags.posix_escapes false) (map as_state old.states.list.items) o (trim_head parts.head)
+        → (s : Settings) → Suits s flags greatest → (events : List Event) → Represents number flags old events → r ≡ read_pattern (has_posix_escapes s.flags) (states_of events) o (trim_head parts.head)
     pattern_here r e s suits events was =
-        e ∙ ap (λ (b : Bool). pattern_of b (map as_state old.states.list.items) o (trim_head parts.head)) (sym (posix_is flags s suits.flags_are))
-        ∙ ap (λ (ss : List StartState). pattern_of (has_posix_escapes s.flags) ss o (trim_head parts.head)) was.states
+        e ∙ ap (λ (b : Bool). read_pattern b (map as_state old.states.list.items) o (trim_head parts.head)) (sym (posix_is flags s suits.flags_are))
+        ∙ ap (λ (ss : List StartState). read_pattern (has_posix_escapes s.flags) ss o (trim_head parts.head)) was.states
 
-    pub offered_is : (pattern : Pattern) → Ok pattern ≡ pattern_of (unwrap_or flags.posix_escapes false) (map as_state old.states.list.items) o (trim_head parts.head)
+    pub offered_is : (pattern : Pattern) → Ok pattern ≡ read_pattern (unwrap_or flags.posix_escapes false) (map as_state old.states.list.items) o (trim_head parts.head)
         → (s : Settings) → Suits s flags greatest → (events : List Event) → Represents number flags old events → rule_event s (rules_of events) o parts pattern ≡ split_event s events o (Ok parts)
     offered_is pattern e s suits events was =
         ap (λ (r : Result Pattern Fault). pattern_event s (rules_of events) o parts r) (pattern_here (Ok pattern) e s suits events was) ∙ unnamed s events was
 
-    pub unread_is : (f : Fault) → Err f ≡ pattern_of (unwrap_or flags.posix_escapes false) (map as_state old.states.list.items) o (trim_head parts.head)
+    pub unread_is : (f : Fault) → Err f ≡ read_pattern (unwrap_or flags.posix_escapes false) (map as_state old.states.list.items) o (trim_head parts.head)
         → (s : Settings) → Suits s flags greatest → (events : List Event) → Represents number flags old events → Fatal f ≡ split_event s events o (Ok parts)
     unread_is f e s suits events was =
         ap (λ (r : Result Pattern Fault). pattern_event s (rules_of events) o parts r) (pattern_here (Err f) e s suits events was) ∙ unnamed s events was
@@ -132,12 +132,12 @@ module _ {S : Type 0} (number : S → ℕ) (flags : LexFlags) (greatest : ℕ) (
 pub verbatim_is : (s : Settings) (events : List Event) (line : Piece) → is_verbatim line ≡ true → Verbatim (span_of line) ≡ line_event s events line
 verbatim_is s events line h = sym (rw h refl)
 
-pub split_is : {S : Type 0} (number : S → ℕ) (flags : LexFlags) (old : Builder S) (s : Settings) (events : List Event) (line : Piece) (r : Result RuleParts Fault) → Represents number flags old events → is_verbatim line ≡ false → r ≡ split (map as_state old.states.list.items) line → split_event s events line.at r ≡ line_event s events line
+pub split_is : {S : Type 0} (number : S → ℕ) (flags : LexFlags) (old : Builder S) (s : Settings) (events : List Event) (line : Piece) (r : Result LineParts Fault) → Represents number flags old events → is_verbatim line ≡ false → r ≡ split (map as_state old.states.list.items) line → split_event s events line.at r ≡ line_event s events line
 split_is number flags old s events line r was h e =
     let there : r ≡ split (states_of events) line = e ∙ ap (λ (ss : List StartState). split ss line) was.states in
     ap (split_event s events line.at) there ∙ sym (rw h refl)
 
-pub line_duplicate : {S : Type 0} (number : S → ℕ) (flags : LexFlags) (greatest : ℕ) (old new : Builder S) (o : ℕ) (parts : RuleParts) (original : Rule) → old.is_refused ≡ false → Some original ≡ rule_named (map (as_rule number) old.rules.list.items) parts.label.name
+pub line_duplicate : {S : Type 0} (number : S → ℕ) (flags : LexFlags) (greatest : ℕ) (old new : Builder S) (o : ℕ) (parts : LineParts) (original : Rule) → old.is_refused ≡ false → Some original ≡ rule_with_name (map (as_rule number) old.rules.list.items) parts.label.name
     → new.states ≡ old.states → new.rules ≡ old.rules → new.is_refused ≡ old.is_refused → map as_fault new.errors.list.items ≡ with_duplicate RuleName original.name_span parts.label.span (map as_fault old.errors.list.items)
     → AddsLine number flags greatest old new o (λ s events. split_event s events o (Ok parts))
 line_duplicate number flags greatest old new o parts original calm found ss rs re errors s suits events was hit =

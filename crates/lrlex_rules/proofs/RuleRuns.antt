@@ -5,7 +5,7 @@ use Rattle.lrlex_rules.specs.declared.parser.text.Line.{Line}
 use Rattle.lrlex_rules.specs.declared.parser.builder.Builder.{Builder}
 use Rattle.lrlex_rules.specs.Event.{Event, is_refused}
 use Rattle.lrlex_rules.specs.Outcome.{Settings, events_after, line_event}
-use Rattle.lrlex_rules.specs.Reading.{Represents, AddsLine, Suits, AreApart, HitAlike, hits, refused_in, refused_of, as_piece}
+use Rattle.lrlex_rules.specs.Builder.{Represents, AddsLine, Suits, AreApart, HitAlike, hits, refused_in, refused_of, as_piece}
 use Rattle.lrlex_rules.proofs.Refusals.{none_refused}
 use Rattle.lrlex_rules.proofs.Runs.{events_after_more}
 use Rattle.lrlex_rules.proofs.Tells.{IsAt, refused_here, misses}

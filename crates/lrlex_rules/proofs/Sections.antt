@@ -4,7 +4,7 @@ use Rattle.std.specs.Prelude.{not, filter, take_while}
 use Rattle.std.specs.Option.{IfSome}
 use Rattle.std.proofs.lemmas.List.{append-nil, append_assoc}
 use Rattle.std.proofs.lemmas.List.Sums.{take_while-cons}
-use Rattle.lrlex_rules.specs.Text.{Piece, piece, lines, lines_left}
+use Rattle.lrlex_rules.specs.Text.{Piece, piece, cut_lines, lines_left}
 use Rattle.lrlex_rules.specs.Declaration.{section_lines, is_skipped, ends_section, section_end}
 
 -- one line more, in front
@@ -22,7 +22,7 @@ module _ (comments : Bool) (x : Piece) (xs : List Piece) where
   section_says h skip = front comments x xs ∙ rw (h, skip) refl
 
 module _ (v : Piece → Piece) (end : ℕ) (left : Option (List ℕ)) (rest first : List ℕ) (more : Option (List ℕ)) (is : left ≡ Some rest) (short : IfSome left (λ r. length r ≤ end))
-    (next : (o : ℕ) → lines (piece o rest) ≡ piece o first ∷ lines_left (o + length rest) more) where
+    (next : (o : ℕ) → cut_lines (piece o rest) ≡ piece o first ∷ lines_left (o + length rest) more) where
   pub rest_short : length rest ≤ end
   rest_short = subst (λ (o : Option (List ℕ)). IfSome o (λ r. length r ≤ end)) is short
 

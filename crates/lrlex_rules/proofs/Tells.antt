@@ -15,9 +15,9 @@ use Rattle.lrlex_rules.specs.Flags.{has_posix_escapes, config_of}
 use Rattle.lrlex_rules.specs.Escape.{trim_head, unescape}
 use Rattle.lrlex_rules.specs.Text.{Piece, trim_end, begins_with}
 use Rattle.lrlex_base.specs.Classes.{is_blank}
-use Rattle.lrlex_rules.specs.RuleLine.{RuleParts, RuleLabel, Pattern, is_greater, in_angles, after_angles, operation_of, target_name, state_id, is_unnamed, is_quoted, label_in, name_part, listed_ids, listed_names, target, target_of, label_of, split, pattern_of, parts_of_word}
-use Rattle.lrlex_rules.specs.Outcome.{Settings, faults_after, rule_event, pattern_event, parts_event, split_event, rule_named, is_verbatim, line_event}
-use Rattle.lrlex_rules.specs.Reading.{Represents, hits, refused_in, refused_of}
+use Rattle.lrlex_rules.specs.RuleLine.{LineParts, RuleLabel, Pattern, is_greater, in_angles, after_angles, operation_of, target_name, state_id, is_unnamed, is_quoted, label_in, name_part, listed_ids, listed_names, target, target_of, label_of, split, read_pattern, parts_of_word}
+use Rattle.lrlex_rules.specs.Outcome.{Settings, faults_after, rule_event, pattern_event, parts_event, split_event, rule_with_name, is_verbatim, line_event}
+use Rattle.lrlex_rules.specs.Builder.{Represents, hits, refused_in, refused_of}
 use Rattle.lrlex_rules.proofs.Builders.{refused-push}
 use Rattle.lrlex_rules.specs.declared.states.StartStateOperation.{StartStateOperation}
 use Rattle.lrlex_rules.proofs.Refusals.{none_refused, fatal_refused, pattern_refused}
@@ -78,7 +78,7 @@ tells_split o states line =
     tells_if o (list_any is_blank text) (parts_of_word states head (line.at + length head) (after_last is_blank text)) (Err (fault_at MissingSpace line.at))
     (tells_word o states head (line.at + length head) (after_last is_blank text)) (tells_err o (fault_at MissingSpace line.at) refl)
 
-tells_pattern : (posix : Bool) (states : List StartState) (o : ℕ) (head : List ℕ) → Tells o (pattern_of posix states o head)
+tells_pattern : (posix : Bool) (states : List StartState) (o : ℕ) (head : List ℕ) → Tells o (read_pattern posix states o head)
 tells_pattern posix states o head =
     let plain : Pattern = record { start_states = []; text = unescape posix head } in
     let listed : Option Pattern = option_map (λ (ids : List ℕ). record { start_states = ids; text = after_angles head }) (listed_ids states (listed_names (in_angles head))) in
@@ -97,23 +97,23 @@ from_if : (o : ℕ) (b : Bool) (x y : Event) → TellsEvent o x → TellsEvent o
 from_if o true x y h k = h
 from_if o false x y h k = k
 
-from_rule : (s : Settings) (rules : List Rule) (o : ℕ) (parts : RuleParts) (pattern : Pattern) → TellsEvent o (rule_event s rules o parts pattern)
+from_rule : (s : Settings) (rules : List Rule) (o : ℕ) (parts : LineParts) (pattern : Pattern) → TellsEvent o (rule_event s rules o parts pattern)
 from_rule s rules o parts pattern =
     let rule : Rule = record { id = Some (length rules); name = parts.label.name; name_span = parts.label.span; re_str = pattern.text; start_states = pattern.start_states; target = parts.target; config = config_of s.flags } in
     from_if o (nat_lt s.greatest_id (length rules)) (Fatal (fault_at TooManyRules o)) (if option_map_or (λ (x : ℕ). x == o) s.refused false then Refused o pattern.text else NewRule rule) (inl refl)
     (from_if o (option_map_or (λ (x : ℕ). x == o) s.refused false) (Refused o pattern.text) (NewRule rule) refl tt)
 
-from_pattern : (s : Settings) (rules : List Rule) (o : ℕ) (parts : RuleParts) (r : Result Pattern Fault) → Tells o r → TellsEvent o (pattern_event s rules o parts r)
+from_pattern : (s : Settings) (rules : List Rule) (o : ℕ) (parts : LineParts) (r : Result Pattern Fault) → Tells o r → TellsEvent o (pattern_event s rules o parts r)
 from_pattern s rules o parts (Ok pattern) h = from_rule s rules o parts pattern
 from_pattern s rules o parts (Err f) h = h.told
 
-from_parts : (s : Settings) (events : List Event) (o : ℕ) (parts : RuleParts) (original : Option Rule) → TellsEvent o (parts_event s events o parts original)
+from_parts : (s : Settings) (events : List Event) (o : ℕ) (parts : LineParts) (original : Option Rule) → TellsEvent o (parts_event s events o parts original)
 from_parts s events o parts (Some original) = tt
 from_parts s events o parts None =
-    from_pattern s (rules_of events) o parts (pattern_of (has_posix_escapes s.flags) (states_of events) o (trim_head parts.head)) (tells_pattern (has_posix_escapes s.flags) (states_of events) o (trim_head parts.head))
+    from_pattern s (rules_of events) o parts (read_pattern (has_posix_escapes s.flags) (states_of events) o (trim_head parts.head)) (tells_pattern (has_posix_escapes s.flags) (states_of events) o (trim_head parts.head))
 
-from_split : (s : Settings) (events : List Event) (o : ℕ) (r : Result RuleParts Fault) → Tells o r → TellsEvent o (split_event s events o r)
-from_split s events o (Ok parts) h = from_parts s events o parts (rule_named (rules_of events) parts.label.name)
+from_split : (s : Settings) (events : List Event) (o : ℕ) (r : Result LineParts Fault) → Tells o r → TellsEvent o (split_event s events o r)
+from_split s events o (Ok parts) h = from_parts s events o parts (rule_with_name (rules_of events) parts.label.name)
 from_split s events o (Err f) h = h.told
 
 from_line : (s : Settings) (events : List Event) (line : Piece) → TellsEvent line.at (line_event s events line)

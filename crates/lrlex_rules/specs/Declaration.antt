@@ -3,7 +3,7 @@ use Rattle.std.specs.Prelude.{ℕ, ◌+◌, Bool, true, false, not, ◌&&◌, �
 use Rattle.std.specs.List.{list_all, flat_map, find, before_first}
 use Rattle.std.specs.Char.{is_ascii_alphabetic, is_ascii_alphanumeric}
 use Rattle.std.specs.Str.{chars, encode_utf8_all, byte}
-use Rattle.lrlex_rules.specs.Text.{Piece, piece, is_empty, begins_with, same_text, cut, lines, trim}
+use Rattle.lrlex_rules.specs.Text.{Piece, piece, is_empty, begins_with, same_text, cut, cut_lines, trim}
 use Rattle.lrlex_base.specs.Classes.{is_white_space}
 use Rattle.lrlex_rules.specs.Event.{span_of, Fault, fault_at, Event, states_of}
 use Rattle.lrlex_base.specs.Spans.{at_place}
@@ -73,7 +73,7 @@ declared_by line =
 
 -- the lines of a text without the white space round them
 abbrev pub trimmed_lines : List ℕ → List Piece
-trimmed_lines text = map trim (lines (piece 0 text))
+trimmed_lines text = map trim (cut_lines (piece 0 text))
 
 -- what the lines before the first `%%` declare, in order
 abbrev pub declarations : Bool → List ℕ → List Declared

@@ -20,19 +20,6 @@ unset = record {
   nest_limit = None;
 }
 
--- what an unset flag means, and the flags with that filled in: the others are left to `regex` (lrlex's defaults)
-abbrev pub or_default : {X : Type 0} → Option X → X → Option X
-or_default flag default = Some (unwrap_or flag default)
-
-abbrev pub resolved : LexFlags → LexFlags
-resolved flags = record flags {
-  octal = or_default flags.octal true;
-  multi_line = or_default flags.multi_line true;
-  dot_matches_new_line = or_default flags.dot_matches_new_line true;
-  posix_escapes = or_default flags.posix_escapes false;
-  allow_wholeline_comments = or_default flags.allow_wholeline_comments false;
-}
-
 -- whether escapes are POSIX lex's, and whether a line may be a comment
 abbrev pub has_posix_escapes : LexFlags → Bool
 has_posix_escapes flags = unwrap_or flags.posix_escapes false
@@ -59,6 +46,16 @@ config_of f = record {
   octal = unwrap_or f.octal true;
   utf8 = true;
   nest_limit = nest_limit_of f;
+}
+
+-- the flags, where each that is unset and has a default of lrlex's own is set to it
+abbrev pub resolved : LexFlags → LexFlags
+resolved flags = record flags {
+  octal = Some (config_of flags).octal;
+  multi_line = Some (config_of flags).flags.multi_line;
+  dot_matches_new_line = Some (config_of flags).flags.dot_matches_new_line;
+  posix_escapes = Some (has_posix_escapes flags);
+  allow_wholeline_comments = Some (allows_comments flags);
 }
 
 -- the limit on a compiled pattern's size, in bytes

@@ -18,4 +18,4 @@ pub mod Kinds
 pub mod Answer
 -- what the functions inside the crate promise each other
 pub mod Merge
-pub mod Reading
+pub mod Builder

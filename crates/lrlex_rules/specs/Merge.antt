@@ -43,17 +43,17 @@ with_duplicate subject original found faults = map (with_place subject original 
 abbrev pub is_original : Subject → Span → Named × ℕ × ℕ → Bool
 is_original subject original key = same_subject subject (as_subject key.0) && same_span original (span key.1 key.2)
 
--- the place that a map has for the fault of an original
-abbrev pub fault_place : BTreeMap (Named × ℕ × ℕ) ℕ → Subject → Span → Option ℕ
-fault_place places subject original = lookup (is_original subject original) places.entries
+-- the index that a map has for the fault of an original
+abbrev pub fault_index : BTreeMap (Named × ℕ × ℕ) ℕ → Subject → Span → Option ℕ
+fault_index places subject original = lookup (is_original subject original) places.entries
 
 -- the place is noted for this original, and nothing else changes
 abbrev pub NotesFault : BTreeMap (Named × ℕ × ℕ) ℕ → BTreeMap (Named × ℕ × ℕ) ℕ → Subject → Span → ℕ → Type 0
 NotesFault old new subject original place =
-    (s : Subject) (o : Span) → fault_place new s o ≡ (if same_subject subject s && same_span original o then Some place else fault_place old s o)
+    (s : Subject) (o : Span) → fault_index new s o ≡ (if same_subject subject s && same_span original o then Some place else fault_index old s o)
 
 abbrev pub KeepsFaults : BTreeMap (Named × ℕ × ℕ) ℕ → BTreeMap (Named × ℕ × ℕ) ℕ → Type 0
-KeepsFaults old new = (s : Subject) (o : Span) → fault_place new s o ≡ fault_place old s o
+KeepsFaults old new = (s : Subject) (o : Span) → fault_index new s o ≡ fault_index old s o
 
 -- whether that is the place, if there is one
 abbrev pub is_place : Option ℕ → ℕ → Bool
@@ -65,4 +65,4 @@ IsOnlyPlace {X} p place xs = ((i : ℕ) → place ≡ Some i → i < length xs) 
 
 -- the map has the place of each original's fault, of which there is at most one
 abbrev pub AreFaultPlaces : BTreeMap (Named × ℕ × ℕ) ℕ → List LexBuildError → Type 0
-AreFaultPlaces places faults = (subject : Subject) (original : Span) → IsOnlyPlace (λ e. is_fault_of subject original (as_fault e)) (fault_place places subject original) faults
+AreFaultPlaces places faults = (subject : Subject) (original : Span) → IsOnlyPlace (λ e. is_fault_of subject original (as_fault e)) (fault_index places subject original) faults

@@ -5,7 +5,7 @@ use Rattle.std.specs.List.{list_any, find, prefix_len, filter_map}
 use Rattle.std.specs.Str.{chars}
 use Rattle.lrlex_rules.specs.declared.flags.LexFlags.{LexFlags}
 use Rattle.lrlex_rules.specs.Flags.{resolved, has_posix_escapes, allows_comments, config_of}
-use Rattle.lrlex_rules.specs.Text.{Piece, piece, is_white, same_text, lines}
+use Rattle.lrlex_rules.specs.Text.{Piece, piece, is_white, same_text, cut_lines}
 use Rattle.lrlex_base.specs.Classes.{is_blank, is_white_space}
 use Rattle.lrlex_rules.specs.Event.{span_of, Fault, fault, fault_at, FaultKind, Event, Subject, is_refused, states_of, rules_of}
 use Rattle.lrlex_base.specs.Spans.{Span, same_span}
@@ -15,7 +15,7 @@ use Rattle.lrlex_rules.specs.Event.Event.{NewState, NewRule, Duplicate, Verbatim
 use Rattle.lrlex_rules.specs.Event.Subject.{StateName, RuleName}
 use Rattle.lrlex_rules.specs.Declaration.{initial, declarations, trimmed_lines, state_event, section_lines, section_end}
 use Rattle.lrlex_rules.specs.Escape.{trim_head}
-use Rattle.lrlex_rules.specs.RuleLine.{RuleParts, Pattern, split, pattern_of}
+use Rattle.lrlex_rules.specs.RuleLine.{LineParts, Pattern, split, read_pattern}
 
 -- what the build is asked with: the flags, the greatest value of the token id type, and the rule line, if any, whose pattern `regex` refused
 pub record Settings : Type 0 where
@@ -36,11 +36,11 @@ then_fatal events kind at = if is_refused events then events else events ++ Fata
 abbrev pub has_name : List ℕ → Rule → Bool
 has_name name rule = option_map_or (λ (n : List ℕ). same_text n name) rule.name false
 
-abbrev pub rule_named : List Rule → Option (List ℕ) → Option Rule
-rule_named rules name = option_and_then (λ (n : List ℕ). find (has_name n) rules) name
+abbrev pub rule_with_name : List Rule → Option (List ℕ) → Option Rule
+rule_with_name rules name = option_and_then (λ (n : List ℕ). find (has_name n) rules) name
 
 -- A pattern makes a new rule, unless there are too many or `regex` refuses it. The rule's id is the number of rules before it.
-abbrev pub rule_event : Settings → List Rule → ℕ → RuleParts → Pattern → Event
+abbrev pub rule_event : Settings → List Rule → ℕ → LineParts → Pattern → Event
 rule_event s rules o parts pattern =
     if nat_lt s.greatest_id (length rules) then Fatal (fault_at TooManyRules o)
     else (if option_map_or (λ (x : ℕ). x == o) s.refused false then Refused o pattern.text
@@ -54,18 +54,18 @@ rule_event s rules o parts pattern =
       config = config_of s.flags;
     }))
 
-abbrev pub pattern_event : Settings → List Rule → ℕ → RuleParts → Result Pattern Fault → Event
+abbrev pub pattern_event : Settings → List Rule → ℕ → LineParts → Result Pattern Fault → Event
 pattern_event s rules o parts (Ok pattern) = rule_event s rules o parts pattern
 pattern_event s rules o parts (Err fault) = Fatal fault
 
 -- a line's parts make a duplicate of an earlier rule, a new rule or a fatal fault
-abbrev pub parts_event : Settings → List Event → ℕ → RuleParts → Option Rule → Event
+abbrev pub parts_event : Settings → List Event → ℕ → LineParts → Option Rule → Event
 parts_event s earlier o parts (Some original) = Duplicate RuleName original.name_span parts.label.span
-parts_event s earlier o parts None = pattern_event s (rules_of earlier) o parts (pattern_of (has_posix_escapes s.flags) (states_of earlier) o (trim_head parts.head))
+parts_event s earlier o parts None = pattern_event s (rules_of earlier) o parts (read_pattern (has_posix_escapes s.flags) (states_of earlier) o (trim_head parts.head))
 
-abbrev pub split_event : Settings → List Event → ℕ → Result RuleParts Fault → Event
+abbrev pub split_event : Settings → List Event → ℕ → Result LineParts Fault → Event
 split_event s earlier o (Err fault) = Fatal fault
-split_event s earlier o (Ok parts) = parts_event s earlier o parts (rule_named (rules_of earlier) parts.label.name)
+split_event s earlier o (Ok parts) = parts_event s earlier o parts (rule_with_name (rules_of earlier) parts.label.name)
 
 -- a line that begins with white space is code to be copied (POSIX lex), which is not supported
 abbrev pub is_verbatim : Piece → Bool
@@ -88,7 +88,7 @@ abbrev pub rules_events : Settings → List ℕ → List Event → Option Piece 
 rules_events s text declared None = then_fatal declared PrematureEnd (length text)
 rules_events s text declared (Some mark) =
     let rest = rules_section text mark in
-    end_events text (events_after (line_event s) declared (section_lines (allows_comments s.flags) (lines rest))) (section_end (lines rest))
+    end_events text (events_after (line_event s) declared (section_lines (allows_comments s.flags) (cut_lines rest))) (section_end (cut_lines rest))
 
 -- the events of a rule file behind those before it, where comments are allowed or not in its declarations
 abbrev pub file_events : Settings → Bool → List ℕ → List Event → List Event

@@ -54,21 +54,21 @@ state_name s = Some (string_bytes s.name)
 abbrev pub is_name : List ℕ → Option (List ℕ) → Bool
 is_name q name = option_map_or (λ (n : List ℕ). bytes_eq n q) name false
 
--- the place for this name of what has that name, if it has one
-abbrev pub place_if_named : Option (List ℕ) → ℕ → List ℕ → Option ℕ
-place_if_named name place q = if is_name q name then Some place else None
+-- the index for this name of what has that name, if it has one
+abbrev pub index_if_named : Option (List ℕ) → ℕ → List ℕ → Option ℕ
+index_if_named name place q = if is_name q name then Some place else None
 
--- the place that a map has for a name
-abbrev pub place_of : BTreeMap (Bor (List ℕ)) ℕ → List ℕ → Option ℕ
-place_of places q = get_by (λ k. slice_cmp nat_cmp q k.now) places
+-- the index that a map has for a name
+abbrev pub index_of_name : BTreeMap (Bor (List ℕ)) ℕ → List ℕ → Option ℕ
+index_of_name places q = get_by (λ k. slice_cmp nat_cmp q k.now) places
 
 -- the place is noted for this name, if it is one and has no place yet, and nothing else changes
 abbrev pub NotesName : BTreeMap (Bor (List ℕ)) ℕ → BTreeMap (Bor (List ℕ)) ℕ → Option (List ℕ) → ℕ → Type 0
-NotesName old new name place = (q : List ℕ) → place_of new q ≡ option_or (place_of old q) (place_if_named name place q)
+NotesName old new name place = (q : List ℕ) → index_of_name new q ≡ option_or (index_of_name old q) (index_if_named name place q)
 
 abbrev pub KeepsNames : BTreeMap (Bor (List ℕ)) ℕ → BTreeMap (Bor (List ℕ)) ℕ → Type 0
-KeepsNames old new = (q : List ℕ) → place_of new q ≡ place_of old q
+KeepsNames old new = (q : List ℕ) → index_of_name new q ≡ index_of_name old q
 
 -- for each name the map has the place of the first of these that has it
 abbrev pub ArePlaces : {X : Type 0} → (X → Option (List ℕ)) → BTreeMap (Bor (List ℕ)) ℕ → List X → Type 0
-ArePlaces name places xs = (q : List ℕ) → place_of places q ≡ position (λ x. is_name q (name x)) xs
+ArePlaces name places xs = (q : List ℕ) → index_of_name places q ≡ position (λ x. is_name q (name x)) xs

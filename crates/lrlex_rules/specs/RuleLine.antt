@@ -76,19 +76,19 @@ abbrev pub label_of : ℕ → List ℕ → Result RuleLabel Fault
 label_of blank word = label_in blank (blank + 1 + length word) (name_part word)
 
 -- the parts of a rule line
-pub record RuleParts : Type 0 where
+pub record LineParts : Type 0 where
   pub head : List ℕ
   pub target : Option (ℕ × StartStateOperation)
   pub label : RuleLabel
 
-abbrev pub parts_of_word : List StartState → List ℕ → ℕ → List ℕ → Result RuleParts Fault
+abbrev pub parts_of_word : List StartState → List ℕ → ℕ → List ℕ → Result LineParts Fault
 parts_of_word states head blank word = do
   target ← target_of states blank word
   label ← label_of blank word
   Ok (record { head = head; target = target; label = label })
 
 -- a rule line's parts round its last blank, or its first fault
-abbrev pub split : List StartState → Piece → Result RuleParts Fault
+abbrev pub split : List StartState → Piece → Result LineParts Fault
 split states line =
     let text = trim_end line.text in
     let head = before_last is_blank text in
@@ -119,17 +119,17 @@ names_left None = []
 names_left (Some rest) = listed_names rest
 
 -- the ids of states
-abbrev pub ids_of : List StartState → List ℕ
-ids_of states = map (λ (s : StartState). s.id) states
+abbrev pub all_ids : List StartState → List ℕ
+all_ids states = map (λ (s : StartState). s.id) states
 
 -- the ids that a list of names stands for; `*` alone stands for all states (this project's own)
 abbrev pub listed_ids : List StartState → List (List ℕ) → Option (List ℕ)
-listed_ids states (name ∷ []) = if same_text (trim_text name) (codes "*") then Some (ids_of states) else state_ids states (name ∷ [])
+listed_ids states (name ∷ []) = if same_text (trim_text name) (codes "*") then Some (all_ids states) else state_ids states (name ∷ [])
 listed_ids states names = state_ids states names
 
 -- the start states and the pattern of a rule line at o. Behind a start-state list the escapes are not rewritten.
-abbrev pub pattern_of : Bool → List StartState → ℕ → List ℕ → Result Pattern Fault
-pattern_of posix states o head =
+abbrev pub read_pattern : Bool → List StartState → ℕ → List ℕ → Result Pattern Fault
+read_pattern posix states o head =
     if not (begins_with (codes "<") head) then Ok (record { start_states = []; text = unescape posix head })
     else (if list_any is_greater head
     then ok_or (option_map (λ (ids : List ℕ). record { start_states = ids; text = after_angles head }) (listed_ids states (listed_names (in_angles head)))) (fault_at UnknownStartState o)

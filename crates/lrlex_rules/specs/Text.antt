@@ -42,13 +42,13 @@ pub record IsCut (p : ℕ → Bool) (all : List ℕ) (pieces : List (List ℕ)) 
   pub between_pass : All (λ c. p c ≡ true) between
 
 -- the lines of a text, without their separators
-abbrev pub lines : Piece → List Piece
-lines x = cut is_line_sep x
+abbrev pub cut_lines : Piece → List Piece
+cut_lines x = cut is_line_sep x
 
 -- the lines of what is left of a text that ends at this offset, where something is left
 abbrev pub lines_left : ℕ → Option (List ℕ) → List Piece
 lines_left end None = []
-lines_left end (Some rest) = lines (piece (end - length rest) rest)
+lines_left end (Some rest) = cut_lines (piece (end - length rest) rest)
 
 -- the pieces of what is left of a text that ends at this offset, where something is left
 abbrev pub pieces_left : (ℕ → Bool) → ℕ → Option (List ℕ) → List Piece

@@ -1,5 +1,7 @@
 ghost use Rattle.std.specs.Prelude.{◌≡◌};
 
+use regex_syntax::{Config, Flags};
+
 /// The settings of a rule file. What is unset is as in `DEFAULT_LEX_FLAGS`, or as `regex` has it.
 #[derive(Clone, Copy, PartialEq, Eq, Debug)]
 pub struct LexFlags {
@@ -61,19 +63,64 @@ pub const DEFAULT_LEX_FLAGS: LexFlags = LexFlags {
     nest_limit: None,
 };
 
+/// The most levels that a pattern may nest, whatever the flags say: `regex` takes about 1 KB of stack for each.
+const MOST_NESTED: u32 = 1_000;
+
 impl LexFlags {
-    ghost use Rattle.lrlex_rules.specs.Flags.{resolved};
+    ghost use Rattle.lrlex_rules.specs.Flags.{config_of, nest_limit_of, has_posix_escapes, allows_comments, resolved};
+
+    /// How deep a pattern may nest.
+    fn nesting(&self) -> u32
+        ensures { result ≡ nest_limit_of self.now }
+    {
+        self.nest_limit.unwrap_or(250).min(MOST_NESTED)
+    }
+
+    /// The options of `regex` for these flags.
+    pub(crate) fn config(&self) -> Config
+        ensures { result ≡ config_of self.now }
+    {
+        Config {
+            flags: Flags {
+                case_insensitive: self.case_insensitive.unwrap_or(false),
+                multi_line: self.multi_line.unwrap_or(true),
+                dot_matches_new_line: self.dot_matches_new_line.unwrap_or(true),
+                swap_greed: self.swap_greed.unwrap_or(false),
+                unicode: self.unicode.unwrap_or(true),
+                crlf: false,
+                ignore_whitespace: self.ignore_whitespace.unwrap_or(false),
+            },
+            octal: self.octal.unwrap_or(true),
+            utf8: true,
+            nest_limit: self.nesting(),
+        }
+    }
+
+    /// Whether escapes are POSIX lex's.
+    pub(crate) fn has_posix_escapes(&self) -> bool
+        ensures { result ≡ has_posix_escapes self.now }
+    {
+        self.posix_escapes.unwrap_or(false)
+    }
+
+    /// Whether a line may be a comment.
+    pub(crate) fn allows_comments(&self) -> bool
+        ensures { result ≡ allows_comments self.now }
+    {
+        self.allow_wholeline_comments.unwrap_or(false)
+    }
 
     /// The flags, where what is unset and has a default is that.
     pub(crate) fn resolved(&self) -> LexFlags
         ensures { result ≡ resolved self.now }
     {
+        let config = self.config();
         LexFlags {
-            dot_matches_new_line: Some(self.dot_matches_new_line.unwrap_or(true)),
-            multi_line: Some(self.multi_line.unwrap_or(true)),
-            octal: Some(self.octal.unwrap_or(true)),
-            posix_escapes: Some(self.posix_escapes.unwrap_or(false)),
-            allow_wholeline_comments: Some(self.allow_wholeline_comments.unwrap_or(false)),
+            dot_matches_new_line: Some(config.flags.dot_matches_new_line),
+            multi_line: Some(config.flags.multi_line),
+            octal: Some(config.octal),
+            posix_escapes: Some(self.has_posix_escapes()),
+            allow_wholeline_comments: Some(self.allows_comments()),
             ..*self
         }
     }

@@ -1,7 +1,7 @@
 //! The table of one pattern.
 ghost use Rattle.std.specs.Prelude.{[], ◌∷◌, IfOk, IfSome};
 ghost use Rattle.lrlex_table.specs.Merged.{IsTableOf};
-ghost use Rattle.lrlex_table.specs.Sources.{pattern_of};
+ghost use Rattle.lrlex_table.specs.Sources.{source_pattern};
 
 use crate::budget::Budget;
 use crate::chart::chart_of;
@@ -32,7 +32,7 @@ pub fn table_of(
     source: Source<'_>,
     budget: &mut Budget,
 ) -> Result<Option<Table>, AllocError>
-    ensures { IfOk result (λ o. IfSome o (IsTableOf (pattern_of source.entry ∷ []))) }
+    ensures { IfOk result (λ o. IfSome o (IsTableOf (source_pattern source.entry ∷ []))) }
 {
     let bytes = source.regex.as_str().len();
     let reading = bytes

@@ -13,17 +13,17 @@ ghost use Rattle.lrlex_rules.specs.Kinds.{as_kind, is_regex_error};
 ghost use Rattle.lrlex_rules.specs.Merge.{tells_duplicates};
 ghost use Rattle.lrlex_rules.specs.Faults.{IsPlaced};
 ghost use Rattle.lrlex_rules.specs.Laws.{IsLawful};
-ghost use Rattle.lrlex_rules.specs.Reading.{as_piece, as_parts, as_pattern, AddsLine, ReadsLines, AreApart, MarkAt, IsAnswer, AreOwnRefusals, as_definition, refused_of, Represents, Adds, AddsRefused, Reads, EndBy, line_end};
+ghost use Rattle.lrlex_rules.specs.Builder.{as_piece, as_parts, as_pattern, AddsLine, ReadsLines, AreApart, MarkAt, IsAnswer, AreOwnRefusals, as_definition, refused_of, Represents, Adds, AddsRefused, Reads, EndBy, line_end};
 
 use crate::faults::{LexBuildError, LexErrorKind};
 use crate::flags::LexFlags;
 use crate::parser::declaration::{declares_exclusive, is_state_name};
 use crate::parser::duplicates::{Faults, Named};
+use crate::parser::escapes::trim_head;
 use crate::parser::names::{Rules, States};
-use crate::parser::rule_line::{Parts, Pattern, pattern_of, split};
+use crate::parser::rule_line::{Parts, Pattern, read_pattern, split};
 use crate::parser::text::{
     Line, begins_with_white, behind, first_word, is_white, next_name, read_section, skip_blanks,
-    trim_head,
 };
 use crate::rules::Rule;
 use crate::states::StartState;
@@ -258,9 +258,9 @@ impl<'t, StorageT: Id> Builder<'t, StorageT> {
             let found = parts.label.span;
             return self.errors.add_duplicate(alloc, Named::Rule, first, found);
         }
-        let posix = flags.posix_escapes.unwrap_or(false);
+        let posix = flags.has_posix_escapes();
         let head = trim_head(parts.head);
-        match pattern_of(alloc, &self.states, at, head, posix)? {
+        match read_pattern(alloc, &self.states, at, head, posix)? {
             Ok(pattern) => self.add_rule(alloc, at, parts, pattern, flags),
             Err(fatal) => self.refuse(alloc, fatal.kind, fatal.at),
         }
@@ -340,7 +340,7 @@ impl<'t, StorageT: Id> Builder<'t, StorageT> {
     {
         let section = skip_blanks(behind(text, 0, mark));
         let at = text.len() - section.len();
-        let comments = flags.allow_wholeline_comments.unwrap_or(false);
+        let comments = flags.allows_comments();
         let rules = read_section(alloc, section, at, comments, false)?;
         self.lines(alloc, rules.lines.as_slice(), flags)?;
         let Some(end) = rules.end else {
@@ -360,7 +360,7 @@ impl<'t, StorageT: Id> Builder<'t, StorageT> {
             (ReadsLines StorageT.number flags.now StorageT.greatest self.old self.new
             (λ s events. file_events s (allows_comments flags.now) text.now events)) }
     {
-        let comments = flags.allow_wholeline_comments.unwrap_or(false);
+        let comments = flags.allows_comments();
         let declared = read_section(alloc, text, 0, comments, true)?;
         self.declarations(alloc, declared.lines.as_slice())?;
         match declared.end {

@@ -3,7 +3,7 @@ ghost use Rattle.std.proofs.Props.{props};
 ghost use Rattle.lrlex_base.specs.Spans.{as_span};
 ghost use Rattle.lrlex_rules.specs.Outcome.{kind_of};
 ghost use Rattle.lrlex_rules.specs.Kinds.{as_kind, as_subject};
-ghost use Rattle.lrlex_rules.specs.Merge.{AreFaultPlaces, NotesFault, KeepsFaults, fault_place};
+ghost use Rattle.lrlex_rules.specs.Merge.{AreFaultPlaces, NotesFault, KeepsFaults, fault_index};
 
 use crate::faults::{LexBuildError, LexErrorKind};
 use lrlex_base::Span;
@@ -32,9 +32,9 @@ impl Named {
 // What was declared first: a state or a rule, and where its name stands.
 type Original = (Named, usize, usize);
 
-/// The place of the fault of an original, if it has one.
-fn place_of(places: &BTreeMap<Original, usize>, named: Named, original: Span) -> Option<usize>
-    ensures { result ≡ fault_place places.now (as_subject named) (as_span original) }
+/// The index of the fault of an original, if it has one.
+fn fault_index(places: &BTreeMap<Original, usize>, named: Named, original: Span) -> Option<usize>
+    ensures { result ≡ fault_index places.now (as_subject named) (as_span original) }
 {
     match places.get(&(named, original.start(), original.end())) {
         Some(place) => Some(*place),
@@ -68,7 +68,7 @@ pub(crate) struct Faults {
 impl Faults {
     ghost use Rattle.lrlex_rules.specs.Merge.{tells_duplicates, with_duplicate};
     ghost use Rattle.lrlex_rules.specs.Faults.{fault_kind};
-    ghost use Rattle.lrlex_rules.specs.Reading.{as_fault};
+    ghost use Rattle.lrlex_rules.specs.Builder.{as_fault};
 
     /// No faults.
     pub(crate) fn new(alloc: Global) -> Faults
@@ -101,7 +101,7 @@ impl Faults {
             ≡ with_duplicate (as_subject named) (as_span original) (as_span found)
             (map as_fault self.old.list.items)) }
     {
-        if let Some(place) = place_of(&self.places, named, original) {
+        if let Some(place) = fault_index(&self.places, named, original) {
             let fault = &mut self.list[place];
             fault.spans.push(found)?;
             return Ok(());

@@ -1,6 +1,7 @@
 mod builder;
 mod declaration;
 mod duplicates;
+mod escapes;
 mod fatal;
 mod names;
 mod rule_line;

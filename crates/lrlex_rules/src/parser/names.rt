@@ -81,7 +81,7 @@ pub(crate) struct Rules<'t, StorageT> {
 
 impl<'t, StorageT: Id> Rules<'t, StorageT> {
     ghost use Rattle.lrlex_rules.specs.Parts.{as_rule};
-    ghost use Rattle.lrlex_rules.specs.Outcome.{rule_named};
+    ghost use Rattle.lrlex_rules.specs.Outcome.{rule_with_name};
 
     /// No rules.
     pub(crate) fn new(alloc: Global) -> Rules<'t, StorageT>
@@ -96,7 +96,7 @@ impl<'t, StorageT: Id> Rules<'t, StorageT> {
     /// The first rule with this name, if it is one.
     pub(crate) fn named(&self, name: Option<&str>) -> Option<&Rule<StorageT>>
         ensures { option_map (as_rule StorageT.number) (option_copied result)
-            ≡ rule_named (map (as_rule StorageT.number) self.now.list.items)
+            ≡ rule_with_name (map (as_rule StorageT.number) self.now.list.items)
             (option_copied name.entry) }
     {
         match self.places.get(name?) {

@@ -1,12 +1,13 @@
 ghost use Rattle.std.specs.Prelude.{◌≡◌, ◌+◌, ◌^◌, ◌<◌, ◌≤◌, ◌∷◌, length, map, IfOk, IfSome};
 ghost use Rattle.std.specs.Option.{option_map, option_copied};
-ghost use Rattle.lrlex_rules.specs.RuleLine.{operation_of, target_name, state_id, target, is_unnamed, is_quoted_by, label_in, parts_of_word, split, listed_names, names_left, listed_ids, ids_of, state_ids, pattern_of};
-ghost use Rattle.lrlex_rules.specs.Reading.{as_states, as_fatal, as_label, as_parts, as_pattern, as_piece, seen, HasAngles, line_end, items_of};
+ghost use Rattle.lrlex_rules.specs.RuleLine.{operation_of, target_name, state_id, target, is_unnamed, is_quoted_by, label_in, parts_of_word, split, listed_names, names_left, listed_ids, all_ids, state_ids, read_pattern};
+ghost use Rattle.lrlex_rules.specs.Builder.{as_states, as_fatal, as_label, as_parts, as_pattern, as_piece, seen, HasAngles, line_end, items_of};
 
 use crate::faults::LexErrorKind;
+use crate::parser::escapes::unescape;
 use crate::parser::fatal::Fatal;
 use crate::parser::names::States;
-use crate::parser::text::{Line, split_last_blank, trim_end, trim_text, unescape};
+use crate::parser::text::{Line, split_last_blank, trim_end, trim_text};
 use crate::states::StartStateOperation;
 use lrlex_base::Span;
 use std::alloc::{AllocError, Global};
@@ -210,7 +211,7 @@ fn state_ids(alloc: Global, states: &States, names: &str) -> Result<Option<Vec<u
 
 /// The ids of all states.
 fn all_ids(alloc: Global, states: &States) -> Result<Vec<usize>, AllocError>
-    ensures { IfOk result (λ ids. ids.items ≡ ids_of (as_states states.now)) }
+    ensures { IfOk result (λ ids. ids.items ≡ all_ids (as_states states.now)) }
 {
     let mut ids = Vec::new(alloc);
     for state in states.list.as_slice() {
@@ -240,7 +241,7 @@ pub(crate) struct Pattern {
 }
 
 /// The start states and the pattern of a rule line. Behind a start-state list the escapes are not rewritten.
-pub(crate) fn pattern_of(
+pub(crate) fn read_pattern(
     alloc: Global,
     states: &States,
     at: usize,
@@ -248,7 +249,7 @@ pub(crate) fn pattern_of(
     posix: bool,
 ) -> Result<Result<Pattern, Fatal>, AllocError>
     ensures { IfOk result (λ found. seen as_pattern as_fatal found
-        ≡ pattern_of posix (as_states states.now) at head.now) }
+        ≡ read_pattern posix (as_states states.now) at head.now) }
 {
     match in_angles(head) {
         Angles::Absent => {

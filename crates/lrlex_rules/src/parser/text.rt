@@ -1,64 +1,14 @@
-ghost use Rattle.std.specs.Prelude.{◌≡◌, ◌+◌, ◌-◌, ◌^◌, ◌<◌, ◌≤◌, ◌||◌, ◌∷◌, ℕ, length, drop, take, map, nat_lt, false, MatchOption, IfOk, IfSome};
+ghost use Rattle.std.specs.Prelude.{◌≡◌, ◌+◌, ◌-◌, ◌^◌, ◌<◌, ◌≤◌, ◌∷◌, ℕ, length, drop, take, map, nat_lt, false, MatchOption, IfOk, IfSome};
 ghost use Rattle.std.specs.List.{list_any, prefix_len};
 ghost use Rattle.std.specs.Option.{option_copied, option_map};
 ghost use Rattle.std.specs.Str.{chars};
-ghost use Rattle.std.specs.String.{string_bytes};
 ghost use Rattle.lrlex_base.specs.Classes.{is_white_space, is_blank};
-ghost use Rattle.lrlex_rules.specs.Text.{SplitsAtLast, trim_start, trim_end, trim_text, trim, cut, lines, lines_left, pieces_left, piece, laid_out, is_white};
+ghost use Rattle.lrlex_rules.specs.Text.{SplitsAtLast, trim_start, trim_end, trim_text, trim, cut, cut_lines, lines_left, pieces_left, piece, laid_out, is_white};
 ghost use Rattle.lrlex_rules.specs.Declaration.{is_skipped, ends_section, section_lines, section_end, first_word};
-ghost use Rattle.lrlex_rules.specs.Escape.{is_meta, begins_escape, unescape, ends_in_escape, trim_head};
-ghost use Rattle.lrlex_rules.specs.Reading.{as_piece, MarkAt, StandsIn, EndBy, line_end};
+ghost use Rattle.lrlex_rules.specs.Builder.{as_piece, MarkAt, StandsIn, EndBy, line_end};
 
 use lrlex_base::{is_blank, is_line_sep, is_white_space};
 use std::alloc::{AllocError, Global};
-
-/// Whether a backslash before the character stays, where `rest` follows it.
-pub(crate) fn keeps_backslash(c: char, rest: &str) -> bool
-    ensures { result ≡ (is_meta c || begins_escape c rest.now) }
-{
-    match c {
-        '\\'
-        | '.'
-        | '+'
-        | '*'
-        | '?'
-        | '('
-        | ')'
-        | '|'
-        | '['
-        | ']'
-        | '{'
-        | '}'
-        | '^'
-        | '$'
-        | '#'
-        | '&'
-        | '-'
-        | '~' => true,
-        '0'..='9' => true,
-        'a'
-        | 'f'
-        | 'n'
-        | 'r'
-        | 't'
-        | 'v'
-        | 'p'
-        | 'P'
-        | 'd'
-        | 'D'
-        | 's'
-        | 'S'
-        | 'w'
-        | 'W'
-        | 'A'
-        | 'z' => true,
-        'x' | 'u' | 'U' => rest
-            .as_bytes()
-            .first()
-            .is_some_and(|b| b.is_ascii_hexdigit()),
-        _ => false,
-    }
-}
 
 /// The text without the white space at its end.
 pub(crate) fn trim_end(text: &str) -> &str
@@ -112,34 +62,9 @@ pub(crate) fn first_word(text: &str) -> (&str, &str)
     }
 }
 
-/// Whether a text ends in an odd number of backslashes.
-pub(crate) fn ends_in_escape(text: &str) -> bool
-    ensures { result ≡ ends_in_escape text.now }
-{
-    let mut escaped = false;
-    for b in text.as_bytes() {
-        escaped = *b == b'\\' && !escaped;
-    }
-    escaped
-}
-
-/// A head without the white space at its end, but for the first character of it where that is escaped.
-pub(crate) fn trim_head(head: &str) -> &str
-    ensures { result.now ≡ trim_head head.now }
-{
-    let kept = trim_end(head);
-    if !ends_in_escape(kept) {
-        return kept;
-    }
-    let (_, dropped) = head.split_at(kept.len());
-    let mut rest = dropped.chars();
-    rest.next();
-    &head[..head.len() - rest.as_str().len()]
-}
-
 /// The first line of a text, and what follows its separator, if it has one.
 pub(crate) fn next_line(text: &str) -> (&str, Option<&str>)
-    ensures pieces { (o : ℕ) → lines (piece o text.now)
+    ensures pieces { (o : ℕ) → cut_lines (piece o text.now)
         ≡ piece o result.0.now ∷ lines_left (o + length text.now) (option_copied result.1) }
     ensures shorter { IfSome (option_copied result.1) (λ rest. length rest < length text.now) }
     ensures front { result.0.now ≡ take (length result.0.now) text.now }
@@ -174,31 +99,6 @@ pub(crate) fn split_last_blank(text: &str) -> Option<(&str, &str)>
     ensures whole { IfSome result (λ x. length x.0.now + 1 + length x.1.now ≤ length text.now) }
 {
     text.rsplit_once(|c: char| is_blank(c))
-}
-
-/// The pattern with its escapes rewritten.
-pub(crate) fn unescape(alloc: Global, pattern: &str, posix: bool) -> Result<String, AllocError>
-    ensures { IfOk result (λ text. string_bytes text ≡ unescape posix pattern.now) }
-{
-    let mut out = String::new(alloc);
-    let mut rest = pattern.chars();
-    while let Some(c) = rest.next() {
-        if c != '\\' {
-            out.push(c)?;
-            continue;
-        }
-        match rest.next() {
-            None => out.push('\\')?,
-            Some('b') => out.push_str(if posix { "\\x08" } else { "\\b" })?,
-            Some(d) => {
-                if keeps_backslash(d, rest.as_str()) {
-                    out.push('\\')?;
-                }
-                out.push(d)?;
-            }
-        }
-    }
-    Ok(out)
 }
 
 /// A line of a text, and the offset of its first byte.
@@ -263,9 +163,9 @@ pub(crate) fn read_section<'a>(
 ) -> Result<Section<'a>, AllocError>
     requires { at + length text.now < 2 ^ 64 }
     ensures lines { IfOk result (λ s. map as_piece s.lines.items
-        ≡ section_lines comments (map (laid_out stripped) (lines (piece at text.now)))) }
+        ≡ section_lines comments (map (laid_out stripped) (cut_lines (piece at text.now)))) }
     ensures end { IfOk result (λ s. option_map as_piece s.end
-        ≡ section_end (map (laid_out stripped) (lines (piece at text.now)))) }
+        ≡ section_end (map (laid_out stripped) (cut_lines (piece at text.now)))) }
     ensures fit { IfOk result (λ s. EndBy (at + length text.now) s.lines.items) }
     ensures mark { IfOk result (λ s. IfSome s.end (MarkAt at text.now)) }
 {

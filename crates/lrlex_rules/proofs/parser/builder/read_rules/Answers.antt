@@ -1,6 +1,6 @@
 use Rattle.std.proofs.Common.{◌≡◌, ◌∙◌, true, false, eqb, List, length, None, ap, sym, refl, subst}
 use Rattle.lrlex_rules.specs.declared.faults.LexBuildError.{LexBuildError}
-use Rattle.lrlex_rules.specs.Reading.{Suits, settings, refused_of, AreRefusals, regex_errors}
+use Rattle.lrlex_rules.specs.Builder.{Suits, settings, refused_of, AreRefusals, regex_errors}
 use Rattle.lrlex_rules.specs.declared.flags.LexFlags.{LexFlags}
 use Rattle.lrlex_rules.specs.Event.{refused_patterns}
 use Rattle.lrlex_rules.specs.Outcome.{events_of}

@@ -14,7 +14,7 @@ use Rattle.lrlex_rules.specs.Event.{Subject}
 use Rattle.lrlex_rules.specs.Event.Subject.{StateName, RuleName}
 use Rattle.lrlex_rules.specs.Outcome.{same_subject}
 use Rattle.lrlex_rules.specs.Kinds.{as_subject}
-use Rattle.lrlex_rules.specs.Merge.{is_original, fault_place}
+use Rattle.lrlex_rules.specs.Merge.{is_original, fault_index}
 use Rattle.lrlex_rules.proofs.parser.duplicates.note.Goals as goal
 
 -- the order of the keys
@@ -53,22 +53,22 @@ lookup_same : {K X : Type 0} (t u : K → Bool) (es : List (K × X)) → ((k : K
 lookup_same t u [] h = refl
 lookup_same {K} {X} t u (e ∷ es) h = ap (λ (b : Bool). cond b (Some e.1) (lookup t es)) (h e.0) ∙ ap (λ (o : Option X). cond (u e.0) (Some e.1) o) (lookup_same t u es h)
 
-place_is : (m : BTreeMap (Named × ℕ × ℕ) ℕ) (a : Named) (o : Span) → get key_cmp m (a, o.start, o.end) ≡ fault_place m (as_subject a) o
+place_is : (m : BTreeMap (Named × ℕ × ℕ) ℕ) (a : Named) (o : Span) → get key_cmp m (a, o.start, o.end) ≡ fault_index m (as_subject a) o
 place_is m a o = lookup_same (λ k. is_eq (key_cmp (a, o.start, o.end) k)) (is_original (as_subject a) o) m.entries (key_is a o.start o.end)
 
 module _ (old new : BTreeMap (Named × ℕ × ℕ) ℕ) (a : Named) (original : Span) (place : ℕ) (h : (q : Named × ℕ × ℕ) → get key_cmp new q ≡ cond (is_eq (key_cmp (a, original.start, original.end) q)) (Some place) (get key_cmp old q)) where
-  noted_at : (b : Named) (o : Span) → fault_place new (as_subject b) o ≡ (if same_subject (as_subject a) (as_subject b) && same_span original o then Some place else fault_place old (as_subject b) o)
+  noted_at : (b : Named) (o : Span) → fault_index new (as_subject b) o ≡ (if same_subject (as_subject a) (as_subject b) && same_span original o then Some place else fault_index old (as_subject b) o)
   noted_at b o =
       sym (place_is new b o) ∙ h (b, o.start, o.end)
       ∙ ap (λ (t : Bool). cond t (Some place) (get key_cmp old (b, o.start, o.end))) (key_is a original.start original.end (b, o.start, o.end))
       ∙ ap (λ (p : Option ℕ). cond (same_subject (as_subject a) (as_subject b) && same_span original o) (Some place) p) (place_is old b o)
 
-  noted : (s : Subject) (o : Span) → fault_place new s o ≡ (if same_subject (as_subject a) s && same_span original o then Some place else fault_place old s o)
+  noted : (s : Subject) (o : Span) → fault_index new s o ≡ (if same_subject (as_subject a) s && same_span original o then Some place else fault_index old s o)
   noted StateName o = noted_at names.State o
   noted RuleName o = noted_at names.Rule o
 
 pub returns-clause-noted : goal.returns-clause-noted
 returns-clause-noted c =
     let key : span c.start.result c.end.result ≡ as_span c.args.original = ap (λ (n : ℕ). span n c.end.result) c.start.ensures ∙ ap (span (as_span c.args.original).start) c.end.ensures in
-    let P : Span → Type 0 = λ x. (s : Subject) (o : Span) → fault_place c.insert.new.self s o ≡ (if same_subject (as_subject c.args.named) s && same_span x o then Some c.args.place else fault_place c.args.places.now s o) in
+    let P : Span → Type 0 = λ x. (s : Subject) (o : Span) → fault_index c.insert.new.self s o ≡ (if same_subject (as_subject c.args.named) s && same_span x o then Some c.args.place else fault_index c.args.places.now s o) in
     subst P key (noted c.args.places.now c.insert.new.self c.args.named (span c.start.result c.end.result) c.args.place c.in_ok-insert.ensures.updates.0)

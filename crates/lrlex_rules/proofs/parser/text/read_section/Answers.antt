@@ -3,7 +3,7 @@ use Rattle.std.specs.Option.{option_copied}
 use Rattle.std.proofs.lemmas.List.{map_push}
 use Rattle.lrlex_rules.specs.Text.{Piece, lines_left, laid_out}
 use Rattle.lrlex_rules.specs.Declaration.{section_lines, ends_section, is_skipped}
-use Rattle.lrlex_rules.specs.Reading.{as_piece, line_end}
+use Rattle.lrlex_rules.specs.Builder.{as_piece, line_end}
 use Rattle.lrlex_rules.proofs.Marks.{suffix_here, suffix_more, mark_here}
 use Rattle.lrlex_rules.proofs.Ends.{ends_push}
 use Rattle.lrlex_rules.proofs.Sections.{section_done, section_skipped, section_said, mark_found, mark_later, still_short, rest_short}

@@ -4,7 +4,7 @@ use Rattle.lrlex_rules.specs.Answer.{IsAnswer}
 use Rattle.lrlex_rules.specs.Declaration.{initial}
 use Rattle.lrlex_rules.specs.Definition.{Definition}
 use Rattle.lrlex_rules.specs.Laws.{IsLawful}
-use Rattle.lrlex_rules.specs.Reading.{as_definition}
+use Rattle.lrlex_rules.specs.Builder.{as_definition}
 use Rattle.lrlex.specs.Views.{definition_of}
 use Rattle.lrlex.proofs.Parted.{definition_of-parts, has_initial}
 use Rattle.lrlex.proofs.lexer.definition.LRNonStreamingLexerDef.new_with_budget.Goals as goal

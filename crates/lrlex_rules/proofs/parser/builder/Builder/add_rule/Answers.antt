@@ -5,7 +5,7 @@ use Rattle.std.proofs.lemmas.List.{map_push}
 use Rattle.lrlex_rules.specs.Definition.{Rule}
 use Rattle.lrlex_rules.specs.Flags.{config_of}
 use Rattle.lrlex_rules.specs.Parts.{as_rule}
-use Rattle.lrlex_rules.specs.Reading.{as_parts, as_pattern, IsRefused}
+use Rattle.lrlex_rules.specs.Builder.{as_parts, as_pattern, IsRefused}
 use Rattle.lrlex_rules.proofs.Builders.{on_ok, adds_rule}
 use Rattle.lrlex_rules.proofs.RuleEvents.{line_too_many, line_refused, line_kept, rule_made, at_most}
 use Rattle.lrlex_rules.proofs.parser.builder.Builder.add_rule.Goals as goal

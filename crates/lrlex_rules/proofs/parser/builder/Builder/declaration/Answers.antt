@@ -9,7 +9,7 @@ use Rattle.lrlex_rules.specs.Event.FaultKind.{UnknownDeclaration}
 use Rattle.lrlex_base.specs.Classes.{is_white_space}
 use Rattle.lrlex_rules.specs.Text.{cut, is_empty}
 use Rattle.lrlex_rules.proofs.Runs.{events_after_one}
-use Rattle.lrlex_rules.specs.Reading.{Represents, as_piece}
+use Rattle.lrlex_rules.specs.Builder.{Represents, as_piece}
 use Rattle.lrlex_rules.proofs.Builders.{on_ok}
 use Rattle.lrlex_rules.proofs.Declares.{declared_is, undeclared_is}
 use Rattle.lrlex_rules.proofs.parser.builder.Builder.declaration.Goals as goal

@@ -5,7 +5,7 @@ use Rattle.lrlex_rules.specs.declared.parser.text.Line.{Line}
 use Rattle.lrlex_rules.specs.Outcome.{events_after}
 use Rattle.lrlex_rules.specs.Event.{Event}
 use Rattle.lrlex_rules.specs.Declaration.{state_event, declared_by}
-use Rattle.lrlex_rules.specs.Reading.{Represents, as_piece}
+use Rattle.lrlex_rules.specs.Builder.{Represents, as_piece}
 use Rattle.lrlex_rules.proofs.Runs.{said_after_more, said_after_stop}
 use Rattle.lrlex_rules.proofs.parser.builder.Builder.declarations.Goals as goal
 

@@ -3,7 +3,7 @@ use Rattle.std.specs.List.{flat_map}
 use Rattle.lrlex_rules.specs.Event.{Event}
 use Rattle.lrlex_rules.specs.Declaration.{state_event, declared_by}
 use Rattle.lrlex_rules.specs.Outcome.{events_after}
-use Rattle.lrlex_rules.specs.Reading.{Reads, as_piece}
+use Rattle.lrlex_rules.specs.Builder.{Reads, as_piece}
 use Rattle.lrlex_rules.proofs.parser.builder.Builder.declarations.Given as goal
 
 -- whatever events the builder began with, it has those of the lines so far too

@@ -5,7 +5,7 @@ use Rattle.lrlex_rules.specs.Definition.{StartState}
 use Rattle.lrlex_rules.specs.Event.{span_of}
 use Rattle.lrlex_rules.specs.Event.Subject.{StateName}
 use Rattle.lrlex_rules.specs.Merge.{with_duplicate}
-use Rattle.lrlex_rules.specs.Reading.{as_piece, as_fault}
+use Rattle.lrlex_rules.specs.Builder.{as_piece, as_fault}
 use Rattle.lrlex_rules.specs.Parts.{as_state}
 use Rattle.lrlex_rules.proofs.Places.{span_from}
 use Rattle.lrlex_rules.proofs.Builders.{on_ok, declares_again, declares_new, declares_right, declares_wrong}

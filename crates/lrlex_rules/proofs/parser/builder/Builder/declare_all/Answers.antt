@@ -5,7 +5,7 @@ use Rattle.lrlex_rules.specs.Event.{Event}
 use Rattle.lrlex_rules.specs.Outcome.{events_after}
 use Rattle.lrlex_rules.specs.Text.{Piece, piece, pieces_left}
 use Rattle.lrlex_rules.specs.Declaration.{state_event, declared_name}
-use Rattle.lrlex_rules.specs.Reading.{Represents}
+use Rattle.lrlex_rules.specs.Builder.{Represents}
 use Rattle.lrlex_rules.proofs.Runs.{events_after_next, events_after_refused}
 use Rattle.lrlex_rules.proofs.Declares.{all_left, name_here, short_here}
 use Rattle.lrlex_rules.proofs.Sections.{still_short}

@@ -6,7 +6,7 @@ use Rattle.lrlex_rules.specs.Text.{cut, pieces_left}
 use Rattle.lrlex_rules.specs.Event.{Event}
 use Rattle.lrlex_rules.specs.Declaration.{state_event, declared_name}
 use Rattle.lrlex_rules.specs.Outcome.{events_after}
-use Rattle.lrlex_rules.specs.Reading.{Represents, as_piece}
+use Rattle.lrlex_rules.specs.Builder.{Represents, as_piece}
 use Rattle.lrlex_rules.proofs.parser.builder.Builder.declare_all.Given as goal
 
 -- whatever events the builder began with, it has those of the names so far too, and the names that are left say the rest

@@ -1,5 +1,5 @@
 use Rattle.std.proofs.Common.{◌∙◌, sym, Err}
-use Rattle.lrlex_rules.specs.Reading.{as_piece, as_fatal}
+use Rattle.lrlex_rules.specs.Builder.{as_piece, as_fatal}
 use Rattle.lrlex_rules.specs.Outcome.{line_event}
 use Rattle.lrlex_rules.specs.Event.{span_of}
 use Rattle.lrlex_rules.specs.Event.Event.{Verbatim, Fatal}

@@ -3,7 +3,7 @@ use Rattle.std.proofs.lemmas.List.{take_all}
 use Rattle.lrlex_rules.specs.declared.parser.text.Line.{Line}
 use Rattle.lrlex_rules.specs.Event.{Event}
 use Rattle.lrlex_rules.specs.Outcome.{events_after, line_event}
-use Rattle.lrlex_rules.specs.Reading.{Represents, hits, as_piece}
+use Rattle.lrlex_rules.specs.Builder.{Represents, hits, as_piece}
 use Rattle.lrlex_rules.proofs.Runs.{events_after_stop}
 use Rattle.lrlex_rules.proofs.RuleRuns.{line_more}
 use Rattle.lrlex_rules.proofs.parser.builder.Builder.lines.Goals as goal

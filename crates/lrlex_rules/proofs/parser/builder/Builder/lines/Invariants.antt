@@ -1,7 +1,7 @@
 use Rattle.std.proofs.Common.{List, map, take}
 use Rattle.lrlex_rules.specs.Event.{Event}
 use Rattle.lrlex_rules.specs.Outcome.{Settings, events_after, line_event}
-use Rattle.lrlex_rules.specs.Reading.{Represents, Suits, HitAlike, refused_of, as_piece}
+use Rattle.lrlex_rules.specs.Builder.{Represents, Suits, HitAlike, refused_of, as_piece}
 use Rattle.lrlex_rules.proofs.parser.builder.Builder.lines.Given as goal
 
 -- whatever events the builder began with, it has those of the lines so far too, if the settings name the same of these lines as the builder does

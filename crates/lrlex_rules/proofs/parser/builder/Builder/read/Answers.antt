@@ -5,7 +5,7 @@ use Rattle.lrlex_rules.specs.Text.{Piece}
 use Rattle.lrlex_rules.specs.Flags.{allows_comments}
 use Rattle.lrlex_rules.specs.Declaration.{Declared, state_event, declarations, section_end, trimmed_lines}
 use Rattle.lrlex_rules.specs.Outcome.{events_after, rules_events}
-use Rattle.lrlex_rules.specs.Reading.{Represents, as_piece}
+use Rattle.lrlex_rules.specs.Builder.{Represents, as_piece}
 use Rattle.lrlex_rules.proofs.Builders.{on_ok}
 use Rattle.lrlex_rules.proofs.Whole.{declared_all, declared_end}
 use Rattle.lrlex_rules.proofs.parser.builder.Builder.read.Goals as goal
@@ -13,7 +13,7 @@ use Rattle.lrlex_rules.proofs.parser.builder.Builder.read.Goals as goal
 pub returns-in-Some : goal.returns-in-Some
 returns-in-Some g c =
     let flags = c.args.flags.now in
-    let all = declared_all c.args.text.now c.unwrap_or-comments.result flags c.as_slice.result.now c.unwrap_or-comments.ensures (ap (map as_piece) c.as_slice.ensures.value ∙ c.in_ok-declared.ensures.lines) in
+    let all = declared_all c.args.text.now c.allows_comments-comments.result flags c.as_slice.result.now c.allows_comments-comments.ensures (ap (map as_piece) c.as_slice.ensures.value ∙ c.in_ok-declared.ensures.lines) in
     let end : Some (as_piece c.in-Some.mark) ≡ section_end (trimmed_lines c.args.text.now) = ap (option_map as_piece) (sym c.in-Some.is) ∙ declared_end c.args.text.now c.in_ok-declared.declared.end c.in_ok-declared.ensures.end in
     on_ok c.rules.result (λ reads s suits events was same.
     let so_far = c.in_ok-declarations.ensures flags events was in
@@ -24,7 +24,7 @@ returns-in-Some g c =
 pub returns : goal.returns
 returns g c =
     let flags = c.args.flags.now in
-    let all = declared_all c.args.text.now c.unwrap_or-comments.result flags c.as_slice.result.now c.unwrap_or-comments.ensures (ap (map as_piece) c.as_slice.ensures.value ∙ c.in_ok-declared.ensures.lines) in
+    let all = declared_all c.args.text.now c.allows_comments-comments.result flags c.as_slice.result.now c.allows_comments-comments.ensures (ap (map as_piece) c.as_slice.ensures.value ∙ c.in_ok-declared.ensures.lines) in
     let end : None ≡ section_end (trimmed_lines c.args.text.now) = ap (option_map as_piece) (sym c.in-None.is) ∙ declared_end c.args.text.now c.in_ok-declared.declared.end c.in_ok-declared.ensures.end in
     on_ok c.then_refuse.result (λ reads s suits events was same.
     let so_far = c.in_ok-declarations.ensures flags events was in

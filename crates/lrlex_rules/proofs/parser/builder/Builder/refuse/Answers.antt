@@ -3,7 +3,7 @@ use Rattle.std.proofs.lemmas.List.{map_push}
 use Rattle.lrlex_rules.specs.declared.faults.LexErrorKind.{LexErrorKind}
 use Rattle.lrlex_rules.specs.Event.{Fault, fault_at}
 use Rattle.lrlex_rules.specs.Kinds.{as_kind, is_regex_error}
-use Rattle.lrlex_rules.specs.Reading.{refused_in, as_fault}
+use Rattle.lrlex_rules.specs.Builder.{refused_in, as_fault}
 use Rattle.lrlex_rules.proofs.Refusals.{refused_in-push}
 use Rattle.lrlex_rules.proofs.Builders.{adds_fatal}
 use Rattle.lrlex_rules.proofs.Places.{one_fault}

@@ -1,5 +1,5 @@
 use Rattle.std.proofs.Common.{ap, refl}
-use Rattle.lrlex_rules.specs.Reading.{regex_error}
+use Rattle.lrlex_rules.specs.Builder.{regex_error}
 use Rattle.lrlex_rules.proofs.Builders.{adds_refused}
 use Rattle.lrlex_rules.proofs.Places.{one_fault}
 use Rattle.lrlex_rules.proofs.parser.builder.Builder.refuse_pattern.Goals as goal

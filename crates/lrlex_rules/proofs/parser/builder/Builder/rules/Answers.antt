@@ -4,14 +4,14 @@ use Rattle.std.specs.Option.{IfSome}
 use Rattle.lrlex_rules.specs.declared.parser.text.Line.{Line}
 use Rattle.lrlex_rules.specs.Event.{Event}
 use Rattle.lrlex_rules.specs.Text.{piece}
-use Rattle.lrlex_rules.specs.Reading.{MarkAt, Represents, as_piece}
+use Rattle.lrlex_rules.specs.Builder.{MarkAt, Represents, as_piece}
 use Rattle.lrlex_rules.proofs.Rising.{lines_apart}
 use Rattle.lrlex_rules.proofs.Whole.{on_both, section_place, rules_endless, rules_white, rules_routines}
 use Rattle.lrlex_rules.proofs.parser.builder.Builder.rules.Goals as goal
 
 pub lines-requires-clause-apart : goal.lines-requires-clause-apart
 lines-requires-clause-apart g c =
-    lines_apart c.unwrap_or-comments.result (piece (length c.args.text.now - length c.skip_blanks-section.result.now) c.skip_blanks-section.result.now) c.as_slice.result.now (ap (map as_piece) c.as_slice.ensures.value ∙ c.in_ok-rules.ensures.lines)
+    lines_apart c.allows_comments-comments.result (piece (length c.args.text.now - length c.skip_blanks-section.result.now) c.skip_blanks-section.result.now) c.as_slice.result.now (ap (map as_piece) c.as_slice.ensures.value ∙ c.in_ok-rules.ensures.lines)
 
 pub returns-in_default : goal.returns-in_default
 returns-in_default g c s suits events was same =
@@ -21,7 +21,7 @@ returns-in_default g c s suits events was same =
     let ls = c.as_slice.result.now in
     let said = ap (map as_piece) c.as_slice.ensures.value ∙ c.in_ok-rules.ensures.lines in
     let P : List Event → Type 0 = λ es. Represents g.StorageT.Id.number flags c.lines.new.self es in
-    subst P (rules_endless flags g.StorageT.Id.greatest c.args.text.now c.skip_blanks-section.result.now at c.args.mark ls c.in_ok-rules.rules.end c.unwrap_or-comments.result spot.0 spot.1 c.unwrap_or-comments.ensures said c.in_ok-rules.ensures.end c.in_default.is s suits events) (c.in_ok-lines.ensures s suits events was same)
+    subst P (rules_endless flags g.StorageT.Id.greatest c.args.text.now c.skip_blanks-section.result.now at c.args.mark ls c.in_ok-rules.rules.end c.allows_comments-comments.result spot.0 spot.1 c.allows_comments-comments.ensures said c.in_ok-rules.ensures.end c.in_default.is s suits events) (c.in_ok-lines.ensures s suits events was same)
 
 pub returns-then-is_white : goal.returns-then-is_white
 returns-then-is_white g c s suits events was same =
@@ -32,7 +32,7 @@ returns-then-is_white g c s suits events was same =
     let said = ap (map as_piece) c.as_slice.ensures.value ∙ c.in_ok-rules.ensures.lines in
     let marked : MarkAt at c.skip_blanks-section.result.now c.in-Some.end = subst (λ (o : Option Line). IfSome o (MarkAt at c.skip_blanks-section.result.now)) c.in-Some.is c.in_ok-rules.ensures.mark in
     let P : List Event → Type 0 = λ es. Represents g.StorageT.Id.number flags c.lines.new.self es in
-    subst P (rules_white flags g.StorageT.Id.greatest c.args.text.now c.skip_blanks-section.result.now at c.args.mark ls c.in_ok-rules.rules.end c.unwrap_or-comments.result spot.0 spot.1 c.unwrap_or-comments.ensures said c.in_ok-rules.ensures.end c.in-Some.end c.behind-routines.result.now c.in-Some.is marked.from c.behind-routines.ensures (sym c.is_white.ensures ∙ c.if-is_white.true) s suits events) (c.in_ok-lines.ensures s suits events was same)
+    subst P (rules_white flags g.StorageT.Id.greatest c.args.text.now c.skip_blanks-section.result.now at c.args.mark ls c.in_ok-rules.rules.end c.allows_comments-comments.result spot.0 spot.1 c.allows_comments-comments.ensures said c.in_ok-rules.ensures.end c.in-Some.end c.behind-routines.result.now c.in-Some.is marked.from c.behind-routines.ensures (sym c.is_white.ensures ∙ c.if-is_white.true) s suits events) (c.in_ok-lines.ensures s suits events was same)
 
 pub returns : goal.returns
 returns g c =
@@ -44,6 +44,6 @@ returns g c =
     let marked : MarkAt at c.skip_blanks-section.result.now c.in-Some.end = subst (λ (o : Option Line). IfSome o (MarkAt at c.skip_blanks-section.result.now)) c.in-Some.is c.in_ok-rules.ensures.mark in
     on_both c.then_refuse.result (λ reads keeps s suits events was same.
     let P : List Event → Type 0 = λ es. Represents g.StorageT.Id.number flags c.then_refuse.new.self es in
-    subst P (rules_routines flags g.StorageT.Id.greatest c.args.text.now c.skip_blanks-section.result.now at c.args.mark ls c.in_ok-rules.rules.end c.unwrap_or-comments.result spot.0 spot.1 c.unwrap_or-comments.ensures said c.in_ok-rules.ensures.end c.in-Some.end c.behind-routines.result.now c.in-Some.is marked.from c.behind-routines.ensures (sym c.is_white.ensures ∙ c.if-is_white.false) s suits events)
+    subst P (rules_routines flags g.StorageT.Id.greatest c.args.text.now c.skip_blanks-section.result.now at c.args.mark ls c.in_ok-rules.rules.end c.allows_comments-comments.result spot.0 spot.1 c.allows_comments-comments.ensures said c.in_ok-rules.ensures.end c.in-Some.end c.behind-routines.result.now c.in-Some.is marked.from c.behind-routines.ensures (sym c.is_white.ensures ∙ c.if-is_white.false) s suits events)
     (reads flags _ (c.in_ok-lines.ensures s suits events was (same ∙ keeps))))
     c.then_refuse.ensures.reads c.then_refuse.ensures.keeps

@@ -1,6 +1,6 @@
 use Rattle.std.proofs.Common.{List, subst, sym, ◌∙◌}
 use Rattle.lrlex_rules.specs.Event.{Event}
-use Rattle.lrlex_rules.specs.Reading.{Represents}
+use Rattle.lrlex_rules.specs.Builder.{Represents}
 use Rattle.lrlex_rules.specs.Kinds.{as_kind}
 use Rattle.lrlex_rules.proofs.Builders.{on_ok}
 use Rattle.lrlex_rules.proofs.Whole.{then_fatal_is}

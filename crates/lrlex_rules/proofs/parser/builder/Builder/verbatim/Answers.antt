@@ -1,7 +1,7 @@
 use Rattle.std.proofs.Common.{◌∙◌, [], ◌∷◌, ◌++◌, ap, refl, map}
 use Rattle.std.proofs.lemmas.List.{map_push}
 use Rattle.lrlex_rules.specs.Event.{Fault, span_of}
-use Rattle.lrlex_rules.specs.Reading.{as_fault, as_piece}
+use Rattle.lrlex_rules.specs.Builder.{as_fault, as_piece}
 use Rattle.lrlex_rules.proofs.Builders.{adds_verbatim}
 use Rattle.lrlex_rules.proofs.Places.{one_fault}
 use Rattle.lrlex_rules.proofs.parser.builder.Builder.verbatim.Goals as goal

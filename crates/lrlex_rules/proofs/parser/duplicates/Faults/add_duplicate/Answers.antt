@@ -10,7 +10,7 @@ use Rattle.lrlex_rules.specs.Outcome.{kind_of, same_subject}
 use Rattle.lrlex_rules.specs.Kinds.{as_kind, as_subject}
 use Rattle.lrlex_rules.specs.Answer.{as_fault}
 use Rattle.lrlex_rules.specs.Faults.{fault_kind, fault_spans}
-use Rattle.lrlex_rules.specs.Merge.{is_fault_of, is_place, fault_place, IsOnlyPlace}
+use Rattle.lrlex_rules.specs.Merge.{is_fault_of, is_place, fault_index, IsOnlyPlace}
 use Rattle.lrlex_rules.proofs.Extends.{self_same, tests, only_set, grown, extends_known, extends_new, places_more}
 use Rattle.lrlex_rules.proofs.parser.duplicates.Faults.add_duplicate.Goals as goal
 
@@ -32,9 +32,9 @@ invariant_of-self c =
     let x : LexBuildError = c.index_mut-fault.result.now in
     let y : LexBuildError = record { kind = x.kind; spans = c.push.new.self } in
     let within : i < length list = (c.args.self.now.placed s o).0 i (sym c.in-Some.ensures) in
-    let its : tests s o x ≡ true = found_there s o (fault_place c.args.self.now.places s o) list i x (c.args.self.now.placed s o) c.in-Some.ensures c.index_mut-fault.ensures.value within in
+    let its : tests s o x ≡ true = found_there s o (fault_index c.args.self.now.places s o) list i x (c.args.self.now.placed s o) c.in-Some.ensures c.index_mut-fault.ensures.value within in
     record {
-      placed = λ s' o'. only_set (tests s' o') (fault_place c.args.self.now.places s' o') list i y (c.args.self.now.placed s' o')
+      placed = λ s' o'. only_set (tests s' o') (fault_index c.args.self.now.places s' o') list i y (c.args.self.now.placed s' o')
           (ap (λ (xs : List TheSpan). is_fault_of s' o' (fault (as_kind x.kind) (map as_span xs))) c.push.ensures.items
           ∙ grown s' s o' o (as_kind x.kind) x.spans.items c.args.found (is_ok c.push.result) its
           ∙ ap (tests s' o') (c.index_mut-fault.ensures.value ∙ get_or_default list i x y within));
@@ -53,14 +53,14 @@ returns-in-Some c =
 pub invariant_of-self-in-Break-branch-3 : goal.invariant_of-self-in-Break-branch-3
 invariant_of-self-in-Break-branch-3 c = record {
   placed = λ s o.
-      let P : List LexBuildError → Type 0 = λ xs. IsOnlyPlace (tests s o) (fault_place c.args.self.now.places s o) xs in
+      let P : List LexBuildError → Type 0 = λ xs. IsOnlyPlace (tests s o) (fault_index c.args.self.now.places s o) xs in
       subst P (sym c.in_err-reserve.ensures.items) (c.args.self.now.placed s o);
 }
 
 pub invariant_of-self-in-Break-branch-4 : goal.invariant_of-self-in-Break-branch-4
 invariant_of-self-in-Break-branch-4 c = record {
   placed = λ s o.
-      let P : List LexBuildError → Type 0 = λ xs. IsOnlyPlace (tests s o) (fault_place c.args.self.now.places s o) xs in
+      let P : List LexBuildError → Type 0 = λ xs. IsOnlyPlace (tests s o) (fault_index c.args.self.now.places s o) xs in
       let Q : Option ℕ → Type 0 = λ place. IsOnlyPlace (tests s o) place c.reserve.new.self.items in
       subst Q (sym (c.in_err-note.ensures.same s o)) (subst P (sym c.in_ok-reserve.ensures.items) (c.args.self.now.placed s o));
 }
@@ -79,16 +79,16 @@ invariant_of-self-2 c =
     let x : LexBuildError = c.new-fault.result in
     let ok : is_ok c.push-2.result ≡ true = c.push-2.ensures.succeeds (omega (arith, c.in_ok-reserve.ensures.ok)) in
     let items : c.push-2.new.self.items ≡ list ++ x ∷ [] = c.push-2.ensures.items ∙ ap (λ (b : Bool). if b then list ++ x ∷ [] else list) ok in
-    let was : (s' : Subject) (o' : Span) → IsOnlyPlace (tests s' o') (fault_place c.args.self.now.places s' o') list = λ s' o'.
-    let P : List LexBuildError → Type 0 = λ xs. IsOnlyPlace (tests s' o') (fault_place c.args.self.now.places s' o') xs in
+    let was : (s' : Subject) (o' : Span) → IsOnlyPlace (tests s' o') (fault_index c.args.self.now.places s' o') list = λ s' o'.
+    let P : List LexBuildError → Type 0 = λ xs. IsOnlyPlace (tests s' o') (fault_index c.args.self.now.places s' o') xs in
     subst P (sym c.in_ok-reserve.ensures.items) (c.args.self.now.placed s' o') in
-    let none : fault_place c.args.self.now.places s o ≡ None = sym c.place_of.ensures ∙ c.in_default.is in
+    let none : fault_index c.args.self.now.places s o ≡ None = sym c.fault_index.ensures ∙ c.in_default.is in
     let is : as_fault x ≡ fault (kind_of s) (o ∷ as_span c.args.found ∷ []) = made s o (as_span c.args.found) x c.kind.result c.in_ok-spans.spans.items c.new-fault.ensures.kind c.kind.ensures c.new-fault.ensures.spans (ap (map as_span) c.in_ok-spans.ensures.items) in
     record {
       placed = λ s' o'.
-          let P : List LexBuildError → Type 0 = λ xs. IsOnlyPlace (tests s' o') (fault_place c.note.new.places s' o') xs in
-          subst P (sym items) (places_more s o (as_span c.args.found) (λ s' o'. fault_place c.args.self.now.places s' o') (λ s' o'. fault_place c.note.new.places s' o') list x was none is
-          (λ s' o'. c.in_ok-note.ensures.noted s' o' ∙ ap (λ (n : ℕ). if same_subject s s' && same_span o o' then Some n else fault_place c.args.self.now.places s' o') (ap (length {A = LexBuildError}) c.as_slice.ensures.value)) s' o');
+          let P : List LexBuildError → Type 0 = λ xs. IsOnlyPlace (tests s' o') (fault_index c.note.new.places s' o') xs in
+          subst P (sym items) (places_more s o (as_span c.args.found) (λ s' o'. fault_index c.args.self.now.places s' o') (λ s' o'. fault_index c.note.new.places s' o') list x was none is
+          (λ s' o'. c.in_ok-note.ensures.noted s' o' ∙ ap (λ (n : ℕ). if same_subject s s' && same_span o o' then Some n else fault_index c.args.self.now.places s' o') (ap (length {A = LexBuildError}) c.as_slice.ensures.value)) s' o');
     }
 
 pub returns : goal.returns
@@ -97,7 +97,7 @@ returns c =
     let s = as_subject c.args.named in
     let o = as_span c.args.original in
     let x : LexBuildError = c.new-fault.result in
-    let none : fault_place c.args.self.now.places s o ≡ None = sym c.place_of.ensures ∙ c.in_default.is in
+    let none : fault_index c.args.self.now.places s o ≡ None = sym c.fault_index.ensures ∙ c.in_default.is in
     let is : as_fault x ≡ fault (kind_of s) (o ∷ as_span c.args.found ∷ []) = made s o (as_span c.args.found) x c.kind.result c.in_ok-spans.spans.items c.new-fault.ensures.kind c.kind.ensures c.new-fault.ensures.spans (ap (map as_span) c.in_ok-spans.ensures.items) in
     let P : Option ℕ → Type 0 = λ place. IsOnlyPlace (tests s o) place list in
     ap (map as_fault) (c.in_ok-push-2.ensures.items ∙ ap (λ (xs : List LexBuildError). xs ++ x ∷ []) c.in_ok-reserve.ensures.items)

@@ -1,7 +1,7 @@
 use Rattle.std.proofs.Common.{◌∙◌, Option, Bor, List, ℕ, Some, None, sym, ap, map}
 use Rattle.std.specs.Option.{option_map, option_copied}
 use Rattle.std.specs.List.{slice_get}
-use Rattle.lrlex_rules.specs.Outcome.{has_name, rule_named}
+use Rattle.lrlex_rules.specs.Outcome.{has_name, rule_with_name}
 use Rattle.lrlex_rules.specs.Parts.{as_rule}
 use Rattle.lrlex_rules.proofs.Places.{first_at, got}
 use Rattle.lrlex_rules.proofs.parser.names.Rules.named.Goals as goal
@@ -12,11 +12,11 @@ returns-in-Some g c =
     let all = c.args.self.now.list.items in
     ap (option_map (as_rule g.StorageT.Id.number)) (got c.deref.result.now c.in-Some.place.now c.get-in-Some.result c.get-in-Some.ensures.lookup ∙ ap (λ xs. slice_get xs c.in-Some.place.now) c.deref.ensures.value)
     ∙ first_at (has_name name) (as_rule g.StorageT.Id.number) all (Some c.in-Some.place.now) (c.in-Some.ensures.value ∙ c.args.self.now.placed name)
-    ∙ ap (λ (o : Option (Bor (List ℕ))). rule_named (map (as_rule g.StorageT.Id.number) all) (option_copied o)) (sym c.in_ok-name.was)
+    ∙ ap (λ (o : Option (Bor (List ℕ))). rule_with_name (map (as_rule g.StorageT.Id.number) all) (option_copied o)) (sym c.in_ok-name.was)
 
 pub returns-in-None : goal.returns-in-None
 returns-in-None g c =
     let name = c.in_ok-name.field-0.now in
     let all = c.args.self.now.list.items in
     first_at (has_name name) (as_rule g.StorageT.Id.number) all None (c.in-None.ensures.value ∙ c.args.self.now.placed name)
-    ∙ ap (λ (o : Option (Bor (List ℕ))). rule_named (map (as_rule g.StorageT.Id.number) all) (option_copied o)) (sym c.in_ok-name.was)
+    ∙ ap (λ (o : Option (Bor (List ℕ))). rule_with_name (map (as_rule g.StorageT.Id.number) all) (option_copied o)) (sym c.in_ok-name.was)

@@ -2,7 +2,7 @@ use Rattle.std.proofs.Common.{◌≡◌, ◌++◌}
 use Rattle.std.specs.String.{string_bytes}
 use Rattle.std.specs.Str.Iter.{chars_rest}
 use Rattle.lrlex_rules.specs.Escape.{unescape}
-use Rattle.lrlex_rules.proofs.parser.text.unescape.Given as goal
+use Rattle.lrlex_rules.proofs.parser.escapes.unescape.Given as goal
 
 -- what is written, and what the rest becomes, are what the pattern becomes
 abbrev pub invariant-loop-c : goal.invariant-loop-c

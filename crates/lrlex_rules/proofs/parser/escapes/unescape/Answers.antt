@@ -5,8 +5,8 @@ use Rattle.std.specs.Str.Iter.{chars_rest}
 use Rattle.std.specs.String.{string_bytes}
 use Rattle.lrlex_rules.specs.Escape.{is_meta, begins_escape}
 use Rattle.lrlex_rules.proofs.Escapes.{step_char, step_end, step_word_boundary, step_escape, step_done, kept_yes, kept_no}
-use Rattle.lrlex_rules.proofs.parser.text.unescape.Goals as goal
-use Rattle.lrlex_rules.proofs.parser.text.unescape.Goals.{then-posix, else-posix, then-keeps_backslash+in_ok-push-in-Some-next, else-keeps_backslash}
+use Rattle.lrlex_rules.proofs.parser.escapes.unescape.Goals as goal
+use Rattle.lrlex_rules.proofs.parser.escapes.unescape.Goals.{then-posix, else-posix, then-keeps_backslash+in_ok-push-in-Some-next, else-keeps_backslash}
 
 pub loop-c-init : goal.loop-c-init
 loop-c-init c = rw (c.new-out.ensures.bytes, c.chars-rest.ensures.rest) refl

@@ -4,7 +4,7 @@ use Rattle.std.proofs.lemmas.Str.{IsCharBoundary-from_take}
 use Rattle.std.proofs.lemmas.List.{take-append-drop}
 use Rattle.lrlex_rules.specs.Escape.{first_char}
 use Rattle.lrlex_rules.proofs.Fronts.{next_behind, seam_after, escaped_head, range_front}
-use Rattle.lrlex_rules.proofs.parser.text.trim_head.Goals as goal
+use Rattle.lrlex_rules.proofs.parser.escapes.trim_head.Goals as goal
 
 pub split_at-requires : goal.split_at-requires
 split_at-requires c = IsCharBoundary-from_take c.args.head.now (length c.trim_end-kept.result.now) c.utf8.head c.trim_end-kept.ensures.bound (subst IsUtf8 c.trim_end-kept.ensures.front c.trim_end-kept.utf8)

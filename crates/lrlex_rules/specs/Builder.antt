@@ -24,7 +24,7 @@ use Rattle.lrlex_rules.specs.Text.{Piece, piece, begins_with}
 use Rattle.lrlex_rules.specs.Event.{Fault, fault_at, Event, states_of, rules_of, is_refused, refused_patterns}
 use Rattle.lrlex_rules.specs.Event.Event.{Refused}
 use Rattle.lrlex_rules.specs.Declaration.{Declared, declared_by}
-use Rattle.lrlex_rules.specs.RuleLine.{RuleLabel, RuleParts, Pattern, is_greater, in_angles, after_angles}
+use Rattle.lrlex_rules.specs.RuleLine.{RuleLabel, LineParts, Pattern, is_greater, in_angles, after_angles}
 use Rattle.lrlex_rules.specs.Outcome.{Settings, faults_after}
 use Rattle.lrlex_rules.specs.Kinds.{as_kind}
 pub use Rattle.lrlex_rules.specs.Kinds.{as_subject}
@@ -71,7 +71,7 @@ as_fatal f = fault_at (as_kind f.kind) f.at
 abbrev pub as_label : Label → RuleLabel
 as_label l = record { name = option_copied l.name; span = as_span l.span }
 
-abbrev pub as_parts : Parts → RuleParts
+abbrev pub as_parts : Parts → LineParts
 as_parts p = record { head = p.head.now; target = p.target; label = as_label p.label }
 
 abbrev pub as_pattern : ThePattern → Pattern
