@@ -23,12 +23,12 @@ use Rattle.lrlex.proofs.MeetLemmas.{meets_front, front_at, last_at}
 
 -- the first state with the id has the tables that stand at its place
 pub untabled_here : {L X S E P Q : Type 0} (def : LRNonStreamingLexerDef L X S E P Q) (q i j : ℕ) (t : Tables) →
-    Some i ≡ position (λ s. (as_state s).id == q) def.table.start_states.items → slice_get def.table.tables_at.items i ≡ Some j → slice_get def.table.tables.items j ≡ Some t →
+    Some i ≡ position (λ s. (as_state s).id == q) def.table.start_states.items → slice_get def.table.list_at.items i ≡ Some j → slice_get def.table.tables.items j ≡ Some t →
     length t.asked.items ≡ untabled_count def q
 unfolding untabled_count
 untabled_here def q i j t found is has =
     let there : tables_in def q ≡ Some t =
-    ap (λ o. option_and_then (λ k. option_and_then (slice_get def.table.tables.items) (slice_get def.table.tables_at.items k)) o) (sym found)
+    ap (λ o. option_and_then (λ k. option_and_then (slice_get def.table.tables.items) (slice_get def.table.list_at.items k)) o) (sym found)
     ∙ ap (λ o. option_and_then (slice_get def.table.tables.items) o) is ∙ has in
     sym (ap (λ o. unwrap_or (option_map (λ (u : Tables). length u.asked.items) o) 0) there)
 

@@ -15,13 +15,12 @@ use Rattle.std.specs.HashSet.{HashSet, contains, contains_by, PutsKey}
 use Rattle.lrlex.specs.Active.{is_active, places_from, active_places}
 use Rattle.lrlex_rules.specs.Definition.{Rule, StartState}
 use Rattle.lrlex.specs.Ids.{is_named, ids_of, HoldsNames, HoldsTexts, HoldsPlaces, is_key_at, with_own_id}
-use Rattle.lrlex_rules.specs.Parts.{as_rule}
+use Rattle.lrlex_rules.specs.Parts.{RuleParts, as_rule}
 use Rattle.std.specs.declared.string.String.{String}
 use Rattle.std.specs.String.{string_eq}
 use Rattle.lrlex_base.specs.Spans.{Span, as_span, same_span}
 use Rattle.lrlex_base.specs.contracts.spans.SpanPartialEq.TheImpl as own
 use Rattle.lrlex_base.specs.declared.spans.Span.{Span as TheSpan}
-use Rattle.lrlex_rules.specs.declared.rules.Rule as code
 use Rattle.lrlex_rules.specs.declared.states.StartState as start
 use Rattle.lrlex.proofs.PlaceLemmas.{active_places-by}
 
@@ -63,7 +62,7 @@ without_name a false h s e there = e ∙ ap (λ c. c && not h) (sym (or-false a)
 without_name a true true s e there = e ∙ and-false a ∙ sym (and-false (a || true))
 without_name a true false s e there = absurd (true≢false (sym (there refl)))
 
-pub named_more : {S : Type 0} (number : S → ℕ) (p : Rule → Bool) (rules : List (code.Rule S)) (i : ℕ) (r : code.Rule S) → i < length rules → r ≡ get_or rules i r →
+pub named_more : {S : Type 0} (number : S → ℕ) (p : Rule → Bool) (rules : List (RuleParts S)) (i : ℕ) (r : RuleParts S) → i < length rules → r ≡ get_or rules i r →
     list_any p (map (as_rule number) (take (i + 1) rules)) ≡ (list_any p (map (as_rule number) (take i rules)) || p (as_rule number r))
 named_more number p rules i r within read =
     ap (list_any p) (map_more (as_rule number) rules i r within ∙ ap (λ x. map (as_rule number) (take i rules) ++ as_rule number x ∷ []) (sym read))
@@ -146,14 +145,14 @@ unfolding is_active
 kept_active ids states q k [] = refl
 kept_active ids states q k (r ∷ rules) = ap (λ (places : List ℕ). cond (is_active states q r) (k ∷ places) places) (kept_active ids states q (k + 1) rules)
 
-places_after : {S : Type 0} (number : S → ℕ) (ids : List ℕ → Option ℕ) (states : List StartState) (old new : List (code.Rule S)) →
+places_after : {S : Type 0} (number : S → ℕ) (ids : List ℕ → Option ℕ) (states : List StartState) (old new : List (RuleParts S)) →
     map (as_rule number) new ≡ map (with_own_id ids) (map (as_rule number) old) →
     (q : ℕ) → active_places states (map (as_rule (λ s. 0)) new) q ≡ active_places states (map (as_rule (λ s. 0)) old) q
 places_after number ids states old new e q =
     active_places-by number states new q ∙ ap (λ rules. active_places states rules q) e
     ∙ kept_active ids states q 0 (map (as_rule number) old) ∙ sym (active_places-by number states old q)
 
-pub lists_after : {S : Type 0} (number : S → ℕ) (ids : List ℕ → Option ℕ) (states : List StartState) (old new : List (code.Rule S)) →
+pub lists_after : {S : Type 0} (number : S → ℕ) (ids : List ℕ → Option ℕ) (states : List StartState) (old new : List (RuleParts S)) →
     map (as_rule number) new ≡ map (with_own_id ids) (map (as_rule number) old) → (starts : List start.StartState) →
     map (λ s. active_places states (map (as_rule (λ s. 0)) old) s.id) starts ≡ map (λ s. active_places states (map (as_rule (λ s. 0)) new) s.id) starts
 lists_after number ids states old new e starts = λ i. map (λ s. sym (places_after number ids states old new e s.id) i) starts

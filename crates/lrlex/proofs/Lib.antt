@@ -34,3 +34,4 @@ pub mod PieceLemmas
 pub mod CountedLemmas
 pub mod DocumentLemmas
 pub mod Utf16Lemmas
+pub mod ListLemmas

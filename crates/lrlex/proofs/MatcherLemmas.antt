@@ -6,15 +6,15 @@ use Rattle.std.proofs.lemmas.Bool.{cases_eq, cases_lt}
 use Rattle.std.proofs.lemmas.Option.{none-some, same_Some, slice_get-get_or, slice_get_within, get_or_from_slice_get}
 use Rattle.std.proofs.lemmas.List.{length-set, length_push, get_or_append_left, get_or_push, get_or-set_same, get_or-set_other}
 use Rattle.regex.specs.declared.string.matcher.Matcher.{Matcher}
-use Rattle.lrlex_rules.specs.declared.rules.Rule as code
+use Rattle.lrlex_rules.specs.Parts.{RuleParts}
 use Rattle.lrlex.specs.Tables.{IsMatcherOf, AreMatchers}
 
-module _ {S : Type 0} (rules : List (code.Rule S)) (made : List (Option (Box Matcher Global))) where
+module _ {S : Type 0} (rules : List (RuleParts S)) (made : List (Option (Box Matcher Global))) where
   -- no matcher is made yet
   pub none_made : length made ≡ length rules → ((i : ℕ) (o : Option (Box Matcher Global)) → slice_get made i ≡ Some o → o ≡ None) → AreMatchers rules made
   none_made len none = (len, λ i r o at is m e. absurd (none-some m (sym (none i o is) ∙ e)))
 
-  module _ (are : AreMatchers rules made) (place : ℕ) (r : code.Rule S) (at : slice_get rules place ≡ Some r) where
+  module _ (are : AreMatchers rules made) (place : ℕ) (r : RuleParts S) (at : slice_get rules place ≡ Some r) where
     pub matcher_within : place < length made
     matcher_within = omega (arith, are.0, slice_get_within rules place r at)
 

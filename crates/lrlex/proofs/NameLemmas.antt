@@ -5,13 +5,12 @@ use Rattle.std.proofs.lemmas.Option.{same_Some, none-some}
 use Rattle.std.specs.Option.{option_map, option_map_or, option_and_then}
 use Rattle.std.specs.List.{find}
 use Rattle.lrlex_rules.specs.Definition.{Rule}
-use Rattle.lrlex_rules.specs.Parts.{as_rule}
-use Rattle.lrlex_rules.specs.declared.rules.Rule as code
+use Rattle.lrlex_rules.specs.Parts.{RuleParts, as_rule}
 use Rattle.lrlex.specs.Ids.{gives, name_of, HaveDistinctIds}
 use Rattle.lrlex.proofs.ViewLemmas.{find-map}
 
 -- the name of the rule that is found
-pub named : {S : Type 0} (number : S → ℕ) (rules : List (code.Rule S)) (id : ℕ) (found : Option (code.Rule S)) → found ≡ find (λ r. gives id (as_rule number r)) rules
+pub named : {S : Type 0} (number : S → ℕ) (rules : List (RuleParts S)) (id : ℕ) (found : Option (RuleParts S)) → found ≡ find (λ r. gives id (as_rule number r)) rules
     → option_and_then (λ (r : Rule). r.name) (option_map (as_rule number) found) ≡ name_of (map (as_rule number) rules) id
 named number rules id found e =
     sym (ap (λ (o : Option Rule). option_and_then (λ (r : Rule). r.name) o) (find-map (as_rule number) (gives id) rules ∙ ap (option_map (as_rule number)) (sym e)))
@@ -35,7 +34,7 @@ id_given number None b n e = absurd (true≢false (sym e))
 id_given number (Some id) b n e = (id, refl, eqb-true _ _ (and_parts (number id == n) b e).0)
 
 -- a rule that gives the number is the first that does
-pub found_alone : {S : Type 0} (number : S → ℕ) (rules : List (code.Rule S)) (n i : ℕ) (r : code.Rule S) (b : Bool) → ((x y : S) → number x ≡ number y → x ≡ y)
+pub found_alone : {S : Type 0} (number : S → ℕ) (rules : List (RuleParts S)) (n i : ℕ) (r : RuleParts S) (b : Bool) → ((x y : S) → number x ≡ number y → x ≡ y)
     → HaveDistinctIds rules → slice_get rules i ≡ Some r → b ≡ gives n (as_rule number r) → b ≡ true → Some r ≡ find (λ x. gives n (as_rule number x)) rules
 found_alone number rules n i r b same distinct at tested is =
     let passes : gives n (as_rule number r) ≡ true = sym tested ∙ is in

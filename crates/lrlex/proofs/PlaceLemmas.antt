@@ -5,8 +5,7 @@ use Rattle.std.proofs.lemmas.List.{length-map, length-take-le, map_more}
 use Rattle.regex_hir.specs.Text.{is_some_and}
 use Rattle.lrlex_rules.specs.Definition.{StartState, Rule}
 use Rattle.lrlex.specs.Active.{is_active, is_active_where, is_inclusive, places_from, active_places}
-use Rattle.lrlex_rules.specs.Parts.{as_rule}
-use Rattle.lrlex_rules.specs.declared.rules.Rule as code
+use Rattle.lrlex_rules.specs.Parts.{RuleParts, as_rule}
 
 -- the first place that passes stands n rules on
 pub record IsNext (p : Rule → Bool) (k : ℕ) (rules : List Rule) (j : ℕ) (rest : List ℕ) : Type 0 where
@@ -91,14 +90,14 @@ unfolding count_of
 length-places p k rules = length-count_of p k rules ∙ is_count_by (count_of p) p refl (λ r rs. refl) rules
 
 -- which rules are active does not rest on their ids
-places_by : {S : Type 0} (value : S → ℕ) (states : List StartState) (q k : ℕ) (rules : List (code.Rule S)) →
+places_by : {S : Type 0} (value : S → ℕ) (states : List StartState) (q k : ℕ) (rules : List (RuleParts S)) →
     places_from (is_active states q) k (map (as_rule (λ s. 0)) rules) ≡ places_from (is_active states q) k (map (as_rule value) rules)
 unfolding is_active
 places_by value states q k [] = refl
 places_by value states q k (r ∷ rules) =
     ap (λ (xs : List ℕ). cond (is_active states q (as_rule value r)) (k ∷ xs) xs) (places_by value states q (k + 1) rules)
 
-pub active_places-by : {S : Type 0} (value : S → ℕ) (states : List StartState) (rules : List (code.Rule S)) (q : ℕ) →
+pub active_places-by : {S : Type 0} (value : S → ℕ) (states : List StartState) (rules : List (RuleParts S)) (q : ℕ) →
     active_places states (map (as_rule (λ s. 0)) rules) q ≡ active_places states (map (as_rule value) rules) q
 active_places-by value states rules q = places_by value states q 0 rules
 

@@ -14,9 +14,8 @@ use Rattle.regex_hir.specs.Text.{is_some_and}
 use Rattle.regex.specs.Patterns.{Re, SameCaptures, empty}
 use Rattle.lrlex_rules.specs.Definition.{Definition, Rule}
 use Rattle.lrlex_rules.specs.Patterns.{match_length, pattern_of}
-use Rattle.lrlex_rules.specs.Parts.{as_rule, as_state}
+use Rattle.lrlex_rules.specs.Parts.{RuleParts, as_rule, as_state}
 use Rattle.lrlex_rules.specs.declared.states.StartState as start
-use Rattle.lrlex_rules.specs.declared.rules.Rule as code
 use Rattle.lrlex_table.specs.Merged.{next_rows, pattern_at, IsTableOf, IsLongest, NoneMatches}
 use Rattle.lrlex_table.specs.Tables.{AreSingle, is_among, is_tabled, AreRising, AreTablesOf, IsBestAmong}
 use Rattle.lrlex_table.specs.declared.single.Single.{Single}
@@ -25,7 +24,7 @@ use Rattle.lrlex_table.specs.declared.tables.Part.{Part}
 use Rattle.lrlex_table.specs.declared.tables.Tables.{Tables}
 use Rattle.lrlex_table.specs.declared.walk.Tile.{Tile}
 use Rattle.lrlex_table.proofs.ForCallers.{serves_alike}
-use Rattle.lrlex.specs.Tables.{pattern_in, patterns_on, AreServed}
+use Rattle.lrlex.specs.Tables.{list_in, pattern_in, patterns_on, AreServed}
 use Rattle.lrlex.specs.Active.{is_active, active_places, taken, taken_by_any, rule_at, no_rule}
 use Rattle.lrlex.specs.Ids.{with_own_id}
 use Rattle.lrlex.specs.Tiling.{Wins, IsStuck}
@@ -304,7 +303,7 @@ module _ (d : Definition) (q : ℕ) (text places others : List ℕ) (are : place
     best_stuck none = none_stuck d q text places are (none_of here text (looked_at t.parts.items others n) (looked_all n past) k len best none)
 
 -- what a rule of the program matches, and its pattern among those of the active rules
-pub asked_is : {S : Type 0} (number : S → ℕ) (d : Definition) (rules : List (code.Rule S)) → d.rules ≡ map (as_rule number) rules → (places text : List ℕ) (k place n : ℕ) (r : code.Rule S) →
+pub asked_is : {S : Type 0} (number : S → ℕ) (d : Definition) (rules : List (RuleParts S)) → d.rules ≡ map (as_rule number) rules → (places text : List ℕ) (k place n : ℕ) (r : RuleParts S) →
     k < length places → place ≡ get_or places k 0 → place < length rules → r ≡ get_or rules place r →
     n ≡ match_length (pattern_of (as_rule number r)) text → n ≡ match_length (pattern_at (patterns_on d.rules places) k) text
 asked_is number d rules same places text k place n r lt at within read is =
@@ -314,13 +313,13 @@ asked_is number d rules same places text k place n r lt at within read is =
 -- ---- the tables of a definition
 
 -- which patterns stand at places does not rest on the rules' ids
-pattern_by : {S : Type 0} (f g : S → ℕ) (o : Option (code.Rule S)) →
+pattern_by : {S : Type 0} (f g : S → ℕ) (o : Option (RuleParts S)) →
     pattern_of (unwrap_or (option_map (as_rule f) o) no_rule) ≡ pattern_of (unwrap_or (option_map (as_rule g) o) no_rule)
 unfolding pattern_of
 pattern_by f g None = refl
 pattern_by f g (Some r) = refl
 
-pub patterns_by : {S : Type 0} (f g : S → ℕ) (rules : List (code.Rule S)) (places : List ℕ) →
+pub patterns_by : {S : Type 0} (f g : S → ℕ) (rules : List (RuleParts S)) (places : List ℕ) →
     patterns_on (map (as_rule f) rules) places ≡ patterns_on (map (as_rule g) rules) places
 patterns_by f g rules [] = refl
 patterns_by f g rules (i ∷ places) =
@@ -329,7 +328,7 @@ patterns_by f g rules (i ∷ places) =
     ∙ ap (λ o. pattern_of (unwrap_or o no_rule)) (sym (slice_get-map (as_rule g) rules i)))
     (patterns_by f g rules places)
 
-pub pattern_here : {S : Type 0} (f g : S → ℕ) (r : code.Rule S) → pattern_of (as_rule f r) ≡ pattern_of (as_rule g r)
+pub pattern_here : {S : Type 0} (f g : S → ℕ) (r : RuleParts S) → pattern_of (as_rule f r) ≡ pattern_of (as_rule g r)
 unfolding pattern_of
 pattern_here f g r = refl
 
@@ -339,19 +338,20 @@ wins_within d q text k n w = elim (cases_lt k (length d.rules)) [
   | inr ge ↦ absurd (let none : taken d q text k ≡ 0 = ap (taken_by_any d q text) (slice_get_past d.rules k ge) in omega (arith, none, w.takes, w.some))
 ]
 
--- the places that the program keeps for the first state with the id
-pub active_at : {S : Type 0} (active : List (Vec ℕ Global)) (states : List start.StartState) (rules : List (code.Rule S)) (i id : ℕ) →
-    map (λ v. v.items) active ≡ map (λ s. active_places (map as_state states) (map (as_rule (λ _. 0)) rules) (as_state s).id) states →
-    Some i ≡ position (λ s. (as_state s).id == id) states →
-    get_or (map (λ v. v.items) active) i [] ≡ active_places (map as_state states) (map (as_rule (λ _. 0)) rules) id
-active_at active states rules i id lists at =
+-- the list that the program keeps for the first state with the id
+pub active_at : {S : Type 0} (lists : List (List ℕ)) (at : List ℕ) (states : List start.StartState) (rules : List (RuleParts S)) (i j id : ℕ) →
+    map (list_in lists) at ≡ map (λ s. active_places (map as_state states) (map (as_rule (λ _. 0)) rules) (as_state s).id) states →
+    Some i ≡ position (λ s. (as_state s).id == id) states → slice_get at i ≡ Some j →
+    list_in lists j ≡ active_places (map as_state states) (map (as_rule (λ _. 0)) rules) id
+active_at lists at states rules i j id listed found is =
     let f = λ (s : start.StartState). active_places (map as_state states) (map (as_rule (λ _. 0)) rules) (as_state s).id in
-    let within = position_within (λ s. (as_state s).id == id) states i at in
+    let within = position_within (λ s. (as_state s).id == id) states i found in
     let other = item_at states i within in
-    let found = position_some (λ s. (as_state s).id == id) states i at other in
-    ap (λ xs. get_or xs i []) lists
+    let first = position_some (λ s. (as_state s).id == id) states i found other in
+    sym (get_or_from_slice_get (map (list_in lists) at) i (list_in lists j) [] (slice_get-map (list_in lists) at i ∙ ap (option_map (list_in lists)) is))
+    ∙ ap (λ xs. get_or xs i []) listed
     ∙ get_or_from_slice_get (map f states) i (f (get_or states i other)) [] (slice_get-map f states i ∙ ap (option_map f) (slice_get-get_or states i other within))
-    ∙ ap (active_places (map as_state states) (map (as_rule (λ _. 0)) rules)) (eqb-true _ _ found.1)
+    ∙ ap (active_places (map as_state states) (map (as_rule (λ _. 0)) rules)) (eqb-true _ _ first.1)
 
 -- ---- which state has which tables
 
@@ -360,14 +360,14 @@ alike_one p r same zero lt = same
 alike_one p r same (suc k) lt = absurd (omega arith)
 
 -- the table of a rule's compiled pattern is that of its pattern
-pub alone_serves : {S : Type 0} (number : S → ℕ) (o : Option Table) (p : Re) (r : code.Rule S) → SameCaptures p (pattern_of (as_rule number r)) →
+pub alone_serves : {S : Type 0} (number : S → ℕ) (o : Option Table) (p : Re) (r : RuleParts S) → SameCaptures p (pattern_of (as_rule number r)) →
     IfSome o (IsTableOf (p ∷ [])) → IfSome o (IsTableOf (pattern_of (as_rule (λ _. 0) r) ∷ []))
 alone_serves number None p r same is = tt
 alone_serves number (Some t) p r same is =
     let own = pattern_of (as_rule (λ _. 0) r) in
     serves_alike (next_rows t) t.wins.items t.start (p ∷ []) (own ∷ []) refl (alike_one p own (subst (SameCaptures p) (pattern_here number (λ _. 0) r) same)) is
 
-pub pattern_in_at : {S : Type 0} (rules : List (code.Rule S)) (i : ℕ) (r : code.Rule S) → slice_get rules i ≡ Some r →
+pub pattern_in_at : {S : Type 0} (rules : List (RuleParts S)) (i : ℕ) (r : RuleParts S) → slice_get rules i ≡ Some r →
     pattern_in (map (as_rule (λ _. 0)) rules) i ≡ pattern_of (as_rule (λ _. 0) r)
 pattern_in_at rules i r at = ap (λ u. pattern_of (unwrap_or u no_rule)) (slice_get-map (as_rule (λ _. 0)) rules i ∙ ap (option_map (as_rule (λ _. 0))) at)
 
@@ -407,55 +407,27 @@ single_back pattern new old n made kept k s is =
     elim (cases_lt k (length new)) [
       | inl lt ↦ made k s (slice_get-get_or new k s lt ∙ ap Some (sym (get_or_append_left new rest s k lt) ∙ here))
       | inr ge ↦
-          let place_and_stack : k < length old = omega (arith, length-take n (new ++ rest), length-append new rest, length-drop (length new) old) in
+          let among : k < length old = omega (arith, length-take n (new ++ rest), length-append new rest, length-drop (length new) old) in
           let place : length new + (k - length new) ≡ k = omega arith in
           let there : get_or (new ++ rest) k s ≡ get_or old k s =
           get_or-append_right new rest (length new) k s refl ge ∙ get_or-drop (length new) old (k - length new) s ∙ ap (λ j. get_or old j s) place in
-          kept k s (slice_get-get_or old k s place_and_stack ∙ ap Some (sym there ∙ here))
+          kept k s (slice_get-get_or old k s among ∙ ap Some (sym there ∙ here))
     ]
 
-module _ {S : Type 0} (rules : List (code.Rule S)) (active : List (List ℕ)) where
-  pub served_none : (tables : List Tables) → AreServed rules active tables []
-  served_none tables i j t is = absurd (none-some _ is)
+-- the tables of one more list
+pub served_more : {S : Type 0} (rules : List (RuleParts S)) (lists : List (List ℕ)) (tables : List Tables) (new : Tables) → AreServed rules lists tables →
+    AreTablesOf (patterns_on (map (as_rule (λ _. 0)) rules) (list_in lists (length tables))) new → AreServed rules lists (tables ++ new ∷ [])
+served_more rules lists tables new s own j t is = elim (cases_lt j (length tables)) [
+  | inl low ↦ s j t (slice_get-get_or tables j new low ∙ ap Some (sym (get_or_append_left tables (new ∷ []) new j low)) ∙ sym (slice_get-get_or (tables ++ new ∷ []) j new (omega (arith, length_push tables new))) ∙ is)
+  | inr high ↦
+      let within : j < length (tables ++ new ∷ []) = slice_get_within (tables ++ new ∷ []) j t is in
+      let last : length tables ≡ j = omega (arith, length_push tables new) in
+      let now : new ≡ t = sym (get_or_push tables new new j last) ∙ get_or_from_slice_get (tables ++ new ∷ []) j t new is in
+      subst (λ u. AreTablesOf (patterns_on (map (as_rule (λ _. 0)) rules) (list_in lists j)) u) now
+      (subst (λ n. AreTablesOf (patterns_on (map (as_rule (λ _. 0)) rules) (list_in lists n)) new) last own)
+]
 
-  pushed_before : (at : List ℕ) (x i j : ℕ) → i < length at → slice_get (at ++ x ∷ []) i ≡ Some j → slice_get at i ≡ Some j
-  pushed_before at x i j lt is =
-      slice_get-get_or at i 0 lt ∙ ap Some (sym (get_or_append_left at (x ∷ []) 0 i lt)) ∙ sym (slice_get-get_or (at ++ x ∷ []) i 0 (omega (arith, length_push at x))) ∙ is
-
-  pushed_here : (at : List ℕ) (x i j : ℕ) → length at ≤ i → slice_get (at ++ x ∷ []) i ≡ Some j → (length at ≡ i) × (x ≡ j)
-  pushed_here at x i j ge is =
-      let within : i < length (at ++ x ∷ []) = slice_get_within (at ++ x ∷ []) i j is in
-      let e : length at ≡ i = omega (arith, length_push at x) in
-      (e, sym (get_or_push at x 0 i e) ∙ get_or_from_slice_get (at ++ x ∷ []) i j 0 is)
-
-  -- one more state, with the tables of an earlier one
-  pub served_shared : (tables : List Tables) (at : List ℕ) (earlier : ℕ) → AreServed rules active tables at → earlier < length at → get_or active earlier [] ≡ get_or active (length at) [] →
-      AreServed rules active tables (at ++ get_or at earlier 0 ∷ [])
-  served_shared tables at earlier s lt same i j t is found = elim (cases_lt i (length at)) [
-    | inl low ↦ s i j t (pushed_before at (get_or at earlier 0) i j low is) found
-    | inr high ↦
-        let h = pushed_here at (get_or at earlier 0) i j high is in
-        subst (λ places. AreTablesOf (patterns_on (map (as_rule (λ _. 0)) rules) places) t) (same ∙ ap (λ n. get_or active n []) h.0)
-        (s earlier j t (slice_get-get_or at earlier 0 lt ∙ ap Some h.1) found)
-  ]
-
-  -- one more state, with tables of its own
-  pub served_own : (tables : List Tables) (at : List ℕ) (new : Tables) → AreServed rules active tables at → All (λ j. j < length tables) at →
-      AreTablesOf (patterns_on (map (as_rule (λ _. 0)) rules) (get_or active (length at) [])) new → AreServed rules active (tables ++ new ∷ []) (at ++ length tables ∷ [])
-  served_own tables at new s below own i j t is found = elim (cases_lt i (length at)) [
-    | inl low ↦
-        let here = pushed_before at (length tables) i j low is in
-        let lt : j < length tables = subst (λ n. n < length tables) (same_Some _ _ (sym (slice_get-get_or at i 0 low) ∙ here)) (below i 0 low) in
-        s i j t here
-        (slice_get-get_or tables j new lt ∙ ap Some (sym (get_or_append_left tables (new ∷ []) new j lt)) ∙ sym (slice_get-get_or (tables ++ new ∷ []) j new (omega (arith, length_push tables new))) ∙ found)
-    | inr high ↦
-        let h = pushed_here at (length tables) i j high is in
-        let now : new ≡ t = sym (get_or_push tables new new j h.1) ∙ get_or_from_slice_get (tables ++ new ∷ []) j t new found in
-        subst (λ u. AreTablesOf (patterns_on (map (as_rule (λ _. 0)) rules) (get_or active i [])) u) now
-        (subst (λ n. AreTablesOf (patterns_on (map (as_rule (λ _. 0)) rules) (get_or active n [])) new) h.0 own)
-  ]
-
--- places among the tables stay so
+-- places among the lists stay so
 pub below_more : (at : List ℕ) (x n m : ℕ) → All (λ j. j < n) at → n ≤ m → x < m → All (λ j. j < m) (at ++ x ∷ [])
 below_more at x n m all le lt = All-push (λ j. j < m) at x (λ i j h. omega (arith, all i j h)) lt
 
@@ -465,17 +437,17 @@ first_place p xs None i some none e = absurd (position_none p xs none some)
 first_place p xs (Some k) i some at e = ap Some e ∙ at
 
 -- the tables of a state are those of its active rules
-pub tables_at_state : {S : Type 0} (number : S → ℕ) (active : List (Vec ℕ Global)) (tables : List Tables) (at : List ℕ) (states : List start.StartState) (rules : List (code.Rule S)) (i j id : ℕ) (t : Tables) →
-    map (λ v. v.items) active ≡ map (λ s. active_places (map as_state states) (map (as_rule (λ _. 0)) rules) (as_state s).id) states →
-    ∥ AreServed rules (map (λ v. v.items) active) tables at ∥₁ → Some i ≡ position (λ s. (as_state s).id == id) states → slice_get at i ≡ Some j → slice_get tables j ≡ Some t →
+pub tables_at_state : {S : Type 0} (number : S → ℕ) (lists : List (List ℕ)) (tables : List Tables) (at : List ℕ) (states : List start.StartState) (rules : List (RuleParts S)) (i j id : ℕ) (t : Tables) →
+    map (list_in lists) at ≡ map (λ s. active_places (map as_state states) (map (as_rule (λ _. 0)) rules) (as_state s).id) states →
+    ∥ AreServed rules lists tables ∥₁ → Some i ≡ position (λ s. (as_state s).id == id) states → slice_get at i ≡ Some j → slice_get tables j ≡ Some t →
     ∥ AreTablesOf (patterns_on (map (as_rule number) rules) (active_places (map as_state states) (map (as_rule number) rules) id)) t ∥₁
-tables_at_state number active tables at states rules i j id t lists served found is has =
+tables_at_state number lists tables at states rules i j id t listed served found is has =
     let places = active_places (map as_state states) (map (as_rule (λ _. 0)) rules) id in
     ∥∥₁_map served (λ s.
     subst (λ ps. AreTablesOf ps t)
-    (ap (patterns_on (map (as_rule (λ _. 0)) rules)) (active_at active states rules i id lists found) ∙ patterns_by (λ _. 0) number rules places
+    (ap (patterns_on (map (as_rule (λ _. 0)) rules)) (active_at lists at states rules i j id listed found is) ∙ patterns_by (λ _. 0) number rules places
     ∙ ap (patterns_on (map (as_rule number) rules)) (active_places-by number (map as_state states) rules id))
-    (s i j t is has))
+    (s j t has))
 
 -- ---- other ids, the same tables
 
@@ -489,12 +461,12 @@ patterns_owned ids rules [] = refl
 patterns_owned ids rules (i ∷ places) =
     ap₂ ◌∷◌ (ap (λ o. pattern_of (unwrap_or o no_rule)) (slice_get-map (with_own_id ids) rules i) ∙ own_pattern ids (slice_get rules i)) (patterns_owned ids rules places)
 
-pub served_with_ids : {S : Type 0} (number : S → ℕ) (ids : List ℕ → Option ℕ) (old new : List (code.Rule S)) →
-    map (as_rule number) new ≡ map (with_own_id ids) (map (as_rule number) old) → (active : List (List ℕ)) (tables : List Tables) (at : List ℕ) →
-    AreServed old active tables at → AreServed new active tables at
-served_with_ids number ids old new e active tables at s i j t is has =
-    let places = get_or active i [] in
+pub served_with_ids : {S : Type 0} (number : S → ℕ) (ids : List ℕ → Option ℕ) (old new : List (RuleParts S)) →
+    map (as_rule number) new ≡ map (with_own_id ids) (map (as_rule number) old) → (lists : List (List ℕ)) (tables : List Tables) →
+    AreServed old lists tables → AreServed new lists tables
+served_with_ids number ids old new e lists tables s j t has =
+    let places = list_in lists j in
     subst (λ ps. AreTablesOf ps t)
     (patterns_by (λ _. 0) number old places ∙ sym (patterns_owned ids (map (as_rule number) old) places) ∙ ap (λ rs. patterns_on rs places) (sym e)
     ∙ patterns_by number (λ _. 0) new places)
-    (s i j t is has)
+    (s j t has)

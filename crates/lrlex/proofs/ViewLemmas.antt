@@ -14,10 +14,9 @@ use Rattle.regex_hir.specs.Text.{is_some_and}
 use Rattle.lrlex_rules.specs.Definition.{Definition, Rule, StartState}
 use Rattle.lrlex_rules.specs.Patterns.{end_from_zero, match_length, pattern_of}
 use Rattle.lrlex.specs.Active.{is_active, taken_by, taken_by_any, no_rule, rule_at}
-use Rattle.lrlex_rules.specs.Parts.{as_state, as_rule}
+use Rattle.lrlex_rules.specs.Parts.{RuleParts, as_rule, as_state}
 use Rattle.lrlex.specs.Views.{definition_of}
 use Rattle.lrlex.specs.Tables.{ArePlaced}
-use Rattle.lrlex_rules.specs.declared.rules.Rule as code
 use Rattle.lrlex.specs.declared.lexer.definition.LRNonStreamingLexerDef.{LRNonStreamingLexerDef}
 use Rattle.lrlex_rules.specs.declared.states.StartState as start
 
@@ -71,11 +70,11 @@ module _ {A : Type 0} (xs : List A) (i : ℕ) (x : A) (within : i < length xs) (
   view_at : {B : Type 0} (f : A → B) → slice_get (map f xs) i ≡ Some (f x)
   view_at f = slice_get-map f xs i ∙ ap (option_map f) (slice_get_read xs (length xs) i x refl within read)
 
-pub rule_at_place : {S : Type 0} (number : S → ℕ) (rules : List (code.Rule S)) (i : ℕ) (r : code.Rule S) → i < length rules → r ≡ get_or rules i r →
+pub rule_at_place : {S : Type 0} (number : S → ℕ) (rules : List (RuleParts S)) (i : ℕ) (r : RuleParts S) → i < length rules → r ≡ get_or rules i r →
     slice_get (map (as_rule number) rules) i ≡ Some (as_rule number r)
 rule_at_place number rules i r within read = view_at rules i r within read (as_rule number)
 
-pub rule_read : {L X S E P Q : Type 0} (number : S → ℕ) (d : LRNonStreamingLexerDef L X S E P Q) (i : ℕ) (r : code.Rule S) →
+pub rule_read : {L X S E P Q : Type 0} (number : S → ℕ) (d : LRNonStreamingLexerDef L X S E P Q) (i : ℕ) (r : RuleParts S) →
     i < length d.table.rules.items → r ≡ get_or d.table.rules.items i r → rule_at (definition_of number d) i ≡ as_rule number r
 rule_read number d i r within read = ap (λ (o : Option Rule). unwrap_or o no_rule) (view_at d.table.rules.items i r within read (as_rule number))
 

@@ -12,7 +12,7 @@ use Rattle.lrlex.specs.declared.lexer.definition.LRNonStreamingLexerDef.{LRNonSt
 -- the tables of the first state with the id
 abbrev pub tables_in : {L X S E P Q : Type 0} → LRNonStreamingLexerDef L X S E P Q → ℕ → Option Tables
 tables_in d q =
-    option_and_then (λ i. option_and_then (slice_get d.table.tables.items) (slice_get d.table.tables_at.items i)) (position (λ s. (as_state s).id == q) d.table.start_states.items)
+    option_and_then (λ i. option_and_then (slice_get d.table.tables.items) (slice_get d.table.list_at.items i)) (position (λ s. (as_state s).id == q) d.table.start_states.items)
 
 -- how many of the rules that are active in the state these leave out: each is asked by itself
 unfoldable pub untabled_count : {L X S E P Q : Type 0} → LRNonStreamingLexerDef L X S E P Q → ℕ → ℕ

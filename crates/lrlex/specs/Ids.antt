@@ -10,12 +10,11 @@ use Rattle.std.specs.declared.string.String.{String}
 use Rattle.lrlex_base.specs.Spans.{Span, as_span, same_span}
 use Rattle.lrlex_base.specs.declared.spans.Span.{Span as TheSpan}
 use Rattle.lrlex_rules.specs.Definition.{Definition, Rule}
-use Rattle.lrlex_rules.specs.Parts.{as_rule, as_state}
-use Rattle.lrlex_rules.specs.declared.rules.Rule as code
+use Rattle.lrlex_rules.specs.Parts.{RuleParts, as_rule, as_state}
 use Rattle.lrlex_rules.specs.declared.states.StartState as start
 
 -- what a definition says of its rules and its start states is what these say
-pub record IsMadeOf {S : Type 0} (number : S → ℕ) (rs : List (code.Rule S)) (ss : List start.StartState) (d : Definition) : Type 0 where
+pub record IsMadeOf {S : Type 0} (number : S → ℕ) (rs : List (RuleParts S)) (ss : List start.StartState) (d : Definition) : Type 0 where
   pub rules : d.rules ≡ map (as_rule number) rs
   pub states : d.states ≡ map as_state ss
 
@@ -40,19 +39,19 @@ abbrev pub name_of : List Rule → ℕ → Option (List ℕ)
 name_of rules id = option_and_then (λ (r : Rule). r.name) (find (gives id) rules)
 
 -- the rule's id, if it has one, is this place
-abbrev pub HasOwnId : {S : Type 0} → (S → ℕ) → code.Rule S → ℕ → Type 0
+abbrev pub HasOwnId : {S : Type 0} → (S → ℕ) → RuleParts S → ℕ → Type 0
 HasOwnId number r i = (id : _) → r.tok_id ≡ Some id → number id ≡ i
 
 -- no two rules have the same id
-abbrev pub HaveDistinctIds : {S : Type 0} → List (code.Rule S) → Type 0
+abbrev pub HaveDistinctIds : {S : Type 0} → List (RuleParts S) → Type 0
 HaveDistinctIds rules =
-    (i j : ℕ) (r s : code.Rule _) (id : _) → slice_get rules i ≡ Some r → slice_get rules j ≡ Some s → r.tok_id ≡ Some id → s.tok_id ≡ Some id → i ≡ j
+    (i j : ℕ) (r s : RuleParts _) (id : _) → slice_get rules i ≡ Some r → slice_get rules j ≡ Some s → r.tok_id ≡ Some id → s.tok_id ≡ Some id → i ≡ j
 
 -- the first of the program's rules with the id, and the first with the name
-abbrev pub rule_with_id : {S : Type 0} → (S → ℕ) → List (code.Rule S) → ℕ → Option (code.Rule S)
+abbrev pub rule_with_id : {S : Type 0} → (S → ℕ) → List (RuleParts S) → ℕ → Option (RuleParts S)
 rule_with_id number rules id = find (λ r. has_id id (as_rule number r)) rules
 
-abbrev pub rule_named : {S : Type 0} → (S → ℕ) → List (code.Rule S) → List ℕ → Option (code.Rule S)
+abbrev pub rule_named : {S : Type 0} → (S → ℕ) → List (RuleParts S) → List ℕ → Option (RuleParts S)
 rule_named number rules name = find (λ r. is_named name (as_rule number r)) rules
 
 -- the id that a map of the program has for a name

@@ -1,12 +1,14 @@
 -- What contracts see of a lexer that has its whole text.
 use Rattle.std.specs.Prelude.{ℕ, List, Result}
 use Rattle.lrlex.specs.declared.errors.LRLexError.{LRLexError}
-use Rattle.lrlex.specs.declared.lexer.non_streaming.LRNonStreamingLexer.{LRNonStreamingLexer}
 
--- its items, in order
-abbrev pub lexer_items : {L X S P Q : Type 0} → LRNonStreamingLexer L X S P Q → List (Result X LRLexError)
-lexer_items l = l.lexemes.items
+-- its items, in order, and the text that they were found in
+pub record Held (X : Type 0) : Type 0 where
+  pub items : List (Result X LRLexError)
+  pub text : List ℕ
 
--- the text that they were found in
-abbrev pub lexer_text : {L X S P Q : Type 0} → LRNonStreamingLexer L X S P Q → List ℕ
-lexer_text l = l.input.text.now
+abbrev pub lexer_items : {X : Type 0} → Held X → List (Result X LRLexError)
+lexer_items l = l.items
+
+abbrev pub lexer_text : {X : Type 0} → Held X → List ℕ
+lexer_text l = l.text

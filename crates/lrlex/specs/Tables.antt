@@ -6,9 +6,8 @@ use Rattle.regex.specs.Patterns.{Re, SameCaptures}
 use Rattle.regex.specs.Strings.{matcher_pattern}
 use Rattle.regex.specs.declared.string.matcher.Matcher.{Matcher}
 use Rattle.lrlex_rules.specs.Definition.{Rule}
-use Rattle.lrlex_rules.specs.Parts.{as_rule, as_state}
+use Rattle.lrlex_rules.specs.Parts.{RuleParts, as_rule, as_state}
 use Rattle.lrlex_rules.specs.Patterns.{pattern_of, rule_pattern}
-use Rattle.lrlex_rules.specs.declared.rules.Rule as code
 use Rattle.lrlex_rules.specs.declared.states.StartState as start
 use Rattle.lrlex_table.specs.Tables.{AreTablesOf, rows_of}
 use Rattle.lrlex_table.specs.declared.tables.Tables.{Tables}
@@ -26,21 +25,24 @@ pattern_in rules i = pattern_of (unwrap_or (slice_get rules i) no_rule)
 abbrev pub patterns_on : List Rule → List ℕ → List Re
 patterns_on rules places = map (pattern_in rules) places
 
--- state i has the tables at the place that `at` gives, and they are those of its active rules
-abbrev pub AreServed : {S : Type 0} → List (code.Rule S) → List (List ℕ) → List Tables → List ℕ → Type 0
-AreServed rules active tables at =
-    (i j : ℕ) (t : Tables) → slice_get at i ≡ Some j → slice_get tables j ≡ Some t →
-    AreTablesOf (patterns_on (map (as_rule (λ _. 0)) rules) (slice_index_or active i [])) t
+-- the list at a place
+abbrev pub list_in : List (List ℕ) → ℕ → List ℕ
+list_in lists j = slice_index_or lists j []
+
+-- each list of rules has its tables at its place
+abbrev pub AreServed : {S : Type 0} → List (RuleParts S) → List (List ℕ) → List Tables → Type 0
+AreServed rules lists tables =
+    (j : ℕ) (t : Tables) → slice_get tables j ≡ Some t → AreTablesOf (patterns_on (map (as_rule (λ _. 0)) rules) (list_in lists j)) t
 
 -- a matcher, where there is one, is that of the rule
-abbrev pub IsMatcherOf : {S : Type 0} → code.Rule S → Option (Box Matcher Global) → Type 0
+abbrev pub IsMatcherOf : {S : Type 0} → RuleParts S → Option (Box Matcher Global) → Type 0
 IsMatcherOf r o = (m : Box Matcher Global) → o ≡ Some m → SameCaptures (matcher_pattern m.value) (rule_pattern r)
 
 -- room for a matcher of each rule, and each that was made is that of the rule at its place
-abbrev pub AreMatchers : {S : Type 0} → List (code.Rule S) → List (Option (Box Matcher Global)) → Type 0
+abbrev pub AreMatchers : {S : Type 0} → List (RuleParts S) → List (Option (Box Matcher Global)) → Type 0
 AreMatchers rules made =
     (length made ≡ length rules)
-    × ((i : ℕ) (r : code.Rule _) (o : Option (Box Matcher Global)) → slice_get rules i ≡ Some r → slice_get made i ≡ Some o → IsMatcherOf r o)
+    × ((i : ℕ) (r : RuleParts _) (o : Option (Box Matcher Global)) → slice_get rules i ≡ Some r → slice_get made i ≡ Some o → IsMatcherOf r o)
 
 -- how many tables these have, how many rows in all, and how many rules without a table
 abbrev pub count_of_tables : List Tables → ℕ

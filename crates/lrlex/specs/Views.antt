@@ -5,10 +5,9 @@ use Rattle.lrlex_base.specs.Seen.{Seen}
 use Rattle.lrlex_rules.specs.Definition.{Definition}
 use Rattle.lrlex_table.specs.declared.tables.Tables.{Tables}
 use Rattle.lrlex.specs.Faults.{lex_error_span, lex_error_state}
-use Rattle.lrlex_rules.specs.Parts.{as_rule, as_state, state_number}
+use Rattle.lrlex_rules.specs.Parts.{RuleParts, as_rule, as_state, state_number}
 use Rattle.lrlex.specs.Tiling.{Item, Lexeme, Error}
 use Rattle.lrlex.specs.declared.errors.LRLexError.{LRLexError}
-use Rattle.lrlex_rules.specs.declared.rules.Rule as code
 use Rattle.lrlex_rules.specs.declared.states.StartState as start
 use Rattle.lrlex.specs.declared.lexer.definition.LRNonStreamingLexerDef.{LRNonStreamingLexerDef}
 
@@ -21,7 +20,7 @@ definition_of number d = record {
 }
 
 -- its rules and its start states, as the program has them
-abbrev pub definition_rules : {L X S E P Q : Type 0} → LRNonStreamingLexerDef L X S E P Q → List (code.Rule S)
+abbrev pub definition_rules : {L X S E P Q : Type 0} → LRNonStreamingLexerDef L X S E P Q → List (RuleParts S)
 definition_rules d = d.table.rules.items
 
 abbrev pub definition_states : {L X S E P Q : Type 0} → LRNonStreamingLexerDef L X S E P Q → List start.StartState

@@ -6,7 +6,7 @@ pub use Rattle.lrlex_base.specs.declared.edits.Edit.{Edit}
 pub use Rattle.lrlex_base.specs.Seen.{Seen}
 pub use Rattle.lrlex_base.specs.Items.{items_left}
 pub use Rattle.lrlex_rules.specs.Definition.{Definition, Rule, StartState}
-pub use Rattle.lrlex_rules.specs.Parts.{as_rule, as_state}
+pub use Rattle.lrlex_rules.specs.Parts.{RuleParts, as_rule, as_state}
 pub use Rattle.lrlex_rules.specs.Answer.{IsAnswer}
 pub use Rattle.lrlex_rules.specs.Faults.{IsPlaced, fault_kind, fault_spans}
 pub use Rattle.lrlex_rules.specs.Laws.{IsLawful}

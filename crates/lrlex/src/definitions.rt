@@ -19,20 +19,19 @@ pub trait LexerDef<L: LexerTypes>: Sized {
     ghost use Rattle.std.specs.Prelude.{◌≡◌, Some, IsSome, IfOk, IfErr, OnOk, OnErr, All, List, map, slice_get};
     ghost use Rattle.std.specs.Option.{option_copied};
     ghost use Rattle.std.specs.Slice.Iter.{iter_rest};
-    ghost use Rattle.lrlex_rules.specs.declared.rules.Rule.{Rule};
     ghost use Rattle.lrlex_rules.specs.declared.states.StartState.{StartState};
     ghost use Rattle.lrlex_rules.specs.Definition.{Definition};
     ghost use Rattle.lrlex_rules.specs.Answer.{IsAnswer, AreOwnRefusals};
     ghost use Rattle.lrlex_rules.specs.Faults.{IsPlaced};
     ghost use Rattle.lrlex_rules.specs.Laws.{IsLawful};
-    ghost use Rattle.lrlex_rules.specs.Parts.{as_rule};
+    ghost use Rattle.lrlex_rules.specs.Parts.{RuleParts, as_rule};
     ghost use Rattle.lrlex.specs.Ids.{IsMadeOf, rule_with_id, rule_named, ids_of, with_own_id, with_ids, is_lacking, is_unused, is_unused_at, HoldsNames, HoldsTexts, HoldsPlaces};
 
     // What it says.
     ghost said: { Self → Definition };
 
     // Its rules and its start states, in order.
-    ghost rules_of: { Self → List (Rule L.StorageT) };
+    ghost rules_of: { Self → List (RuleParts L.StorageT) };
 
     ghost states_of: { Self → List StartState };
 

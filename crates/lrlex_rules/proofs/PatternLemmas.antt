@@ -7,13 +7,11 @@ use Rattle.std.proofs.Math.Logic.{∥∥₁_elim}
 use Rattle.regex_syntax.specs.Brackets.{Nested}
 use Rattle.regex_syntax.specs.Grammar.{Names, group_count, read}
 use Rattle.regex_syntax.specs.Verdict.{Reads}
-use Rattle.regex.specs.Patterns.{Re, SameCaptures, empty}
+use Rattle.regex.specs.Patterns.{Config, Re, SameCaptures, empty}
 use Rattle.regex.specs.Strings.{regex_pattern, regex_config, regex_source, IsReadFromSource}
 use Rattle.regex.specs.declared.string.regex.Regex.{Regex}
 use Rattle.regex.proofs.ForCallers.{span_alike}
-use Rattle.lrlex_rules.specs.Parts.{as_rule}
-use Rattle.lrlex_rules.specs.Patterns.{pattern_read, pattern_of, end_from_zero, match_length}
-use Rattle.lrlex_rules.specs.declared.rules.Rule as code
+use Rattle.lrlex_rules.specs.Patterns.{pattern_read, end_from_zero, match_length}
 
 read_value : (o : Option (Nested Re × Names)) (most : ℕ) (a : Re) (names : Names) →
     IsSomeAnd o (λ (re, found). (re.depth ≤ most) × SameCaptures a re.value × (names ≡ found) × (group_count a ≤ length names)) →
@@ -28,13 +26,14 @@ as_read r h = read_value (read (regex_config r) (chars (regex_source r))) _ (reg
 outcomes_prop : (a b : Option (ℕ × (ℕ → Option ℕ))) → IsProp (a ≡ b)
 outcomes_prop a b = Prim.hlevel props
 
--- the compiled pattern of a rule gives the matches and captures of the rule's pattern
-pub rule_alike : {S : Type 0} (number : S → ℕ) (r : code.Rule S) → SameCaptures (regex_pattern r.re.value) (pattern_of (as_rule number r))
-unfolding pattern_of
-rule_alike number r =
-    let read : SameCaptures (regex_pattern r.re.value) (pattern_read (regex_config r.re.value) (regex_source r.re.value)) =
-    record { at = λ hay bytes k i. ∥∥₁_elim r.read (outcomes_prop _ _) (λ h. (as_read r.re.value h).at hay bytes k i) } in
-    subst (λ source. SameCaptures (regex_pattern r.re.value) (pattern_read (regex_config r.re.value) source)) r.source read
+-- the pattern that was compiled from a text gives the matches and captures of the one that its grammar reads there
+pub source_alike : (re : Regex) (config : Config) (source : List ℕ) → regex_source re ≡ source → ∥ IsReadFromSource re ∥₁ → regex_config re ≡ config →
+    SameCaptures (regex_pattern re) (pattern_read config source)
+source_alike re config source is read under =
+    let here : SameCaptures (regex_pattern re) (pattern_read (regex_config re) (regex_source re)) =
+    record { at = λ hay bytes k i. ∥∥₁_elim read (outcomes_prop _ _) (λ h. (as_read re h).at hay bytes k i) } in
+    subst (λ o. SameCaptures (regex_pattern re) (pattern_read o source)) under
+    (subst (λ s. SameCaptures (regex_pattern re) (pattern_read (regex_config re) s)) is here)
 
 -- and such patterns match equally much
 pub length_alike : (a b : Re) → SameCaptures a b → (text : List ℕ) → ((k : ℕ) → get_or text k 0 < 256) → match_length a text ≡ match_length b text

@@ -8,21 +8,26 @@ use Rattle.lrlex_rules.specs.declared.faults.LexErrorKind.{LexErrorKind}
 use Rattle.lrlex_rules.specs.declared.faults.LexErrorKind.TheVariants.{PrematureEnd, RoutinesNotSupported, UnknownDeclaration, MissingSpace, InvalidName, UnknownStartState, DuplicateStartState, InvalidStartState, InvalidStartStateName, DuplicateName, RegexError, VerbatimNotSupported, TooManyRules}
 use Rattle.lrlex_rules.specs.declared.faults.LexBuildError.{LexBuildError}
 
+-- what is wrong, without the reason that `regex` gives
+abbrev pub message : LexErrorKind → List ℕ
+message PrematureEnd = codes "File ends prematurely"
+message RoutinesNotSupported = codes "Routines not currently supported"
+message UnknownDeclaration = codes "Unknown declaration"
+message MissingSpace = codes "Rule is missing a space"
+message InvalidName = codes "Invalid rule name"
+message UnknownStartState = codes "Start state not known"
+message DuplicateStartState = codes "Start state already exists"
+message InvalidStartState = codes "Invalid start state"
+message InvalidStartStateName = codes "Invalid start state name"
+message DuplicateName = codes "Rule name already exists"
+message (RegexError e) = codes "Invalid regular expression"
+message VerbatimNotSupported = codes "Verbatim code not supported"
+message TooManyRules = codes "Too many rules for the token id type"
+
 -- the text of a fault, where it has no words of `regex`
 abbrev pub kind_text : LexErrorKind → Option (List ℕ)
-kind_text PrematureEnd = Some (codes "File ends prematurely")
-kind_text RoutinesNotSupported = Some (codes "Routines not currently supported")
-kind_text UnknownDeclaration = Some (codes "Unknown declaration")
-kind_text MissingSpace = Some (codes "Rule is missing a space")
-kind_text InvalidName = Some (codes "Invalid rule name")
-kind_text UnknownStartState = Some (codes "Start state not known")
-kind_text DuplicateStartState = Some (codes "Start state already exists")
-kind_text InvalidStartState = Some (codes "Invalid start state")
-kind_text InvalidStartStateName = Some (codes "Invalid start state name")
-kind_text DuplicateName = Some (codes "Rule name already exists")
 kind_text (RegexError e) = None
-kind_text VerbatimNotSupported = Some (codes "Verbatim code not supported")
-kind_text TooManyRules = Some (codes "Too many rules for the token id type")
+kind_text kind = Some (message kind)
 
 -- what the spans of a fault stand for
 abbrev pub kind_of_spans : LexErrorKind → SpansKind

@@ -7,48 +7,37 @@ use Rattle.std.specs.Cmp.Lexicographic.{slice_cmp}
 use Rattle.std.specs.Str.{bytes_eq}
 use Rattle.std.specs.BTreeMap.{BTreeMap, get_by}
 use denote.Ref.{Bor}
-use Rattle.regex.specs.Strings.{regex_config, regex_size}
 use Rattle.regex.specs.Patterns.{Config}
 use Rattle.lrlex_base.specs.Spans.{Span, as_span}
 use Rattle.lrlex_rules.specs.Definition.{Rule, StartState}
-use Rattle.lrlex_rules.specs.declared.rules.Rule as code
 use Rattle.lrlex_rules.specs.declared.states.StartState as start
 use Rattle.lrlex_rules.specs.declared.states.StartStateOperation.{StartStateOperation}
 use Rattle.lrlex_rules.specs.declared.states.StartStateId.{StartStateId}
 
--- what a rule says, part by part
-abbrev pub rule_name : {S : Type 0} → code.Rule S → Option (List ℕ)
-rule_name r = option_map string_bytes r.name
+-- what a rule of the program says, and how many bytes its compiled pattern takes, as `regex` counts them for its limit
+pub record RuleParts (S : Type 0) : Type 0 where
+  pub tok_id : Option S
+  pub name : Option (List ℕ)
+  pub name_span : Span
+  pub re_str : List ℕ
+  pub start_states : List ℕ
+  pub target : Option (ℕ × StartStateOperation)
+  pub config : Config
+  pub size : ℕ
 
-abbrev pub rule_name_span : {S : Type 0} → code.Rule S → Span
-rule_name_span r = as_span r.name_span
-
-abbrev pub rule_re_str : {S : Type 0} → code.Rule S → List ℕ
-rule_re_str r = string_bytes r.re_str
-
-abbrev pub rule_start_states : {S : Type 0} → code.Rule S → List ℕ
-rule_start_states r = r.start_states.items
-
-abbrev pub rule_target : {S : Type 0} → code.Rule S → Option (ℕ × StartStateOperation)
-rule_target r = r.target_state
-
-abbrev pub rule_config : {S : Type 0} → code.Rule S → Config
-rule_config r = regex_config r.re.value
-
--- how many bytes its compiled pattern takes, as `regex` counts them for its limit
-abbrev pub compiled_size : {S : Type 0} → code.Rule S → ℕ
-compiled_size r = regex_size r.re.value
+abbrev pub rule_name : {S : Type 0} → RuleParts S → Option (List ℕ)
+rule_name r = r.name
 
 -- the whole rule, where `number` gives the number that an id stands for
-abbrev pub as_rule : {S : Type 0} → (S → ℕ) → code.Rule S → Rule
+abbrev pub as_rule : {S : Type 0} → (S → ℕ) → RuleParts S → Rule
 as_rule number r = record {
   id = option_map number r.tok_id;
-  name = rule_name r;
-  name_span = rule_name_span r;
-  re_str = rule_re_str r;
-  start_states = rule_start_states r;
-  target = rule_target r;
-  config = rule_config r;
+  name = r.name;
+  name_span = r.name_span;
+  re_str = r.re_str;
+  start_states = r.start_states;
+  target = r.target;
+  config = r.config;
 }
 
 abbrev pub as_state : start.StartState → StartState

@@ -6,9 +6,8 @@ use Rattle.regex_hir.specs.Text.{is_boundary}
 use Rattle.regex_syntax.specs.Grammar.{read}
 use Rattle.regex.specs.Patterns.{Config, Re, empty, find_str, span}
 use Rattle.lrlex_rules.specs.Definition.{Rule}
-use Rattle.lrlex_rules.specs.Parts.{as_rule}
+use Rattle.lrlex_rules.specs.Parts.{RuleParts, as_rule}
 use Rattle.lrlex_rules.specs.Wrapping.{wrapped}
-use Rattle.lrlex_rules.specs.declared.rules.Rule as code
 
 -- the pattern that `regex`'s grammar reads in a text under these options; `empty` stands for a text that has no reading
 unfoldable pub pattern_read : Config → List ℕ → Re
@@ -19,7 +18,7 @@ unfoldable pub pattern_of : Rule → Re
 pattern_of r = pattern_read r.config (wrapped r.re_str)
 
 -- that of a rule of the program, which doesn't depend on its id
-abbrev pub rule_pattern : {S : Type 0} → code.Rule S → Re
+abbrev pub rule_pattern : {S : Type 0} → RuleParts S → Re
 rule_pattern r = pattern_of (as_rule (λ _. 0) r)
 
 -- the end of a match that starts at 0 and ends between characters, and otherwise 0

@@ -38,6 +38,31 @@ pub enum LexErrorKind {
     TooManyRules,
 }
 
+impl LexErrorKind {
+    ghost use Rattle.lrlex_rules.specs.Faults.{message};
+
+    /// What is wrong, in English, without a full stop. Why `regex` refuses a pattern isn't told.
+    pub fn message(&self) -> &'static str
+        ensures { result.now ≡ message self.now }
+    {
+        match self {
+            LexErrorKind::PrematureEnd => "File ends prematurely",
+            LexErrorKind::RoutinesNotSupported => "Routines not currently supported",
+            LexErrorKind::UnknownDeclaration => "Unknown declaration",
+            LexErrorKind::MissingSpace => "Rule is missing a space",
+            LexErrorKind::InvalidName => "Invalid rule name",
+            LexErrorKind::UnknownStartState => "Start state not known",
+            LexErrorKind::DuplicateStartState => "Start state already exists",
+            LexErrorKind::InvalidStartState => "Invalid start state",
+            LexErrorKind::InvalidStartStateName => "Invalid start state name",
+            LexErrorKind::DuplicateName => "Rule name already exists",
+            LexErrorKind::RegexError(_) => "Invalid regular expression",
+            LexErrorKind::VerbatimNotSupported => "Verbatim code not supported",
+            LexErrorKind::TooManyRules => "Too many rules for the token id type",
+        }
+    }
+}
+
 /// A fault of a rule text, and the places that it names: for a duplicate the first of its name, then the others.
 #[derive(Debug, Drop)]
 pub struct LexBuildError {
@@ -91,19 +116,8 @@ impl fmt::Display for LexBuildError {
 
     fn fmt<W: fmt::Write>(&self, f: &mut fmt::Formatter<W>) -> fmt::Result {
         match &self.kind {
-            LexErrorKind::PrematureEnd => write!(f, "File ends prematurely"),
-            LexErrorKind::RoutinesNotSupported => write!(f, "Routines not currently supported"),
-            LexErrorKind::UnknownDeclaration => write!(f, "Unknown declaration"),
-            LexErrorKind::MissingSpace => write!(f, "Rule is missing a space"),
-            LexErrorKind::InvalidName => write!(f, "Invalid rule name"),
-            LexErrorKind::UnknownStartState => write!(f, "Start state not known"),
-            LexErrorKind::DuplicateStartState => write!(f, "Start state already exists"),
-            LexErrorKind::InvalidStartState => write!(f, "Invalid start state"),
-            LexErrorKind::InvalidStartStateName => write!(f, "Invalid start state name"),
-            LexErrorKind::DuplicateName => write!(f, "Rule name already exists"),
-            LexErrorKind::RegexError(error) => write!(f, "Invalid regular expression: {error}"),
-            LexErrorKind::VerbatimNotSupported => write!(f, "Verbatim code not supported"),
-            LexErrorKind::TooManyRules => write!(f, "Too many rules for the token id type"),
+            LexErrorKind::RegexError(error) => write!(f, "{}: {error}", self.kind.message()),
+            kind => f.write_str(kind.message()),
         }
     }
 }

@@ -1,10 +1,11 @@
 ghost use Rattle.std.specs.Prelude.{◌≡◌, ◌<◌, All, length, map, true, IsTrue};
 ghost use Rattle.lrlex.specs.Active.{active_places, is_state, lacks_target};
 ghost use Rattle.lrlex_rules.specs.Parts.{as_rule, as_state};
-ghost use Rattle.lrlex.specs.Tables.{AreServed, ArePlaced};
+ghost use Rattle.lrlex.specs.Tables.{AreServed, ArePlaced, list_in};
 ghost use Rattle.lrlex.specs.Ids.{HaveDistinctIds};
 
-use crate::lexer::active::{active_places, are_placed, has_state, position_of};
+use crate::lexer::active::{are_placed, has_state, position_of};
+use crate::lexer::lists::lists_for;
 use crate::lexer::tables::tables_for;
 use crate::names::{have_own_ids, name_of};
 use lrlex_base::LexerTypes;
@@ -31,16 +32,18 @@ pub(crate) struct RuleTable<S> {
     pub(crate) own_ids: bool,
     /// Whether the id of each state is its place, as in every definition that was read.
     placed: bool,
-    active: Vec<Vec<usize>>,
+    /// The places of active rules: each list once, since states with the same rules share theirs.
+    lists: Vec<Vec<usize>>,
+    /// The tables of each list.
     tables: Vec<Tables>,
-    /// Which of the tables each state has.
-    tables_at: Vec<usize>,
+    /// Which of the lists each state has.
+    list_at: Vec<usize>,
     ghost distinct: { IsTrue own_ids → HaveDistinctIds rules.items },
     ghost at_places: { IsTrue placed → ArePlaced start_states.items },
-    ghost lists: { map (λ v. v.items) active.items ≡ map (λ s. active_places (map as_state start_states.items) (map (as_rule (λ _. 0)) rules.items) (as_state s).id) start_states.items },
-    ghost served: { ∥ AreServed rules.items (map (λ v. v.items) active.items) tables.items tables_at.items ∥₁ },
-    ghost each: { length tables_at.items ≡ length start_states.items },
-    ghost within: { All (λ j. j < length tables.items) tables_at.items },
+    ghost listed: { map (list_in (map (λ v. v.items) lists.items)) list_at.items ≡ map (λ s. active_places (map as_state start_states.items) (map (as_rule (λ _. 0)) rules.items) (as_state s).id) start_states.items },
+    ghost served: { ∥ AreServed rules.items (map (λ v. v.items) lists.items) tables.items ∥₁ },
+    ghost each: { length tables.items ≡ length lists.items },
+    ghost within: { All (λ j. j < length lists.items) list_at.items },
 }
 
 impl<S: Copy> RuleTable<S> {
@@ -58,21 +61,17 @@ impl<S: Copy> RuleTable<S> {
         ensures rules { IfOk result (λ t. t.rules ≡ rules) }
         ensures states { IfOk result (λ t. t.start_states ≡ start_states) }
     {
-        let mut active = Vec::with_capacity(alloc, start_states.len())?;
-        'states: for index in 0..start_states.len() {
-            let id = start_states[index].id();
-            active.push(active_places(alloc, &start_states, &rules, id)?)?;
-        }
-        let (tables, tables_at) = tables_for(alloc, &rules, &active, budget)?;
+        let (lists, list_at) = lists_for(alloc, &start_states, &rules)?;
+        let tables = tables_for(alloc, &rules, &lists, budget)?;
         let placed = are_placed(&start_states);
         Ok(RuleTable {
             rules,
             start_states,
             own_ids,
             placed,
-            active,
+            lists,
             tables,
-            tables_at,
+            list_at,
         })
     }
 }
@@ -144,9 +143,9 @@ impl<L: LexerTypes> LRNonStreamingLexerDef<L> {
             start_states,
             own_ids: _,
             placed: _,
-            active: _,
+            lists: _,
             tables: _,
-            tables_at: _,
+            list_at: _,
         } = table;
         let definition = Self::within_budget(alloc, start_states, rules, flags, budget)?;
         Ok(definition)
@@ -220,10 +219,8 @@ impl<L: LexerTypes> LRNonStreamingLexerDef<L> {
         ensures { result.now ≡ active_places (definition_of L.StorageT.number self.now).states
             (definition_of L.StorageT.number self.now).rules id }
     {
-        match position_of(&self.table.start_states, self.table.placed, id) {
-            Some(index) => &self.table.active[index],
-            None => &[],
-        }
+        let index = position_of(&self.table.start_states, self.table.placed, id).unwrap_or(0);
+        &self.table.lists[self.table.list_at[index]]
     }
 
     /// The tables of the rules that are active in the first state with the id.
@@ -236,7 +233,7 @@ impl<L: LexerTypes> LRNonStreamingLexerDef<L> {
         ensures untabled { length result.now.asked.items ≡ untabled_count self.now id }
     {
         let index = position_of(&self.table.start_states, self.table.placed, id).unwrap_or(0);
-        &self.table.tables[self.table.tables_at[index]]
+        &self.table.tables[self.table.list_at[index]]
     }
 
     /// The rules that are active in the first state with the id.

@@ -14,7 +14,7 @@ use crate::lexer::run::LexRun;
 use crate::lexer::telling::{place_of, text_of, utf16_position};
 use lrlex_base::{Items, Lexer, LexerTypes, NewlineCache, NonStreamingLexer, Span};
 use std::alloc::{AllocError, Global};
-use std::marker::PhantomData;
+use std::marker::{Model, PhantomData};
 
 /// A text with the places of its newlines.
 #[derive(Drop)]
@@ -51,6 +51,15 @@ pub struct LRNonStreamingLexer<'lexer, 'input, L: LexerTypes<LexErrorT = LRLexEr
     input: Input<'input>,
     lexemes: Vec<Result<L::LexemeT, LRLexError>>,
     phantom: PhantomData<&'lexer ()>,
+}
+
+impl<'lexer, 'input, L: LexerTypes<LexErrorT = LRLexError>> Model
+    for LRNonStreamingLexer<'lexer, 'input, L> {
+    ghost use Rattle.lrlex.specs.Lexers.{Held};
+
+    ghost Value = { Held L.LexemeT };
+
+    ghost view = { λ l. record { items = l.lexemes.items; text = l.input.text.now } };
 }
 
 impl<'lexer, 'input, L: LexerTypes<LexErrorT = LRLexError>> LRNonStreamingLexer<'lexer, 'input, L> {

@@ -1,5 +1,5 @@
-//! Which tables serve which start state.
-ghost use Rattle.std.specs.Prelude.{◌≡◌, ◌<◌, ◌≤◌, ℕ, List, All, [], ◌∷◌, map, length, IfOk, OnOk, IfSome, slice_index_or};
+//! The tables of each list of rules.
+ghost use Rattle.std.specs.Prelude.{◌≡◌, ◌<◌, ◌≤◌, ℕ, List, All, [], ◌∷◌, map, length, IfOk, OnOk, IfSome};
 ghost use Rattle.regex.specs.Patterns.{Re};
 ghost use Rattle.lrlex_table.specs.Merged.{IsTableOf};
 ghost use Rattle.lrlex_table.specs.Tables.{AreSingle, ArePartsOf, AreTablesOf};
@@ -10,7 +10,6 @@ ghost use Rattle.lrlex.specs.Tables.{pattern_in, patterns_on, AreServed};
 use lrlex_rules::Rule;
 use lrlex_table::{Budget, Single, Source, Table, Tables, joined_tables, table_of, tables_between};
 use std::alloc::{AllocError, Global};
-use std::collections::{HashMap, HashSet};
 
 /// What it costs to look at a rule of a list, in the budget's units of work.
 const WORK_OF_A_RULE: usize = 100;
@@ -122,34 +121,17 @@ fn tables_on<S>(
     tables_from(alloc, rules, places, 0, places.len(), singles, budget)
 }
 
-/// A number that lists of the same places have in common.
-fn hash_of(places: &[usize]) -> u64 {
-    let mut hash = places.len() as u64;
-    for place in places {
-        hash = hash.rotate_left(5) ^ (*place as u64).wrapping_mul(0x9E37_79B9_7F4A_7C15);
-    }
-    hash
-}
-
-/// In how many of the lists each of so many rules stands. Lists with one hash count as one: a rule's table is given away
-/// with the last of its lists, and where two lists have one hash by chance, the rule is asked in the second.
-fn lists_with(
-    alloc: Global,
-    rules: usize,
-    active: &[Vec<usize>],
-) -> Result<Vec<usize>, AllocError> {
-    let mut lists = vec![in alloc; 0usize; rules]?;
-    let mut known = HashSet::new(alloc);
-    for places in active {
-        if known.insert(hash_of(places))? {
-            for place in places {
-                if let Some(count) = lists.get_mut(*place) {
-                    *count = count.saturating_add(1);
-                }
+/// In how many of the lists each of so many rules stands.
+fn lists_with(alloc: Global, rules: usize, lists: &[Vec<usize>]) -> Result<Vec<usize>, AllocError> {
+    let mut counts = vec![in alloc; 0usize; rules]?;
+    for places in lists {
+        for place in places {
+            if let Some(count) = counts.get_mut(*place) {
+                *count = count.saturating_add(1);
             }
         }
     }
-    Ok(lists)
+    Ok(counts)
 }
 
 /// Room for the table of each rule alone, which stands in so many lists.
@@ -163,59 +145,24 @@ fn singles_in(alloc: Global, lists: &[usize]) -> Result<Vec<Single>, AllocError>
     Ok(singles)
 }
 
-/// An earlier state with the same active rules as the one at `index`, if it is the one that stands under the hash.
-fn same_before(
-    known: &HashMap<u64, usize>,
-    hash: u64,
-    active: &[Vec<usize>],
-    index: usize,
-) -> Option<usize>
-    requires { index < length active.now }
-    ensures before { IfSome result (λ j. j < index) }
-    ensures same { IfSome result (λ j. slice_index_or (map (λ v. v.items) active.now) j []
-        ≡ slice_index_or (map (λ v. v.items) active.now) index []) }
-{
-    let earlier = *known.get(&hash)?;
-    if earlier < index && active[earlier].as_slice() == active[index].as_slice() {
-        Some(earlier)
-    } else {
-        None
-    }
-}
-
-/// Tables for the states, whose active rules stand at these places, and which state has which. States with the same
-/// rules share theirs.
+/// Tables for each of the lists of rules, which stand at these places.
 pub(crate) fn tables_for<S>(
     alloc: Global,
     rules: &[Rule<S>],
-    active: &[Vec<usize>],
+    lists: &[Vec<usize>],
     mut budget: Budget,
-) -> Result<(Vec<Tables>, Vec<usize>), AllocError>
-    ensures served { IfOk result (λ r. AreServed rules.now
-        (map (λ v. v.items) active.now) r.0.items r.1.items) }
-    ensures each { IfOk result (λ r. length r.1.items ≡ length active.now) }
-    ensures within { IfOk result (λ r. All (λ j. j < length r.0.items) r.1.items) }
+) -> Result<Vec<Tables>, AllocError>
+    ensures served { IfOk result (λ tables. AreServed rules.now (map (λ v. v.items) lists.now)
+        tables.items) }
+    ensures each { IfOk result (λ tables. length tables.items ≡ length lists.now) }
 {
-    let lists = lists_with(alloc, rules.len(), active)?;
-    let mut singles = singles_in(alloc, &lists)?;
-    let mut tables = Vec::new(alloc);
-    let mut at = Vec::with_capacity(alloc, active.len())?;
-    let mut known = HashMap::new(alloc);
-    'states: for index in 0..active.len() {
-        let places = active[index].as_slice();
-        let hash = hash_of(places);
-        match same_before(&known, hash, active, index) {
-            Some(earlier) => {
-                let shared = at[earlier];
-                at.push(shared)?;
-            }
-            None => {
-                at.push(tables.len())?;
-                let made = tables_on(alloc, rules, places, &mut singles, &mut budget)?;
-                tables.push(made)?;
-                known.insert(hash, index)?;
-            }
-        }
+    let counts = lists_with(alloc, rules.len(), lists)?;
+    let mut singles = singles_in(alloc, &counts)?;
+    let mut tables = Vec::with_capacity(alloc, lists.len())?;
+    'lists: for index in 0..lists.len() {
+        let places = lists[index].as_slice();
+        let made = tables_on(alloc, rules, places, &mut singles, &mut budget)?;
+        tables.push(made)?;
     }
-    Ok((tables, at))
+    Ok(tables)
 }

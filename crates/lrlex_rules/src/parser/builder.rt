@@ -254,7 +254,7 @@ impl<'t, StorageT: Id> Builder<'t, StorageT> {
             (λ s events. split_event s events at (Ok (as_parts parts.entry)))) }
     {
         if let Some(original) = self.rules.named(parts.label.name) {
-            let first = original.name_span;
+            let first = original.name_span();
             let found = parts.label.span;
             return self.errors.add_duplicate(alloc, Named::Rule, first, found);
         }

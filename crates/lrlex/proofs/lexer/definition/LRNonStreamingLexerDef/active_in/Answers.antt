@@ -1,27 +1,33 @@
-use Rattle.std.proofs.Common.{◌==◌, get_or, map, sym, ap, ◌∙◌}
-use Rattle.std.proofs.lemmas.List.{get_or_default}
-use Rattle.std.proofs.lemmas.Bool.{eqb-true}
-use Rattle.lrlex.specs.Active.{active_places}
+use Rattle.std.proofs.Common.{◌≡◌, ◌<◌, ◌==◌, Some, [], map, length, option_map, refl, sym, ap, ◌∙◌, subst, arith}
+use Rattle.std.proofs.lemmas.List.{length-map}
+use Rattle.std.proofs.lemmas.Option.{slice_get-map, slice_get_read, get_or_from_slice_get}
+use Rattle.std.specs.List.{position}
 use Rattle.lrlex_rules.specs.Parts.{as_rule, as_state}
-use Rattle.lrlex.proofs.ViewLemmas.{position_within, item_at, position_some, position_none, at_same_place, list_any-map}
+use Rattle.lrlex.specs.Active.{active_places}
+use Rattle.lrlex.specs.Tables.{list_in}
+use Rattle.lrlex.proofs.ViewLemmas.{position_within, list_any-map}
+use Rattle.lrlex.proofs.TableLemmas.{active_at, first_place}
 use Rattle.lrlex.proofs.PlaceLemmas.{active_places-by}
 use Rattle.lrlex.proofs.lexer.definition.LRNonStreamingLexerDef.active_in.Goals as goal
 
-pub returns-in-Some : goal.returns-in-Some
-returns-in-Some g c =
+pub returns : goal.returns
+returns g c =
     let d = c.args.self.now in
-    let states = map as_state d.table.start_states.items in
-    let i = c.in-Some.index in
-    let within = position_within (λ s. (as_state s).id == c.args.id) d.table.start_states.items i (rw c.deref.ensures.value at c.in-Some.ensures) in
-    let other = item_at d.table.start_states.items i within in
-    let s = get_or d.table.start_states.items i other in
-    let found = position_some (λ s. (as_state s).id == c.args.id) d.table.start_states.items i (rw c.deref.ensures.value at c.in-Some.ensures) other in
-    let places = at_same_place (λ v. v.items) (λ s. active_places states (map (as_rule (λ x. 0)) d.table.rules.items) (as_state s).id) d.table.active.items d.table.start_states.items i
-    c.index.result.now s d.table.lists found.0 c.index.ensures (get_or_default d.table.start_states.items i _ _ found.0) in
-    c.deref-in-Some.ensures.value ∙ places ∙ ap (active_places states (map (as_rule (λ x. 0)) d.table.rules.items)) (eqb-true _ _ found.1)
-    ∙ active_places-by g.L.StorageT.Id.number states d.table.rules.items c.args.id
-
-pub returns-in-None : goal.returns-in-None
-returns-in-None g c =
-    absurd (position_none (λ s. (as_state s).id == c.args.id) c.args.self.now.table.start_states.items (rw c.deref.ensures.value at c.in-None.ensures)
-    (sym (list_any-map as_state (λ s. s.id == c.args.id) c.args.self.now.table.start_states.items) ∙ c.requires))
+    let i = c.unwrap_or-index.result in
+    let j = c.index.result.now in
+    let states = d.table.start_states.items in
+    let found : Some i ≡ position (λ s. (as_state s).id == c.args.id) states =
+    first_place (λ s. (as_state s).id == c.args.id) states _ i
+    (sym (list_any-map as_state (λ s. s.id == c.args.id) states) ∙ c.requires)
+    (rw c.deref.ensures.value at c.position_of.ensures) c.unwrap_or-index.ensures in
+    let within = position_within (λ s. (as_state s).id == c.args.id) states i found in
+    let lists = map (λ v. v.items) d.table.lists.items in
+    let has : i < length d.table.list_at.items =
+    omega (arith, ap length d.table.listed, length-map d.table.list_at.items (list_in lists), length-map states (λ s. active_places (map as_state states) (map (as_rule (λ x. 0)) d.table.rules.items) (as_state s).id)) in
+    let among : j < length d.table.lists.items = subst (λ n. n < length d.table.lists.items) (sym c.index.ensures) (d.table.within i j has) in
+    let at = slice_get_read d.table.list_at.items (length d.table.list_at.items) i j refl has c.index.ensures in
+    let held = c.index-2.result.now in
+    let here = slice_get_read d.table.lists.items (length d.table.lists.items) j held refl among c.index-2.ensures in
+    let places : list_in lists j ≡ held.items = get_or_from_slice_get lists j held.items [] (slice_get-map (λ v. v.items) d.table.lists.items j ∙ ap (option_map (λ v. v.items)) here) in
+    c.deref-2.ensures.value ∙ sym places ∙ active_at lists d.table.list_at.items states d.table.rules.items i j c.args.id d.table.listed found at
+    ∙ active_places-by g.L.StorageT.Id.number (map as_state states) d.table.rules.items c.args.id

@@ -1,7 +1,10 @@
-use Rattle.std.proofs.Common.{◌≡◌, ◌<◌, ◌==◌, Some, length, refl, sym, ◌∙◌, subst, arith}
+use Rattle.std.proofs.Common.{◌≡◌, ◌<◌, ◌==◌, Some, map, length, refl, sym, ap, ◌∙◌, subst, arith}
+use Rattle.std.proofs.lemmas.List.{length-map}
 use Rattle.std.proofs.lemmas.Option.{slice_get_read}
 use Rattle.std.specs.List.{position}
-use Rattle.lrlex_rules.specs.Parts.{as_state}
+use Rattle.lrlex_rules.specs.Parts.{as_rule, as_state}
+use Rattle.lrlex.specs.Active.{active_places}
+use Rattle.lrlex.specs.Tables.{list_in}
 use Rattle.lrlex.proofs.ViewLemmas.{position_within, list_any-map}
 use Rattle.lrlex.proofs.TableLemmas.{tables_at_state, first_place}
 use Rattle.lrlex.proofs.AskedLemmas.{untabled_here}
@@ -17,12 +20,15 @@ returns g c =
     (sym (list_any-map as_state (λ s. s.id == c.args.id) d.table.start_states.items) ∙ c.requires)
     (rw c.deref.ensures.value at c.position_of.ensures) c.unwrap_or-index.ensures in
     let within = position_within (λ s. (as_state s).id == c.args.id) d.table.start_states.items i found in
-    let has : i < length d.table.tables_at.items = omega (arith, d.table.each) in
-    let inside : j < length d.table.tables.items = subst (λ n. n < length d.table.tables.items) (sym c.index.ensures) (d.table.within i j has) in
-    let at = slice_get_read d.table.tables_at.items (length d.table.tables_at.items) i j refl has c.index.ensures in
+    let lists = map (λ v. v.items) d.table.lists.items in
+    let has : i < length d.table.list_at.items =
+    omega (arith, ap length d.table.listed, length-map d.table.list_at.items (list_in lists), length-map d.table.start_states.items (λ s. active_places (map as_state d.table.start_states.items) (map (as_rule (λ x. 0)) d.table.rules.items) (as_state s).id)) in
+    let among : j < length d.table.lists.items = subst (λ n. n < length d.table.lists.items) (sym c.index.ensures) (d.table.within i j has) in
+    let inside : j < length d.table.tables.items = omega (arith, d.table.each) in
+    let at = slice_get_read d.table.list_at.items (length d.table.list_at.items) i j refl has c.index.ensures in
     let are = slice_get_read d.table.tables.items (length d.table.tables.items) j c.index-2.result.now refl inside c.index-2.ensures in
     record {
-      served = tables_at_state g.L.StorageT.Id.number d.table.active.items d.table.tables.items d.table.tables_at.items d.table.start_states.items d.table.rules.items i j c.args.id c.index-2.result.now
-          d.table.lists d.table.served found at are;
+      served = tables_at_state g.L.StorageT.Id.number lists d.table.tables.items d.table.list_at.items d.table.start_states.items d.table.rules.items i j c.args.id c.index-2.result.now
+          d.table.listed d.table.served found at are;
       untabled = untabled_here d c.args.id i j c.index-2.result.now found at are;
     }

@@ -13,7 +13,7 @@ use Rattle.lrlex_rules.proofs.parser.builder.Builder.rule.Goals as goal
 
 pub returns-in-Some : goal.returns-in-Some
 returns-in-Some g c =
-    on_ok c.add_duplicate.result (line_duplicate g.StorageT.Id.number c.args.flags.now g.StorageT.Id.greatest c.args.self.now _ c.args.at (as_parts c.args.parts) (as_rule g.StorageT.Id.number c.in-Some.original.now) c.requires c.in-Some.ensures refl refl refl) c.add_duplicate.ensures
+    on_ok c.add_duplicate.result (line_duplicate g.StorageT.Id.number c.args.flags.now g.StorageT.Id.greatest c.args.self.now _ c.args.at (as_parts c.args.parts) (as_rule g.StorageT.Id.number c.in-Some.original.now) c.requires c.in-Some.ensures refl refl refl) (rw c.name_span-first.ensures at c.add_duplicate.ensures)
 
 pub returns-in-Ok : goal.returns-in-Ok
 returns-in-Ok g c =
