@@ -153,7 +153,6 @@ impl<'lexer, L: LexerTypes<LexErrorT = LRLexError>> Document<'lexer, L> {
             return Err(EditError::DoesNotFit);
         }
         let text = edit.apply(alloc, &self.text)?;
-        let newlines = NewlineCache::from_str(alloc, &text)?;
         let old = Old {
             definition: self.definition,
             text: &self.text,
@@ -162,6 +161,7 @@ impl<'lexer, L: LexerTypes<LexErrorT = LRLexError>> Document<'lexer, L> {
             ahead: &self.ahead,
         };
         let run = relexed(alloc, &old, &edit, &text)?;
+        self.newlines.edit(edit.removed, put)?;
         let LexRun {
             items,
             boundaries,
@@ -175,7 +175,6 @@ impl<'lexer, L: LexerTypes<LexErrorT = LRLexError>> Document<'lexer, L> {
         self.asked = asked;
         self.ahead = ahead;
         self.anew = anew;
-        self.newlines = newlines;
         self.text = text;
         Ok(())
     }
