@@ -61,7 +61,7 @@ meets-requires-clause-stack g c =
     let p = c.tiles.progress in
     let found = items_by g.L.StorageT.Id.number g.L.LexemeT.Lexeme.seen p.items.items in
     let r = c.tiles.invariant.reached in
-    subst AreEntries (sym c.deref-in-tiles.ensures.value) (entries_now d new p.place p.stack.items found p.boundaries p.asked r)
+    subst AreEntries (sym c.deref.ensures.value) (entries_now d new p.place p.stack.items found p.boundaries p.asked r)
 
 pub take_over-requires-clause-in_order : goal.take_over-requires-clause-in_order
 take_over-requires-clause-in_order g c =
@@ -75,7 +75,7 @@ take_over-requires-clause-in_order g c =
     let r = c.tiles.invariant.reached in
     let h = known d s.text.now (items_by g.L.StorageT.Id.number g.L.LexemeT.Lexeme.seen s.items.now) s.boundaries.now r.initial c.requires.known.1 in
     let j = c.meets.new.cursor in
-    let stacks : (boundary_at s.boundaries.now j).entries ≡ p.stack.items = c.meets.ensures.at.stack c.if-meets.true ∙ c.deref-in-tiles.ensures.value in
+    let stacks : (boundary_at s.boundaries.now j).entries ≡ p.stack.items = c.meets.ensures.at.stack c.if-meets.true ∙ c.deref.ensures.value in
     olds_in_order d s.text.now new edit.removed.start edit.removed.end edit.put.now (items_by g.L.StorageT.Id.number g.L.LexemeT.Lexeme.seen s.items.now) s.boundaries.now h p.place p.stack.items found p.boundaries p.asked r
     j (c.meets.ensures.at.within c.if-meets.true) edit.removed.in_order c.requires.applies.0.1.0 c.requires.applies.1 (c.meets.ensures.at.past c.if-meets.true) (c.meets.ensures.at.place c.if-meets.true) stacks
 
@@ -91,7 +91,7 @@ take_over-requires-clause-items g c =
     let r = c.tiles.invariant.reached in
     let h = known d s.text.now (items_by g.L.StorageT.Id.number g.L.LexemeT.Lexeme.seen s.items.now) s.boundaries.now r.initial c.requires.known.1 in
     let j = c.meets.new.cursor in
-    let stacks : (boundary_at s.boundaries.now j).entries ≡ p.stack.items = c.meets.ensures.at.stack c.if-meets.true ∙ c.deref-in-tiles.ensures.value in
+    let stacks : (boundary_at s.boundaries.now j).entries ≡ p.stack.items = c.meets.ensures.at.stack c.if-meets.true ∙ c.deref.ensures.value in
     items_movable d s.text.now new edit.removed.start edit.removed.end edit.put.now (items_by g.L.StorageT.Id.number g.L.LexemeT.Lexeme.seen s.items.now) s.boundaries.now h p.place p.stack.items found p.boundaries p.asked r
     j (c.meets.ensures.at.within c.if-meets.true) edit.removed.in_order c.requires.applies.0.1.0 c.requires.applies.1 (c.meets.ensures.at.past c.if-meets.true) (c.meets.ensures.at.place c.if-meets.true) stacks c.tiles.invariant.boundary.0 (omega arith)
 
@@ -107,7 +107,7 @@ take_over-requires-clause-boundaries g c =
     let r = c.tiles.invariant.reached in
     let h = known d s.text.now (items_by g.L.StorageT.Id.number g.L.LexemeT.Lexeme.seen s.items.now) s.boundaries.now r.initial c.requires.known.1 in
     let j = c.meets.new.cursor in
-    let stacks : (boundary_at s.boundaries.now j).entries ≡ p.stack.items = c.meets.ensures.at.stack c.if-meets.true ∙ c.deref-in-tiles.ensures.value in
+    let stacks : (boundary_at s.boundaries.now j).entries ≡ p.stack.items = c.meets.ensures.at.stack c.if-meets.true ∙ c.deref.ensures.value in
     bounds_movable d s.text.now new edit.removed.start edit.removed.end edit.put.now (items_by g.L.StorageT.Id.number g.L.LexemeT.Lexeme.seen s.items.now) s.boundaries.now h p.place p.stack.items found p.boundaries p.asked r
     j (c.meets.ensures.at.within c.if-meets.true) edit.removed.in_order c.requires.applies.0.1.0 c.requires.applies.1 (c.meets.ensures.at.past c.if-meets.true) (c.meets.ensures.at.place c.if-meets.true) stacks c.tiles.invariant.boundary.0 (omega arith)
 
@@ -123,7 +123,7 @@ finished-requires-clause-run g c =
     let r = c.tiles.invariant.reached in
     let h = known d s.text.now (items_by g.L.StorageT.Id.number g.L.LexemeT.Lexeme.seen s.items.now) s.boundaries.now r.initial c.requires.known.1 in
     let j = c.meets.new.cursor in
-    let stacks : (boundary_at s.boundaries.now j).entries ≡ p.stack.items = c.meets.ensures.at.stack c.if-meets.true ∙ c.deref-in-tiles.ensures.value in
+    let stacks : (boundary_at s.boundaries.now j).entries ≡ p.stack.items = c.meets.ensures.at.stack c.if-meets.true ∙ c.deref.ensures.value in
     let items_is : items_by g.L.StorageT.Id.number g.L.LexemeT.Lexeme.seen c.take_over.new.progress.items.items ≡ found ++ map (rebased (boundary_at s.boundaries.now j).place p.place) (items_from (boundary_at s.boundaries.now j).place (items_by g.L.StorageT.Id.number g.L.LexemeT.Lexeme.seen s.items.now)) =
     c.in_ok-take_over.ensures.items in
     let bounds_is : c.take_over.new.progress.boundaries ≡ p.boundaries ++ map (moved_boundary (boundary_at s.boundaries.now j).place p.place) (drop (j + 1) s.boundaries.now) =
@@ -145,7 +145,7 @@ returns-then-meets-clause-run g c =
     let r = c.tiles.invariant.reached in
     let h = known d s.text.now (items_by g.L.StorageT.Id.number g.L.LexemeT.Lexeme.seen s.items.now) s.boundaries.now r.initial c.requires.known.1 in
     let j = c.meets.new.cursor in
-    let stacks : (boundary_at s.boundaries.now j).entries ≡ p.stack.items = c.meets.ensures.at.stack c.if-meets.true ∙ c.deref-in-tiles.ensures.value in
+    let stacks : (boundary_at s.boundaries.now j).entries ≡ p.stack.items = c.meets.ensures.at.stack c.if-meets.true ∙ c.deref.ensures.value in
     let items_is : items_by g.L.StorageT.Id.number g.L.LexemeT.Lexeme.seen c.take_over.new.progress.items.items ≡ found ++ map (rebased (boundary_at s.boundaries.now j).place p.place) (items_from (boundary_at s.boundaries.now j).place (items_by g.L.StorageT.Id.number g.L.LexemeT.Lexeme.seen s.items.now)) =
     c.in_ok-take_over.ensures.items in
     let bounds_is : c.take_over.new.progress.boundaries ≡ p.boundaries ++ map (moved_boundary (boundary_at s.boundaries.now j).place p.place) (drop (j + 1) s.boundaries.now) =
@@ -183,7 +183,7 @@ tiles-preserved g c =
     let found = items_by g.L.StorageT.Id.number g.L.LexemeT.Lexeme.seen p.items.items in
     let r = c.tiles.invariant.reached in
     let none = none_met d new s.boundaries.now edit.removed.start edit.removed.end (length edit.put.now) p.place p.stack.items found p.boundaries p.asked r c.tiles.invariant.unmet
-    (λ past j within at same. c.meets.ensures.none c.if-meets.false past j within at (same ∙ ap (λ xs. plain xs) (sym c.deref-in-tiles.ensures.value))) in
+    (λ past j within at same. c.meets.ensures.none c.if-meets.false past j within at (same ∙ ap (λ xs. plain xs) (sym c.deref.ensures.value))) in
     let on = c.if-not-branch.false in
     let more = (c.in_ok-advance.ensures.goes_on on).more in
     let grows = (c.in_ok-advance.ensures.goes_on on).grows in
@@ -233,7 +233,7 @@ pub take_over-requires-clause-last : goal.take_over-requires-clause-last
 take_over-requires-clause-last g c =
     let p = c.tiles.progress in
     last_now (definition_of g.L.StorageT.Id.number c.args.old.now.definition.now) c.args.new.now p.place p.stack.items (items_by g.L.StorageT.Id.number g.L.LexemeT.Lexeme.seen p.items.items) p.boundaries p.asked c.tiles.invariant.reached
-    ∙ sym (c.meets.ensures.at.stack c.if-meets.true ∙ c.deref-in-tiles.ensures.value)
+    ∙ sym (c.meets.ensures.at.stack c.if-meets.true ∙ c.deref.ensures.value)
 
 pub finished-requires-then-not-branch-clause-run : goal.finished-requires-then-not-branch-clause-run
 finished-requires-then-not-branch-clause-run g c =
@@ -300,7 +300,7 @@ finished-requires-clause-looks g c =
     let r = c.tiles.invariant.reached in
     let h = known d s.text.now olds s.boundaries.now r.initial c.requires.known.1 in
     let j = c.meets.new.cursor in
-    let stacks : (boundary_at s.boundaries.now j).entries ≡ p.stack.items = c.meets.ensures.at.stack c.if-meets.true ∙ c.deref-in-tiles.ensures.value in
+    let stacks : (boundary_at s.boundaries.now j).entries ≡ p.stack.items = c.meets.ensures.at.stack c.if-meets.true ∙ c.deref.ensures.value in
     let same = rest_same d s.text.now new edit.removed.start edit.removed.end edit.put.now olds s.boundaries.now h p.place p.stack.items found p.boundaries p.asked r
     j (c.meets.ensures.at.within c.if-meets.true) edit.removed.in_order c.requires.applies.0.1.0 c.requires.applies.1 (c.meets.ensures.at.past c.if-meets.true) (c.meets.ensures.at.place c.if-meets.true) stacks in
     subst (λ ms. LooksAhead d new ms c.take_over.new.progress.ahead.items) (sym c.in_ok-take_over.ensures.boundaries)
@@ -374,7 +374,7 @@ returns-then-meets-clause-exact g c z =
     cut_to_meeting def d new s.boundaries.now s.ahead.now edit.removed.start edit.removed.end (length edit.put.now) p.place p.stack.items found p.boundaries p.asked r k resumed within c.tiles.invariant.exact c.tiles.invariant.unmet
     c.finished.result.boundaries c.finished.result.asked c.finished.result.anew (omega (arith, c.finished.ensures.anew, c.len.ensures, c.tiles.invariant.kept, some)) _ (c.finished.ensures.boundaries ∙ c.in_ok-take_over.ensures.boundaries)
     (c.finished.ensures.asked ∙ c.in_ok-take_over.ensures.asked) (c.meets.ensures.at.past c.if-meets.true) c.meets.new.cursor (c.meets.ensures.at.within c.if-meets.true) (c.meets.ensures.at.place c.if-meets.true)
-    (c.meets.ensures.at.stack c.if-meets.true ∙ c.deref-in-tiles.ensures.value)
+    (c.meets.ensures.at.stack c.if-meets.true ∙ c.deref.ensures.value)
 
 pub returns-then-not-branch-clause-exact : goal.returns-then-not-branch-clause-exact
 returns-then-not-branch-clause-exact g c z =
@@ -393,7 +393,7 @@ returns-then-not-branch-clause-exact g c z =
     let resumed : IsLastSafe s.boundaries.now s.ahead.now edit.removed.start k = subst (λ n. IsLastSafe s.boundaries.now s.ahead.now edit.removed.start (n - 1)) (sym c.len-kept.ensures) c.in_ok-progress.ensures.from in
     let within : k < length p.boundaries = omega (arith, c.tiles.invariant.kept, length_now d new p.place p.stack.items found p.boundaries p.asked r) in
     let none = none_met d new s.boundaries.now edit.removed.start edit.removed.end (length edit.put.now) p.place p.stack.items found p.boundaries p.asked r c.tiles.invariant.unmet
-    (λ past j within at same. c.meets.ensures.none c.if-meets.false past j within at (same ∙ ap (λ xs. plain xs) (sym c.deref-in-tiles.ensures.value))) in
+    (λ past j within at same. c.meets.ensures.none c.if-meets.false past j within at (same ∙ ap (λ xs. plain xs) (sym c.deref.ensures.value))) in
     let same = (c.in_ok-advance.ensures.ends c.if-not-branch.true).same in
     cut_to_stop def d new s.boundaries.now s.ahead.now edit.removed.start edit.removed.end (length edit.put.now) p.place p.stack.items found p.boundaries p.asked r k resumed within c.tiles.invariant.exact c.tiles.invariant.unmet
     c.finished-then-not-branch.result.boundaries c.finished-then-not-branch.result.asked c.finished-then-not-branch.result.anew
@@ -453,7 +453,7 @@ returns-then-not-branch-clause-few g c =
     let found = items_by g.L.StorageT.Id.number g.L.LexemeT.Lexeme.seen p.items.items in
     let r = c.tiles.invariant.reached in
     let none = none_met d new s.boundaries.now edit.removed.start edit.removed.end (length edit.put.now) p.place p.stack.items found p.boundaries p.asked r c.tiles.invariant.unmet
-    (λ past j within at same. c.meets.ensures.none c.if-meets.false past j within at (same ∙ ap (λ xs. plain xs) (sym c.deref-in-tiles.ensures.value))) in (
+    (λ past j within at same. c.meets.ensures.none c.if-meets.false past j within at (same ∙ ap (λ xs. plain xs) (sym c.deref.ensures.value))) in (
       few_searches (definition_of g.L.StorageT.Id.number c.args.old.now.definition.now) c.args.new.now c.tiles.progress.boundaries c.finished-then-not-branch.result.boundaries c.advance.new.progress.asked c.finished-then-not-branch.result.asked
           c.in_ok-advance.ensures.asked.few c.finished-then-not-branch.ensures.asked (c.finished-then-not-branch.ensures.boundaries ∙ (c.in_ok-advance.ensures.ends c.if-not-branch.true).same),
       λ k m. absurd (none k (subst (λ ms. Meets s.boundaries.now ms edit.removed.start edit.removed.end (length edit.put.now) k) (c.finished-then-not-branch.ensures.boundaries ∙ (c.in_ok-advance.ensures.ends c.if-not-branch.true).same) m)),
