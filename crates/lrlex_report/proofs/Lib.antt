@@ -1,0 +1,3 @@
+mod MarkLemmas
+mod PlaceLemmas
+mod FaultLemmas
