@@ -29,8 +29,10 @@ pub(crate) fn push_times(out: &mut String, c: char, times: usize) -> Result<(), 
     requires { c < 128 }
     ensures { OnOk result (string_bytes out.new ≡ string_bytes out.old ++ replicate times c) }
 {
-    'done: for _done in 0..times {
+    let mut done = 0;
+    'times: while done < times {
         out.push(c)?;
+        done += 1;
     }
     Ok(())
 }
