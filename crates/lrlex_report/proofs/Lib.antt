@@ -1,3 +1,4 @@
-mod MarkLemmas
-mod PlaceLemmas
-mod FaultLemmas
+pub mod MarkLemmas
+pub mod PlaceLemmas
+pub mod FaultLemmas
+pub mod StateLemmas

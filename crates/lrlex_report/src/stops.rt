@@ -1,12 +1,16 @@
 //! Where lexing stopped, and why.
-ghost use Rattle.std.specs.Prelude.{◌≡◌, ◌++◌, None, IfOk, OnOk, IsCharBoundary, option_map, string_bytes};
+ghost use Rattle.std.specs.Prelude.{◌≡◌, ◌++◌, ◌==◌, None, IfOk, OnOk, IsCharBoundary, find, option_map, string_bytes};
+ghost use Rattle.std.specs.Option.{option_copied};
+ghost use Rattle.std.specs.Slice.Iter.{iter_rest};
+ghost use Rattle.lrlex_rules.specs.Parts.{as_state};
 ghost use Rattle.lrlex.specs.Views.{definition_states};
-ghost use Rattle.lrlex_report.specs.Stops.{quoted, reason, char_at, state_name, error_state, stop_text, name_in};
+ghost use Rattle.lrlex_report.specs.Stops.{quoted, unexpected, in_state, reason, char_at, state_name, error_state, stop_text, name_in};
 
 use crate::places::{nearest, place_text};
-use lrlex::{LRLexError, LRNonStreamingLexerDef, LexError, LexerDef, LexerTypes};
+use lrlex::{LRLexError, LRNonStreamingLexerDef, LexError, LexerDef, LexerTypes, StartState};
 use std::alloc::{AllocError, Global};
 use std::fmt::Write;
+use std::slice::Iter;
 
 /// Adds a character in quotes, a control character as Rust writes it.
 fn push_quoted(out: &mut String, c: char) -> Result<(), AllocError>
@@ -34,6 +38,33 @@ fn char_at(text: &str, at: usize) -> Option<char>
     text[at..].chars().next()
 }
 
+/// Adds what stands where no rule matches.
+fn push_unexpected(out: &mut String, found: Option<char>) -> Result<(), AllocError>
+    ensures { OnOk result (string_bytes out.new ≡ string_bytes out.old ++ unexpected found) }
+{
+    match found {
+        None => out.push_str("unexpected end of the text"),
+        Some(c) => {
+            out.push_str("unexpected character ")?;
+            push_quoted(out, c)
+        }
+    }
+}
+
+/// Adds the start state, where it is told.
+fn push_state(out: &mut String, name: Option<&str>) -> Result<(), AllocError>
+    ensures { OnOk result (string_bytes out.new ≡ string_bytes out.old
+        ++ in_state (option_map (λ t. t.now) name.entry)) }
+{
+    match name {
+        None => Ok(()),
+        Some(name) => {
+            out.push_str(" in start state ")?;
+            out.push_str(name)
+        }
+    }
+}
+
 /// Why lexing stopped.
 fn reason(
     alloc: Global,
@@ -41,23 +72,15 @@ fn reason(
     found: Option<char>,
     name: Option<&str>,
 ) -> Result<String, AllocError>
-    ensures { IfOk result (λ s. string_bytes s ≡ reason state found (option_map (λ t. t.now) name)) }
+    ensures { IfOk result (λ s. string_bytes s
+        ≡ reason state found (option_map (λ t. t.now) name.entry)) }
 {
     if state.is_none() {
         return String::from_str(alloc, "the rule that matches here gives no lexeme");
     }
     let mut reason = String::new(alloc);
-    match found {
-        None => reason.push_str("unexpected end of the text")?,
-        Some(c) => {
-            reason.push_str("unexpected character ")?;
-            push_quoted(&mut reason, c)?;
-        }
-    }
-    if let Some(name) = name {
-        reason.push_str(" in start state ")?;
-        reason.push_str(name)?;
-    }
+    push_unexpected(&mut reason, found)?;
+    push_state(&mut reason, name)?;
     Ok(reason)
 }
 
@@ -80,7 +103,7 @@ fn shown_stop(
     name: Option<&str>,
 ) -> Result<String, AllocError>
     ensures { IfOk result (λ shown. string_bytes shown
-        ≡ stop_text file.now input.now error.now (option_map (λ t. t.now) name)) }
+        ≡ stop_text file.now input.now error.now (option_map (λ t. t.now) name.entry)) }
 {
     let span = error.span();
     let found = char_at(input, nearest(input, span.start()));
@@ -102,17 +125,21 @@ pub fn stop_text(
     shown_stop(alloc, file, input, error, None)
 }
 
-/// The name of the first start state with the id, but for `INITIAL`.
-fn state_name<L: LexerTypes>(definition: &LRNonStreamingLexerDef<L>, id: usize) -> Option<&str>
-    ensures { option_map (λ t. t.now) result ≡ state_name (definition_states definition.now) id }
+/// The first start state with the id.
+fn first_state(mut states: Iter<'_, StartState>, id: usize) -> Option<&StartState>
+    ensures { option_copied result ≡ find (λ s. (as_state s).id == id) (iter_rest states.entry) }
+{
+    states.find(|state| state.id() == id)
+}
+
+/// Its name, but of `INITIAL`.
+fn state_name(states: Iter<'_, StartState>, id: usize) -> Option<&str>
+    ensures { option_map (λ t. t.now) result ≡ state_name (iter_rest states.entry) id }
 {
     if id == 0 {
         return None;
     }
-    match definition
-        .iter_start_states()
-        .find(|state| state.id() == id)
-    {
+    match first_state(states, id) {
         Some(state) => Some(state.name()),
         None => None,
     }
@@ -131,7 +158,7 @@ pub fn stop_text_in<L: LexerTypes>(
         (name_in (definition_states definition.now) error.now)) }
 {
     let name = match error_state(error) {
-        Some(id) => state_name(definition, id),
+        Some(id) => state_name(definition.iter_start_states(), id),
         None => None,
     };
     shown_stop(alloc, file, input, error, name)

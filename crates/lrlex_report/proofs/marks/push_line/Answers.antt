@@ -7,4 +7,4 @@ use Rattle.lrlex_report.proofs.marks.push_line.Goals as goal
 pub returns : goal.returns
 returns c =
     let end = YieldsList-end (YieldsList-from_chars c.args.line.now c.utf8.line cc) c.loop-c.yielded _ c.loop-c.yielded_by _ _ c.in-None.is c.next.ensures.steps in
-    c.loop-c.invariant ∙ ap (λ cs. string_bytes c.args.out.old ++ shown_line cs) (sym (map-id c.loop-c.yielded) ∙ end.0)
+    c.loop-c.invariant ∙ ap (λ cs. string_bytes c.args.out.now ++ shown_line cs) (sym (map-id c.loop-c.yielded) ∙ end.0)
