@@ -4,7 +4,7 @@ use std::alloc::{AllocError, AllocFailed};
 use std::{fmt, io};
 
 /// Why the program can't do what it is asked.
-#[derive(Clone, Copy, Debug, PartialEq, Eq)]
+#[derive(Debug, Drop)]
 pub enum Fault {
     /// The words are refused.
     Usage,
@@ -12,8 +12,8 @@ pub enum Fault {
     CannotReadRules,
     /// The input can't be opened or read, or isn't UTF-8.
     CannotReadInput,
-    /// The rule text has faults.
-    Refused,
+    /// The rule text has faults, which this shows.
+    Refused(String),
     Memory,
     /// Standard input or standard output failed.
     System,
@@ -25,7 +25,10 @@ impl fmt::Display for Fault {
             Fault::Usage => write!(f, "{USAGE}"),
             Fault::CannotReadRules => write!(f, "Can't read the rule file"),
             Fault::CannotReadInput => write!(f, "Can't read the input"),
-            Fault::Refused => write!(f, "The rule file has faults: ./lrlex tells them"),
+            Fault::Refused(shown) => {
+                let lines = shown.as_str().trim_end();
+                write!(f, "{lines}")
+            }
             Fault::Memory => write!(f, "Out of memory"),
             Fault::System => write!(f, "Standard input or standard output failed"),
         }

@@ -11,6 +11,7 @@ use crate::faults::Fault;
 use crate::marks::Marks;
 use crate::words::read;
 use lrlex::{DefaultLexerTypes, LRNonStreamingLexerDef, LexRun, LexerDef};
+use lrlex_report::faults_text;
 use std::alloc::{AllocError, Global};
 use std::process::ExitCode;
 use std::{env, fs, io};
@@ -58,11 +59,17 @@ fn marked(
     Ok(page)
 }
 
-/// The input, coloured by the rules.
-fn page_of(alloc: Global, rules: &str, input: &str, marks: Marks) -> Result<String, Fault> {
+/// The input, coloured by the rules, which are the text of this file.
+fn page_of(
+    alloc: Global,
+    file: &str,
+    rules: &str,
+    input: &str,
+    marks: Marks,
+) -> Result<String, Fault> {
     match LRNonStreamingLexerDef::<Types>::from_str(alloc, rules)? {
         Ok(definition) => Ok(marked(alloc, &definition, input, marks)?),
-        Err(_) => Err(Fault::Refused),
+        Err(faults) => Err(Fault::Refused(faults_text(alloc, file, rules, &faults)?)),
     }
 }
 
@@ -80,7 +87,13 @@ fn show_files(rt: &HostRuntime, words: &[&str]) -> Result<(), Fault> {
     let given = read(rt.alloc(), words)?;
     let rules = text_at(rt, given.rules.as_str(), Fault::CannotReadRules)?;
     let input = text_at(rt, given.input.as_str(), Fault::CannotReadInput)?;
-    let page = page_of(rt.alloc(), rules.as_str(), input.as_str(), given.marks)?;
+    let page = page_of(
+        rt.alloc(),
+        given.rules.as_str(),
+        rules.as_str(),
+        input.as_str(),
+        given.marks,
+    )?;
     print!(rt; "{page}")?;
     Ok(())
 }
@@ -91,7 +104,7 @@ fn show_input(rt: &HostRuntime) -> Result<(), Fault> {
     let Some((rules, input)) = both.as_str().split_once(BETWEEN) else {
         return Err(Fault::Usage);
     };
-    let page = page_of(rt.alloc(), rules, input, Marks::Terminal)?;
+    let page = page_of(rt.alloc(), "stdin", rules, input, Marks::Terminal)?;
     print!(rt; "{page}")?;
     Ok(())
 }

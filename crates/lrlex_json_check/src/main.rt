@@ -10,19 +10,27 @@ use crate::reader::{Fault, fault_of};
 use crate::tokens::RULES;
 use crate::words::command;
 use lrlex::{DefaultLexerTypes, LRNonStreamingLexerDef, LexerDef};
+use lrlex_report::place_text;
+use std::alloc::{AllocError, Global};
 use std::process::ExitCode;
 use std::{env, io};
 
 type Definition = LRNonStreamingLexerDef<DefaultLexerTypes<u32>>;
 
-/// Tells where the text isn't JSON, and what was expected there.
-fn show(rt: &HostRuntime, fault: &Fault<'_>) -> io::Result<ExitCode> {
-    let (line, column) = fault.place;
+/// What was expected, and what stands there instead.
+fn message_of(alloc: Global, fault: &Fault<'_>) -> Result<String, AllocError> {
     let expected = fault.expected;
     match fault.found {
-        "" => println!(rt; "stdin:{line}:{column}: expected {expected}, found the end")?,
-        found => println!(rt; "stdin:{line}:{column}: expected {expected}, found {found}")?,
+        "" => format!(in alloc; "expected {expected}, found the end"),
+        found => format!(in alloc; "expected {expected}, found {found}"),
     }
+}
+
+/// Tells where the text isn't JSON.
+fn show(rt: &HostRuntime, text: &str, fault: &Fault<'_>) -> io::Result<ExitCode> {
+    let message = message_of(rt.alloc(), fault)?;
+    let shown = place_text(rt.alloc(), "stdin", text, fault.span, &message)?;
+    print!(rt; "{shown}")?;
     Ok(ExitCode::FAILURE)
 }
 
@@ -34,7 +42,7 @@ fn serve(rt: &HostRuntime) -> io::Result<ExitCode> {
         return Ok(ExitCode::FAILURE);
     };
     match fault_of(rt.alloc(), &definition, text.as_str())? {
-        Some(fault) => show(rt, &fault),
+        Some(fault) => show(rt, text.as_str(), &fault),
         None => {
             println!(rt; "ok")?;
             Ok(ExitCode::SUCCESS)

@@ -32,8 +32,8 @@ enum Next {
 /// Where a text isn't JSON.
 #[derive(Debug, Drop)]
 pub struct Fault<'t> {
-    /// Line and column, from 1.
-    pub place: (usize, usize),
+    /// Where it stands.
+    pub span: Span,
     pub expected: &'static str,
     /// The text that stands there instead, and nothing at the text's end.
     pub found: &'t str,
@@ -157,7 +157,7 @@ fn fault_at<'t>(
     span: Span,
 ) -> Fault<'t> {
     Fault {
-        place: lexer.place(span.start()),
+        span,
         expected: reader.expected(),
         found: lexer.text_of(span),
     }

@@ -1,0 +1,4 @@
+pub mod MarkLemmas
+pub mod PlaceLemmas
+pub mod FaultLemmas
+pub mod StateLemmas

@@ -1,0 +1,110 @@
+//! What is shown of faults and of errors.
+use crate::{faults_text, place_text, stop_text, stop_text_in};
+use lrlex::{DefaultLexerTypes, LRLexError, LRNonStreamingLexerDef, LexerDef, Span, StartStateId};
+use std::alloc::{AllocError, Global};
+use std::test::Fail;
+
+/// What is wrong with the rule text, or where lexing the input stops, or nothing.
+fn complaints(alloc: Global, rules: &str, input: &str) -> Result<String, AllocError> {
+    match LRNonStreamingLexerDef::<DefaultLexerTypes<u32>>::from_str(alloc, rules)? {
+        Err(faults) => faults_text(alloc, "tokens.l", rules, &faults),
+        Ok(definition) => match definition.run(alloc, input)?.items().last() {
+            Some(Err(error)) => stop_text_in(alloc, &definition, "input.txt", input, error),
+            _ => Ok(String::new(alloc)),
+        },
+    }
+}
+
+#[test]
+fn faults_are_shown(rt: HostRuntime) -> Result<(), Fail> {
+    let rows = [
+        (
+            "%%\nab 'A'\nc 'C'\na+b 'A'\n",
+            "tokens.l:4:6: Rule name already exists\n4 | a+b 'A'\n  |      ^\n\
+             tokens.l:2:5: first here\n2 | ab 'A'\n  |     ^\n",
+        ),
+        (
+            "%%\r\n漢 'AB'\r\nb\t'AB'\r\n😀c 'AB'",
+            "tokens.l:3:4: Rule name already exists\n3 | b\t'AB'\n  |  \t ^^\n\
+             tokens.l:4:5: Rule name already exists\n4 | 😀c 'AB'\n  |      ^^\n\
+             tokens.l:2:4: first here\n2 | 漢 'AB'\n  |     ^^\n",
+        ),
+        ("", "tokens.l:1:1: File ends prematurely\n1 | \n  | ^\n"),
+        (
+            "%x A\n",
+            "tokens.l:2:1: File ends prematurely\n2 | \n  | ^\n",
+        ),
+        (
+            "%x INITIAL\n%%\n",
+            "tokens.l:1:4: Start state already exists\n1 | %x INITIAL\n  |    ^^^^^^^\n",
+        ),
+        (
+            "%%\na) 'A'\n",
+            "tokens.l:2:1: Invalid regular expression: unopened group\n\
+             2 | a) 'A'\n  | ^\n",
+        ),
+    ];
+    for (rules, shown) in &rows {
+        assert_eq!(rt;
+            complaints(rt.alloc(), rules, "")?.as_str(),
+            *shown,
+            "of {rules}"
+        );
+    }
+    Ok(())
+}
+
+#[test]
+fn errors_are_shown(rt: HostRuntime) -> Result<(), Fail> {
+    let rules = "%x TEXT\n%%\n[a漢語\\t\\n]+ 'A'\n\\[ <+TEXT>;\n<TEXT>b 'B'\n<TEXT>\\] <-TEXT>;\n";
+    let rows = [
+        ("aa[b]a", ""),
+        (
+            "x",
+            "input.txt:1:1: unexpected character 'x'\n1 | x\n  | ^\n",
+        ),
+        (
+            "a\n漢\ta語\u{7}a\n",
+            "input.txt:2:5: unexpected character '\\u{7}'\n2 | 漢\ta語\u{fffd}a\n  |   \t   ^\n",
+        ),
+        (
+            "a\na\r\n",
+            "input.txt:2:2: unexpected character '\\r'\n2 | a\n  |  ^\n",
+        ),
+        (
+            "aa[bba",
+            "input.txt:1:6: unexpected character 'a' in start state TEXT\n\
+             1 | aa[bba\n  |      ^\n",
+        ),
+    ];
+    for (input, shown) in &rows {
+        assert_eq!(rt;
+            complaints(rt.alloc(), rules, input)?.as_str(),
+            *shown,
+            "of {input}"
+        );
+    }
+    Ok(())
+}
+
+#[test]
+fn any_span_is_shown(rt: HostRuntime) -> Result<(), Fail> {
+    let text = "1\n2\n3\n4\n5\n6\n7\n8\n9\n漢字 x\n";
+    let rows = [
+        (Span::new(18, 21), "f:10:1: m\n10 | 漢字 x\n   | ^^\n"),
+        (Span::new(19, 20), "f:10:1: m\n10 | 漢字 x\n   | ^\n"),
+        (Span::new(21, 99), "f:10:2: m\n10 | 漢字 x\n   |   ^^^^\n"),
+        (Span::new(99, 99), "f:11:1: m\n11 | \n   | ^\n"),
+        (Span::new(0, 99), "f:1:1: m\n1 | 1\n  | ^\n"),
+    ];
+    for (span, shown) in &rows {
+        let made = place_text(rt.alloc(), "f", text, *span, "m")?;
+        assert_eq!(rt; made.as_str(), *shown);
+    }
+    let end = LRLexError::new_with_lexing_state(Span::new(9, 9), StartStateId::new(7));
+    assert_eq!(rt;
+        stop_text(rt.alloc(), "f", "a\r\n", &end)?.as_str(),
+        "f:2:1: unexpected end of the text\n2 | \n  | ^\n"
+    );
+    Ok(())
+}
