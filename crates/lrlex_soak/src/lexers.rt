@@ -1,7 +1,4 @@
 //! A lexer has the items of a run, and tells their texts and their places.
-ghost use Rattle.std.specs.Prelude.{◌≡◌};
-ghost use Rattle.lrlex.specs.Lexers.{lexer_text};
-
 use crate::facts::{Definition, Fact, Facts, Item, fact_of};
 use crate::places::{Place, counted};
 use crate::record::{Record, add};

@@ -31,8 +31,9 @@ pub fn names_in(alloc: Global, definition: &Definition) -> Result<Vec<Called<'_>
 /// Whether one of the rules has the name.
 pub fn has_name(rules: &[Called<'_>], name: &str) -> bool {
     for rule in rules {
-        if rule.name.unwrap_or("") == name {
-            return true;
+        match rule.name {
+            Some(own) if own == name => return true,
+            _ => {}
         }
     }
     false
