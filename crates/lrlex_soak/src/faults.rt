@@ -1,4 +1,4 @@
-//! Why nothing is compared.
+//! Why nothing is tried.
 use crate::words::USAGE;
 use std::alloc::{AllocError, AllocFailed};
 use std::{fmt, io};

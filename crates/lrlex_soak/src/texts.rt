@@ -2,9 +2,6 @@
 use crate::chance::Chance;
 use std::alloc::{AllocError, Global};
 
-/// No text is longer, in bytes.
-const MOST_BYTES: usize = 60;
-
 /// What texts are made of: the characters that the patterns speak of, and some of their words.
 const PIECES: &[&str] = &[
     "a", "a", "b", "b", "c", "A", "B", "0", "7", " ", "\n", "é", "É", "à", "α", "Ω", "日", "😀", "_",
@@ -14,13 +11,13 @@ const PIECES: &[&str] = &[
 /// What the texts are made of in which large patterns match much.
 const FEW: &[&str] = &["a", "a", "a", "b", "b", "ab", "c", "aa"];
 
-/// A text of these pieces.
+/// A text of these pieces, of no more than so many bytes.
 fn text_of(
     alloc: Global,
     chance: &mut Chance,
     pieces: &[&'static str],
+    most: usize,
 ) -> Result<String, AllocError> {
-    let most = chance.below(MOST_BYTES).saturating_add(1);
     let mut text = String::new(alloc);
     for _ in 0..most {
         let piece = chance.one_of(pieces);
@@ -31,11 +28,11 @@ fn text_of(
     Ok(text)
 }
 
-/// A text by chance.
-pub fn text(alloc: Global, chance: &mut Chance) -> Result<String, AllocError> {
+/// A text by chance, of no more than so many bytes and of hardly fewer.
+pub fn text(alloc: Global, chance: &mut Chance, most: usize) -> Result<String, AllocError> {
     if chance.one_in(3) {
-        text_of(alloc, chance, FEW)
+        text_of(alloc, chance, FEW, most)
     } else {
-        text_of(alloc, chance, PIECES)
+        text_of(alloc, chance, PIECES, most)
     }
 }

@@ -1,21 +1,32 @@
-//! Compares lexing by tables with asking each rule, at the places of texts and by rule files that are made by chance:
-//! `lrlex_chance [PLACES] [SEED]`.
+//! Tries rule texts, inputs and edits that are made by chance against laws that hold of all of them, with no expected
+//! answers: `lrlex_soak [CASES] [SEED] [FIRST]`.
 #![tactic(auto)]
 
 mod chance;
-mod compare;
+mod documents;
+mod edits;
 mod facts;
 mod faults;
+mod lexers;
+mod mapping;
+mod mistakes;
+mod naming;
 mod patterns;
+mod places;
+mod reading;
+mod record;
+mod relexing;
 mod rules;
-mod tally;
+mod soak;
 mod texts;
+mod tiling;
 mod ways;
+mod winners;
 mod words;
 
-use crate::compare::compare;
 use crate::faults::Fault;
-use crate::tally::tell;
+use crate::record::tell;
+use crate::soak::soak;
 use crate::words::{Words, read};
 use std::alloc::{AllocError, Global};
 use std::process::ExitCode;
@@ -38,13 +49,14 @@ fn asked_for(rt: &HostRuntime) -> Result<Words, Fault> {
     read(rt.alloc(), words.as_slice())
 }
 
-/// Compares as the words ask for, and prints the figures. Whether all answers agree.
+/// Tries what the words ask for, and prints how much that was. Whether nothing differs.
 fn served(rt: &HostRuntime) -> Result<bool, Fault> {
-    let Words { places, seed } = asked_for(rt)?;
+    let words = asked_for(rt)?;
+    let seed = words.seed;
     println!(rt; "seed: {seed}")?;
-    let tally = compare::<u32>(rt, places, seed)?;
-    tell(rt, tally)?;
-    Ok(tally.differ == 0)
+    let record = soak(rt, words)?;
+    tell(rt, &record.tally)?;
+    Ok(record.tally.differ == 0)
 }
 
 fn main(rt: HostRuntime) -> ExitCode {

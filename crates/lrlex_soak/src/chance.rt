@@ -1,6 +1,9 @@
-//! Numbers by chance, all of which follow from one seed.
+//! Numbers by chance, all of which follow from a seed and from a case's number.
 use rand_core::{Rng, SeedableRng};
 use rand_pcg::Pcg32;
+
+/// An odd number by which seeds are spread, so that the cases of two seeds don't overlap.
+const SPREAD: u64 = 0x9e37_79b9_7f4a_7c15;
 
 /// A source of numbers and of choices.
 #[derive(Drop)]
@@ -9,10 +12,11 @@ pub struct Chance {
 }
 
 impl Chance {
-    /// What follows from this seed.
-    pub fn new(seed: u64) -> Chance {
+    /// What follows from this seed for the case with this number.
+    pub fn of_case(seed: u64, case: u64) -> Chance {
+        let start = seed.wrapping_mul(SPREAD).wrapping_add(case);
         Chance {
-            numbers: Pcg32::seed_from_u64(seed),
+            numbers: Pcg32::seed_from_u64(start),
         }
     }
 
@@ -25,6 +29,11 @@ impl Chance {
     /// Holds one time in so many.
     pub fn one_in(&mut self, times: usize) -> bool {
         self.below(times) == 0
+    }
+
+    /// One of a few token ids.
+    pub fn id(&mut self) -> u32 {
+        self.numbers.next_u32() % 12
     }
 
     /// One of these texts.

@@ -114,7 +114,16 @@ fn line(
     format!(in alloc; "{list}{pattern} {target}{name}\n")
 }
 
-/// A rule text of up to eight rules.
+/// A last rule that matches each character, so that a text is lexed to its end; sometimes none.
+fn last_line(chance: &mut Chance) -> &'static str {
+    match chance.below(6) {
+        0 => "",
+        1 => "<*>(?su:.) ;\n",
+        _ => "<*>(?su:.) 'ALL'\n",
+    }
+}
+
+/// A rule text of up to nine rules.
 pub fn rule_text(alloc: Global, chance: &mut Chance) -> Result<RuleText, AllocError> {
     let states = any_states(chance);
     let flags = flags(chance);
@@ -125,5 +134,6 @@ pub fn rule_text(alloc: Global, chance: &mut Chance) -> Result<RuleText, AllocEr
         let line = line(alloc, chance, states.names, number, unicode)?;
         text.push_str(line.as_str())?;
     }
+    text.push_str(last_line(chance))?;
     Ok(RuleText { text, flags })
 }
