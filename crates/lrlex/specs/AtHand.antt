@@ -1,22 +1,31 @@
 -- The rules of a start state, as lexing holds them from tile to tile.
-use Rattle.std.specs.Prelude.{◌≡◌, ℕ, ◌+◌, ◌≤◌, List, MatchOption, length}
+use Rattle.std.specs.Prelude.{◌≡◌, ℕ, ◌+◌, ◌≤◌, List, MatchOption, Some, length, slice_get}
 use Rattle.lrlex_rules.specs.Definition.{Definition}
 use Rattle.lrlex_table.specs.Tables.{AreTablesOf}
 use Rattle.lrlex.specs.Active.{active_count, active_places}
 use Rattle.lrlex.specs.Decided.{IsDecided}
 use Rattle.lrlex.specs.Tiling.{IsStuck, Wins}
-use Rattle.lrlex.specs.Tables.{patterns_on}
+use Rattle.lrlex.specs.Tables.{AreMatchers, patterns_on}
 use Rattle.lrlex.specs.Asked.{untabled_count}
 use Rattle.lrlex.specs.Views.{definition_of}
 use Rattle.lrlex.specs.declared.lexer.definition.LRNonStreamingLexerDef.{LRNonStreamingLexerDef}
 use Rattle.lrlex.specs.declared.lexer.definition.RulesIn.{RulesIn}
+use Rattle.lrlex.specs.declared.lexer.searching.Searcher.{Searcher}
 use Rattle.lrlex.specs.declared.lexer.searching.Sight.{Sight}
 
 -- these are the rules that are active in state q of the definition, and their tables
 pub record AreOf {L X S E P Q : Type 0} (number : S → ℕ) (d : LRNonStreamingLexerDef L X S E P Q) (q : ℕ) (here : RulesIn) : Type 0 where
   pub active : here.active.now ≡ active_places (definition_of number d).states (definition_of number d).rules q
   pub tables : ∥ AreTablesOf (patterns_on (definition_of number d).rules (active_places (definition_of number d).states (definition_of number d).rules q)) here.tables.now ∥₁
+  pub list : slice_get d.table.tables.items here.list ≡ Some here.tables.now
   pub untabled : length here.tables.now.asked.items ≡ untabled_count d q
+
+-- this looks for winners in the text by the definition: its matchers are those of the rules, and its dead ends are of the
+-- definition's tables and of the text
+pub record IsSearcherOf {L X S E P Q : Type 0} (d : LRNonStreamingLexerDef L X S E P Q) (input : List ℕ) (s : Searcher) : Type 0 where
+  pub matchers : AreMatchers d.table.rules.items s.matchers.items
+  pub lists : s.ends.lists.now ≡ d.table.tables.items
+  pub text : s.ends.text.now ≡ input
 
 -- what wins in state q at the text's beginning, and that the first bytes, so many of them, decide it
 pub record IsSightOf (d : Definition) (q : ℕ) (text : List ℕ) (s : Sight) : Type 0 where

@@ -1,2 +1,3 @@
+pub mod NewlineEditLemmas
 pub mod NewlineLemmas
 pub mod TokenLemmas

@@ -17,10 +17,10 @@ pub newlines_from-append : (at : ℕ) (a b : List ℕ) → newlines_from at (a +
 newlines_from-append at [] b = grind arith
 newlines_from-append at (x ∷ a) b = grind (arith, newlines_from-append (at + 1) a b)
 
-abbrev starts : ℕ → List ℕ → List ℕ
+abbrev pub starts : ℕ → List ℕ → List ℕ
 starts at a = starts_after (newlines_from at a)
 
-starts-append : (at : ℕ) (a b : List ℕ) → starts at (a ++ b) ≡ starts at a ++ starts (at + length a) b
+pub starts-append : (at : ℕ) (a b : List ℕ) → starts at (a ++ b) ≡ starts at a ++ starts (at + length a) b
 starts-append at a b = ap starts_after (newlines_from-append at a b) ∙ map-append _ _ _
 
 -- there are as many as counting finds
@@ -39,7 +39,7 @@ first_within : (at n : ℕ) (S : List ℕ) (k : ℕ) → ((j : ℕ) → j < leng
 first_within at n S zero h l = (omega arith, omega arith)
 first_within at n S (suc k) h l = let i = h k (omega arith) in (omega arith, omega arith)
 
-starts-within : (at : ℕ) (a : List ℕ) (k : ℕ) → k < length (starts at a) → (at < get_or (starts at a) k 0) × (get_or (starts at a) k 0 ≤ at + length a)
+pub starts-within : (at : ℕ) (a : List ℕ) (k : ℕ) → k < length (starts at a) → (at < get_or (starts at a) k 0) × (get_or (starts at a) k 0 ≤ at + length a)
 starts-within at [] k h = absurd (omega arith)
 starts-within at (x ∷ a) k h =
     let N = newlines_from (at + 1) a in
@@ -50,15 +50,15 @@ starts-within at (x ∷ a) k h =
     ] k h
 
 -- a text in two parts at a place
-parts : (text : List ℕ) (at : ℕ) → at ≤ length text → starts 0 text ≡ starts 0 (take at text) ++ starts at (drop at text)
+pub parts : (text : List ℕ) (at : ℕ) → at ≤ length text → starts 0 text ≡ starts 0 (take at text) ++ starts at (drop at text)
 parts text at h =
     ap (starts 0) (sym (take-append-drop at text)) ∙ starts-append 0 (take at text) (drop at text)
     ∙ ap (λ n. starts 0 (take at text) ++ starts n (drop at text)) (zero-add _ ∙ length-take-le at text h)
 
-abbrev begun : List ℕ → ℕ → ℕ
+abbrev pub begun : List ℕ → ℕ → ℕ
 begun text at = count_by is_newline (take at text)
 
-begun_length : (text : List ℕ) (at : ℕ) → length (starts 0 (take at text)) ≡ begun text at
+pub begun_length : (text : List ℕ) (at : ℕ) → length (starts 0 (take at text)) ≡ begun text at
 begun_length text at = length-starts 0 (take at text)
 
 pub begun_within : (text : List ℕ) (at : ℕ) → at ≤ length text → begun text at ≤ length (starts 0 text)

@@ -40,3 +40,7 @@ AreBreaksOf text c = (c.fed ≡ length text) × (c.newlines ≡ newlines_from 0 
 -- where the lines but the first begin
 abbrev pub starts_after : List ℕ → List ℕ
 starts_after newlines = map (λ p. p + 1) newlines
+
+-- there is a text of this length whose lines but the first begin there
+abbrev pub AreStartsOfSome : ℕ → List ℕ → Type 0
+AreStartsOfSome fed starts = ∥ ((text : List ℕ) × (fed ≡ length text) × (starts ≡ starts_after (newlines_from 0 text))) ∥₁

@@ -1,6 +1,7 @@
-ghost use Rattle.std.specs.Prelude.{◌≡◌, ◌≢◌, ◌<◌, ◌≤◌, ◌+◌, ◌^◌, ◌++◌, ◌∷◌, slice_index, ◌⊎◌, ◌↔◌, ℕ, List, IsOk, IfOk, OnOk, OnErr, IsNone, IfSome, [], length, take, count_by, All, IsCharBoundary, IsUtf8, nat_le};
+ghost use Rattle.std.specs.Prelude.{◌≡◌, ◌≢◌, ◌<◌, ◌≤◌, ◌+◌, ◌-◌, map, ◌^◌, ◌++◌, ◌∷◌, slice_index, ◌⊎◌, ◌↔◌, ℕ, List, IsOk, IfOk, OnOk, OnErr, IsNone, IfSome, [], length, take, drop, count_by, All, IsCharBoundary, IsUtf8, nat_le};
+ghost use Rattle.lrlex_base.specs.Edits.{edited};
 ghost use Rattle.lrlex_base.specs.Places.{newlines_from, starts_after, AreBreaksOf, is_newline, place_of, whole_lines};
-ghost use Rattle.lrlex_base.specs.Spans.{span_end, as_span};
+ghost use Rattle.lrlex_base.specs.Spans.{span_start, span_end, as_span};
 
 use crate::spans::Span;
 use std::alloc::{AllocError, Allocator, Global};
@@ -16,13 +17,13 @@ pub struct NewlineCache<A: Allocator = Global> {
 
 impl<A: Allocator> Model for NewlineCache<A> {
     ghost use Rattle.std.specs.Prelude.{◌-◌, ◌<◌, All, map};
-    ghost use Rattle.lrlex_base.specs.Places.{Breaks};
+    ghost use Rattle.lrlex_base.specs.Places.{Breaks, AreStartsOfSome};
 
     ghost Value = { Breaks };
 
     ghost view = { λ c. record { fed = c.bytes; newlines = map (λ s. s - 1) c.starts.items } };
 
-    ghost invariant = { λ c. All (λ s. 0 < s) c.starts.items };
+    ghost invariant = { λ c. All (λ s. 0 < s) c.starts.items × AreStartsOfSome c.bytes c.starts.items };
 }
 
 // Adds where lines begin in a text that stands at this offset. For want of memory nothing has changed.
@@ -46,6 +47,41 @@ fn add_starts<A: Allocator>(
             }
         }
     }
+    Ok(())
+}
+
+// Moves the line beginnings from this one on: what stood at `from` stands at `to`.
+fn move_starts(starts: &mut [usize], first: usize, from: usize, to: usize)
+    requires within { first ≤ length starts.old }
+    requires movable { All (λ s. (from ≤ s) × (s - from + to < 2 ^ 64)) (drop first starts.old) }
+    ensures { starts.new ≡ take first starts.old ++ map (λ s. s - from + to) (drop first starts.old) }
+{
+    for i in first..starts.len() {
+        starts[i] = starts[i] - from + to;
+    }
+}
+
+// Puts line beginnings in place of those from `first` on and before `behind`, and moves those behind. For want of memory
+// nothing has changed.
+fn put_starts<A: Allocator + Clone>(
+    starts: &mut Vec<usize, A>,
+    first: usize,
+    behind: usize,
+    added: Vec<usize, A>,
+    from: usize,
+    to: usize,
+) -> Result<(), AllocError>
+    requires first { first ≤ behind }
+    requires behind { behind ≤ length starts.old.items }
+    requires movable { All (λ s. (from ≤ s) × (s - from + to < 2 ^ 64))
+        (drop behind starts.old.items) }
+    ensures ok { OnOk result (starts.new.items ≡ (take first starts.old.items ++ added.items)
+        ++ map (λ s. s - from + to) (drop behind starts.old.items)) }
+    ensures err { OnErr result (starts.new.items ≡ starts.old.items) }
+{
+    let next = first + added.len();
+    starts.splice(first..behind, added)?;
+    move_starts(starts.as_mut_slice(), next, from, to);
     Ok(())
 }
 
@@ -155,5 +191,34 @@ impl<A: Allocator> NewlineCache<A> {
             self.bytes
         };
         (line_begin(&self.starts, first), end)
+    }
+}
+
+impl<A: Allocator + Clone> NewlineCache<A> {
+    /// Makes the cache of a text that of the text after an edit, in which `put` stands in place of the bytes of `removed`. The
+    /// text isn't looked at. The bytes after the edit fit `usize`. For want of memory nothing has changed.
+    pub fn edit(&mut self, removed: Span, put: &str) -> Result<(), AllocError>
+        requires removed { span_end removed ≤ self.old.fed }
+        requires put { self.old.fed - (span_end removed - span_start removed) + length put.now
+            < 2 ^ 64 }
+        ensures edited { (text : List ℕ) → AreBreaksOf text self.old →
+            OnOk result (AreBreaksOf (edited text (as_span removed) put.now) self.new) }
+        ensures unchanged { OnErr result (self.new ≡ self.old) }
+    {
+        let first = lines_begun(&self.starts, removed.start());
+        let behind = lines_begun(&self.starts, removed.end());
+        let mut added = Vec::new(self.starts.allocator().clone()?);
+        add_starts(&mut added, removed.start(), put)?;
+        let put_end = removed.start() + put.len();
+        put_starts(
+            &mut self.starts,
+            first,
+            behind,
+            added,
+            removed.end(),
+            put_end,
+        )?;
+        self.bytes = self.bytes - removed.len() + put.len();
+        Ok(())
     }
 }

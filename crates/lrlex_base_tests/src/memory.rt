@@ -45,6 +45,30 @@ fn a_refused_piece_changes_no_cache(rt: HostRuntime) -> Result<(), Fail> {
 }
 
 #[test]
+fn a_refused_edit_changes_no_cache(rt: HostRuntime) -> Result<(), Fail> {
+    let (mut edited, mut refused) = (0u32, 0u32);
+    for size in 1..=64usize {
+        let heap = LocalHeap::new(rt.alloc(), size * 32)?;
+        let Ok(mut cache) = NewlineCache::from_str(&heap, "a\nb\nc") else {
+            continue;
+        };
+        let before = cache.fed();
+        assert!(rt; 4 <= before && before < 10_000);
+        let lines = cache.span_line_bytes(Span::new(4, 4));
+        if cache.edit(Span::new(1, 2), "\n\n\n\n\n\n\n\n").is_ok() {
+            edited = edited.saturating_add(1);
+            assert_eq!(rt; cache.fed(), before + 7);
+        } else {
+            refused = refused.saturating_add(1);
+            assert_eq!(rt; cache.fed(), before);
+            assert_eq!(rt; cache.span_line_bytes(Span::new(4, 4)), lines);
+        }
+    }
+    assert!(rt; edited > 8 && refused > 1, "{edited} and {refused}");
+    Ok(())
+}
+
+#[test]
 fn a_refused_edit_makes_no_text(rt: HostRuntime) -> Result<(), Fail> {
     let old = "0123456789012345678901234567890123456789";
     let edit = Edit {

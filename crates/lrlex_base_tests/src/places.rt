@@ -2,7 +2,7 @@
 ghost use Rattle.std.specs.Prelude.{◌<◌, ◌+◌, ◌^◌, ◌++◌, IfOk, length};
 ghost use Rattle.lrlex_base.specs.Places.{AreBreaksOf};
 
-use lrlex_base::{NewlineCache, Span};
+use lrlex_base::{Edit, NewlineCache, Span};
 use std::alloc::{AllocError, Global};
 use std::process::Abort;
 use std::test::Fail;
@@ -178,5 +178,71 @@ fn seventy_one_lines_fed_whole_and_byte_by_byte(rt: HostRuntime) -> Result<(), F
     assert_triangle(&rt, &whole, text);
     let bytes = fed_by_characters(rt.alloc(), text)?;
     assert_triangle(&rt, &bytes, text);
+    Ok(())
+}
+
+// Asserts that the cache of the old text, once edited, answers as one that was fed the new text.
+fn assert_edit(
+    rt: &(impl Abort + AllocGlobal),
+    old: &str,
+    start: usize,
+    end: usize,
+    put: &str,
+) -> Result<(), AllocError> {
+    let alloc = rt.alloc();
+    assert!(rt; start <= end && old.len() < 1000 && put.len() < 1000);
+    let edit = Edit {
+        removed: Span::new(start, end),
+        put,
+    };
+    assert!(rt; edit.fits(old));
+    let new = edit.apply(alloc, old)?;
+    let fed = NewlineCache::from_str(alloc, &new)?;
+    let mut cache = NewlineCache::from_str(alloc, old)?;
+    assert!(rt; end <= cache.fed() && cache.fed() < 1000);
+    cache.edit(edit.removed, put)?;
+    assert_eq!(rt; cache.fed(), fed.fed());
+    for byte in 0..new.len() + 1 {
+        assert!(rt; byte <= cache.fed() && byte <= fed.fed());
+        let here = Span::new(byte, byte);
+        assert_eq!(rt;
+            cache.span_line_bytes(here),
+            fed.span_line_bytes(here),
+            "at {byte} of {new}"
+        );
+    }
+    Ok(())
+}
+
+#[test]
+fn an_edited_cache_is_that_of_the_edited_text(rt: HostRuntime) -> Result<(), Fail> {
+    let edits = [
+        ("", 0, 0, ""),
+        ("", 0, 0, "\n"),
+        ("", 0, 0, "a\nb\n"),
+        ("a\nb\nc", 0, 0, "x"),
+        ("a\nb\nc", 0, 0, "x\n"),
+        ("a\nb\nc", 0, 1, ""),
+        ("a\nb\nc", 0, 2, "\n\n\n"),
+        ("a\nb\nc", 1, 2, "x"),
+        ("a\nb\nc", 2, 3, "\n\n"),
+        ("a\nb\nc", 2, 2, "❤"),
+        ("a\nb\nc", 1, 4, ""),
+        ("a\nb\nc", 1, 4, "\n"),
+        ("a\nb\nc", 0, 5, ""),
+        ("a\nb\nc", 0, 5, "\n"),
+        ("a\nb\nc", 4, 5, ""),
+        ("a\nb\nc", 5, 5, "d"),
+        ("a\nb\nc", 5, 5, "\n"),
+        ("\n\n\n", 1, 2, ""),
+        ("\n\n\n", 3, 3, "\n"),
+        ("a\r\nb\r\n", 1, 3, "\n"),
+        ("a\r\nb\r\n", 2, 3, ""),
+        ("a\r\nb\r\n", 4, 6, "\r\n\r\n"),
+        ("❤\n❤\n", 3, 4, "\r\n"),
+    ];
+    for (old, start, end, put) in &edits {
+        assert_edit(&rt, old, *start, *end, put)?;
+    }
     Ok(())
 }

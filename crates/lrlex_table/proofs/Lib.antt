@@ -12,5 +12,6 @@ pub mod LengthLemmas
 pub mod NfaLemmas
 pub mod WinLemmas
 pub mod PartLemmas
+pub mod VainLemmas
 pub mod BestLemmas
 pub mod ForCallers

@@ -6,3 +6,4 @@ pub mod Charts
 pub mod Grids
 pub mod Sources
 pub mod Tables
+pub mod Vain

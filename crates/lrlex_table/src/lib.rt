@@ -13,6 +13,7 @@ mod source;
 mod step;
 mod table;
 mod tables;
+mod vain;
 mod walk;
 
 pub use budget::Budget;
@@ -21,4 +22,5 @@ pub use single::Single;
 pub use source::Source;
 pub use table::Table;
 pub use tables::{Part, Tables, joined_tables, tables_between};
+pub use vain::{DeadEnd, DeadEnds};
 pub use walk::{Sight, Tile};

@@ -261,7 +261,7 @@ fn better(one: Option<Tile>, other: Option<Tile>) -> Option<Tile>
 
 /// What two looks at a text see together: the better tile, and the greater reach.
 #[inline(always)]
-fn together(a: Sight, b: Sight) -> Sight
+pub(crate) fn together(a: Sight, b: Sight) -> Sight
     ensures sight { (ps : List Re) (one other : ℕ → Bool) (text : List ℕ) →
         IsSightOf ps one text a → IsSightOf ps other text b →
         IsSightOf ps (λ k. one k || other k) text result }
@@ -294,7 +294,7 @@ fn rule_at(rules: &[usize], place: usize) -> Option<usize>
 impl Part {
     /// The tile with its rule's place in the list, where the table has that among the part's rules.
     #[inline(always)]
-    fn placed(&self, tile: Option<Tile>) -> Option<Tile>
+    pub(crate) fn placed(&self, tile: Option<Tile>) -> Option<Tile>
         ensures winner { (ps : List Re) (text : List ℕ) →
             IsPartOf ps 0 (length ps) self.now → IsUtf8 text →
             IsLongestOf (patterns_at ps self.now.rules.items) text tile →

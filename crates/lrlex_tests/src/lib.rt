@@ -13,6 +13,8 @@ mod edits;
 #[cfg(test)]
 mod hostile;
 #[cfg(test)]
+mod in_vain;
+#[cfg(test)]
 mod long_inputs;
 #[cfg(test)]
 mod parts;

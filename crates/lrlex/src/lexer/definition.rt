@@ -35,7 +35,7 @@ pub(crate) struct RuleTable<S> {
     /// The places of active rules: each list once, since states with the same rules share theirs.
     lists: Vec<Vec<usize>>,
     /// The tables of each list.
-    tables: Vec<Tables>,
+    pub(crate) tables: Vec<Tables>,
     /// Which of the lists each state has.
     list_at: Vec<usize>,
     ghost distinct: { IsTrue own_ids → HaveDistinctIds rules.items },
@@ -81,6 +81,8 @@ impl<S: Copy> RuleTable<S> {
 pub(crate) struct RulesIn<'d> {
     pub(crate) state: usize,
     pub(crate) active: &'d [usize],
+    /// The place of the tables among those of the definition.
+    pub(crate) list: usize,
     pub(crate) tables: &'d Tables,
 }
 
@@ -93,7 +95,7 @@ pub struct LRNonStreamingLexerDef<L: LexerTypes> {
 
 impl<L: LexerTypes> LRNonStreamingLexerDef<L> {
     ghost use Rattle.lrlex.specs.Views.{definition_of, definition_tables};
-    ghost use Rattle.std.specs.Prelude.{Some, option_map, IfOk, ◌^◌};
+    ghost use Rattle.std.specs.Prelude.{Some, option_map, slice_get, IfOk, ◌^◌};
     ghost use Rattle.lrlex_table.specs.Tables.{AreTablesOf};
     ghost use Rattle.lrlex.specs.Tables.{patterns_on, count_of_tables, count_of_rows, count_of_asked};
     ghost use Rattle.lrlex.specs.AtHand.{AreOf};
@@ -223,17 +225,19 @@ impl<L: LexerTypes> LRNonStreamingLexerDef<L> {
         &self.table.lists[self.table.list_at[index]]
     }
 
-    /// The tables of the rules that are active in the first state with the id.
+    /// The tables of the rules that are active in the first state with the id, with their place among all.
     #[inline(always)]
-    pub(crate) fn tables_in(&self, id: usize) -> &Tables
+    pub(crate) fn tables_in(&self, id: usize) -> (usize, &Tables)
         requires { is_state (definition_of L.StorageT.number self.now) id ≡ true }
+        ensures list { slice_get self.now.table.tables.items result.0 ≡ Some result.1.now }
         ensures served { ∥ AreTablesOf (patterns_on (definition_of L.StorageT.number self.now).rules
             (active_places (definition_of L.StorageT.number self.now).states
-            (definition_of L.StorageT.number self.now).rules id)) result.now ∥₁ }
-        ensures untabled { length result.now.asked.items ≡ untabled_count self.now id }
+            (definition_of L.StorageT.number self.now).rules id)) result.1.now ∥₁ }
+        ensures untabled { length result.1.now.asked.items ≡ untabled_count self.now id }
     {
         let index = position_of(&self.table.start_states, self.table.placed, id).unwrap_or(0);
-        &self.table.tables[self.table.list_at[index]]
+        let list = self.table.list_at[index];
+        (list, &self.table.tables[list])
     }
 
     /// The rules that are active in the first state with the id.
@@ -243,10 +247,12 @@ impl<L: LexerTypes> LRNonStreamingLexerDef<L> {
         ensures state { result.state ≡ id }
         ensures rules { AreOf L.StorageT.number self.now id result }
     {
+        let (list, tables) = self.tables_in(id);
         RulesIn {
             state: id,
             active: self.active_in(id),
-            tables: self.tables_in(id),
+            list,
+            tables,
         }
     }
 

@@ -7,8 +7,7 @@ ghost use Rattle.lrlex.specs.Entries.{plain, AreEntries};
 ghost use Rattle.lrlex.specs.Boundaries.{Boundary, last_entries};
 ghost use Rattle.lrlex.specs.Reach.{Reached, IsLexed, searches};
 ghost use Rattle.lrlex.specs.Decided.{HasLooked, capped};
-ghost use Rattle.lrlex.specs.Tables.{AreMatchers};
-ghost use Rattle.lrlex.specs.AtHand.{AreOf};
+ghost use Rattle.lrlex.specs.AtHand.{AreOf, IsSearcherOf};
 ghost use Rattle.lrlex.specs.Views.{definition_of, item_of, items_by};
 ghost use Rattle.lrlex.specs.UnderWay.{HasAdvanced, HasEnded, HasEntered, HasSearched, IsUnderWay};
 
@@ -17,11 +16,10 @@ use crate::lexer::active::{lacks_id, lexeme_id};
 use crate::lexer::boundaries::Boundaries;
 use crate::lexer::definition::{LRNonStreamingLexerDef, RulesIn};
 use crate::lexer::room::append;
-use crate::lexer::searching::winner;
+use crate::lexer::searching::Searcher;
 use crate::lexer::stack::{step, top_of};
 use lrlex_base::{Lexeme, LexerTypes, Span};
 use lrlex_rules::{Rule, StartStateId, StartStateOperation};
-use regex::Matcher;
 use std::alloc::{AllocError, Global};
 
 /// What a run has found so far. Its last boundary is its place with its stack.
@@ -156,16 +154,16 @@ pub(crate) fn advance<'d, L: LexerTypes>(
     definition: &'d LRNonStreamingLexerDef<L>,
     text: &str,
     here: &mut RulesIn<'d>,
-    matchers: &mut [Option<Box<Matcher<'d>>>],
+    searcher: &mut Searcher<'d, '_>,
     progress: &mut Progress<L::LexemeT>,
 ) -> Result<bool, AllocError>
     requires here { AreOf L.StorageT.number definition.now here.old.state here.old }
     requires inside { progress.old.place < length text.now }
-    requires matchers { AreMatchers definition.now.table.rules.items matchers.old }
+    requires searcher { IsSearcherOf definition.now text.now searcher.old }
     requires under_way { IsUnderWay (definition_of L.StorageT.number definition.now)
         L.StorageT.number L.LexemeT.seen text.now progress.old }
     ensures held { IfOk result (λ _. AreOf L.StorageT.number definition.now here.new.state here.new
-        × AreMatchers definition.now.table.rules.items matchers.new) }
+        × IsSearcherOf definition.now text.now searcher.new) }
     ensures goes_on { IfOk result (λ on. on ≡ true
         → HasAdvanced (definition_of L.StorageT.number definition.now) L.StorageT.number
         L.LexemeT.seen text.now progress.old progress.new) }
@@ -179,12 +177,12 @@ pub(crate) fn advance<'d, L: LexerTypes>(
     let state = top_of(&progress.stack);
     *here = definition.rules_at(*here, state);
     let rest = &text[place..];
-    let sight = winner(
+    let sight = searcher.winner(
         alloc,
         definition,
         state,
         *here,
-        matchers,
+        place,
         rest,
         &mut progress.asked,
     )?;

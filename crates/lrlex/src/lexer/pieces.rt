@@ -1,9 +1,8 @@
 //! The whole text as it was cut.
-ghost use Rattle.std.specs.Prelude.{ℕ, ◌+◌, ◌<◌, List, IfOk, IsCharBoundary, vec_len};
-ghost use Rattle.lrlex.specs.AtHand.{AreOf};
+ghost use Rattle.std.specs.Prelude.{ℕ, ◌≡◌, ◌+◌, ◌<◌, ◌≤◌, List, IfOk, IsCharBoundary, drop, length, vec_len};
+ghost use Rattle.lrlex.specs.AtHand.{AreOf, IsSearcherOf};
 ghost use Rattle.lrlex.specs.Pieces.{IsPiece, ArePieces};
 ghost use Rattle.lrlex.specs.Reach.{IsRun};
-ghost use Rattle.lrlex.specs.Tables.{AreMatchers};
 ghost use Rattle.lrlex.specs.Tiling.{Item, Wins};
 ghost use Rattle.lrlex.specs.Views.{definition_of};
 
@@ -11,10 +10,9 @@ use crate::errors::LRLexError;
 use crate::lexer::boundaries::Boundaries;
 use crate::lexer::definition::{LRNonStreamingLexerDef, RulesIn};
 use crate::lexer::run::LexRun;
-use crate::lexer::searching::{Tile, no_matchers, winner};
+use crate::lexer::searching::{Searcher, Tile};
 use crate::lexer::stack::top_of;
 use lrlex_base::{LexerTypes, Span};
-use regex::Matcher;
 use std::alloc::{AllocError, Global};
 
 /// A tile of a text.
@@ -34,22 +32,25 @@ fn tile_of<'d, L: LexerTypes<LexErrorT = LRLexError>>(
     definition: &'d LRNonStreamingLexerDef<L>,
     state: usize,
     here: RulesIn<'d>,
-    matchers: &mut [Option<Box<Matcher<'d>>>],
+    searcher: &mut Searcher<'d, '_>,
+    place: usize,
     text: &str,
 ) -> Result<Tile, AllocError>
     requires here { AreOf L.StorageT.number definition.now state here }
-    requires matchers { AreMatchers definition.now.table.rules.items matchers.old }
+    requires searcher { (input : List ℕ) × IsSearcherOf definition.now input searcher.old
+        × (text.now ≡ drop place input) × (place ≤ length input) }
     requires some { (t : ℕ × ℕ) × Wins (definition_of L.StorageT.number definition.now) state
         text.now t.0 t.1 }
     ensures wins { IfOk result (λ t. Wins (definition_of L.StorageT.number definition.now) state
         text.now t.rule t.len) }
     ensures boundary { IfOk result (λ t. IsCharBoundary text.now t.len) }
     ensures rule { IfOk result (λ t. t.rule < vec_len definition.now.table.rules) }
-    ensures matchers { IfOk result (λ _. AreMatchers definition.now.table.rules.items
-        matchers.new) }
+    ensures searcher { IfOk result (λ _. (input : List ℕ) →
+        IsSearcherOf definition.now input searcher.old →
+        IsSearcherOf definition.now input searcher.new) }
 {
     let mut asked = 0;
-    let sight = winner(alloc, definition, state, here, matchers, text, &mut asked)?;
+    let sight = searcher.winner(alloc, definition, state, here, place, text, &mut asked)?;
     Ok(sight.tile.unwrap())
 }
 
@@ -92,14 +93,14 @@ pub(crate) fn pieces_of<'d, 't, L: LexerTypes<LexErrorT = LRLexError>>(
     }
     let tiles = boundaries.len().saturating_sub(1);
     let mut pieces = Vec::with_capacity(alloc, tiles)?;
-    let mut matchers = no_matchers(alloc, &definition.table.rules)?;
+    let mut searcher = Searcher::new(alloc, definition, text)?;
     let mut here = definition.rules_in(0);
     let mut place = 0;
     'tiles: for index in 0..tiles {
         let state = top_of(boundaries.stack(index));
         here = definition.rules_at(here, state);
         let rest = &text[place..];
-        let tile = tile_of(alloc, definition, state, here, &mut matchers, rest)?;
+        let tile = tile_of(alloc, definition, state, here, &mut searcher, place, rest)?;
         pieces.push(piece_of(definition, text, place, tile))?;
         place += tile.len;
     }

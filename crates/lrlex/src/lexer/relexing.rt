@@ -21,7 +21,7 @@ use crate::lexer::definition::LRNonStreamingLexerDef;
 use crate::lexer::lexing::{Progress, advance};
 use crate::lexer::resuming::{append_raised, resume, up_to};
 use crate::lexer::run::{LexRun, finished, stateless};
-use crate::lexer::searching::no_matchers;
+use crate::lexer::searching::Searcher;
 use lrlex_base::{Edit, LexError, Lexeme, LexerTypes, Span};
 use std::alloc::{AllocError, Global};
 
@@ -271,7 +271,7 @@ pub(crate) fn relexed<'lexer, 'new, L: LexerTypes<LexErrorT = LRLexError>>(
     if !definition.is_state(0) {
         return stateless(alloc, definition, new);
     }
-    let mut matchers = no_matchers(alloc, &definition.table.rules)?;
+    let mut searcher = Searcher::new(alloc, definition, new)?;
     let mut progress = resume(alloc, old, edit, new)?;
     let kept = progress.boundaries.len();
     let mut cursor = behind(old.boundaries, edit);
@@ -293,7 +293,7 @@ pub(crate) fn relexed<'lexer, 'new, L: LexerTypes<LexErrorT = LRLexError>>(
             definition,
             new,
             &mut here,
-            &mut matchers,
+            &mut searcher,
             &mut progress,
         )? {
             let anew = progress.boundaries.len() - kept;

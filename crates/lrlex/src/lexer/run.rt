@@ -13,7 +13,7 @@ use crate::errors::LRLexError;
 use crate::lexer::boundaries::Boundaries;
 use crate::lexer::definition::LRNonStreamingLexerDef;
 use crate::lexer::lexing::{Progress, advance, begin, give_error};
-use crate::lexer::searching::no_matchers;
+use crate::lexer::searching::Searcher;
 use lrlex_base::LexerTypes;
 use std::alloc::{AllocError, Global};
 use std::marker::Model;
@@ -229,11 +229,11 @@ impl<L: LexerTypes<LexErrorT = LRLexError>> LRNonStreamingLexerDef<L> {
         if !self.is_state(0) {
             return stateless(alloc, self, text);
         }
-        let mut matchers = no_matchers(alloc, &self.table.rules)?;
+        let mut searcher = Searcher::new(alloc, self, text)?;
         let mut progress = begin(alloc, text)?;
         let mut here = self.rules_in(0);
         'tiles: while progress.place < text.len() {
-            if !advance(alloc, self, text, &mut here, &mut matchers, &mut progress)? {
+            if !advance(alloc, self, text, &mut here, &mut searcher, &mut progress)? {
                 let anew = progress.boundaries.len().saturating_sub(1);
                 return Ok(finished(self, text, progress, anew));
             }

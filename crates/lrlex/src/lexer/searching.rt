@@ -1,4 +1,4 @@
-ghost use Rattle.std.specs.Prelude.{◌≡◌, ℕ, length, slice_index, ◌+◌, ◌^◌, ◌<◌, ◌≤◌, ◌⊎◌, true, false, vec_len, IfOk, IfSome, MatchOption, IsCharBoundary};
+ghost use Rattle.std.specs.Prelude.{◌≡◌, ℕ, length, slice_index, ◌+◌, ◌^◌, ◌<◌, ◌≤◌, ◌⊎◌, true, false, vec_len, List, drop, IfOk, IfSome, MatchOption, IsCharBoundary};
 ghost use Rattle.regex.specs.Patterns.{SameCaptures};
 ghost use Rattle.regex.specs.Strings.{matcher_pattern};
 ghost use Rattle.lrlex_rules.specs.Patterns.{match_length, rule_pattern};
@@ -7,12 +7,13 @@ ghost use Rattle.lrlex.specs.Asked.{untabled_count};
 ghost use Rattle.lrlex.specs.Tiling.{Wins, IsStuck};
 ghost use Rattle.lrlex.specs.Decided.{IsDecided};
 ghost use Rattle.lrlex.specs.Tables.{IsMatcherOf, AreMatchers};
-ghost use Rattle.lrlex.specs.AtHand.{AreOf, HasAsked, IsSightOf};
+ghost use Rattle.lrlex.specs.AtHand.{AreOf, HasAsked, IsSearcherOf, IsSightOf};
 ghost use Rattle.lrlex.specs.Views.{definition_of};
 
 use crate::lexer::definition::{LRNonStreamingLexerDef, RulesIn};
 use lrlex_base::LexerTypes;
 use lrlex_rules::Rule;
+use lrlex_table::DeadEnds;
 use regex::Matcher;
 use std::alloc::{AllocError, Global};
 
@@ -79,7 +80,7 @@ fn ask_by<'d, S>(
 }
 
 /// Room for a matcher of each rule, where none is made yet.
-pub(crate) fn no_matchers<'d, S>(
+fn no_matchers<'d, S>(
     alloc: Global,
     rules: &'d [Rule<S>],
 ) -> Result<Vec<Option<Box<Matcher<'d>>>>, AllocError>
@@ -117,35 +118,39 @@ fn active_place(active: &[usize], rules: usize, number: usize) -> usize
     }
 }
 
-/// The rule that wins at the beginning of the text, among those that are active in the state: the tables tell the best of
-/// the rules that have one, and the others are asked. A search doesn't tell how far it looked, so where a rule is asked
-/// the whole text decides.
+/// The rule that wins at the beginning of the text, which stands at `from`, among those that are active in the state:
+/// the tables tell the best of the rules that have one, and the others are asked. A search doesn't tell how far it looked,
+/// so where a rule is asked the whole text decides.
 #[inline(always)]
-pub(crate) fn winner<'d, L: LexerTypes>(
+fn winner_by<'d, L: LexerTypes>(
     alloc: Global,
     definition: &'d LRNonStreamingLexerDef<L>,
     state: usize,
     here: RulesIn<'d>,
     matchers: &mut [Option<Box<Matcher<'d>>>],
+    ends: &mut DeadEnds<'d, '_>,
+    from: usize,
     text: &str,
     asked: &mut u128,
 ) -> Result<Sight, AllocError>
     requires here { AreOf L.StorageT.number definition.now state here }
-    requires matchers { AreMatchers definition.now.table.rules.items matchers.old }
+    requires held { AreMatchers definition.now.table.rules.items matchers.old
+        × (ends.old.lists.now ≡ definition.now.table.tables.items)
+        × (text.now ≡ drop from ends.old.text.now) × (from ≤ length ends.old.text.now) }
     requires room { asked.old + vec_len definition.now.table.rules < 2 ^ 128 }
     ensures sight { IfOk result (IsSightOf (definition_of L.StorageT.number definition.now)
         state text.now) }
-    ensures boundary { IfOk result (λ s. IfSome s.tile (λ t. IsCharBoundary text.now t.len)) }
-    ensures rule { IfOk result (λ s. IfSome s.tile
-        (λ t. t.rule < vec_len definition.now.table.rules)) }
+    ensures tile { IfOk result (λ s. IfSome s.tile (λ t. IsCharBoundary text.now t.len
+        × (t.rule < vec_len definition.now.table.rules))) }
     ensures asked { IfOk result (λ _. HasAsked L.StorageT.number definition.now state
         asked.old asked.new) }
     ensures matchers { IfOk result (λ _. AreMatchers definition.now.table.rules.items
         matchers.new) }
+    ensures ends { (ends.new.lists ≡ ends.old.lists) × (ends.new.text ≡ ends.old.text) }
 {
     let active = here.active;
     let tables = here.tables;
-    let sight = tables.look(text);
+    let sight = ends.look(tables, here.list, from, text);
     let mut best = match sight.tile {
         Some(tile) => Tile {
             rule: tile.rule,
@@ -175,4 +180,68 @@ pub(crate) fn winner<'d, L: LexerTypes>(
         len: best.len,
     });
     Ok(Sight { tile, reach })
+}
+
+/// What a run needs to look for winners in a text: the matchers of the rules that have no table, as they come to be made,
+/// and the dead ends of the tables.
+#[derive(Drop)]
+pub(crate) struct Searcher<'d, 't> {
+    matchers: Vec<Option<Box<Matcher<'d>>>>,
+    ends: DeadEnds<'d, 't>,
+}
+
+impl<'d, 't> Searcher<'d, 't> {
+    /// Of the text, with no matcher and no dead end yet.
+    pub(crate) fn new<L: LexerTypes>(
+        alloc: Global,
+        definition: &'d LRNonStreamingLexerDef<L>,
+        text: &'t str,
+    ) -> Result<Self, AllocError>
+        ensures { IfOk result (IsSearcherOf definition.now text.now) }
+    {
+        let matchers = no_matchers(alloc, &definition.table.rules)?;
+        let ends = DeadEnds::new(alloc, &definition.table.tables, text);
+        Ok(Searcher { matchers, ends })
+    }
+
+    /// The rule that wins at the place, from which on the rest of the text stands, among those that are active in the
+    /// state.
+    #[inline(always)]
+    pub(crate) fn winner<L: LexerTypes>(
+        &mut self,
+        alloc: Global,
+        definition: &'d LRNonStreamingLexerDef<L>,
+        state: usize,
+        here: RulesIn<'d>,
+        place: usize,
+        rest: &str,
+        asked: &mut u128,
+    ) -> Result<Sight, AllocError>
+        requires here { AreOf L.StorageT.number definition.now state here }
+        requires searcher { (input : List ℕ) × IsSearcherOf definition.now input self.old
+            × (rest.now ≡ drop place input) × (place ≤ length input) }
+        requires room { asked.old + vec_len definition.now.table.rules < 2 ^ 128 }
+        ensures sight { IfOk result (IsSightOf (definition_of L.StorageT.number definition.now)
+            state rest.now) }
+        ensures tile { IfOk result (λ s. IfSome s.tile (λ t. IsCharBoundary rest.now t.len
+            × (t.rule < vec_len definition.now.table.rules))) }
+        ensures asked { IfOk result (λ _. HasAsked L.StorageT.number definition.now state
+            asked.old asked.new) }
+        ensures searcher { IfOk result (λ _. (input : List ℕ) →
+            IsSearcherOf definition.now input self.old →
+            IsSearcherOf definition.now input self.new) }
+    {
+        let sight = winner_by(
+            alloc,
+            definition,
+            state,
+            here,
+            &mut self.matchers,
+            &mut self.ends,
+            place,
+            rest,
+            asked,
+        )?;
+        Ok(sight)
+    }
 }

@@ -44,4 +44,4 @@ returns g c =
     c.loop-name.invariant name
     ∙ ap (λ b. b && not (list_any (is_named name) (map (as_rule g.S.Id.number) c.args.rules.now)))
     (sym (list_any-map deref (λ k. bytes_eq name k.now) c.loop-name.yielded) ∙ ap (list_any (λ k. bytes_eq name k.now)) all.0
-    ∙ sym (is_some-lookup (λ k. bytes_eq name k.now) ids.entry_count) ∙ sym (some_of g.S.Id.number (get_by (λ k. bytes_eq name k.now) ids))))
+    ∙ sym (is_some-lookup (λ k. bytes_eq name k.now) ids.entries) ∙ sym (some_of g.S.Id.number (get_by (λ k. bytes_eq name k.now) ids))))

@@ -13,9 +13,9 @@ returns c =
     let n = c.partition_point.result in
     let point = IsPartitionPoint-from_clause p ss n c.partition_point.ensures.partitioned (rising_partitioned ss c.args.index c.requires) (λ a r f h. search (rules, of_calls)) in
     record {
-      within = c.partition_point.ensures.place_and_stack;
+      within = c.partition_point.ensures.bound;
       begun = λ k d lt.
-          let below : k < n = omega (arith, length-take-le n ss c.partition_point.ensures.place_and_stack) in
+          let below : k < n = omega (arith, length-take-le n ss c.partition_point.ensures.bound) in
           leb-true _ _ (ap p (get_or-take n ss k d below) ∙ point.0 k d (omega arith) below);
       later = λ k d lt. leb-false _ _ (ap p (get_or-drop n ss k d) ∙ point.1 (n + k) d (omega arith) (omega (arith, length-drop n ss)));
     }

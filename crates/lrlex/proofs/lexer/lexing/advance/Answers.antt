@@ -1,4 +1,4 @@
-use Rattle.std.proofs.Common.{refl, ◌≡◌, ◌+◌, ◌<◌, ◌≤◌, List, [], ◌∷◌, ◌++◌, None, length, drop, sym, ap, ◌∙◌, subst, arith, append_assoc, IsCharBoundary}
+use Rattle.std.proofs.Common.{rules, refl, ◌≡◌, ◌+◌, ◌<◌, ◌≤◌, List, [], ◌∷◌, ◌++◌, None, length, drop, sym, ap, ◌∙◌, subst, arith, append_assoc, IsCharBoundary}
 use Rattle.std.proofs.lemmas.List.{length-map}
 use Rattle.std.proofs.lemmas.Str.{IsCharBoundary-from_rest}
 use Rattle.lrlex_rules.specs.Definition.{Rule}
@@ -78,7 +78,7 @@ returns-then-lacks_id-clause-ends g c on =
     let found = items_by g.L.StorageT.Id.number g.L.LexemeT.Lexeme.seen p.items.items in
     let on_top : c.top_of-state.result ≡ top (plain p.stack.items) = c.top_of-state.ensures ∙ ap (λ s. top (plain s)) c.deref.ensures.value in
     let t : Tile = record { rule = c.in-Some.tile.rule; len = c.in-Some.tile.len } in
-    let within : t.rule < length c.args.definition.now.table.rules.items = omega (arith, c.args.definition.now.table.rules.ok.0, (rw c.in-Some.is at c.in_ok-sight.ensures.rule)) in
+    let within : t.rule < length c.args.definition.now.table.rules.items = omega (arith, c.args.definition.now.table.rules.ok.0, (rw c.in-Some.is at c.in_ok-sight.ensures.tile).1) in
     let rule_is = rule_read g.L.StorageT.Id.number c.args.definition.now t.rule c.index-rule.result.now within c.index-rule.ensures in
     let wins = wins_at d c.top_of-state.result (plain p.stack.items) c.range_from-rest.result.now (drop p.place text) t on_top c.range_from-rest.ensures.value (rw c.in-Some.is at c.in_ok-sight.ensures.sight.winner) in
     record {
@@ -115,7 +115,7 @@ returns-then-lacks_target-clause-ends g c on =
     let found = items_by g.L.StorageT.Id.number g.L.LexemeT.Lexeme.seen p.items.items in
     let on_top : c.top_of-state.result ≡ top (plain p.stack.items) = c.top_of-state.ensures ∙ ap (λ s. top (plain s)) c.deref.ensures.value in
     let t : Tile = record { rule = c.in-Some.tile.rule; len = c.in-Some.tile.len } in
-    let within : t.rule < length c.args.definition.now.table.rules.items = omega (arith, c.args.definition.now.table.rules.ok.0, (rw c.in-Some.is at c.in_ok-sight.ensures.rule)) in
+    let within : t.rule < length c.args.definition.now.table.rules.items = omega (arith, c.args.definition.now.table.rules.ok.0, (rw c.in-Some.is at c.in_ok-sight.ensures.tile).1) in
     let rule_is = rule_read g.L.StorageT.Id.number c.args.definition.now t.rule c.index-rule.result.now within c.index-rule.ensures in
     let wins = wins_at d c.top_of-state.result (plain p.stack.items) c.range_from-rest.result.now (drop p.place text) t on_top c.range_from-rest.ensures.value (rw c.in-Some.is at c.in_ok-sight.ensures.sight.winner) in
     let given : items_by g.L.StorageT.Id.number g.L.LexemeT.Lexeme.seen c.give.new.items.items ≡ found ++ tile_items d p.place t =
@@ -155,7 +155,7 @@ returns-clause-goes_on g c on =
     let found = items_by g.L.StorageT.Id.number g.L.LexemeT.Lexeme.seen p.items.items in
     let on_top : c.top_of-state.result ≡ top (plain p.stack.items) = c.top_of-state.ensures ∙ ap (λ s. top (plain s)) c.deref.ensures.value in
     let t : Tile = record { rule = c.in-Some.tile.rule; len = c.in-Some.tile.len } in
-    let within : t.rule < length c.args.definition.now.table.rules.items = omega (arith, c.args.definition.now.table.rules.ok.0, (rw c.in-Some.is at c.in_ok-sight.ensures.rule)) in
+    let within : t.rule < length c.args.definition.now.table.rules.items = omega (arith, c.args.definition.now.table.rules.ok.0, (rw c.in-Some.is at c.in_ok-sight.ensures.tile).1) in
     let rule_is = rule_read g.L.StorageT.Id.number c.args.definition.now t.rule c.index-rule.result.now within c.index-rule.ensures in
     let wins = wins_at d c.top_of-state.result (plain p.stack.items) c.range_from-rest.result.now (drop p.place text) t on_top c.range_from-rest.ensures.value (rw c.in-Some.is at c.in_ok-sight.ensures.sight.winner) in
     let given : items_by g.L.StorageT.Id.number g.L.LexemeT.Lexeme.seen c.give.new.items.items ≡ found ++ tile_items d p.place t =
@@ -176,7 +176,7 @@ returns-clause-goes_on g c on =
       here = record {
         boundary =
             subst (IsCharBoundary text) (sym c.in_ok-enter.ensures.place)
-            (IsCharBoundary-from_rest text p.place t.len c.requires.under_way.boundary.0 (subst (λ rest. IsCharBoundary rest t.len) c.range_from-rest.ensures.value (rw c.in-Some.is at c.in_ok-sight.ensures.boundary)));
+            (IsCharBoundary-from_rest text p.place t.len c.requires.under_way.boundary.0 (subst (λ rest. IsCharBoundary rest t.len) c.range_from-rest.ensures.value (rw c.in-Some.is at c.in_ok-sight.ensures.tile).0));
         reached =
             subst (λ i. Reached d text i n.stack.items (items_by g.L.StorageT.Id.number g.L.LexemeT.Lexeme.seen n.items.items) n.boundaries n.asked) (sym e.place)
             (Reached-more d text p.place p.stack.items found p.boundaries p.asked r n.stack.items (items_by g.L.StorageT.Id.number g.L.LexemeT.Lexeme.seen n.items.items) n.boundaries n.asked t c.requires.inside taken few
@@ -206,3 +206,18 @@ returns-clause-asked g c =
       exact =
           subst (λ q. c.enter.new.progress.asked ≡ p.asked + untabled_count c.args.definition.now q) on_top (omega (arith, c.in_ok-enter.ensures.asked, c.in_ok-sight.ensures.asked.exact));
     }
+
+pub returns-in_default-clause-held : goal.returns-in_default-clause-held
+returns-in_default-clause-held g c = (search rules, c.in_ok-sight.ensures.searcher c.args.text.now c.requires.searcher)
+
+pub returns-then-lacks_id-clause-held : goal.returns-then-lacks_id-clause-held
+returns-then-lacks_id-clause-held g c = (search rules, c.in_ok-sight.ensures.searcher c.args.text.now c.requires.searcher)
+
+pub returns-then-lacks_target-clause-held : goal.returns-then-lacks_target-clause-held
+returns-then-lacks_target-clause-held g c = (search rules, c.in_ok-sight.ensures.searcher c.args.text.now c.requires.searcher)
+
+pub returns-clause-held : goal.returns-clause-held
+returns-clause-held g c = (search rules, c.in_ok-sight.ensures.searcher c.args.text.now c.requires.searcher)
+
+pub winner-requires-clause-searcher : goal.winner-requires-clause-searcher
+winner-requires-clause-searcher g c = (c.args.text.now, c.requires.searcher, c.range_from-rest.ensures.value, omega (arith, c.requires.inside))

@@ -4,6 +4,7 @@ use Rattle.std.proofs.lemmas.List.Elements.{All-push}
 use Rattle.lrlex.specs.Active.{active_places}
 use Rattle.lrlex.specs.Tables.{list_in}
 use Rattle.lrlex_rules.specs.Parts.{as_rule, as_state}
+use Rattle.lrlex_rules.specs.declared.states.StartState.{StartState}
 use Rattle.lrlex.proofs.ListLemmas.{listed_again}
 use Rattle.lrlex.proofs.lexer.lists.lists_for.Goals as goal
 
@@ -12,7 +13,7 @@ states-preserved g c =
     let states = c.args.states.now in
     let i = c.states.index in
     let own = active_places (map as_state states) (map (as_rule (λ _. 0)) c.args.rules.now) in
-    let of = λ s. own (as_state s).id in
+    let of = λ (s : StartState). own (as_state s).id in
     let s = c.index-states-index.result in
     let here : c.in_ok-places.places.items ≡ of (get_or states i s) = c.in_ok-places.ensures ∙ ap own c.id.ensures ∙ ap of c.index-states-index.is in
     let old = c.states.lists.items in
@@ -34,5 +35,5 @@ states-preserved g c =
 pub returns-clause-listed : goal.returns-clause-listed
 returns-clause-listed g c =
     let states = c.args.states.now in
-    let of = λ s. active_places (map as_state states) (map (as_rule (λ _. 0)) c.args.rules.now) (as_state s).id in
+    let of = λ (s : StartState). active_places (map as_state states) (map (as_rule (λ _. 0)) c.args.rules.now) (as_state s).id in
     c.states.invariant.listed ∙ ap (map of) (take_all c.states.index states (omega (arith, c.states-test.false)))

@@ -9,12 +9,10 @@ use Rattle.lrlex.specs.AtHand.{AreOf}
 use Rattle.lrlex.specs.Boundaries.{no_boundary, boundary_at}
 use Rattle.lrlex.specs.Pieces.{IsPiece}
 use Rattle.lrlex.specs.Entries.{plain, AreEntries}
-use Rattle.lrlex.specs.Tables.{AreMatchers}
 use Rattle.lrlex.specs.Tiling.{Tile, Wins, top}
 use Rattle.lrlex.specs.Views.{definition_of}
 use Rattle.lrlex.proofs.PeakLemmas.{tiles_are}
 use Rattle.lrlex.proofs.PieceLemmas.{tile_at, first_place, next_place, top_at, won_at, wins_there, first_and_next}
-use Rattle.lrlex.proofs.ViewLemmas.{taken_back}
 use Rattle.lrlex.proofs.lexer.pieces.pieces_of.Goals as goal
 
 pub returns-then-not-is_state : goal.returns-then-not-is_state
@@ -36,7 +34,7 @@ tiles-init g c =
     let initial : is_state d 0 ≡ true = sym c.is_state.ensures ∙ c.if-not-is_state.false in
     let is : IsText text = record { bytes = are_bytes text c.type_inv.text; utf8 = c.utf8.text } in
     record {
-      matchers = rw c.deref.ensures.value at c.in_ok-matchers.ensures;
+      searcher = c.in_ok-searcher.ensures;
       here = subst (λ q. AreOf g.L.StorageT.Id.number def q c.rules_in-here.result) (sym c.rules_in-here.ensures.state) c.rules_in-here.ensures.rules;
       boundary = IsCharBoundary-start text c.utf8.text;
       many = ap length c.in_ok-pieces.ensures.items;
@@ -62,9 +60,9 @@ rules_at-here-requires-clause-id g c =
     subst (λ q. is_state d q ≡ true) on_top
     (top_at d text c.requires.0 bounds (c.requires.1.lexed initial) is initial c.tiles.index (omega (arith, c.tiles-test.true, c.saturating_sub-tiles.ensures, c.len.ensures)))
 
-pub tile_of-requires-clause-matchers : goal.tile_of-requires-clause-matchers
-tile_of-requires-clause-matchers g c =
-    subst (λ ms. AreMatchers c.args.definition.now.table.rules.items ms) (sym c.deref_mut.ensures.value) c.tiles.invariant.matchers
+pub tile_of-requires-clause-searcher : goal.tile_of-requires-clause-searcher
+tile_of-requires-clause-searcher g c =
+    (c.args.text.now, c.tiles.invariant.searcher, c.range_from-rest.ensures.value, c.tiles.invariant.boundary.0)
 
 pub tile_of-requires-clause-some : goal.tile_of-requires-clause-some
 tile_of-requires-clause-some g c =
@@ -103,10 +101,7 @@ tiles-preserved g c =
     let on_top : c.top_of-state.result ≡ top (plain (boundary_at bounds i).entries) = c.top_of-state.ensures ∙ ap (λ s. top (plain s)) c.stack.ensures in
     let inv = c.tiles.invariant in
     record {
-      matchers = subst (λ ms. AreMatchers def.table.rules.items ms)
-          (sym (taken_back c.tile_of.new.matchers (drop (length c.tile_of.new.matchers) c.tiles.matchers.items) c.tiles.matchers.len
-          (omega (arith, c.tiles.matchers.ok.0, c.in_ok-tile.ensures.matchers.0, inv.matchers.0))))
-          c.in_ok-tile.ensures.matchers;
+      searcher = c.in_ok-tile.ensures.searcher text inv.searcher;
       here = subst (λ q. AreOf g.L.StorageT.Id.number def q c.rules_at-here.result) (sym c.rules_at-here.ensures.state) c.rules_at-here.ensures.rules;
       boundary = IsCharBoundary-from_rest text c.tiles.place c.in_ok-tile.tile.len inv.boundary.0 (subst (λ w. IsCharBoundary w c.in_ok-tile.tile.len) c.range_from-rest.ensures.value c.in_ok-tile.ensures.boundary);
       many = ap length c.in_ok-push.ensures.items ∙ omega (arith, length-append c.tiles.pieces.items (c.piece_of.result ∷ []), inv.many);

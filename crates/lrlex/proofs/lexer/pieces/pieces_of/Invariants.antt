@@ -1,9 +1,8 @@
 use Rattle.std.proofs.Common.{◌≡◌, ℕ, List, Some, length, slice_get, IsCharBoundary}
-use Rattle.lrlex.specs.AtHand.{AreOf}
+use Rattle.lrlex.specs.AtHand.{AreOf, IsSearcherOf}
 use Rattle.lrlex.specs.Boundaries.{boundary_at}
 use Rattle.lrlex.specs.Pieces.{IsPiece}
 use Rattle.lrlex.specs.Reach.{IsLexed}
-use Rattle.lrlex.specs.Tables.{AreMatchers}
 use Rattle.lrlex.specs.Tiling.{Item, Tile}
 use Rattle.lrlex.specs.Views.{definition_of}
 use Rattle.lrlex.specs.declared.lexer.pieces.Piece.{Piece}
@@ -11,7 +10,7 @@ use Rattle.lrlex.proofs.lexer.pieces.pieces_of.Given as goal
 
 abbrev pub invariant-tiles : goal.invariant-tiles
 invariant-tiles g l = record {
-  matchers : AreMatchers l.definition.table.rules.items l.matchers.items;
+  searcher : IsSearcherOf l.definition l.text l.searcher;
   here : AreOf g.L.StorageT.Id.number l.definition l.here.state l.here;
   boundary : IsCharBoundary l.text l.place;
   many : length l.pieces.items ≡ l.index;

@@ -13,4 +13,4 @@ returns g c =
     let n = c.partition_point-before.result in
     let point = IsPartitionPoint-from_clause (λ x. begins_before c.args.place (view x)) xs n c.partition_point-before.ensures.partitioned (in_order_of view c.args.place xs c.requires) (λ a r f k. search (rules, of_calls)) in
     ap (map view) (take_all (length xs - n) (drop n xs) (omega (arith, length-drop n xs)))
-    ∙ sym (from_point view c.args.place xs n c.partition_point-before.ensures.place_and_stack (λ k d lt. point.0 k d (omega arith) lt) (λ k d ge lt. point.1 k d ge lt))
+    ∙ sym (from_point view c.args.place xs n c.partition_point-before.ensures.bound (λ k d lt. point.0 k d (omega arith) lt) (λ k d ge lt. point.1 k d ge lt))

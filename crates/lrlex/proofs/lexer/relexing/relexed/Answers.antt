@@ -4,7 +4,6 @@ use Rattle.lrlex.specs.Entries.{plain, AreEntries}
 use Rattle.lrlex.specs.Boundaries.{boundary_at}
 use Rattle.lrlex.specs.Edits.{Meets, items_from, moved_boundary}
 use Rattle.lrlex.specs.Reach.{IsLexed, IsRun}
-use Rattle.lrlex.specs.Tables.{AreMatchers}
 use Rattle.lrlex.specs.AtHand.{AreOf}
 use Rattle.lrlex.specs.Views.{definition_of, items_by}
 use Rattle.std.proofs.Props.{props}
@@ -13,7 +12,6 @@ use Rattle.std.proofs.lemmas.Result.{IfOk-weaker}
 use Rattle.lrlex.specs.Decided.{LooksAhead}
 use Rattle.lrlex.proofs.AheadLemmas.{looks_known}
 use Rattle.lrlex.proofs.RaisedLemmas.{looks_taken_over}
-use Rattle.lrlex.proofs.ViewLemmas.{taken_back}
 use Rattle.lrlex.proofs.ReachLemmas.{ended, nothing_left, run_of, entries_now, last_now, few_searches, length_now}
 use Rattle.lrlex.proofs.KnownLemmas.{known, sorted}
 use Rattle.lrlex.proofs.MeetLemmas.{whole, olds_in_order, items_movable, bounds_movable, met, few_met, none_met, meets_front, rest_same, few_anew, unmet_before}
@@ -29,7 +27,7 @@ tiles-init g c =
     let e = c.in_ok-progress.ensures in
     record {
       here = subst (λ q. AreOf g.L.StorageT.Id.number c.args.old.now.definition.now q c.rules_in-here.result) (sym c.rules_in-here.ensures.state) c.rules_in-here.ensures.rules;
-      matchers = rw c.deref.ensures.value at c.in_ok-matchers.ensures;
+      searcher = c.in_ok-searcher.ensures;
       boundary = e.boundary;
       reached = e.reached;
       looked = e.looked;
@@ -192,10 +190,7 @@ tiles-preserved g c =
     let from_within : c.len-kept.result - 1 < length p.boundaries = omega (arith, c.tiles.invariant.kept, length_now d new p.place p.stack.items found p.boundaries p.asked r) in
     record {
       here = c.in_ok-advance.ensures.held.0;
-      matchers = subst (λ ms. AreMatchers def.table.rules.items ms)
-          (sym (taken_back c.advance.new.matchers (drop (length c.advance.new.matchers) c.tiles.matchers.items) c.tiles.matchers.len
-          (omega (arith, c.tiles.matchers.ok.0, c.in_ok-advance.ensures.held.1.0, c.tiles.invariant.matchers.0))))
-          c.in_ok-advance.ensures.held.1;
+      searcher = c.in_ok-advance.ensures.held.1;
       boundary = (c.in_ok-advance.ensures.goes_on on).here.boundary;
       reached = (c.in_ok-advance.ensures.goes_on on).here.reached;
       looked = (c.in_ok-advance.ensures.goes_on on).here.looked;
@@ -248,8 +243,8 @@ finished-requires-then-not-branch-clause-run g c =
 pub advance-requires-clause-here : goal.advance-requires-clause-here
 advance-requires-clause-here g c = c.tiles.invariant.here
 
-pub advance-requires-clause-matchers : goal.advance-requires-clause-matchers
-advance-requires-clause-matchers g c = subst (AreMatchers c.args.old.now.definition.now.table.rules.items) (sym c.deref_mut.ensures.value) c.tiles.invariant.matchers
+pub advance-requires-clause-searcher : goal.advance-requires-clause-searcher
+advance-requires-clause-searcher g c = c.tiles.invariant.searcher
 
 pub returns-then-not-is_state-clause-lexed : goal.returns-then-not-is_state-clause-lexed
 returns-then-not-is_state-clause-lexed g c =

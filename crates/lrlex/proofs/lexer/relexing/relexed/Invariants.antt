@@ -4,14 +4,13 @@ use Rattle.lrlex.specs.Boundaries.{boundary_at}
 use Rattle.lrlex.specs.Edits.{Meets}
 use Rattle.lrlex.specs.Asked.{asks}
 use Rattle.lrlex.specs.Decided.{HasLooked}
-use Rattle.lrlex.specs.Tables.{AreMatchers}
-use Rattle.lrlex.specs.AtHand.{AreOf}
+use Rattle.lrlex.specs.AtHand.{AreOf, IsSearcherOf}
 use Rattle.lrlex.specs.Views.{definition_of, items_by}
 use Rattle.lrlex.proofs.lexer.relexing.relexed.Given as goal
 
 abbrev pub invariant-tiles : goal.invariant-tiles
 invariant-tiles g l = record {
-  matchers : AreMatchers l.definition.table.rules.items l.matchers.items;
+  searcher : IsSearcherOf l.definition l.new l.searcher;
   here : AreOf g.L.StorageT.Id.number l.definition l.here.state l.here;
   boundary : IsCharBoundary l.new l.progress.place;
   reached : Reached (definition_of g.L.StorageT.Id.number l.definition) l.new l.progress.place l.progress.stack.items (items_by g.L.StorageT.Id.number g.L.LexemeT.Lexeme.seen l.progress.items.items) l.progress.boundaries l.progress.asked;

@@ -11,7 +11,7 @@ range-requires-clause-start_le_end g c =
     let src = c.args.src.now in
     let fed : c.self.inside.bytes ≡ c.args.self.now.fed = ap (λ v. v.fed) c.self.view_is in
     let S = c.self.inside.starts.items in
-    let is : S ≡ starts_after (newlines_from 0 src) = starts_of_view S c.args.self.now.newlines src c.self.invariant (ap (λ v. v.newlines) c.self.view_is) (c.requires.newlines (omega arith)) in
+    let is : S ≡ starts_after (newlines_from 0 src) = starts_of_view S c.args.self.now.newlines src c.self.invariant.0 (ap (λ v. v.newlines) c.self.view_is) (c.requires.newlines (omega arith)) in
     let n : c.lines_begun-n.result ≡ count_by is_newline (take c.args.byte src) = c.lines_begun-n.ensures.count src (omega arith) (c.deref.ensures.value ∙ is) in
     omega (arith, begin_is S c.deref-2.result.now src c.args.byte c.lines_begun-n.result c.line_begin-begin.result is c.deref-2.ensures.value (omega arith) n c.line_begin-begin.ensures)
 
@@ -20,7 +20,7 @@ range-requires-clause-start_boundary g c _ =
     let src = c.args.src.now in
     let fed : c.self.inside.bytes ≡ c.args.self.now.fed = ap (λ v. v.fed) c.self.view_is in
     let S = c.self.inside.starts.items in
-    let is : S ≡ starts_after (newlines_from 0 src) = starts_of_view S c.args.self.now.newlines src c.self.invariant (ap (λ v. v.newlines) c.self.view_is) (c.requires.newlines (omega arith)) in
+    let is : S ≡ starts_after (newlines_from 0 src) = starts_of_view S c.args.self.now.newlines src c.self.invariant.0 (ap (λ v. v.newlines) c.self.view_is) (c.requires.newlines (omega arith)) in
     let same : c.deref.result.now ≡ c.deref-2.result.now = c.deref.ensures.value ∙ sym c.deref-2.ensures.value in
     let bound : c.lines_begun-n.result ≤ length c.deref-2.result.now = subst (λ l. c.lines_begun-n.result ≤ length l) same c.lines_begun-n.ensures.bound in
     begin_fits S c.deref-2.result.now src c.lines_begun-n.result c.line_begin-begin.result c.utf8.src is c.deref-2.ensures.value bound c.line_begin-begin.ensures
@@ -31,7 +31,7 @@ returns-clause-place g c =
     let at = c.args.byte in
     let fed : c.self.inside.bytes ≡ c.args.self.now.fed = ap (λ v. v.fed) c.self.view_is in
     let S = c.self.inside.starts.items in
-    let is : S ≡ starts_after (newlines_from 0 src) = starts_of_view S c.args.self.now.newlines src c.self.invariant (ap (λ v. v.newlines) c.self.view_is) (c.requires.newlines (omega arith)) in
+    let is : S ≡ starts_after (newlines_from 0 src) = starts_of_view S c.args.self.now.newlines src c.self.invariant.0 (ap (λ v. v.newlines) c.self.view_is) (c.requires.newlines (omega arith)) in
     let n : c.lines_begun-n.result ≡ count_by is_newline (take at src) = c.lines_begun-n.ensures.count src (omega arith) (c.deref.ensures.value ∙ is) in
     let begin : c.line_begin-begin.result + length (after_last is_newline (take at src)) ≡ at =
     begin_is S c.deref-2.result.now src at c.lines_begun-n.result c.line_begin-begin.result is c.deref-2.ensures.value (omega arith) n c.line_begin-begin.ensures in

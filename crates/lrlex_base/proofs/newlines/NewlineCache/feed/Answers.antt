@@ -2,14 +2,23 @@ use Rattle.std.proofs.Common.{◌≡◌, ◌<◌, ◌+◌, ◌-◌, ◌++◌, �
 use Rattle.std.specs.List.{All}
 use Rattle.std.proofs.lemmas.List.{map-append, length-append}
 use Rattle.std.proofs.lemmas.List.Elements.{All-append}
-use Rattle.lrlex_base.specs.Places.{newlines_from, starts_after}
+use Rattle.lrlex_base.specs.Places.{AreStartsOfSome, newlines_from, starts_after}
+use Rattle.lrlex_base.proofs.NewlineEditLemmas.{fed_more}
 use Rattle.lrlex_base.proofs.NewlineLemmas.{newlines_back, newlines_from-append, starts_positive}
 use Rattle.lrlex_base.proofs.newlines.NewlineCache.feed.Goals as goal
+
+pub invariant_of-self : goal.invariant_of-self
+invariant_of-self g c =
+    subst (λ S. All (λ s. 0 < s) S × AreStartsOfSome c.self.inside.bytes S) (sym c.in_err-add_starts.ensures.err) c.self.invariant
 
 pub invariant_of-self-2 : goal.invariant_of-self-2
 invariant_of-self-2 g c =
     let added = newlines_from c.self.inside.bytes c.args.piece.now in
-    subst (All (λ (s : ℕ). 0 < s)) (sym c.in_ok-add_starts.ensures.ok) (All-append (λ (s : ℕ). 0 < s) c.self.inside.starts.items (starts_after added) c.self.invariant (starts_positive added))
+    let S = c.self.inside.starts.items in
+    let is : c.add_starts.new.starts.items ≡ S ++ starts_after added = c.in_ok-add_starts.ensures.ok in (
+      subst (All (λ (s : ℕ). 0 < s)) (sym is) (All-append (λ (s : ℕ). 0 < s) S (starts_after added) c.self.invariant.0 (starts_positive added)),
+      subst (AreStartsOfSome (c.self.inside.bytes + length c.args.piece.now)) (sym is) (fed_more c.self.inside.bytes S c.args.piece.now c.self.invariant.1),
+    )
 
 pub returns-clause-newlines : goal.returns-clause-newlines
 returns-clause-newlines g c =

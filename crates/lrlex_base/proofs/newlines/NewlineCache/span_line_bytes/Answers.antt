@@ -15,7 +15,7 @@ returns-clause-lines g c text breaks =
     let to = c.args.span.end in
     let long : c.args.self.now.fed ≡ length text = breaks.0 in
     let within : to ≤ length text = omega (arith, c.requires) in
-    let is : S ≡ starts_after (newlines_from 0 text) = starts_of_view S c.args.self.now.newlines text c.self.invariant (ap (λ v. v.newlines) c.self.view_is) breaks.1 in
+    let is : S ≡ starts_after (newlines_from 0 text) = starts_of_view S c.args.self.now.newlines text c.self.invariant.0 (ap (λ v. v.newlines) c.self.view_is) breaks.1 in
     let first_at : c.start.result ≡ from = c.start.ensures in
     let last_at : c.end.result ≡ to = c.end.ensures in
     let first : c.lines_begun-first.result ≡ count_by is_newline (take from text) =
@@ -43,7 +43,7 @@ returns-clause-fits g c text utf8 breaks =
     let long : c.args.self.now.fed ≡ length text = breaks.0 in
     let within : c.args.span.end ≤ length text = omega (arith, c.requires) in
     let S = c.self.inside.starts.items in
-    let same : S ≡ starts_after (newlines_from 0 text) = starts_of_view S c.args.self.now.newlines text c.self.invariant (ap (λ v. v.newlines) c.self.view_is) breaks.1 in
+    let same : S ≡ starts_after (newlines_from 0 text) = starts_of_view S c.args.self.now.newlines text c.self.invariant.0 (ap (λ v. v.newlines) c.self.view_is) breaks.1 in
     let equal : c.deref.result.now ≡ c.deref-3.result.now = c.deref.ensures.value ∙ sym c.deref-3.ensures.value in
     let bound : c.lines_begun-first.result ≤ length c.deref-3.result.now = subst (λ l. c.lines_begun-first.result ≤ length l) equal c.lines_begun-first.ensures.bound in (
       omega (arith, c.args.span.in_order),

@@ -2,10 +2,8 @@ use Rattle.std.proofs.Common.{◌≡◌, ◌-◌, ◌<◌, ◌≤◌, true, fals
 use Rattle.std.proofs.lemmas.Str.{IsCharBoundary-start}
 use Rattle.lrlex.specs.Tiling.{Done}
 use Rattle.lrlex.specs.Reach.{IsRun, searches}
-use Rattle.lrlex.specs.Tables.{AreMatchers}
 use Rattle.lrlex.specs.AtHand.{AreOf}
 use Rattle.lrlex.specs.Views.{definition_of, items_by}
-use Rattle.lrlex.proofs.ViewLemmas.{taken_back}
 use Rattle.lrlex.proofs.BegunLemmas.{begun, begun_looking}
 use Rattle.lrlex.proofs.ItemLemmas.{have_laws}
 use Rattle.lrlex.proofs.ReachLemmas.{ended, nothing_left, asked_now, few_searches, run_of, length_now}
@@ -19,7 +17,7 @@ tiles-init g c =
     let e = c.in_ok-progress.ensures in
     record {
       here = subst (λ q. AreOf g.L.StorageT.Id.number c.args.self.now q c.rules_in-here.result) (sym c.rules_in-here.ensures.state) c.rules_in-here.ensures.rules;
-      matchers = rw c.deref.ensures.value at c.in_ok-matchers.ensures;
+      searcher = c.in_ok-searcher.ensures;
       boundary = subst (IsCharBoundary c.args.text.now) (sym e.place) (IsCharBoundary-start c.args.text.now c.utf8.text);
       reached = begun (definition_of g.L.StorageT.Id.number c.args.self.now) c.args.text.now g.L.StorageT.Id.number g.L.LexemeT.Lexeme.seen p.place p.stack.items p.items.items p.boundaries p.asked e.place e.stack e.items e.boundaries e.asked (sym c.is_state.ensures ∙ c.if-not-is_state.false);
       looked = begun_looking (definition_of g.L.StorageT.Id.number c.args.self.now) c.args.text.now p.boundaries p.ahead.items p.place p.over e.boundaries e.ahead e.place e.over;
@@ -37,10 +35,7 @@ tiles-preserved g c =
     let more = (c.in_ok-advance.ensures.goes_on on).more in
     record {
       here = c.in_ok-advance.ensures.held.0;
-      matchers = subst (λ ms. AreMatchers c.args.self.now.table.rules.items ms)
-          (sym (taken_back c.advance.new.matchers (drop (length c.advance.new.matchers) c.tiles.matchers.items) c.tiles.matchers.len
-          (omega (arith, c.tiles.matchers.ok.0, c.in_ok-advance.ensures.held.1.0, c.tiles.invariant.matchers.0))))
-          c.in_ok-advance.ensures.held.1;
+      searcher = c.in_ok-advance.ensures.held.1;
       boundary = (c.in_ok-advance.ensures.goes_on on).here.boundary;
       reached = (c.in_ok-advance.ensures.goes_on on).here.reached;
       looked = (c.in_ok-advance.ensures.goes_on on).here.looked;
@@ -106,8 +101,8 @@ finished-requires-clause-run g c =
 pub advance-requires-clause-here : goal.advance-requires-clause-here
 advance-requires-clause-here g c = c.tiles.invariant.here
 
-pub advance-requires-clause-matchers : goal.advance-requires-clause-matchers
-advance-requires-clause-matchers g c = subst (AreMatchers c.args.self.now.table.rules.items) (sym c.deref_mut.ensures.value) c.tiles.invariant.matchers
+pub advance-requires-clause-searcher : goal.advance-requires-clause-searcher
+advance-requires-clause-searcher g c = c.tiles.invariant.searcher
 
 pub returns-clause-exact : goal.returns-clause-exact
 returns-clause-exact g c =

@@ -1,15 +1,14 @@
 use Rattle.std.proofs.Common.{◌≡◌, ◌-◌, length, slice_range, IsCharBoundary}
 use Rattle.lrlex.specs.Reach.{Reached}
 use Rattle.lrlex.specs.Decided.{HasLooked}
-use Rattle.lrlex.specs.Tables.{AreMatchers}
-use Rattle.lrlex.specs.AtHand.{AreOf}
+use Rattle.lrlex.specs.AtHand.{AreOf, IsSearcherOf}
 use Rattle.lrlex.specs.Asked.{asks}
 use Rattle.lrlex.specs.Views.{definition_of, items_by}
 use Rattle.lrlex.proofs.lexer.definition.LRNonStreamingLexerDef.run.Given as goal
 
 abbrev pub invariant-tiles : goal.invariant-tiles
 invariant-tiles g l = record {
-  matchers : AreMatchers l.self.table.rules.items l.matchers.items;
+  searcher : IsSearcherOf l.self l.text l.searcher;
   here : AreOf g.L.StorageT.Id.number l.self l.here.state l.here;
   boundary : IsCharBoundary l.text l.progress.place;
   reached : Reached (definition_of g.L.StorageT.Id.number l.self) l.text l.progress.place l.progress.stack.items (items_by g.L.StorageT.Id.number g.L.LexemeT.Lexeme.seen l.progress.items.items) l.progress.boundaries l.progress.asked;

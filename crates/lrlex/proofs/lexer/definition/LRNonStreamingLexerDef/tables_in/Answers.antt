@@ -14,7 +14,7 @@ pub returns : goal.returns
 returns g c =
     let d = c.args.self.now in
     let i = c.unwrap_or-index.result in
-    let j = c.index.result.now in
+    let j = c.index-list.result.now in
     let found : Some i ≡ position (λ s. (as_state s).id == c.args.id) d.table.start_states.items =
     first_place (λ s. (as_state s).id == c.args.id) d.table.start_states.items _ i
     (sym (list_any-map as_state (λ s. s.id == c.args.id) d.table.start_states.items) ∙ c.requires)
@@ -23,12 +23,13 @@ returns g c =
     let lists = map (λ v. v.items) d.table.lists.items in
     let has : i < length d.table.list_at.items =
     omega (arith, ap length d.table.listed, length-map d.table.list_at.items (list_in lists), length-map d.table.start_states.items (λ s. active_places (map as_state d.table.start_states.items) (map (as_rule (λ x. 0)) d.table.rules.items) (as_state s).id)) in
-    let among : j < length d.table.lists.items = subst (λ n. n < length d.table.lists.items) (sym c.index.ensures) (d.table.within i j has) in
+    let among : j < length d.table.lists.items = subst (λ n. n < length d.table.lists.items) (sym c.index-list.ensures) (d.table.within i j has) in
     let inside : j < length d.table.tables.items = omega (arith, d.table.each) in
-    let at = slice_get_read d.table.list_at.items (length d.table.list_at.items) i j refl has c.index.ensures in
-    let are = slice_get_read d.table.tables.items (length d.table.tables.items) j c.index-2.result.now refl inside c.index-2.ensures in
+    let at = slice_get_read d.table.list_at.items (length d.table.list_at.items) i j refl has c.index-list.ensures in
+    let are = slice_get_read d.table.tables.items (length d.table.tables.items) j c.index.result.now refl inside c.index.ensures in
     record {
-      served = tables_at_state g.L.StorageT.Id.number lists d.table.tables.items d.table.list_at.items d.table.start_states.items d.table.rules.items i j c.args.id c.index-2.result.now
+      list = are;
+      served = tables_at_state g.L.StorageT.Id.number lists d.table.tables.items d.table.list_at.items d.table.start_states.items d.table.rules.items i j c.args.id c.index.result.now
           d.table.listed d.table.served found at are;
-      untabled = untabled_here d c.args.id i j c.index-2.result.now found at are;
+      untabled = untabled_here d c.args.id i j c.index.result.now found at are;
     }

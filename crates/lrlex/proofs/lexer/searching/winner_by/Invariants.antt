@@ -3,7 +3,7 @@ use Rattle.lrlex.specs.Views.{definition_of}
 use Rattle.lrlex.specs.Tables.{AreMatchers, patterns_on}
 use Rattle.lrlex_table.specs.Tables.{IsBestAmong}
 use Rattle.lrlex.proofs.TableLemmas.{looked_at}
-use Rattle.lrlex.proofs.lexer.searching.winner.Given as goal
+use Rattle.lrlex.proofs.lexer.searching.winner_by.Given as goal
 
 abbrev pub invariant-others : goal.invariant-others
 invariant-others g l = record {

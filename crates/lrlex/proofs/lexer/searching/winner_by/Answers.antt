@@ -1,4 +1,4 @@
-use Rattle.std.proofs.Common.{◌≡◌, ℕ, ◌+◌, ◌<◌, ◌≤◌, ◌⊎◌, true, length, get_or, refl, sym, ap, ◌∙◌, subst, inl, inr, arith, rules}
+use Rattle.std.proofs.Common.{◌≡◌, ℕ, ◌+◌, ◌<◌, ◌≤◌, ◌⊎◌, true, length, slice_get, vec_len, get_or, refl, sym, ap, ◌∙◌, subst, inl, inr, arith, rules}
 use Rattle.std.proofs.lemmas.Option.{slice_get_read}
 use Rattle.std.proofs.lemmas.List.{length-map, nil_from_length}
 use Rattle.lrlex_rules.specs.Parts.{as_rule}
@@ -16,8 +16,8 @@ use Rattle.lrlex.proofs.ScanLemmas.{length-places_of}
 use Rattle.lrlex.proofs.MatcherLemmas.{matcher_at, matchers_set}
 use Rattle.lrlex.proofs.DecidedLemmas.{decided_whole, decided_look}
 use Rattle.lrlex.proofs.TableLemmas.{active_within, looked_at, looked_more, other_within, others_few, told_none, told_some, pattern_here, best_kept, best_taken, best_wins, best_stuck, asked_is}
-use Rattle.lrlex.proofs.lexer.searching.winner.Goals as goal
-use Rattle.lrlex.proofs.lexer.searching.winner.Goals.{in-Some, in-None, then-is_better, else-is_better, then-is_empty, else-is_empty}
+use Rattle.lrlex.proofs.lexer.searching.winner_by.Goals as goal
+use Rattle.lrlex.proofs.lexer.searching.winner_by.Goals.{in-Some, in-None, then-is_better, else-is_better, then-is_empty, else-is_empty}
 
 pub others-init : goal.others-init
 others-init g c =
@@ -28,7 +28,7 @@ others-init g c =
     let t = c.args.here.tables.now in
     let told = λ (b : Tile). IsBestAmong (patterns_on d.rules places) (looked_at t.parts.items t.asked.items 0) text b.rule b.len in
     record {
-      matchers = c.requires.matchers;
+      matchers = c.requires.held.0;
       counted = omega arith;
       best = elim c.match-sight.branch [
         | in-Some w ↦
@@ -165,14 +165,15 @@ active_place-requires-clause-all g c same i lt =
     let each = all_places (is_active d.states q) 0 d.rules (omega (arith, ap length c.requires.here.active, same, rules_len, ok)) i (omega (arith, lt, rules_len, ok)) in
     ap (λ xs. get_or xs i 0) c.requires.here.active ∙ omega (arith, each)
 
-pub returns-clause-rule : goal.returns-clause-rule
-returns-clause-rule g c =
+pub returns-clause-tile : goal.returns-clause-tile
+returns-clause-tile g c =
     let d = definition_of g.L.StorageT.Id.number c.args.definition.now in
     let places = c.args.here.active.now in
     let inside = c.others.invariant.best.within (omega (arith, c.if-best-eq0.false)) in
     let count = length-map places (pattern_in d.rules) in
     let rules_len = length-map c.args.definition.now.table.rules.items (as_rule g.L.StorageT.Id.number) in
-    omega (arith, c.args.definition.now.table.rules.ok.0, rules_len, active_within d c.args.state places c.requires.here.active c.others.best.rule (omega (arith, inside, count)))
+    let rule : c.active_place.result < vec_len c.args.definition.now.table.rules = omega (arith, c.active_place.ensures, c.args.definition.now.table.rules.ok.0, rules_len, active_within d c.args.state places c.requires.here.active c.others.best.rule (omega (arith, inside, count))) in
+    (c.others.invariant.best.cuts, rule)
 
 pub returns-then-best-eq0-clause-sight : goal.returns-then-best-eq0-clause-sight
 returns-then-best-eq0-clause-sight g c =
@@ -265,3 +266,6 @@ returns-clause-asked g c =
         c.requires.here.untabled,
       );
     }
+
+pub look-sight-requires-clause-tables : goal.look-sight-requires-clause-tables
+look-sight-requires-clause-tables g c = ap (λ xs. slice_get xs c.args.here.list) c.requires.held.1 ∙ c.requires.here.list
