@@ -1,16 +1,11 @@
 -- The line of a lexeme.
-use Rattle.std.proofs.Common.{◌≡◌, ◌∙◌, ap, refl, subst, ℕ, ◌+◌, ◌-◌, Bool, List, All, map, [], ◌∷◌, ◌++◌, take, drop, Option, Some, None, unwrap_or, arith}
-use Rattle.std.proofs.lemmas.List.{get_or-map, length-map}
+use Rattle.std.proofs.Common.{◌≡◌, ◌∙◌, ap, refl, ℕ, ◌+◌, ◌-◌, Bool, List, [], ◌∷◌, ◌++◌, take, drop, Option, Some, None, unwrap_or, arith}
 use Rattle.std.specs.Borrow.{Bor}
 use Rattle.std.specs.Option.{option_map}
 use Rattle.lrlex_rules.specs.Definition.{Rule}
 use Rattle.lrlex.specs.Tiling.{Lexeme}
 use Rattle.lrlex.specs.Ids.{name_of}
 use Rattle.lrlex_cli.specs.Lines.{line}
-
--- what holds of all that is seen of some holds of what is seen of each
-pub of_each : {X Y : Type 0} (P : Y → Type 0) (f : X → Y) (xs : List X) → All P (map f xs) → All (λ x. P (f x)) xs
-of_each P f xs all = λ i d within. subst P (get_or-map f xs i d (f d) within) (all i (f d) (omega (arith, length-map xs f)))
 
 -- the text behind a reference, or behind another
 pub text_or : (o : Option (Bor (List ℕ))) (d : Bor (List ℕ)) → (unwrap_or o d).now ≡ unwrap_or (option_map (λ (s : Bor (List ℕ)). s.now) o) d.now

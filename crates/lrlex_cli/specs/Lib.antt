@@ -1,5 +1,5 @@
 pub mod Command
-pub mod Options
+pub mod Reading
 pub mod Texts
 pub mod Writing
 pub mod Lines

@@ -7,7 +7,6 @@ ghost use Rattle.lrlex_cli.specs.Engine.{IsEngineRun, EndsWriting, IsReport};
 ghost use Rattle.lrlex_cli.specs.Lines.{lines};
 ghost use Rattle.lrlex_cli.specs.declared.engine.EngineFault.TheVariants.{Memory};
 ghost use Rattle.lrlex_rules.specs.Faults.{IsPlaced};
-ghost use Rattle.lrlex.specs.ItemLaws.{FitsText};
 ghost use Rattle.lrlex.specs.Views.{definition_of, items_by};
 ghost use Rattle.lrlex_cli.specs.Report.{fault_lines};
 
@@ -55,7 +54,7 @@ fn has_error<X>(items: &[Result<X, LRLexError>]) -> bool
     items.iter().any(|item| item.is_err())
 }
 
-/// Writes the lines of a run's items, whose spans fit the input, and says whether it was stopped by an error.
+/// Writes the lines of a run's items, and says whether it was stopped by an error.
 fn write_items<L: LexerTypes<LexErrorT = LRLexError>, W: Write>(
     alloc: Global,
     definition: &LRNonStreamingLexerDef<L>,
@@ -63,13 +62,12 @@ fn write_items<L: LexerTypes<LexErrorT = LRLexError>, W: Write>(
     items: &[Result<L::LexemeT, LRLexError>],
     out: &mut W,
 ) -> Result<Ended, EngineFault>
-    requires { All (FitsText input.now) (items_by L.StorageT.number L.LexemeT.seen items.now) }
     ensures { EndsWriting (W.contents out.old) (W.contents out.new) result
         (lines (definition_of L.StorageT.number definition.now).rules input.now
         (items_by L.StorageT.number L.LexemeT.seen items.now))
         (list_any (λ item. is_err item) items.now) }
 {
-    let text = lines::<L>(alloc, definition, input, items)?;
+    let text = lines::<L>(alloc, definition, input.as_bytes(), items)?;
     let stopped = has_error(items);
     if let Err(fault) = write_bytes(out, text.as_slice()) {
         return Err(EngineFault::Write(fault));

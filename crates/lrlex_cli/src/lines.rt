@@ -1,31 +1,30 @@
-ghost use Rattle.std.specs.Prelude.{◌≡◌, ◌-◌, [], ◌∷◌, ◌++◌, All, IfOk, OnOk, take, drop};
-ghost use Rattle.lrlex_base.specs.Spans.{Fits, span_start, span_end};
+ghost use Rattle.std.specs.Prelude.{◌≡◌, ◌-◌, [], ◌∷◌, ◌++◌, IfOk, OnOk, map, take, drop};
+ghost use Rattle.lrlex_base.specs.Spans.{span_start, span_end};
 ghost use Rattle.lrlex.specs.Faults.{lex_error_span, stop_text};
-ghost use Rattle.lrlex.specs.ItemLaws.{FitsText};
-ghost use Rattle.lrlex.specs.Views.{definition_of, item_of, items_by};
+ghost use Rattle.lrlex.specs.Views.{definition_of, item_of};
 ghost use Rattle.lrlex_cli.specs.Lines.{line, lines};
 
 use lrlex::{LRLexError, LRNonStreamingLexerDef};
 use lrlex_base::{Lexeme, LexerTypes, Span};
 use std::alloc::{AllocError, Global};
 
-/// The text of the span.
-fn part(text: &str, span: Span) -> &str
-    requires { Fits text.now span }
+/// The bytes of the span, as far as there are so many.
+fn part(bytes: &[u8], span: Span) -> &[u8]
     ensures { result.now ≡ take (span_end span - span_start span)
-        (drop (span_start span) text.now) }
+        (drop (span_start span) bytes.now) }
 {
-    &text[span.start()..span.end()]
+    let rest = bytes.get(span.start()..).unwrap_or(&[]);
+    rest.get(..span.len()).unwrap_or(rest)
 }
 
 /// Adds the line of a lexeme.
-fn push_lexeme(bytes: &mut Vec<u8>, name: &str, matched: &str) -> Result<(), AllocError>
+fn push_lexeme(bytes: &mut Vec<u8>, name: &str, matched: &[u8]) -> Result<(), AllocError>
     ensures { OnOk result (bytes.new.items ≡ bytes.old.items
         ++ (name.now ++ 32 ∷ (matched.now ++ 10 ∷ []))) }
 {
     bytes.extend_from_slice(name.as_bytes())?;
     bytes.push(b' ')?;
-    bytes.extend_from_slice(matched.as_bytes())?;
+    bytes.extend_from_slice(matched)?;
     bytes.push(b'\n')?;
     Ok(())
 }
@@ -44,10 +43,9 @@ fn push_line<L: LexerTypes>(
     alloc: Global,
     bytes: &mut Vec<u8>,
     definition: &LRNonStreamingLexerDef<L>,
-    text: &str,
+    text: &[u8],
     item: &Result<L::LexemeT, LRLexError>,
 ) -> Result<(), AllocError>
-    requires { FitsText text.now (item_of L.StorageT.number L.LexemeT.seen item.now) }
     ensures { OnOk result (bytes.new.items ≡ bytes.old.items
         ++ line (definition_of L.StorageT.number definition.now).rules text.now
         (item_of L.StorageT.number L.LexemeT.seen item.now)) }
@@ -61,17 +59,16 @@ fn push_line<L: LexerTypes>(
     }
 }
 
-/// The lines of the items, whose spans fit the text.
+/// The lines of the items.
 pub(crate) fn lines<L: LexerTypes>(
     alloc: Global,
     definition: &LRNonStreamingLexerDef<L>,
-    text: &str,
+    text: &[u8],
     items: &[Result<L::LexemeT, LRLexError>],
 ) -> Result<Vec<u8>, AllocError>
-    requires { All (FitsText text.now) (items_by L.StorageT.number L.LexemeT.seen items.now) }
     ensures { IfOk result (λ bytes. bytes.items
         ≡ lines (definition_of L.StorageT.number definition.now).rules text.now
-        (items_by L.StorageT.number L.LexemeT.seen items.now)) }
+        (map (item_of L.StorageT.number L.LexemeT.seen) items.now)) }
 {
     let mut bytes = Vec::with_capacity(alloc, text.len())?;
     for item in items {

@@ -1,9 +1,9 @@
 //! The words of the command line.
-ghost use Rattle.std.specs.Prelude.{◌≡◌, ℕ, Option, Some, None, IfOk, IfErr, codes, map, option_map};
-ghost use Rattle.clap.specs.Words.{first_of, one_of, found_of, rows_of};
+ghost use Rattle.std.specs.Prelude.{◌≡◌, ℕ, IfOk, IfErr, codes, map, option_map};
+ghost use Rattle.clap.specs.Words.{first_of, found_of, rows_of};
 ghost use Rattle.lrlex_cli.specs.declared.words.WordsFault.TheVariants.{Memory};
 ghost use Rattle.lrlex_cli.specs.Command.{given};
-ghost use Rattle.lrlex_cli.specs.Options.{CanBeRead, IsEdit, HoldsNumber, IsLimit, IsReadFrom, ReadsFlags, truth_in};
+ghost use Rattle.lrlex_cli.specs.Reading.{CanBeRead, IsEdit, IsNumber, IsReadFrom, ReadsTruths, truth_in};
 
 use crate::command::lrlex_command;
 use clap::ArgMatches;
@@ -53,23 +53,9 @@ fn truth(matches: &ArgMatches<'_>, name: &str) -> Option<bool>
     }
 }
 
-/// The limit of this name below 2^64.
-fn size(matches: &ArgMatches<'_>, name: &str) -> Option<usize>
-    ensures { IsLimit 64 (one_of name.now (rows_of (found_of matches.now))) result }
-{
-    matches.get_one(name)
-}
-
-/// The limit of this name below 2^32.
-fn levels(matches: &ArgMatches<'_>, name: &str) -> Option<u32>
-    ensures { IsLimit 32 (one_of name.now (rows_of (found_of matches.now))) result }
-{
-    matches.get_one(name)
-}
-
 /// The flags that the matches give.
 fn flags_of(matches: &ArgMatches<'_>) -> LexFlags
-    ensures { ReadsFlags (rows_of (found_of matches.now)) result }
+    ensures { ReadsTruths (rows_of (found_of matches.now)) result }
 {
     LexFlags {
         dot_matches_new_line: truth(matches, "dot-matches-new-line"),
@@ -81,22 +67,18 @@ fn flags_of(matches: &ArgMatches<'_>) -> LexFlags
         swap_greed: truth(matches, "swap-greed"),
         ignore_whitespace: truth(matches, "ignore-whitespace"),
         unicode: truth(matches, "unicode"),
-        size_limit: size(matches, "size-limit"),
-        dfa_size_limit: size(matches, "dfa-size-limit"),
-        nest_limit: levels(matches, "nest-limit"),
+        size_limit: matches.get_one("size-limit"),
+        dfa_size_limit: matches.get_one("dfa-size-limit"),
+        nest_limit: matches.get_one("nest-limit"),
     }
 }
 
-/// The number of this name, if it has a value.
-fn number(matches: &ArgMatches<'_>, name: &str) -> Result<Option<usize>, WordsFault>
-    ensures value { IfOk result (HoldsNumber (one_of name.now (rows_of (found_of matches.now)))) }
-    ensures refused { IfErr result (λ e. (o : Option ℕ)
-        → HoldsNumber (one_of name.now (rows_of (found_of matches.now))) o → e ≡ Memory) }
+/// The number that a value is.
+fn number(text: &str) -> Result<usize, WordsFault>
+    ensures value { IfOk result (IsNumber (Some text.now)) }
+    ensures refused { IfErr result (λ e. (n : ℕ) → IsNumber (Some text.now) n → e ≡ Memory) }
 {
-    match matches.try_get_one(name) {
-        Ok(found) => Ok(found),
-        Err(_) => Err(WordsFault::Refused),
-    }
+    text.parse().map_err(|_| WordsFault::Refused)
 }
 
 /// The edit that the matches give: all of its three options have to be there, or none.
@@ -105,20 +87,22 @@ fn edit_of(
     matches: &ArgMatches<'_>,
 ) -> Result<Option<(usize, usize, String)>, WordsFault>
     ensures value { let rows = rows_of (found_of matches.now) in
-        IfOk result (IsEdit (one_of (codes "from") rows) (one_of (codes "to") rows)
+        IfOk result (IsEdit (first_of (codes "from") rows) (first_of (codes "to") rows)
         (first_of (codes "put") rows)) }
     ensures refused { let rows = rows_of (found_of matches.now) in
-        IfErr result (λ e. (w : Words) → IsEdit (one_of (codes "from") rows)
-        (one_of (codes "to") rows) (first_of (codes "put") rows) w.edit → e ≡ Memory) }
+        IfErr result (λ e. (w : Words) → IsEdit (first_of (codes "from") rows)
+        (first_of (codes "to") rows) (first_of (codes "put") rows) w.edit → e ≡ Memory) }
 {
-    let from = number(matches, "from")?;
-    let to = number(matches, "to")?;
-    match (from, to, value(matches, "put")) {
+    let from = value(matches, "from");
+    let to = value(matches, "to");
+    let put = value(matches, "put");
+    match (from, to, put) {
         (None, None, None) => Ok(None),
-        (Some(from), Some(to), Some(put)) => {
-            let put = String::from_str(alloc, put)?;
-            Ok(Some((from, to, put)))
-        }
+        (Some(from), Some(to), Some(put)) => Ok(Some((
+            number(from)?,
+            number(to)?,
+            String::from_str(alloc, put)?,
+        ))),
         _ => Err(WordsFault::Refused),
     }
 }

@@ -1,7 +1,5 @@
 -- The lines are those of the items that the run has found.
-use Rattle.std.proofs.Common.{All, refl, sym, subst}
-use Rattle.lrlex.specs.ItemLaws.{FitsText}
-use Rattle.lrlex.specs.Views.{items_by}
+use Rattle.std.proofs.Common.{refl}
 use Rattle.lrlex_cli.specs.Engine.{Request}
 use Rattle.lrlex_cli.proofs.EngineLemmas.{ran, without_memory}
 use Rattle.lrlex_cli.proofs.engine.run.Goals as goal
@@ -17,8 +15,3 @@ returns g c =
     q c.in_ok-built.built c.in-Ok.definition c.in_ok-lexed.lexed.items c.in_ok-lexed.lexed.boundaries _ _ _ _
     c.in-Ok.is c.in_ok-built.ensures.answer c.in_ok-built.ensures.initial c.in_ok-lexed.ensures.run
     refl wrote
-
--- the spans of a run's items fit its text
-pub write_items-requires : goal.write_items-requires
-write_items-requires g c =
-    subst (λ xs. All (FitsText c.args.input.now) (items_by g.L.StorageT.Id.number g.L.LexemeT.Lexeme.seen xs)) (sym c.items.ensures) (c.in_ok-lexed.ensures.laws.items.fit c.utf8.input)

@@ -1,7 +1,5 @@
 -- Lexing again has found the items of the new text, and the lines are theirs.
-use Rattle.std.proofs.Common.{All, refl, sym, subst}
-use Rattle.lrlex.specs.ItemLaws.{FitsText}
-use Rattle.lrlex.specs.Views.{items_by}
+use Rattle.std.proofs.Common.{refl, sym, subst}
 use Rattle.lrlex_base.specs.Spans.{Fits}
 use Rattle.lrlex_cli.specs.Engine.{Request}
 use Rattle.lrlex_cli.proofs.EngineLemmas.{ran, without_memory}
@@ -26,8 +24,3 @@ returns-in_ok-lexed-in-Ok g c =
 
 pub relex-requires-clause-fits : goal.relex-requires-clause-fits
 relex-requires-clause-fits g c = subst (λ t. Fits t c.args.edit.now.removed) (sym c.in_ok-before-in-Ok.ensures.text) c.requires.fits
-
--- the spans of a run's items fit its text
-pub write_items-requires : goal.write_items-requires
-write_items-requires g c =
-    subst (λ xs. All (FitsText c.args.new.now) (items_by g.L.StorageT.Id.number g.L.LexemeT.Lexeme.seen xs)) (sym c.items.ensures) (c.in_ok-lexed-in-Ok.ensures.laws.items.fit c.utf8.new)

@@ -2,7 +2,7 @@
 use Rattle.std.proofs.Common.{◌≡◌, ◌∙◌, refl, sym, subst, ap, rules, true, false, map, List, IfOk}
 use Rattle.std.proofs.lemmas.Result.{IfErr-weaker}
 use Rattle.clap.specs.Words.{App, Row, app_of, takes}
-use Rattle.lrlex_cli.specs.Options.{IsReadFrom}
+use Rattle.lrlex_cli.specs.Reading.{IsReadFrom}
 use Rattle.lrlex_cli.proofs.CommandLemmas.{rows_given}
 use Rattle.lrlex_cli.proofs.words.read.Goals as goal
 
