@@ -1,20 +1,16 @@
 -- The lines that say what is wrong with a rule text.
-use Rattle.std.specs.Prelude.{ℕ, List, [], ◌∷◌, ◌++◌, codes, unwrap_or, flat_map}
+use Rattle.std.specs.Prelude.{ℕ, List, [], ◌∷◌, ◌++◌, codes, flat_map}
 use Rattle.std.specs.Fmt.{decimal}
 use Rattle.lrlex_base.specs.Places.{line_of, column_of}
 use Rattle.lrlex_base.specs.Spans.{span_start}
 use Rattle.lrlex_base.specs.declared.spans.Span.{Span}
-use Rattle.lrlex_rules.specs.Faults.{kind_text, fault_kind, fault_spans}
+use Rattle.lrlex_rules.specs.Faults.{message, fault_kind, fault_spans}
 use Rattle.lrlex_rules.specs.declared.faults.LexErrorKind.{LexErrorKind}
 use Rattle.lrlex_rules.specs.declared.faults.LexBuildError.{LexBuildError}
 
 -- the place of a span's start, as `L:C`
 abbrev pub place : List ℕ → Span → List ℕ
 place rules x = decimal (line_of rules (span_start x)) ++ 58 ∷ decimal (column_of rules (span_start x))
-
--- what is wrong, without the words of `regex`
-abbrev pub words_of : LexErrorKind → List ℕ
-words_of kind = unwrap_or (kind_text kind) (codes "Invalid regular expression")
 
 -- places that follow others
 abbrev pub more_places : List ℕ → List Span → List ℕ
@@ -28,7 +24,7 @@ other_places rules (x ∷ xs) = codes ", again at " ++ (place rules x ++ more_pl
 -- `L:C: TEXT`, and the other places of the fault
 abbrev pub line_at : List ℕ → LexErrorKind → List Span → List ℕ
 line_at rules kind [] = []
-line_at rules kind (x ∷ xs) = place rules x ++ (codes ": " ++ (words_of kind ++ (other_places rules xs ++ 10 ∷ [])))
+line_at rules kind (x ∷ xs) = place rules x ++ (codes ": " ++ (message kind ++ (other_places rules xs ++ 10 ∷ [])))
 
 abbrev pub fault_line : List ℕ → LexBuildError → List ℕ
 fault_line rules e = line_at rules (fault_kind e) (fault_spans e)

@@ -3,9 +3,9 @@ ghost use Rattle.std.specs.Prelude.{◌≡◌, ◌++◌, ◌∷◌, [], All, IfO
 ghost use Rattle.lrlex_base.specs.Places.{AreBreaksOf};
 ghost use Rattle.lrlex_base.specs.Spans.{Fits};
 ghost use Rattle.lrlex_rules.specs.Faults.{IsPlaced};
-ghost use Rattle.lrlex_cli.specs.Report.{place, words_of, more_places, other_places, fault_line, fault_lines};
+ghost use Rattle.lrlex_cli.specs.Report.{place, more_places, other_places, fault_line, fault_lines};
 
-use lrlex::{LexBuildError, LexErrorKind};
+use lrlex::LexBuildError;
 use lrlex_base::{NewlineCache, Span, Spanned};
 use std::alloc::{AllocError, Global};
 use std::fmt::Write;
@@ -24,27 +24,6 @@ fn push_place(
     match newlines.byte_to_line_num_and_col_num(rules, span.start()) {
         Some((line, column)) => write!(text, "{line}:{column}"),
         None => unreachable!(),
-    }
-}
-
-/// What is wrong, without the words of `regex`.
-fn words_of(kind: &LexErrorKind) -> &'static str
-    ensures { result.now ≡ words_of kind.now }
-{
-    match kind {
-        LexErrorKind::PrematureEnd => "File ends prematurely",
-        LexErrorKind::RoutinesNotSupported => "Routines not currently supported",
-        LexErrorKind::UnknownDeclaration => "Unknown declaration",
-        LexErrorKind::MissingSpace => "Rule is missing a space",
-        LexErrorKind::InvalidName => "Invalid rule name",
-        LexErrorKind::UnknownStartState => "Start state not known",
-        LexErrorKind::DuplicateStartState => "Start state already exists",
-        LexErrorKind::InvalidStartState => "Invalid start state",
-        LexErrorKind::InvalidStartStateName => "Invalid start state name",
-        LexErrorKind::DuplicateName => "Rule name already exists",
-        LexErrorKind::RegexError(_) => "Invalid regular expression",
-        LexErrorKind::VerbatimNotSupported => "Verbatim code not supported",
-        LexErrorKind::TooManyRules => "Too many rules for the token id type",
     }
 }
 
@@ -106,7 +85,7 @@ fn push_fault(
         Some((span, others)) => {
             push_place(text, rules, newlines, *span)?;
             text.push_str(": ")?;
-            text.push_str(words_of(fault.kind()))?;
+            text.push_str(fault.kind().message())?;
             push_others(text, rules, newlines, others)?;
             text.push_str("\n")
         }

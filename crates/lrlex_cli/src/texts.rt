@@ -4,7 +4,7 @@ ghost use Rattle.lrlex_cli.specs.declared.texts.TextFault.TheVariants.{Memory};
 ghost use Rattle.lrlex_cli.specs.Texts.{GaveAll, IsSplit};
 
 use std::alloc::{AllocError, Global};
-use std::io::Read;
+use std::io::{ErrorKind, Read};
 use std::rt::Files;
 use std::{fs, io};
 
@@ -27,6 +27,14 @@ impl From<AllocError> for TextFault {
     }
 }
 
+/// What a fault of a file or a reader comes to.
+fn fault_of(fault: &io::Error) -> TextFault {
+    match fault.kind() {
+        ErrorKind::OutOfMemory => TextFault::Memory,
+        _ => TextFault::Unreadable,
+    }
+}
+
 /// Reads to the end. No fault is tried again.
 pub fn read_bytes<R: Read>(alloc: Global, reader: &mut R) -> Result<Vec<u8>, TextFault>
     ensures { IfOk result (λ bytes. GaveAll (R.remaining reader.old)
@@ -38,7 +46,7 @@ pub fn read_bytes<R: Read>(alloc: Global, reader: &mut R) -> Result<Vec<u8>, Tex
         match reader.read(&mut buf) {
             Ok(0) => return Ok(bytes),
             Ok(n) => bytes.extend_from_slice(&buf[..n])?,
-            Err(_) => return Err(TextFault::Unreadable),
+            Err(fault) => return Err(fault_of(&fault)),
         }
     }
     Err(TextFault::Unreadable)
@@ -60,8 +68,7 @@ pub fn text_at<R: Files + AllocGlobal, I: Read>(
     }
     match fs::open(rt, path) {
         Ok(mut file) => read_text(rt.alloc(), &mut file),
-        Err(fault) if fault.kind() == io::ErrorKind::OutOfMemory => Err(TextFault::Memory),
-        Err(_) => Err(TextFault::Unreadable),
+        Err(fault) => Err(fault_of(&fault)),
     }
 }
 

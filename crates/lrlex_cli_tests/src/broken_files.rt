@@ -187,17 +187,7 @@ fn files_that_fail_at_each_call(rt: HostRuntime) {
 
 #[test]
 fn want_of_memory_for_a_file_is_told(rt: HostRuntime) {
-    for failing in ["rules", "input"] {
-        let files = TestFiles {
-            alloc: rt.alloc(),
-            most: 1,
-            failing,
-            at: 0,
-            kind: ErrorKind::OutOfMemory,
-        };
-        assert!(rt;
-            does_with(&files, &LEXED.told("Out of memory\n")),
-            "{failing}"
-        );
+    for (failing, len) in [("rules", RULES.len()), ("input", INPUT.len())] {
+        expects(&rt, failing, len, "Out of memory\n", ErrorKind::OutOfMemory);
     }
 }

@@ -45,10 +45,18 @@ pub(crate) fn does<R: Files + AllocGlobal>(
 /// Holds the program to the row over each standard input. `ends` is how often it asks for more at the end.
 fn expects<R: Files + AllocGlobal + Abort>(rt: &R, row: Row<'_>, ends: u64) {
     let bytes = row.stdin.as_bytes();
-    let unread = row.told("Can't open file -\n");
     for most in 1..=4usize {
         let calls = (bytes.len().div_ceil(most) as u64).saturating_add(ends);
-        for kind in [ErrorKind::Other, ErrorKind::Interrupted] {
+        for kind in [
+            ErrorKind::Other,
+            ErrorKind::Interrupted,
+            ErrorKind::OutOfMemory,
+        ] {
+            let unread = row.told(if kind == ErrorKind::OutOfMemory {
+                "Out of memory\n"
+            } else {
+                "Can't open file -\n"
+            });
             for at in 1..=calls {
                 let stdin = TestReader::new(bytes, most, at, kind);
                 assert!(rt;

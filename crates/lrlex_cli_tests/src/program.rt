@@ -94,6 +94,23 @@ fn both_in_standard_input(rt: HostRuntime) {
 }
 
 #[test]
+fn a_byte_order_mark_is_a_character(rt: HostRuntime) {
+    let rows = [
+        ("\u{FEFF}%%", ("", "1:1: Unknown declaration\n", 1)),
+        ("\u{FEFF}", ("", "1:1: Unknown declaration\n", 1)),
+        ("\u{FEFF}%x S\n%%", ("", "1:1: Unknown declaration\n", 1)),
+        (
+            "%%\na 'A'\n----\n\u{FEFF}a",
+            ("Couldn't lex input starting at byte 0\n", "", 1),
+        ),
+        ("%%\n\\uFEFF ;\na 'A'\n----\n\u{FEFF}a", ("A a\n", "", 0)),
+    ];
+    for (stdin, want) in rows {
+        expects(&rt, &["lrlex"], stdin, want);
+    }
+}
+
+#[test]
 fn flags_are_handed_on(rt: HostRuntime) {
     // The first `-` takes all of standard input, so the second is the empty text.
     expects(&rt, &["lrlex", "-", "-"], ROW_1, ("", "", 0));
