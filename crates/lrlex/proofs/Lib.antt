@@ -22,7 +22,6 @@ pub mod TilingLemmas
 pub mod ViewLemmas
 pub mod WithinLemmas
 pub mod TableLemmas
-pub mod MatcherLemmas
 pub mod ResumeLemmas
 pub mod DecidedLemmas
 pub mod AheadLemmas

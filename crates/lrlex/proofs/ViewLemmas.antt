@@ -1,18 +1,15 @@
 -- Rules and states, seen through their views.
-use Rattle.std.proofs.Common.{◌≡◌, ◌≢◌, zero, suc, ne_eqb, ℕ, ◌<◌, Bool, true, false, cond, not, ◌||◌, ◌==◌, List, [], ◌∷◌, map, length, get_or, Option, Some, None, option_map, unwrap_or, slice_get, refl, sym, ap, ◌∙◌, arith, eq-eqb, ◌&&◌, true≢false, nat_lt, ◌≤◌, take, ◌++◌, IsCharBoundary}
+use Rattle.std.proofs.Common.{◌≡◌, zero, suc, ℕ, ◌<◌, Bool, true, false, cond, not, ◌||◌, ◌==◌, List, [], ◌∷◌, map, length, get_or, Option, Some, None, option_map, unwrap_or, slice_get, refl, sym, ap, ◌∙◌, arith, eq-eqb, true≢false, nat_lt, ◌≤◌, take, ◌++◌}
 use Rattle.std.proofs.Math.Seq.{take-append_seam}
 use Rattle.std.proofs.lemmas.Bool.{cond-true, cond-false, ltb-true, ltb-false, eqb-true}
 use Rattle.std.proofs.lemmas.List.Sums.{passes_at_first, fails_before_first}
 use Rattle.std.proofs.lemmas.List.Folds.{Any-from_list_any, list_any_at}
 use Rattle.std.proofs.lemmas.List.{length-map, get_or_default}
 use Rattle.std.proofs.lemmas.Option.{slice_get-map, slice_get_read, same_Some, none-some}
-use Rattle.regex.specs.Patterns.{Re, find_str, span}
-use Rattle.regex_hir.specs.Text.{is_boundary}
-use Rattle.regex.proofs.Utf8Lemmas.{test_of_IsCharBoundary}
 use Rattle.std.specs.List.{list_any, find, position, position_or_len}
 use Rattle.regex_hir.specs.Text.{is_some_and}
 use Rattle.lrlex_rules.specs.Definition.{Definition, Rule, StartState}
-use Rattle.lrlex_rules.specs.Patterns.{end_from_zero, match_length, pattern_of}
+use Rattle.lrlex_rules.specs.Patterns.{match_length, pattern_of}
 use Rattle.lrlex.specs.Active.{is_active, taken_by, taken_by_any, no_rule, rule_at}
 use Rattle.lrlex_rules.specs.Parts.{RuleParts, as_rule, as_state}
 use Rattle.lrlex.specs.Views.{definition_of}
@@ -41,28 +38,6 @@ pub inclusive_as : (states : List start.StartState) (id : ℕ) (o : Option start
 inclusive_as states id o e =
     sym (test_viewed o) ∙ ap (λ (u : Option StartState). is_some_and u (λ s. not s.exclusive))
     (ap (option_map as_state) e ∙ sym (find-map as_state (λ s. s.id == id) states))
-
--- ---- what a search answers
-
-end_at_zero : (text : List ℕ) (s e : ℕ) → s ≡ 0 → IsCharBoundary text e → end_from_zero text (Some (s, e)) ≡ e
-end_at_zero text s e at cut =
-    let first : (s == 0) ≡ true = eq-eqb s 0 at in
-    cond-true (s == 0 && is_boundary text e) e 0 (rw (first, test_of_IsCharBoundary text e cut) refl)
-
-pub match_length_found : (re : Re) (text : List ℕ) (s e : ℕ) → Some (s, e) ≡ option_map span (find_str re text 0) → s ≡ 0 → IsCharBoundary text e →
-    e ≡ match_length re text
-unfolding match_length
-match_length_found re text s e found at cut = sym (end_at_zero text s e at cut) ∙ ap (end_from_zero text) found
-
-pub match_length_other : (re : Re) (text : List ℕ) (o : Option (ℕ × ℕ)) → o ≡ option_map span (find_str re text 0) → end_from_zero text o ≡ 0 →
-    0 ≡ match_length re text
-unfolding match_length
-match_length_other re text o found none = sym none ∙ ap (end_from_zero text) found
-
-pub end_elsewhere : (text : List ℕ) (s e : ℕ) → s ≢ 0 → end_from_zero text (Some (s, e)) ≡ 0
-end_elsewhere text s e h =
-    let first : (s == 0) ≡ false = ne_eqb s 0 h in
-    cond-false (s == 0 && is_boundary text e) e 0 (rw first refl)
 
 -- ---- rules by place
 

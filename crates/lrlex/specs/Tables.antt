@@ -1,13 +1,10 @@
--- Start states by their places, the tables of each, and the matchers of the rules that have none.
-use Rattle.std.specs.declared.alloc.Global.{Global}
-use Rattle.std.specs.Prelude.{Box, ◌≡◌, ℕ, List, [], length, map, Option, Some, unwrap_or, vec_len, slice_get, slice_index_or}
+-- Start states by their places, and the tables of each.
+use Rattle.std.specs.Prelude.{◌≡◌, ℕ, List, [], map, Some, unwrap_or, vec_len, slice_get, slice_index_or}
 use Rattle.std.specs.List.{sum_by}
-use Rattle.regex.specs.Patterns.{Re, SameCaptures}
-use Rattle.regex.specs.Strings.{matcher_pattern}
-use Rattle.regex.specs.declared.string.matcher.Matcher.{Matcher}
+use Rattle.regex.specs.Patterns.{Re}
 use Rattle.lrlex_rules.specs.Definition.{Rule}
 use Rattle.lrlex_rules.specs.Parts.{RuleParts, as_rule, as_state}
-use Rattle.lrlex_rules.specs.Patterns.{pattern_of, rule_pattern}
+use Rattle.lrlex_rules.specs.Patterns.{pattern_of}
 use Rattle.lrlex_rules.specs.declared.states.StartState as start
 use Rattle.lrlex_table.specs.Tables.{AreTablesOf, rows_of}
 use Rattle.lrlex_table.specs.declared.tables.Tables.{Tables}
@@ -33,16 +30,6 @@ list_in lists j = slice_index_or lists j []
 abbrev pub AreServed : {S : Type 0} → List (RuleParts S) → List (List ℕ) → List Tables → Type 0
 AreServed rules lists tables =
     (j : ℕ) (t : Tables) → slice_get tables j ≡ Some t → AreTablesOf (patterns_on (map (as_rule (λ _. 0)) rules) (list_in lists j)) t
-
--- a matcher, where there is one, is that of the rule
-abbrev pub IsMatcherOf : {S : Type 0} → RuleParts S → Option (Box Matcher Global) → Type 0
-IsMatcherOf r o = (m : Box Matcher Global) → o ≡ Some m → SameCaptures (matcher_pattern m.value) (rule_pattern r)
-
--- room for a matcher of each rule, and each that was made is that of the rule at its place
-abbrev pub AreMatchers : {S : Type 0} → List (RuleParts S) → List (Option (Box Matcher Global)) → Type 0
-AreMatchers rules made =
-    (length made ≡ length rules)
-    × ((i : ℕ) (r : RuleParts _) (o : Option (Box Matcher Global)) → slice_get rules i ≡ Some r → slice_get made i ≡ Some o → IsMatcherOf r o)
 
 -- how many tables these have, how many rows in all, and how many rules without a table
 abbrev pub count_of_tables : List Tables → ℕ

@@ -15,6 +15,7 @@ pub mod Initial
 pub mod Lawful
 pub mod Lists
 pub mod Marks
+pub mod MatcherLemmas
 pub mod Merges
 pub mod PatternLemmas
 pub mod Placed
@@ -25,6 +26,7 @@ pub mod Rising
 pub mod RuleEvents
 pub mod RuleRuns
 pub mod Runs
+pub mod SearchLemmas
 pub mod Sections
 pub mod Steady
 pub mod Tells

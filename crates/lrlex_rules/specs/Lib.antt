@@ -11,6 +11,7 @@ pub mod Outcome
 pub mod Laws
 -- what a rule's pattern matches
 pub mod Patterns
+pub mod Matchers
 -- what contracts see of the program
 pub mod Faults
 pub mod Parts

@@ -1,18 +1,12 @@
-ghost use Rattle.std.specs.Prelude.{◌≡◌, ℕ, length, slice_index, ◌+◌, ◌^◌, ◌<◌, ◌≤◌, ◌⊎◌, true, false, vec_len, List, drop, IfOk, IfSome, MatchOption, IsCharBoundary};
-ghost use Rattle.regex.specs.Patterns.{SameCaptures};
-ghost use Rattle.regex.specs.Strings.{matcher_pattern};
-ghost use Rattle.lrlex_rules.specs.Patterns.{match_length, rule_pattern};
-ghost use Rattle.lrlex.specs.Active.{active_count};
-ghost use Rattle.lrlex.specs.Asked.{untabled_count};
-ghost use Rattle.lrlex.specs.Tiling.{Wins, IsStuck};
-ghost use Rattle.lrlex.specs.Decided.{IsDecided};
-ghost use Rattle.lrlex.specs.Tables.{IsMatcherOf, AreMatchers};
+//! The winner at a place: the best of what the tables tell and of what the rules without one answer, as they are asked.
+ghost use Rattle.std.specs.Prelude.{◌≡◌, ℕ, length, slice_index, ◌+◌, ◌^◌, ◌<◌, ◌≤◌, ◌⊎◌, true, false, vec_len, List, drop, IfOk, IfSome, IsCharBoundary};
+ghost use Rattle.lrlex_rules.specs.Matchers.{AreMatchers};
 ghost use Rattle.lrlex.specs.AtHand.{AreOf, HasAsked, IsSearcherOf, IsSightOf};
 ghost use Rattle.lrlex.specs.Views.{definition_of};
 
 use crate::lexer::definition::{LRNonStreamingLexerDef, RulesIn};
 use lrlex_base::LexerTypes;
-use lrlex_rules::Rule;
+use lrlex_rules::{ask_by, no_matchers};
 use lrlex_table::DeadEnds;
 use regex::Matcher;
 use std::alloc::{AllocError, Global};
@@ -29,68 +23,6 @@ pub(crate) struct Tile {
 pub(crate) struct Sight {
     pub(crate) tile: Option<Tile>,
     pub(crate) reach: usize,
-}
-
-/// How many bytes of the text the rule's pattern matches. No other function searches.
-#[tactic(auto, unfolding(lrlex_rules::specs::Patterns::match_length))]
-fn ask<S>(matcher: &mut Matcher<'_>, rule: &Rule<S>, text: &str, asked: &mut u128) -> usize
-    requires rule { SameCaptures (matcher_pattern matcher.old) (rule_pattern rule.now) }
-    requires room { asked.old + 1 < 2 ^ 128 }
-    ensures length { result ≡ match_length (rule_pattern rule.now) text.now }
-    ensures boundary { IsCharBoundary text.now result }
-    ensures counted { asked.new ≡ asked.old + 1 }
-    ensures same { matcher_pattern matcher.new ≡ matcher_pattern matcher.old }
-{
-    *asked += 1;
-    match matcher.find(text) {
-        Some(found) => {
-            let start = found.start();
-            if start == 0 { found.end() } else { 0 }
-        }
-        None => 0,
-    }
-}
-
-/// The same, by a matcher that is made where there is none yet. Out of line, since a matcher's room on the stack would cost
-/// each tile.
-#[inline(never)]
-fn ask_by<'d, S>(
-    alloc: Global,
-    slot: &mut Option<Box<Matcher<'d>>>,
-    rule: &'d Rule<S>,
-    text: &str,
-    asked: &mut u128,
-) -> Result<usize, AllocError>
-    requires slot { IsMatcherOf rule.now slot.old }
-    requires room { asked.old + 1 < 2 ^ 128 }
-    ensures length { IfOk result (λ n. n ≡ match_length (rule_pattern rule.now) text.now) }
-    ensures boundary { IfOk result (λ n. IsCharBoundary text.now n) }
-    ensures counted { IfOk result (λ _. asked.new ≡ asked.old + 1) }
-    ensures slot { IsMatcherOf rule.now slot.new }
-{
-    match slot {
-        Some(matcher) => Ok(ask(matcher, rule, text, asked)),
-        None => {
-            let mut matcher = Box::new(alloc, rule.matcher(alloc)?)?;
-            let len = ask(&mut matcher, rule, text, asked);
-            *slot = Some(matcher);
-            Ok(len)
-        }
-    }
-}
-
-/// Room for a matcher of each rule, where none is made yet.
-fn no_matchers<'d, S>(
-    alloc: Global,
-    rules: &'d [Rule<S>],
-) -> Result<Vec<Option<Box<Matcher<'d>>>>, AllocError>
-    ensures { IfOk result (λ made. AreMatchers rules.now made.items) }
-{
-    let mut made = Vec::with_capacity(alloc, rules.len())?;
-    'rules: for _index in 0..rules.len() {
-        made.push(None)?;
-    }
-    Ok(made)
 }
 
 /// Whether a rule that takes so many bytes is better than the best so far: it takes more, or as many and stands earlier.

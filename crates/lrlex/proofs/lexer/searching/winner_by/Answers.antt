@@ -4,7 +4,8 @@ use Rattle.std.proofs.lemmas.List.{length-map, nil_from_length}
 use Rattle.lrlex_rules.specs.Parts.{as_rule}
 use Rattle.lrlex_rules.specs.Patterns.{match_length}
 use Rattle.lrlex_table.specs.Tables.{IsBestAmong}
-use Rattle.lrlex.specs.Tables.{IsMatcherOf, patterns_on, pattern_in}
+use Rattle.lrlex_rules.specs.Matchers.{IsMatcherOf}
+use Rattle.lrlex.specs.Tables.{patterns_on, pattern_in}
 use Rattle.lrlex.specs.Active.{is_active}
 use Rattle.lrlex.specs.Decided.{IsDecided}
 use Rattle.lrlex.specs.Tiling.{Wins}
@@ -13,7 +14,7 @@ use Rattle.lrlex.specs.declared.lexer.searching.Tile.{Tile}
 use Rattle.lrlex.proofs.CountLemmas.{active_count-le}
 use Rattle.lrlex.proofs.PlaceLemmas.{all_places}
 use Rattle.lrlex.proofs.ScanLemmas.{length-places_of}
-use Rattle.lrlex.proofs.MatcherLemmas.{matcher_at, matchers_set}
+use Rattle.lrlex_rules.proofs.MatcherLemmas.{matcher_at, matchers_set}
 use Rattle.lrlex.proofs.DecidedLemmas.{decided_whole, decided_look}
 use Rattle.lrlex.proofs.TableLemmas.{active_within, looked_at, looked_more, other_within, others_few, told_none, told_some, pattern_here, best_kept, best_taken, best_wins, best_stuck, asked_is}
 use Rattle.lrlex.proofs.lexer.searching.winner_by.Goals as goal

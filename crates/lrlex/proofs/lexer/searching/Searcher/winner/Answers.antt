@@ -1,5 +1,5 @@
-use Rattle.std.proofs.Common.{◌≡◌, ◌∙◌, ◌≤◌, length, drop, sym, ap, subst, arith}
-use Rattle.lrlex.specs.Tables.{AreMatchers}
+use Rattle.std.proofs.Common.{◌∙◌, length, drop, sym, ap, subst, arith}
+use Rattle.lrlex_rules.specs.Matchers.{AreMatchers}
 use Rattle.lrlex.proofs.ViewLemmas.{taken_back}
 use Rattle.lrlex.proofs.lexer.searching.Searcher.winner.Goals as goal
 

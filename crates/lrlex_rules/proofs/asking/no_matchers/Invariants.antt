@@ -2,7 +2,7 @@ use Rattle.std.specs.declared.alloc.Global.{Global}
 use Rattle.std.specs.Prelude.{Box}
 use Rattle.std.proofs.Common.{◌≡◌, ℕ, Option, None, Some, slice_get, length}
 use Rattle.regex.specs.declared.string.matcher.Matcher.{Matcher}
-use Rattle.lrlex.proofs.lexer.searching.no_matchers.Given as goal
+use Rattle.lrlex_rules.proofs.asking.no_matchers.Given as goal
 
 abbrev pub invariant-rules : goal.invariant-rules
 invariant-rules g l = record {

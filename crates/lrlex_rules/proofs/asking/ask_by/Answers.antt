@@ -6,7 +6,7 @@ use Rattle.regex.specs.Patterns.{SameCaptures}
 use Rattle.regex.specs.Strings.{matcher_pattern}
 use Rattle.regex.specs.declared.string.matcher.Matcher.{Matcher}
 use Rattle.lrlex_rules.specs.Patterns.{rule_pattern}
-use Rattle.lrlex.proofs.lexer.searching.ask_by.Goals as goal
+use Rattle.lrlex_rules.proofs.asking.ask_by.Goals as goal
 
 pub ask-requires-clause-rule : goal.ask-requires-clause-rule
 ask-requires-clause-rule g c =

@@ -2,8 +2,8 @@ use Rattle.std.proofs.Common.{Some, None, option_map, refl, sym, ap, ◌∙◌, 
 use Rattle.std.proofs.lemmas.Str.{IsCharBoundary-start}
 use Rattle.regex.specs.Strings.{matcher_pattern, match_span}
 use Rattle.lrlex_rules.proofs.PatternLemmas.{length_alike}
-use Rattle.lrlex.proofs.ViewLemmas.{match_length_found, match_length_other, end_elsewhere}
-use Rattle.lrlex.proofs.lexer.searching.ask.Goals as goal
+use Rattle.lrlex_rules.proofs.SearchLemmas.{match_length_found, match_length_other, end_elsewhere}
+use Rattle.lrlex_rules.proofs.asking.ask.Goals as goal
 
 pub returns-then-start-eq0-clause-length : goal.returns-then-start-eq0-clause-length
 returns-then-start-eq0-clause-length g c =

@@ -1,7 +1,7 @@
 use Rattle.std.proofs.Common.{slice_get, ap, sym, ◌∙◌, arith}
 use Rattle.std.specs.List.{slice_get}
-use Rattle.lrlex.proofs.MatcherLemmas.{none_made, nones_more}
-use Rattle.lrlex.proofs.lexer.searching.no_matchers.Goals as goal
+use Rattle.lrlex_rules.proofs.MatcherLemmas.{none_made, nones_more}
+use Rattle.lrlex_rules.proofs.asking.no_matchers.Goals as goal
 
 pub rules-preserved : goal.rules-preserved
 rules-preserved g c = record {
