@@ -8,7 +8,7 @@ use crate::figures::Tenths;
 use crate::measure::{Definition, run_times};
 use crate::spread::{Spread, spread_of};
 use lrlex::{DefaultLexerTypes, LexRun};
-use lrlex_base::{Edit, Id, Span};
+use lrlex_base::{Edit, Span};
 use std::time::Instant;
 
 /// What each edit inserts: one byte, of which any of the rule files in `bench` makes a tile or part of one.
@@ -26,9 +26,9 @@ pub fn boundary_from(text: &str, from: usize) -> usize {
 
 /// Lexes once again after the edit. The time, in nanoseconds, how many matches were asked for, and how many tiles were cut
 /// anew.
-fn time_relex<T: Id>(
+fn time_relex(
     rt: &HostRuntime,
-    run: &LexRun<'_, '_, DefaultLexerTypes<T>>,
+    run: &LexRun<'_, '_, DefaultLexerTypes<u32>>,
     edit: &Edit<'_>,
     new: &str,
 ) -> Result<(u128, u128, usize), Fault>
@@ -64,9 +64,9 @@ fn tell_relex(
 }
 
 /// Inserts one byte at a place, in bytes, lexes again so many times, and prints what that took.
-fn tell_edit<T: Id>(
+fn tell_edit(
     rt: &HostRuntime,
-    run: &LexRun<'_, '_, DefaultLexerTypes<T>>,
+    run: &LexRun<'_, '_, DefaultLexerTypes<u32>>,
     text: &str,
     name: &str,
     place: usize,
@@ -97,9 +97,9 @@ fn tell_edit<T: Id>(
 }
 
 /// Lexes the text so many times, and then again so many times after an edit at the front, in the middle and at the end.
-pub fn tell_edits<T: Id>(
+pub fn tell_edits(
     rt: &HostRuntime,
-    definition: &Definition<T>,
+    definition: &Definition,
     text: &str,
     times: u32,
 ) -> Result<(), Fault> {

@@ -5,16 +5,15 @@ use crate::measure::Definition;
 use crate::memory::peak;
 use crate::spread::{Spread, spread_of};
 use lrlex::{DefaultLexerTypes, Document};
-use lrlex_base::Id;
 use std::time::Instant;
 
 /// What each key puts: one byte, which any of the rule files in `bench` makes a tile of or part of one.
 const KEY: &str = "a";
 
 /// Types so many keys, one behind the other, from this place on, and prints what a key took.
-fn tell_keys<T: Id>(
+fn tell_keys(
     rt: &HostRuntime,
-    document: &mut Document<'_, DefaultLexerTypes<T>>,
+    document: &mut Document<'_, DefaultLexerTypes<u32>>,
     name: &str,
     from: usize,
     keys: u32,
@@ -43,9 +42,9 @@ fn tell_keys<T: Id>(
 }
 
 /// Makes a document of the text, and types so many keys at its front, in its middle and at its end.
-pub fn tell_typing<T: Id>(
+pub fn tell_typing(
     rt: &HostRuntime,
-    definition: &Definition<T>,
+    definition: &Definition,
     text: &str,
     keys: u32,
 ) -> Result<(), Fault> {

@@ -13,7 +13,6 @@ mod words;
 use crate::faults::Fault;
 use crate::measure::{build, tell_run};
 use crate::words::{USAGE, read};
-use lrlex_base::Id;
 use std::alloc::{AllocError, Global};
 use std::process::ExitCode;
 use std::{env, fs, io};
@@ -38,17 +37,17 @@ fn text_at(rt: &HostRuntime, path: &str, fault: Fault) -> Result<String, Fault> 
 }
 
 /// Builds the definition, and measures what the words ask for.
-fn measured<T: Id>(rt: &HostRuntime, words: &[&str]) -> Result<(), Fault> {
+fn measured(rt: &HostRuntime, words: &[&str]) -> Result<(), Fault> {
     let given = read(rt.alloc(), words)?;
     let rules = text_at(rt, given.rules.as_str(), Fault::CannotReadRules)?;
     let input = text_at(rt, given.input.as_str(), Fault::CannotReadInput)?;
-    let (definition, took) = build::<T>(rt, rules.as_str(), given.tables)?;
+    let (definition, took) = build(rt, rules.as_str(), given.tables)?;
     if given.edits {
-        edits::tell_edits::<T>(rt, &definition, input.as_str(), given.times)
+        edits::tell_edits(rt, &definition, input.as_str(), given.times)
     } else if given.keys {
-        keys::tell_typing::<T>(rt, &definition, input.as_str(), given.times)
+        keys::tell_typing(rt, &definition, input.as_str(), given.times)
     } else {
-        tell_run::<T>(rt, &definition, took, input.as_str(), given.times)
+        tell_run(rt, &definition, took, input.as_str(), given.times)
     }
 }
 
@@ -60,7 +59,7 @@ fn served(rt: &HostRuntime) -> Result<(), Fault> {
         println!(rt; "{USAGE}")?;
         return Ok(());
     }
-    measured::<u32>(rt, words.as_slice())
+    measured(rt, words.as_slice())
 }
 
 fn main(rt: HostRuntime) -> ExitCode {

@@ -6,11 +6,11 @@ use crate::spread::{Spread, spread_of};
 use lrlex::{
     Budget, DefaultLexerTypes, LRNonStreamingLexerDef, LexRun, LexerDef, UNSPECIFIED_LEX_FLAGS,
 };
-use lrlex_base::{Id, NewlineCache};
+use lrlex_base::NewlineCache;
 use std::time::{Duration, Instant};
 
-/// A definition with ids of this type.
-pub type Definition<T> = LRNonStreamingLexerDef<DefaultLexerTypes<T>>;
+/// The definition that is timed.
+pub type Definition = LRNonStreamingLexerDef<DefaultLexerTypes<u32>>;
 
 /// What a run counts.
 #[derive(Clone, Copy)]
@@ -37,17 +37,13 @@ impl Counts {
 }
 
 /// Reads a rule text, into a definition with tables or without any, and times that.
-pub fn build<T: Id>(
-    rt: &HostRuntime,
-    rules: &str,
-    tables: bool,
-) -> Result<(Definition<T>, Duration), Fault> {
+pub fn build(rt: &HostRuntime, rules: &str, tables: bool) -> Result<(Definition, Duration), Fault> {
     let begin = Instant::now(rt)?;
     let built = if tables {
-        Definition::<T>::from_str(rt.alloc(), rules)?
+        Definition::from_str(rt.alloc(), rules)?
     } else {
         let nothing = Budget::new(0, 0);
-        Definition::<T>::new_with_budget(rt.alloc(), rules, UNSPECIFIED_LEX_FLAGS, nothing)?
+        Definition::new_with_budget(rt.alloc(), rules, UNSPECIFIED_LEX_FLAGS, nothing)?
     };
     let took = begin.elapsed(rt)?;
     match built {
@@ -57,7 +53,7 @@ pub fn build<T: Id>(
 }
 
 /// The place, in bytes, up to which the text was lexed.
-fn end_of<T: Id>(run: &LexRun<'_, '_, DefaultLexerTypes<T>>) -> usize {
+fn end_of(run: &LexRun<'_, '_, DefaultLexerTypes<u32>>) -> usize {
     if run.boundaries() > 0 {
         run.place(run.tiles())
     } else {
@@ -66,7 +62,7 @@ fn end_of<T: Id>(run: &LexRun<'_, '_, DefaultLexerTypes<T>>) -> usize {
 }
 
 /// What the run counts.
-fn counts_of<T: Id>(run: &LexRun<'_, '_, DefaultLexerTypes<T>>) -> Counts {
+fn counts_of(run: &LexRun<'_, '_, DefaultLexerTypes<u32>>) -> Counts {
     Counts {
         end: end_of(run),
         lexemes: run.items().iter().filter(|item| item.is_ok()).count(),
@@ -77,9 +73,9 @@ fn counts_of<T: Id>(run: &LexRun<'_, '_, DefaultLexerTypes<T>>) -> Counts {
 }
 
 /// Lexes the text once by `run`. The time, in nanoseconds, and what the run counts.
-fn time_run<T: Id>(
+fn time_run(
     rt: &HostRuntime,
-    definition: &Definition<T>,
+    definition: &Definition,
     text: &str,
 ) -> Result<(u128, Counts), Fault> {
     let begin = Instant::now(rt)?;
@@ -89,11 +85,7 @@ fn time_run<T: Id>(
 }
 
 /// Lexes the text once by `lexer`, which finds its lines too. The time, in nanoseconds.
-fn time_lexer<T: Id>(
-    rt: &HostRuntime,
-    definition: &Definition<T>,
-    text: &str,
-) -> Result<u128, Fault> {
+fn time_lexer(rt: &HostRuntime, definition: &Definition, text: &str) -> Result<u128, Fault> {
     let begin = Instant::now(rt)?;
     let _lexer = definition.lexer(rt.alloc(), text)?;
     let took = begin.elapsed(rt)?;
@@ -109,9 +101,9 @@ fn time_lines(rt: &HostRuntime, text: &str) -> Result<u128, Fault> {
 }
 
 /// So many times `run`: the times, and what the last run counts.
-fn time_runs<T: Id>(
+fn time_runs(
     rt: &HostRuntime,
-    definition: &Definition<T>,
+    definition: &Definition,
     text: &str,
     times: u32,
 ) -> Result<(Spread, Counts), Fault> {
@@ -126,9 +118,9 @@ fn time_runs<T: Id>(
 }
 
 /// So many times `run`, without the counts.
-pub fn run_times<T: Id>(
+pub fn run_times(
     rt: &HostRuntime,
-    definition: &Definition<T>,
+    definition: &Definition,
     text: &str,
     times: u32,
 ) -> Result<Spread, Fault> {
@@ -137,9 +129,9 @@ pub fn run_times<T: Id>(
 }
 
 /// So many times `lexer`.
-fn lexer_times<T: Id>(
+fn lexer_times(
     rt: &HostRuntime,
-    definition: &Definition<T>,
+    definition: &Definition,
     text: &str,
     times: u32,
 ) -> Result<Spread, Fault> {
@@ -160,9 +152,9 @@ fn lines_times(rt: &HostRuntime, text: &str, times: u32) -> Result<Spread, Fault
 }
 
 /// Prints the sizes of the text and of the definition.
-fn tell_sizes<T: Id>(
+fn tell_sizes(
     rt: &HostRuntime,
-    definition: &Definition<T>,
+    definition: &Definition,
     built: Duration,
     text: &str,
 ) -> Result<(), Fault> {
@@ -212,9 +204,9 @@ fn tell_bytes(rt: &HostRuntime, name: &str, spread: Spread, bytes: usize) -> Res
 }
 
 /// Lexes the text so many times by `run` and by `lexer`, finds its lines as often, and prints what that took.
-pub fn tell_run<T: Id>(
+pub fn tell_run(
     rt: &HostRuntime,
-    definition: &Definition<T>,
+    definition: &Definition,
     built: Duration,
     text: &str,
     times: u32,
