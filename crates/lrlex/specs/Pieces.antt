@@ -1,5 +1,5 @@
 -- The whole text as it was cut, with what each piece is called.
-use Rattle.std.specs.Prelude.{◌≡◌, ℕ, ◌+◌, false, List, [], length, option_map, Some, slice_get, slice_range}
+use Rattle.std.specs.Prelude.{◌≡◌, ◌↔◌, ℕ, ◌+◌, ◌-◌, ◌<◌, ◌≤◌, false, List, [], length, option_map, Some, slice_get, slice_range}
 use Rattle.lrlex_base.specs.Spans.{span, as_span}
 use Rattle.lrlex_rules.specs.Definition.{Definition}
 use Rattle.lrlex.specs.Active.{is_state, rule_at}
@@ -24,3 +24,22 @@ pub record AreTiles (d : Definition) (text : List ℕ) (bounds : List Boundary) 
 pub record ArePieces (d : Definition) (text : List ℕ) (bounds : List Boundary) (ps : List Piece) : Type 0 where
   pub tiles : (found : List Item) (h : IsLexed d text found bounds) → AreTiles d text bounds h.cut ps
   pub stateless : is_state d 0 ≡ false → ps ≡ []
+
+-- these are tiles of the run in a row, the first of them at this boundary
+pub record AreTilesOfRun (d : Definition) (text : List ℕ) (bounds : List Boundary) (first : ℕ) (ps : List Piece) : Type 0 where
+  pub within : first + length ps ≤ length bounds - 1
+  pub each : (found : List Item) (h : IsLexed d text found bounds) (k : ℕ) (t : Tile) (p : Piece) →
+      slice_get h.cut (first + k) ≡ Some t → slice_get ps k ≡ Some p → IsPiece d text (boundary_at bounds (first + k)).place t p
+
+-- some byte of from..to is one of begin..end
+pub record HasByteIn (from to begin end : ℕ) : Type 0 where
+  pub byte : ℕ
+  pub in_part : (from ≤ byte) × (byte < to)
+  pub in_tile : (begin ≤ byte) × (byte < end)
+
+-- the pieces of a part of a run: tiles in a row, and of all tiles exactly these have a byte in from..to
+pub record ArePiecesIn (d : Definition) (text : List ℕ) (bounds : List Boundary) (from to : ℕ) (ps : List Piece) : Type 0 where
+  pub first : ℕ
+  pub tiles : AreTilesOfRun d text bounds first ps
+  pub exactly : (k : ℕ) → k + 1 < length bounds →
+      HasByteIn from to (boundary_at bounds k).place (boundary_at bounds (k + 1)).place ↔ ((first ≤ k) × (k < first + length ps))

@@ -26,3 +26,17 @@ pub fn typed(
     document.edit(alloc, at, at, keys)?;
     Ok(document.place(at.saturating_add(keys.len())))
 }
+
+/// The part of a document that a window shows: each piece that has a byte in `from..to`, with its rule's name as above.
+pub fn visible<'d, 't>(
+    alloc: Global,
+    document: &'t Document<'d, DefaultLexerTypes<u32>>,
+    from: usize,
+    to: usize,
+) -> Result<Vec<(&'d str, &'t str)>, AllocError> {
+    let mut parts = Vec::new(alloc);
+    for piece in &document.pieces_in(alloc, from, to)? {
+        parts.push((piece.name.unwrap_or(""), piece.text))?;
+    }
+    Ok(parts)
+}

@@ -4,7 +4,7 @@ ghost use Rattle.lrlex_base.specs.Edits.{edited};
 ghost use Rattle.lrlex_base.specs.Places.{place_of};
 ghost use Rattle.lrlex_base.specs.Spans.{Fits, span, span_start, span_end};
 ghost use Rattle.lrlex.specs.Nearest.{IsNearest, FitsAt};
-ghost use Rattle.lrlex.specs.Pieces.{ArePieces};
+ghost use Rattle.lrlex.specs.Pieces.{ArePieces, ArePiecesIn};
 ghost use Rattle.lrlex.specs.Ran.{IsRunOf, HasItemLaws};
 ghost use Rattle.lrlex.specs.Relexed.{WasRelexed};
 ghost use Rattle.lrlex.specs.Utf16.{utf16_position};
@@ -14,7 +14,7 @@ ghost use Rattle.lrlex.specs.declared.lexer.document.EditError.TheVariants.{Does
 use crate::errors::LRLexError;
 use crate::lexer::boundaries::Boundaries;
 use crate::lexer::definition::LRNonStreamingLexerDef;
-use crate::lexer::pieces::{Piece, pieces_of};
+use crate::lexer::pieces::{Piece, pieces_in, pieces_of};
 use crate::lexer::relexing::{Old, relexed};
 use crate::lexer::run::LexRun;
 use crate::lexer::telling::{place_of, text_of, utf16_position};
@@ -206,6 +206,27 @@ impl<'lexer, L: LexerTypes<LexErrorT = LRLexError>> Document<'lexer, L> {
             self.now.boundaries pieces.items) }
     {
         pieces_of(alloc, self.definition, &self.text, &self.boundaries)
+    }
+
+    /// The pieces that have a byte in `from..to` (`LexRun::pieces_in`).
+    pub fn pieces_in(
+        &self,
+        alloc: Global,
+        from: usize,
+        to: usize,
+    ) -> Result<Vec<Piece<'lexer, '_>>, AllocError>
+        ensures { IfOk result (λ pieces. ArePiecesIn
+            (definition_of L.StorageT.number self.now.definition) self.now.text
+            self.now.boundaries from to pieces.items) }
+    {
+        pieces_in(
+            alloc,
+            self.definition,
+            &self.text,
+            &self.boundaries,
+            from,
+            to,
+        )
     }
 
     /// How many tiles the text was cut into.

@@ -1,14 +1,16 @@
 //! The whole text as it was cut.
-ghost use Rattle.std.specs.Prelude.{ℕ, ◌≡◌, ◌+◌, ◌<◌, ◌≤◌, List, IfOk, IsCharBoundary, drop, length, vec_len};
+ghost use Rattle.std.specs.Prelude.{ℕ, ◌≡◌, ◌+◌, ◌<◌, ◌≤◌, true, List, IfOk, IsCharBoundary, drop, length, vec_len};
+ghost use Rattle.lrlex.specs.Active.{is_state};
 ghost use Rattle.lrlex.specs.AtHand.{AreOf, IsSearcherOf};
-ghost use Rattle.lrlex.specs.Pieces.{IsPiece, ArePieces};
-ghost use Rattle.lrlex.specs.Reach.{IsRun};
+ghost use Rattle.lrlex.specs.Pieces.{IsPiece, AreTilesOfRun, ArePieces, ArePiecesIn};
+ghost use Rattle.lrlex.specs.Reach.{IsLexed, IsRun};
 ghost use Rattle.lrlex.specs.Tiling.{Item, Wins};
 ghost use Rattle.lrlex.specs.Views.{definition_of};
 
 use crate::errors::LRLexError;
 use crate::lexer::boundaries::Boundaries;
 use crate::lexer::definition::{LRNonStreamingLexerDef, RulesIn};
+use crate::lexer::resuming::up_to;
 use crate::lexer::run::LexRun;
 use crate::lexer::searching::{Searcher, Tile};
 use crate::lexer::stack::top_of;
@@ -76,7 +78,40 @@ fn piece_of<'d, 't, L: LexerTypes<LexErrorT = LRLexError>>(
     }
 }
 
-/// The tiles between these boundaries of the text, in order.
+/// The tiles between two boundaries, in order.
+fn pieces_between<'d, 't, L: LexerTypes<LexErrorT = LRLexError>>(
+    alloc: Global,
+    definition: &'d LRNonStreamingLexerDef<L>,
+    text: &'t str,
+    boundaries: &Boundaries,
+    first: usize,
+    last: usize,
+) -> Result<Vec<Piece<'d, 't>>, AllocError>
+    requires initial { is_state (definition_of L.StorageT.number definition.now) 0 ≡ true }
+    requires lexed { (found : List Item) × IsLexed (definition_of L.StorageT.number definition.now)
+        text.now found boundaries.now }
+    requires order { first ≤ last }
+    requires within { last < length boundaries.now }
+    ensures tiles { IfOk result (λ pieces. AreTilesOfRun
+        (definition_of L.StorageT.number definition.now) text.now boundaries.now first pieces.items) }
+    ensures many { IfOk result (λ pieces. first + vec_len pieces ≡ last) }
+{
+    let mut pieces = Vec::with_capacity(alloc, last - first)?;
+    let mut searcher = Searcher::new(alloc, definition, text)?;
+    let mut here = definition.rules_in(0);
+    let mut place = boundaries.place(first);
+    'tiles: for index in first..last {
+        let state = top_of(boundaries.stack(index));
+        here = definition.rules_at(here, state);
+        let rest = &text[place..];
+        let tile = tile_of(alloc, definition, state, here, &mut searcher, place, rest)?;
+        pieces.push(piece_of(definition, text, place, tile))?;
+        place += tile.len;
+    }
+    Ok(pieces)
+}
+
+/// The tiles of the text, in order.
 pub(crate) fn pieces_of<'d, 't, L: LexerTypes<LexErrorT = LRLexError>>(
     alloc: Global,
     definition: &'d LRNonStreamingLexerDef<L>,
@@ -91,20 +126,31 @@ pub(crate) fn pieces_of<'d, 't, L: LexerTypes<LexErrorT = LRLexError>>(
     if !definition.is_state(0) {
         return Ok(Vec::new(alloc));
     }
-    let tiles = boundaries.len().saturating_sub(1);
-    let mut pieces = Vec::with_capacity(alloc, tiles)?;
-    let mut searcher = Searcher::new(alloc, definition, text)?;
-    let mut here = definition.rules_in(0);
-    let mut place = 0;
-    'tiles: for index in 0..tiles {
-        let state = top_of(boundaries.stack(index));
-        here = definition.rules_at(here, state);
-        let rest = &text[place..];
-        let tile = tile_of(alloc, definition, state, here, &mut searcher, place, rest)?;
-        pieces.push(piece_of(definition, text, place, tile))?;
-        place += tile.len;
+    let last = boundaries.len() - 1;
+    pieces_between(alloc, definition, text, boundaries, 0, last)
+}
+
+/// The tiles that have a byte in `from..to`, in order.
+pub(crate) fn pieces_in<'d, 't, L: LexerTypes<LexErrorT = LRLexError>>(
+    alloc: Global,
+    definition: &'d LRNonStreamingLexerDef<L>,
+    text: &'t str,
+    boundaries: &Boundaries,
+    from: usize,
+    to: usize,
+) -> Result<Vec<Piece<'d, 't>>, AllocError>
+    requires { (found : List Item) × IsRun (definition_of L.StorageT.number definition.now) text.now
+        found boundaries.now }
+    ensures { IfOk result (λ pieces. ArePiecesIn
+        (definition_of L.StorageT.number definition.now) text.now boundaries.now from to
+        pieces.items) }
+{
+    if from >= to || !definition.is_state(0) {
+        return Ok(Vec::new(alloc));
     }
-    Ok(pieces)
+    let first = up_to(boundaries, from) - 1;
+    let last = up_to(boundaries, to - 1).min(boundaries.len() - 1);
+    pieces_between(alloc, definition, text, boundaries, first, last)
 }
 
 impl<'lexer, 'input, L: LexerTypes<LexErrorT = LRLexError>> LexRun<'lexer, 'input, L> {
@@ -116,5 +162,29 @@ impl<'lexer, 'input, L: LexerTypes<LexErrorT = LRLexError>> LexRun<'lexer, 'inpu
             self.now.boundaries pieces.items) }
     {
         pieces_of(alloc, self.definition, self.text, &self.boundaries)
+    }
+
+    /// The pieces that have a byte in `from..to`, in order, such as those of the lines that an editor shows. Each is whole: the
+    /// first may begin before `from`, and the last end behind `to`. Any numbers will do: past the text's end there are none,
+    /// nor where `from` isn't before `to`. Both ends are found by halving, so it takes time for the rules and for what the
+    /// tiles of these pieces look at, and none for the rest of the text.
+    pub fn pieces_in(
+        &self,
+        alloc: Global,
+        from: usize,
+        to: usize,
+    ) -> Result<Vec<Piece<'lexer, 'input>>, AllocError>
+        ensures { IfOk result (λ pieces. ArePiecesIn
+            (definition_of L.StorageT.number self.now.definition) self.now.text
+            self.now.boundaries from to pieces.items) }
+    {
+        pieces_in(
+            alloc,
+            self.definition,
+            self.text,
+            &self.boundaries,
+            from,
+            to,
+        )
     }
 }
