@@ -12,7 +12,7 @@ use Rattle.lrlex.specs.Tiling.{Item, top}
 use Rattle.lrlex.specs.Entries.{plain}
 use Rattle.lrlex.specs.Boundaries.{Boundary, no_boundary, boundary_at}
 use Rattle.lrlex.specs.Reach.{IsLexed}
-use Rattle.lrlex.specs.Decided.{IsDecided, IsDecidedAt, AreDecided, LooksAhead, IsSafe, HasLooked, capped}
+use Rattle.lrlex.specs.Kept.{IsDecided, IsDecidedAt, AreDecided, LooksAhead, IsSafe, HasLooked, capped}
 use Rattle.lrlex.proofs.DecidedLemmas.{decided_more, decided_kept}
 
 module _ (d : Definition) (text : List ℕ) where

@@ -5,7 +5,7 @@ use Rattle.lrlex_rules.specs.Definition.{Definition}
 use Rattle.lrlex.specs.Active.{is_state}
 use Rattle.lrlex.specs.Boundaries.{Boundary}
 use Rattle.lrlex.specs.Reach.{Reached}
-use Rattle.lrlex.specs.Decided.{HasLooked}
+use Rattle.lrlex.specs.Kept.{HasLooked}
 use Rattle.lrlex.specs.Views.{items_by}
 use Rattle.lrlex.specs.declared.errors.LRLexError.{LRLexError}
 use Rattle.lrlex.proofs.AheadLemmas.{looked_start}

@@ -10,9 +10,9 @@ use Rattle.lrlex_table.specs.Decided.{IsText}
 use Rattle.lrlex.specs.Active.{is_state}
 use Rattle.lrlex.specs.Tiling.{Item}
 use Rattle.lrlex.specs.Boundaries.{Boundary, no_boundary, boundary_at}
-use Rattle.lrlex.specs.Edits.{begins_before}
+use Rattle.lrlex.specs.Moves.{begins_before}
 use Rattle.lrlex.specs.Reach.{IsLexed}
-use Rattle.lrlex.specs.Decided.{IsDecidedAt, AreDecided, LooksAhead, IsSafe, HasLooked, GoesOn}
+use Rattle.lrlex.specs.Kept.{IsDecidedAt, AreDecided, LooksAhead, IsSafe, HasLooked, GoesOn}
 use Rattle.lrlex.proofs.PeakLemmas.{tiles_are}
 use Rattle.lrlex.proofs.SpliceLemmas.{AtBoundary, in_order}
 use Rattle.lrlex.proofs.ResumeLemmas.{alike-edited, first_boundary, goes_on_from}

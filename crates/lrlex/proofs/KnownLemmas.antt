@@ -9,7 +9,7 @@ use Rattle.lrlex.specs.Active.{is_state}
 use Rattle.lrlex.specs.Tiling.{Item, Item-set, End, IsTiling, stack_past, items, boundaries}
 use Rattle.lrlex.specs.Entries.{Differ, AreEntries}
 use Rattle.lrlex.specs.Boundaries.{Boundary, place_and_stack, no_boundary, boundary_at}
-use Rattle.lrlex.specs.Edits.{AreSorted}
+use Rattle.lrlex.specs.Moves.{AreSorted}
 use Rattle.lrlex.specs.Reach.{IsLexed, IsRun}
 use Rattle.lrlex.specs.Tiling.{Tile}
 use Rattle.lrlex.proofs.BestLemmas.{HasTiling, a_tiling}

@@ -3,7 +3,7 @@ use Rattle.std.proofs.Common.{◌≡◌, ℕ, ◌<◌, List, [], ◌∷◌, ◌+
 use Rattle.std.proofs.lemmas.List.{length-map, map-append, get_or_append_left, get_or_push}
 use Rattle.std.proofs.lemmas.List.Elements.{All-head, All-tail}
 use Rattle.std.specs.declared.alloc.Global.{Global}
-use Rattle.lrlex.specs.Tables.{list_in}
+use Rattle.lrlex.specs.StateTables.{list_in}
 
 -- the lists that were there stay where they are
 pub list_in_front : (lists : List (Vec ℕ Global)) (places : Vec ℕ Global) (i : ℕ) → i < length lists →

@@ -11,9 +11,9 @@ use Rattle.lrlex_rules.specs.Definition.{Definition}
 use Rattle.lrlex.specs.Tiling.{Item, boundaries, rebased, asked_at}
 use Rattle.lrlex.specs.Entries.{plain}
 use Rattle.lrlex.specs.Boundaries.{Boundary, place_and_stack, no_boundary, boundary_at}
-use Rattle.lrlex.specs.Edits.{IsMovable, IsMovableBoundary, begins_before, items_from, moved_boundary, Meets}
+use Rattle.lrlex.specs.Moves.{IsMovable, IsMovableBoundary, begins_before, items_from, moved_boundary, Meets}
 use Rattle.lrlex.specs.Reach.{Reached, IsLexed, searches}
-use Rattle.lrlex.specs.Decided.{IsSafe}
+use Rattle.lrlex.specs.Kept.{IsSafe}
 use Rattle.lrlex.proofs.TailLemmas.{tail_tiling}
 use Rattle.lrlex_base.specs.Spans.{span}
 use Rattle.lrlex_base.specs.Edits.{edited}

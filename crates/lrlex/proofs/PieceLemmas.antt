@@ -9,7 +9,7 @@ use Rattle.lrlex_table.specs.Decided.{IsText}
 use Rattle.lrlex.specs.Active.{is_state, rule_at}
 use Rattle.lrlex.specs.Boundaries.{Boundary, boundary_at}
 use Rattle.lrlex.specs.Pieces.{IsPiece, HasByteIn}
-use Rattle.lrlex.specs.Edits.{AreSorted}
+use Rattle.lrlex.specs.Moves.{AreSorted}
 use Rattle.lrlex.specs.Reach.{IsLexed}
 use Rattle.lrlex.specs.Entries.{plain}
 use Rattle.lrlex.specs.Tiling.{Item, Tile, Wins, top, stack_past}

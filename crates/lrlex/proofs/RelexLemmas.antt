@@ -4,7 +4,7 @@ use Rattle.std.specs.Bool.{Decides}
 use Rattle.std.proofs.lemmas.Bool.{eqb-true}
 use Rattle.std.proofs.lemmas.List.{length-drop, get_or-drop, map_more, get_or_at}
 use Rattle.lrlex.specs.Boundaries.{Boundary, no_boundary, boundary_at, last_entries}
-use Rattle.lrlex.specs.Edits.{IsMovableBoundary}
+use Rattle.lrlex.specs.Moves.{IsMovableBoundary}
 
 -- ---- the same pairs
 

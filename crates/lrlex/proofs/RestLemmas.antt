@@ -4,7 +4,7 @@ use Rattle.lrlex_rules.specs.Definition.{Definition}
 use Rattle.lrlex.specs.Tiling.{Item, IsTiling, HasOneTiling, items, moved}
 use Rattle.lrlex.specs.Entries.{plain}
 use Rattle.lrlex.specs.Boundaries.{Boundary}
-use Rattle.lrlex.specs.Edits.{items_from}
+use Rattle.lrlex.specs.Moves.{items_from}
 use Rattle.lrlex.specs.Reach.{IsLexed}
 use Rattle.lrlex.proofs.TilingLemmas.{one_tiling}
 use Rattle.lrlex.proofs.TailLemmas.{tail_tiling, items_moved}

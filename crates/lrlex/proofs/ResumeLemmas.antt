@@ -13,9 +13,9 @@ use Rattle.lrlex.specs.Active.{is_state}
 use Rattle.lrlex.specs.Tiling.{Tile, Item, Lexeme, Error, rebased, End, top, IsTaken, stack_past, IsTiling, tile_items, items, lexemes, boundaries}
 use Rattle.lrlex.specs.Entries.{plain, AreEntries}
 use Rattle.lrlex.specs.Boundaries.{Boundary, place_and_stack, no_boundary, boundary_at}
-use Rattle.lrlex.specs.Edits.{begins_before}
+use Rattle.lrlex.specs.Moves.{begins_before}
 use Rattle.lrlex.specs.Reach.{Reached, IsLexed}
-use Rattle.lrlex.specs.Decided.{IsDecidedAt, AreDecided, items_before, GoesOn, BeginAlike}
+use Rattle.lrlex.specs.Kept.{IsDecidedAt, AreDecided, items_before, GoesOn, BeginAlike}
 use Rattle.lrlex.proofs.TilingLemmas.{Wins-le}
 use Rattle.lrlex.proofs.TailLemmas.{tail_tiling}
 use Rattle.lrlex.proofs.BestLemmas.{a_tiling}

@@ -23,7 +23,7 @@ use Rattle.lrlex_table.specs.declared.tables.Part.{Part}
 use Rattle.lrlex_table.specs.declared.tables.Tables.{Tables}
 use Rattle.lrlex_table.specs.declared.walk.Tile.{Tile}
 use Rattle.lrlex_table.proofs.ForCallers.{serves_alike}
-use Rattle.lrlex.specs.Tables.{list_in, pattern_in, patterns_on, AreServed}
+use Rattle.lrlex.specs.StateTables.{list_in, pattern_in, patterns_on, AreServed}
 use Rattle.lrlex.specs.Active.{is_active, active_places, taken, taken_by_any, rule_at, no_rule}
 use Rattle.lrlex.specs.Ids.{with_own_id}
 use Rattle.lrlex.specs.Tiling.{Wins, IsStuck}

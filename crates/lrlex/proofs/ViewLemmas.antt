@@ -13,7 +13,7 @@ use Rattle.lrlex_rules.specs.Patterns.{match_length, pattern_of}
 use Rattle.lrlex.specs.Active.{is_active, taken_by, taken_by_any, no_rule, rule_at}
 use Rattle.lrlex_rules.specs.Parts.{RuleParts, as_rule, as_state}
 use Rattle.lrlex.specs.Views.{definition_of}
-use Rattle.lrlex.specs.Tables.{ArePlaced}
+use Rattle.lrlex.specs.StateTables.{ArePlaced}
 use Rattle.lrlex.specs.declared.lexer.definition.LRNonStreamingLexerDef.{LRNonStreamingLexerDef}
 use Rattle.lrlex_rules.specs.declared.states.StartState as start
 

@@ -8,7 +8,7 @@ use Rattle.std.proofs.lemmas.List.Elements.{All-append, All-cons, All-nil, All-w
 use Rattle.lrlex_rules.specs.Definition.{Definition}
 use Rattle.lrlex.specs.Active.{rule_at, lexeme_id}
 use Rattle.lrlex.specs.Tiling.{Item, Lexeme, Error, Tile, End, Done, NoMatch, NoId, NoTarget, stack_past, IsTiling, lexeme_of, tile_items, items, boundaries, lexemes}
-use Rattle.lrlex.specs.Edits.{IsMovable, begins_before, items_from}
+use Rattle.lrlex.specs.Moves.{IsMovable, begins_before, items_from}
 use Rattle.lrlex.proofs.TilingLemmas.{Wins-le}
 use Rattle.lrlex.proofs.TailLemmas.{tail_tiling}
 

@@ -5,8 +5,8 @@ use Rattle.lrlex_rules.specs.Parts.{as_state}
 use Rattle.lrlex_table.specs.declared.tables.Tables.{Tables}
 use Rattle.lrlex.specs.Tiling.{top}
 use Rattle.lrlex.specs.Boundaries.{Boundary, place_and_stack}
-use Rattle.lrlex.specs.Edits.{Meets}
-use Rattle.lrlex.specs.Decided.{IsSafe}
+use Rattle.lrlex.specs.Moves.{Meets}
+use Rattle.lrlex.specs.Kept.{IsSafe}
 use Rattle.lrlex.specs.declared.lexer.definition.LRNonStreamingLexerDef.{LRNonStreamingLexerDef}
 
 -- the tables of the first state with the id

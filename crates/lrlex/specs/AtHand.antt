@@ -3,10 +3,10 @@ use Rattle.std.specs.Prelude.{◌≡◌, ℕ, ◌+◌, ◌≤◌, List, MatchOpt
 use Rattle.lrlex_rules.specs.Definition.{Definition}
 use Rattle.lrlex_table.specs.Tables.{AreTablesOf}
 use Rattle.lrlex.specs.Active.{active_count, active_places}
-use Rattle.lrlex.specs.Decided.{IsDecided}
+use Rattle.lrlex.specs.Kept.{IsDecided}
 use Rattle.lrlex.specs.Tiling.{IsStuck, Wins}
 use Rattle.lrlex_rules.specs.Matchers.{AreMatchers}
-use Rattle.lrlex.specs.Tables.{patterns_on}
+use Rattle.lrlex.specs.StateTables.{patterns_on}
 use Rattle.lrlex.specs.Asked.{untabled_count}
 use Rattle.lrlex.specs.Views.{definition_of}
 use Rattle.lrlex.specs.declared.lexer.definition.LRNonStreamingLexerDef.{LRNonStreamingLexerDef}

@@ -3,8 +3,8 @@ use Rattle.std.specs.Prelude.{◌≡◌, ℕ, ◌+◌, ◌-◌, ◌*◌, ◌<◌
 use Rattle.lrlex_base.specs.Spans.{Span}
 use Rattle.lrlex.specs.Active.{is_state}
 use Rattle.lrlex.specs.Asked.{asks, WasCutAnew}
-use Rattle.lrlex.specs.Decided.{IsSafe}
-use Rattle.lrlex.specs.Edits.{Meets}
+use Rattle.lrlex.specs.Kept.{IsSafe}
+use Rattle.lrlex.specs.Moves.{Meets}
 use Rattle.lrlex.specs.Boundaries.{Boundary}
 use Rattle.lrlex.specs.Ran.{Ran}
 use Rattle.lrlex.specs.Reach.{searches}

@@ -5,8 +5,8 @@ use Rattle.lrlex_base.specs.declared.spans.Span.{Span}
 use Rattle.lrlex_rules.specs.declared.states.StartStateOperation.{StartStateOperation}
 use Rattle.lrlex_rules.specs.Definition.{Definition}
 use Rattle.lrlex.specs.Asked.{IsLastSafe, untabled_count}
-use Rattle.lrlex.specs.Decided.{AreRaised, HasLooked, IsSafe, capped}
-use Rattle.lrlex.specs.Edits.{items_from, moved_boundary}
+use Rattle.lrlex.specs.Kept.{AreRaised, HasLooked, IsSafe, capped}
+use Rattle.lrlex.specs.Moves.{items_from, moved_boundary}
 use Rattle.lrlex.specs.Boundaries.{Boundary, boundary_at}
 use Rattle.lrlex.specs.Ran.{Ran}
 use Rattle.lrlex.specs.Reach.{IsLexed, Reached, searches}

@@ -1,6 +1,6 @@
 ghost use Rattle.std.specs.Prelude.{◌≡◌, ◌-◌, [], ◌∷◌, ◌++◌, IfOk, OnOk, map, take, drop};
 ghost use Rattle.lrlex_base.specs.Spans.{span_start, span_end};
-ghost use Rattle.lrlex.specs.Faults.{lex_error_span, stop_text};
+ghost use Rattle.lrlex.specs.Stops.{lex_error_span, stop_text};
 ghost use Rattle.lrlex.specs.Views.{definition_of, item_of};
 ghost use Rattle.lrlex_cli.specs.Lines.{line, lines};
 

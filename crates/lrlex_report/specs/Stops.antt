@@ -8,7 +8,7 @@ use Rattle.std.specs.Prelude.{false}
 use Rattle.lrlex_base.specs.Spans.{as_span, span_start}
 use Rattle.lrlex_rules.specs.Parts.{as_state, state_number}
 use Rattle.lrlex_rules.specs.declared.states.StartState.{StartState}
-use Rattle.lrlex.specs.Faults.{lex_error_span, lex_error_state}
+use Rattle.lrlex.specs.Stops.{lex_error_span, lex_error_state}
 use Rattle.lrlex.specs.declared.errors.LRLexError.{LRLexError}
 use Rattle.lrlex_report.specs.Places.{nearest, place_text}
 

@@ -3,7 +3,7 @@ ghost use Rattle.std.specs.List.{find, list_any, position};
 ghost use Rattle.std.specs.Option.{option_copied};
 ghost use Rattle.lrlex.specs.Active.{is_inclusive, is_active_where, active_places, lacks_id, lexeme_id};
 ghost use Rattle.lrlex_rules.specs.Parts.{as_rule, as_state};
-ghost use Rattle.lrlex.specs.Tables.{ArePlaced};
+ghost use Rattle.lrlex.specs.StateTables.{ArePlaced};
 
 use lrlex_base::Id;
 use lrlex_rules::{Rule, StartState};

@@ -1,6 +1,6 @@
 ghost use Rattle.std.specs.Prelude.{◌≡◌, ℕ, ◌+◌, ◌-◌, ◌<◌, ◌≤◌, List, All, [], ◌∷◌, ◌++◌, length, map, take, drop, nat_le, IfOk, OnOk};
 ghost use Rattle.lrlex.specs.Boundaries.{boundary_at, last_entries, most_entries};
-ghost use Rattle.lrlex.specs.Edits.{moved_boundary, IsMovableBoundary};
+ghost use Rattle.lrlex.specs.Moves.{moved_boundary, IsMovableBoundary};
 ghost use Rattle.lrlex.specs.Ranges.{AreBegun, AreRising, IsRange, entries_of, stretch_at};
 ghost use Rattle.lrlex.specs.Entries.{Stay};
 

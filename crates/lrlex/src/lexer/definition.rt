@@ -1,7 +1,7 @@
 ghost use Rattle.std.specs.Prelude.{◌≡◌, ◌<◌, All, length, map, true, IsTrue};
 ghost use Rattle.lrlex.specs.Active.{active_places, is_state, lacks_target};
 ghost use Rattle.lrlex_rules.specs.Parts.{as_rule, as_state};
-ghost use Rattle.lrlex.specs.Tables.{AreServed, ArePlaced, list_in};
+ghost use Rattle.lrlex.specs.StateTables.{AreServed, ArePlaced, list_in};
 ghost use Rattle.lrlex.specs.Ids.{HaveDistinctIds};
 
 use crate::lexer::active::{are_placed, has_state, position_of};
@@ -97,7 +97,7 @@ impl<L: LexerTypes> LRNonStreamingLexerDef<L> {
     ghost use Rattle.lrlex.specs.Views.{definition_of, definition_tables};
     ghost use Rattle.std.specs.Prelude.{Some, option_map, slice_get, IfOk, ◌^◌};
     ghost use Rattle.lrlex_table.specs.Tables.{AreTablesOf};
-    ghost use Rattle.lrlex.specs.Tables.{patterns_on, count_of_tables, count_of_rows, count_of_asked};
+    ghost use Rattle.lrlex.specs.StateTables.{patterns_on, count_of_tables, count_of_rows, count_of_asked};
     ghost use Rattle.lrlex.specs.AtHand.{AreOf};
     ghost use Rattle.lrlex.specs.Asked.{untabled_count};
     ghost use Rattle.lrlex.specs.Ids.{name_of};

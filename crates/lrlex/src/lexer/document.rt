@@ -60,7 +60,7 @@ impl<'lexer, L: LexerTypes<LexErrorT = LRLexError>> Model for Document<'lexer, L
     ghost use Rattle.regex_hir.specs.contracts.hir.Hir as hir;
     ghost use Rattle.lrlex_base.specs.Places.{AreBreaksOf};
     ghost use Rattle.lrlex.specs.Reach.{IsRun};
-    ghost use Rattle.lrlex.specs.Decided.{LooksAhead};
+    ghost use Rattle.lrlex.specs.Kept.{LooksAhead};
     ghost use Rattle.lrlex.specs.Views.{definition_of, items_by};
     ghost use Rattle.lrlex.specs.Ran.{Ran};
     ghost use Rattle.lrlex.specs.declared.errors.LRLexError.{LRLexError};

@@ -7,7 +7,7 @@ ghost use Rattle.lrlex.specs.Tiling.{Item, IsTiling, HasOneTiling, boundaries, i
 ghost use Rattle.lrlex.specs.Entries.{plain};
 ghost use Rattle.lrlex.specs.Boundaries.{Boundary, most_entries, most_entry_count};
 ghost use Rattle.lrlex.specs.Peaks.{pushes};
-ghost use Rattle.lrlex.specs.Edits.{items_from};
+ghost use Rattle.lrlex.specs.Moves.{items_from};
 ghost use Rattle.lrlex.specs.Reach.{IsLexed};
 ghost use Rattle.lrlex.specs.Utf16.{units};
 

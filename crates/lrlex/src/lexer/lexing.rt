@@ -6,7 +6,7 @@ ghost use Rattle.lrlex.specs.Tiling.{Error, top, stack_after, lexeme_of};
 ghost use Rattle.lrlex.specs.Entries.{plain, AreEntries};
 ghost use Rattle.lrlex.specs.Boundaries.{Boundary, last_entries};
 ghost use Rattle.lrlex.specs.Reach.{Reached, IsLexed, searches};
-ghost use Rattle.lrlex.specs.Decided.{HasLooked, capped};
+ghost use Rattle.lrlex.specs.Kept.{HasLooked, capped};
 ghost use Rattle.lrlex.specs.AtHand.{AreOf, IsSearcherOf};
 ghost use Rattle.lrlex.specs.Views.{definition_of, item_of, items_by};
 ghost use Rattle.lrlex.specs.UnderWay.{HasAdvanced, HasEnded, HasEntered, HasSearched, IsUnderWay};

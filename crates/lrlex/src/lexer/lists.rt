@@ -2,7 +2,7 @@
 ghost use Rattle.std.specs.Prelude.{◌≡◌, ◌<◌, ◌≤◌, ℕ, All, map, length, IfOk, IfSome};
 ghost use Rattle.lrlex_rules.specs.Parts.{as_rule, as_state};
 ghost use Rattle.lrlex.specs.Active.{active_places};
-ghost use Rattle.lrlex.specs.Tables.{list_in};
+ghost use Rattle.lrlex.specs.StateTables.{list_in};
 
 use crate::lexer::active::active_places;
 use lrlex_rules::{Rule, StartState};

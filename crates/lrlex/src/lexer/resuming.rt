@@ -8,11 +8,11 @@ ghost use Rattle.lrlex.specs.Tiling.{Item};
 ghost use Rattle.lrlex.specs.Boundaries.{Boundary, boundary_at};
 ghost use Rattle.lrlex.specs.Reach.{IsLexed, IsRun, Reached};
 ghost use Rattle.lrlex.specs.Asked.{IsLastSafe};
-ghost use Rattle.lrlex.specs.Decided.{IsDecided, IsDecidedAt, AreDecided, LooksAhead, IsSafe, GoesOn, BeginAlike, HasLooked, AreRaised};
-ghost use Rattle.lrlex.specs.Edits.{AreSorted};
+ghost use Rattle.lrlex.specs.Kept.{IsDecided, IsDecidedAt, AreDecided, LooksAhead, IsSafe, GoesOn, BeginAlike, HasLooked, AreRaised};
+ghost use Rattle.lrlex.specs.Moves.{AreSorted};
 ghost use Rattle.std.specs.List.Sorted.{IsPartitionedBy};
-ghost use Rattle.lrlex.specs.Edits.{begins_before};
-ghost use Rattle.lrlex.specs.Decided.{items_before};
+ghost use Rattle.lrlex.specs.Moves.{begins_before};
+ghost use Rattle.lrlex.specs.Kept.{items_before};
 ghost use Rattle.lrlex.specs.Views.{definition_of, item_of, items_by};
 ghost use Rattle.lrlex.specs.UnderWay.{HasResumed, StandsAt};
 

@@ -4,7 +4,7 @@ ghost use Rattle.lrlex.specs.Boundaries.{boundary_at, most_entries};
 ghost use Rattle.lrlex.specs.Entries.{AreEntries};
 ghost use Rattle.lrlex.specs.Reach.{Reached, IsLexed, IsRun, searches};
 ghost use Rattle.lrlex.specs.Asked.{asks};
-ghost use Rattle.lrlex.specs.Decided.{LooksAhead};
+ghost use Rattle.lrlex.specs.Kept.{LooksAhead};
 ghost use Rattle.lrlex.specs.Views.{definition_of, items_by};
 ghost use Rattle.lrlex.specs.Ran.{IsRunOf, HasItemLaws};
 ghost use Rattle.lrlex.specs.UnderWay.{HasFinished};
@@ -36,7 +36,7 @@ impl<'lexer, 'input, L: LexerTypes<LexErrorT = LRLexError>> Model for LexRun<'le
     ghost use Rattle.std.specs.Coded.{codes};
     ghost use Rattle.regex_hir.specs.contracts.hir.Hir as hir;
     ghost use Rattle.lrlex.specs.Reach.{IsRun};
-    ghost use Rattle.lrlex.specs.Decided.{LooksAhead};
+    ghost use Rattle.lrlex.specs.Kept.{LooksAhead};
     ghost use Rattle.lrlex.specs.Views.{definition_of, items_by};
     ghost use Rattle.lrlex.specs.Ran.{Ran};
     ghost use Rattle.lrlex.specs.declared.errors.LRLexError.{LRLexError};

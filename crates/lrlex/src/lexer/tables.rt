@@ -5,7 +5,7 @@ ghost use Rattle.lrlex_table.specs.Merged.{IsTableOf};
 ghost use Rattle.lrlex_table.specs.Tables.{AreSingle, ArePartsOf, AreTablesOf};
 ghost use Rattle.lrlex_rules.specs.Parts.{as_rule};
 ghost use Rattle.lrlex_rules.specs.Patterns.{pattern_of};
-ghost use Rattle.lrlex.specs.Tables.{pattern_in, patterns_on, AreServed};
+ghost use Rattle.lrlex.specs.StateTables.{pattern_in, patterns_on, AreServed};
 
 use lrlex_rules::Rule;
 use lrlex_table::{Budget, Single, Source, Table, Tables, joined_tables, table_of, tables_between};

@@ -11,7 +11,7 @@ use Rattle.lrlex.specs.Reach.{Reached}
 use Rattle.lrlex.specs.Views.{definition_of, items_by}
 use Rattle.lrlex.proofs.ViewLemmas.{rule_read}
 use Rattle.lrlex.proofs.ReachLemmas.{Reached-more, ended, entries_now, searches_now, searches-few, last_now, room_for, wins_at, something_left}
-use Rattle.lrlex.specs.Decided.{IsDecided, capped}
+use Rattle.lrlex.specs.Kept.{IsDecided, capped}
 use Rattle.lrlex.proofs.AheadLemmas.{looked_more}
 use Rattle.lrlex.proofs.lexer.lexing.advance.Goals as goal
 

@@ -2,7 +2,7 @@ use Rattle.std.proofs.Common.{◌≡◌, ◌+◌, ◌<◌, ◌∷◌, ◌++◌, 
 use Rattle.std.proofs.lemmas.List.{map-append, map_more, take_all}
 use Rattle.std.proofs.lemmas.List.Elements.{All-push}
 use Rattle.lrlex.specs.Active.{active_places}
-use Rattle.lrlex.specs.Tables.{list_in}
+use Rattle.lrlex.specs.StateTables.{list_in}
 use Rattle.lrlex_rules.specs.Parts.{as_rule, as_state}
 use Rattle.lrlex_rules.specs.declared.states.StartState.{StartState}
 use Rattle.lrlex.proofs.ListLemmas.{listed_again}

@@ -1,7 +1,7 @@
 -- The lists of the states so far.
 use Rattle.std.proofs.Common.{◌≡◌, ◌<◌, map, take, length, All}
 use Rattle.lrlex.specs.Active.{active_places}
-use Rattle.lrlex.specs.Tables.{list_in}
+use Rattle.lrlex.specs.StateTables.{list_in}
 use Rattle.lrlex_rules.specs.Parts.{as_rule, as_state}
 use Rattle.lrlex.proofs.lexer.lists.lists_for.Given as goal
 

@@ -1,5 +1,5 @@
 use Rattle.std.proofs.Common.{◌≡◌, [], ◌∷◌, ◌++◌, map, length, ap, ◌∙◌, arith}
-use Rattle.lrlex.specs.Tables.{list_in}
+use Rattle.lrlex.specs.StateTables.{list_in}
 use Rattle.lrlex.proofs.ListLemmas.{list_in_front, list_in_last}
 use Rattle.lrlex.proofs.lexer.lists.put_list.Goals as goal
 

@@ -1,7 +1,7 @@
 use Rattle.std.proofs.Common.{◌≡◌, [], map, length, option_map, refl, sym, ap, ◌∙◌, arith}
 use Rattle.std.proofs.lemmas.Slice.Eq.{bytes_eq-Decides}
 use Rattle.std.proofs.lemmas.Option.{slice_get-map, slice_get_read, get_or_from_slice_get}
-use Rattle.lrlex.specs.Tables.{list_in}
+use Rattle.lrlex.specs.StateTables.{list_in}
 use Rattle.lrlex.proofs.lexer.lists.same_list.Goals as goal
 
 pub returns-then-eq-clause-same : goal.returns-then-eq-clause-same

@@ -1,6 +1,6 @@
 use Rattle.std.proofs.Common.{sym, ap, ◌∙◌, subst, arith}
 use Rattle.std.proofs.lemmas.List.{get_or-map, length-map}
-use Rattle.lrlex.specs.Edits.{IsMovable}
+use Rattle.lrlex.specs.Moves.{IsMovable}
 use Rattle.lrlex.specs.Views.{item_of}
 use Rattle.lrlex.proofs.lexer.relexing.append_moved.Goals as goal
 

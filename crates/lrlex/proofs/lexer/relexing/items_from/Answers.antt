@@ -1,7 +1,7 @@
 use Rattle.std.proofs.Common.{rules, of_calls, ◌-◌, length, drop, map, sym, ap, ◌∙◌, arith}
 use Rattle.std.proofs.lemmas.List.{take_all, length-drop}
 use Rattle.std.proofs.lemmas.List.Sorted.{IsPartitionPoint-from_clause}
-use Rattle.lrlex.specs.Edits.{begins_before}
+use Rattle.lrlex.specs.Moves.{begins_before}
 use Rattle.lrlex.specs.Views.{item_of}
 use Rattle.lrlex.proofs.WithinLemmas.{in_order_of, from_point}
 use Rattle.lrlex.proofs.lexer.relexing.items_from.Goals as goal

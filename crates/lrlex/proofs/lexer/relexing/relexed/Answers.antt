@@ -2,14 +2,14 @@ use Rattle.std.proofs.Common.{◌≡◌, ℕ, ◌+◌, ◌-◌, ◌<◌, [], ◌
 use Rattle.lrlex.specs.Tiling.{Done, rebased}
 use Rattle.lrlex.specs.Entries.{plain, AreEntries}
 use Rattle.lrlex.specs.Boundaries.{boundary_at}
-use Rattle.lrlex.specs.Edits.{Meets, items_from, moved_boundary}
+use Rattle.lrlex.specs.Moves.{Meets, items_from, moved_boundary}
 use Rattle.lrlex.specs.Reach.{IsLexed, IsRun}
 use Rattle.lrlex.specs.AtHand.{AreOf}
 use Rattle.lrlex.specs.Views.{definition_of, items_by}
 use Rattle.std.proofs.Props.{props}
 use Rattle.std.proofs.Math.Logic.{∥∥₁_elim}
 use Rattle.std.proofs.lemmas.Result.{IfOk-weaker}
-use Rattle.lrlex.specs.Decided.{LooksAhead}
+use Rattle.lrlex.specs.Kept.{LooksAhead}
 use Rattle.lrlex.proofs.AheadLemmas.{looks_known}
 use Rattle.lrlex.proofs.RaisedLemmas.{looks_taken_over}
 use Rattle.lrlex.proofs.ReachLemmas.{ended, nothing_left, run_of, entries_now, last_now, few_searches, length_now}

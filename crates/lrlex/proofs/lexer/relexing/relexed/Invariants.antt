@@ -1,9 +1,9 @@
 use Rattle.std.proofs.Common.{◌≡◌, ℕ, ◌+◌, ◌-◌, ◌<◌, ◌≤◌, max, length, slice_range, IsCharBoundary}
 use Rattle.lrlex.specs.Reach.{Reached}
 use Rattle.lrlex.specs.Boundaries.{boundary_at}
-use Rattle.lrlex.specs.Edits.{Meets}
+use Rattle.lrlex.specs.Moves.{Meets}
 use Rattle.lrlex.specs.Asked.{asks}
-use Rattle.lrlex.specs.Decided.{HasLooked}
+use Rattle.lrlex.specs.Kept.{HasLooked}
 use Rattle.lrlex.specs.AtHand.{AreOf, IsSearcherOf}
 use Rattle.lrlex.specs.Views.{definition_of, items_by}
 use Rattle.lrlex.proofs.lexer.relexing.relexed.Given as goal

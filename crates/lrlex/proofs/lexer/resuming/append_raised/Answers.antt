@@ -2,7 +2,7 @@ use Rattle.std.proofs.Common.{◌≡◌, ℕ, ◌+◌, ◌-◌, ◌<◌, ◌≤�
 use Rattle.std.proofs.lemmas.Bool.{cases_lt}
 use Rattle.std.proofs.lemmas.List.{take_all, length-drop}
 use Rattle.lrlex.specs.Boundaries.{boundary_at}
-use Rattle.lrlex.specs.Decided.{AreRaised, capped}
+use Rattle.lrlex.specs.Kept.{AreRaised, capped}
 use Rattle.lrlex.proofs.RaisedLemmas.{enough_raised, raised_push, raised_rest}
 use Rattle.lrlex.proofs.lexer.resuming.append_raised.Goals.{in-Some, in-None}
 use Rattle.lrlex.proofs.lexer.resuming.append_raised.Goals as goal

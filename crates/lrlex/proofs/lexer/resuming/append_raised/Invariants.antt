@@ -1,4 +1,4 @@
-use Rattle.lrlex.specs.Decided.{AreRaised}
+use Rattle.lrlex.specs.Kept.{AreRaised}
 use Rattle.lrlex.proofs.lexer.resuming.append_raised.Given as goal
 
 abbrev pub invariant-near : goal.invariant-near

@@ -1,5 +1,5 @@
 use Rattle.std.specs.List.Sorted.{IsPartitionedBy}
-use Rattle.lrlex.specs.Edits.{begins_before}
+use Rattle.lrlex.specs.Moves.{begins_before}
 use Rattle.std.proofs.Common.{◌≡◌, ◌+◌, ◌-◌, ◌≤◌, length, take, sym, ap, ◌∙◌, subst, inl, inr, arith, IsCharBoundary}
 use Rattle.std.proofs.lemmas.Bool.{cases_lt}
 use Rattle.std.proofs.lemmas.List.{length-take-le, get_or-take}
@@ -7,7 +7,7 @@ use Rattle.lrlex_table.specs.Decided.{IsText}
 use Rattle.lrlex_table.proofs.ByteLemmas.{are_bytes}
 use Rattle.lrlex.specs.Boundaries.{Boundary, no_boundary, boundary_at}
 use Rattle.lrlex.specs.Reach.{Reached}
-use Rattle.lrlex.specs.Decided.{IsSafe, HasLooked, items_before}
+use Rattle.lrlex.specs.Kept.{IsSafe, HasLooked, items_before}
 use Rattle.lrlex.specs.Views.{definition_of, item_of, items_by}
 use Rattle.lrlex.proofs.KnownLemmas.{known, sorted}
 use Rattle.lrlex.proofs.AheadLemmas.{looks_known}

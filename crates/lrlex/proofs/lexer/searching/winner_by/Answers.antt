@@ -5,9 +5,9 @@ use Rattle.lrlex_rules.specs.Parts.{as_rule}
 use Rattle.lrlex_rules.specs.Patterns.{match_length}
 use Rattle.lrlex_table.specs.Tables.{IsBestAmong}
 use Rattle.lrlex_rules.specs.Matchers.{IsMatcherOf}
-use Rattle.lrlex.specs.Tables.{patterns_on, pattern_in}
+use Rattle.lrlex.specs.StateTables.{patterns_on, pattern_in}
 use Rattle.lrlex.specs.Active.{is_active}
-use Rattle.lrlex.specs.Decided.{IsDecided}
+use Rattle.lrlex.specs.Kept.{IsDecided}
 use Rattle.lrlex.specs.Tiling.{Wins}
 use Rattle.lrlex.specs.Views.{definition_of}
 use Rattle.lrlex.specs.declared.lexer.searching.Tile.{Tile}

@@ -1,7 +1,7 @@
 use Rattle.std.proofs.Common.{◌≡◌, ◌+◌}
 use Rattle.lrlex.specs.Views.{definition_of}
 use Rattle.lrlex_rules.specs.Matchers.{AreMatchers}
-use Rattle.lrlex.specs.Tables.{patterns_on}
+use Rattle.lrlex.specs.StateTables.{patterns_on}
 use Rattle.lrlex_table.specs.Tables.{IsBestAmong}
 use Rattle.lrlex.proofs.TableLemmas.{looked_at}
 use Rattle.lrlex.proofs.lexer.searching.winner_by.Given as goal

@@ -1,6 +1,6 @@
 use Rattle.std.proofs.Common.{map}
 use Rattle.lrlex_rules.specs.Parts.{as_rule}
-use Rattle.lrlex.specs.Tables.{pattern_in, patterns_on}
+use Rattle.lrlex.specs.StateTables.{pattern_in, patterns_on}
 use Rattle.lrlex.proofs.lexer.tables.+tables_from.Goals as goal
 
 pub returns-then-to-from-le-RULES_AT_ONCE-clause-tables : goal.returns-then-to-from-le-RULES_AT_ONCE-clause-tables

@@ -2,7 +2,7 @@
 use Rattle.std.proofs.Common.{◌≡◌, map, length}
 use Rattle.lrlex_table.specs.Tables.{AreSingle}
 use Rattle.lrlex_rules.specs.Parts.{as_rule}
-use Rattle.lrlex.specs.Tables.{AreServed, pattern_in}
+use Rattle.lrlex.specs.StateTables.{AreServed, pattern_in}
 use Rattle.lrlex.proofs.lexer.tables.tables_for.Given as goal
 
 abbrev pub invariant-lists : goal.invariant-lists

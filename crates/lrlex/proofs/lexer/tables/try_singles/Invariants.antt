@@ -1,7 +1,7 @@
 use Rattle.std.proofs.Common.{map}
 use Rattle.lrlex_table.specs.Tables.{AreSingle}
 use Rattle.lrlex_rules.specs.Parts.{as_rule}
-use Rattle.lrlex.specs.Tables.{pattern_in}
+use Rattle.lrlex.specs.StateTables.{pattern_in}
 use Rattle.lrlex.proofs.lexer.tables.try_singles.Given as goal
 
 abbrev pub invariant-places : goal.invariant-places

@@ -1,7 +1,7 @@
 use Rattle.std.proofs.Common.{◌≡◌, ◌+◌, ◌-◌, ◌<◌, ◌≢◌, length, take, get_or, refl, [], ◌∷◌, ◌++◌, sym, ap, ap₂, subst, ◌∙◌, arith}
 use Rattle.std.proofs.lemmas.List.{get_or_default}
 use Rattle.lrlex.specs.Boundaries.{boundary_at, last_entries}
-use Rattle.lrlex.specs.Edits.{moved_boundary}
+use Rattle.lrlex.specs.Moves.{moved_boundary}
 use Rattle.lrlex.specs.Ranges.{AreBegun, no_stretch, last_stretch, entries_of}
 use Rattle.lrlex.specs.Entries.{Stay}
 use Rattle.lrlex.specs.declared.lexer.stretch.Stretch.{Stretch}

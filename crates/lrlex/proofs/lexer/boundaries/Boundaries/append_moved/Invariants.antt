@@ -1,6 +1,6 @@
 use Rattle.std.proofs.Common.{◌≡◌, ◌+◌, ◌-◌, ◌≤◌, ◌++◌, map, take, drop}
 use Rattle.lrlex.specs.Boundaries.{boundary_at, last_entries}
-use Rattle.lrlex.specs.Edits.{moved_boundary}
+use Rattle.lrlex.specs.Moves.{moved_boundary}
 use Rattle.lrlex.specs.Ranges.{AreBegun}
 use Rattle.lrlex.proofs.lexer.boundaries.Boundaries.append_moved.Given as goal
 

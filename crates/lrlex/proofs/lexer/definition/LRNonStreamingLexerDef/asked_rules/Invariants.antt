@@ -1,5 +1,5 @@
 use Rattle.std.proofs.Common.{◌≡◌, ◌<◌, ◌^◌, take}
-use Rattle.lrlex.specs.Tables.{count_of_asked}
+use Rattle.lrlex.specs.StateTables.{count_of_asked}
 use Rattle.lrlex.proofs.lexer.definition.LRNonStreamingLexerDef.asked_rules.Given as goal
 
 abbrev pub invariant-lists : goal.invariant-lists

@@ -1,6 +1,6 @@
 use Rattle.std.proofs.Common.{◌≡◌, ◌-◌, length, slice_range, IsCharBoundary}
 use Rattle.lrlex.specs.Reach.{Reached}
-use Rattle.lrlex.specs.Decided.{HasLooked}
+use Rattle.lrlex.specs.Kept.{HasLooked}
 use Rattle.lrlex.specs.AtHand.{AreOf, IsSearcherOf}
 use Rattle.lrlex.specs.Asked.{asks}
 use Rattle.lrlex.specs.Views.{definition_of, items_by}

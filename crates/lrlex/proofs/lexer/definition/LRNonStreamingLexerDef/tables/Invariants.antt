@@ -1,5 +1,5 @@
 use Rattle.std.proofs.Common.{◌≡◌, ◌<◌, ◌^◌, take}
-use Rattle.lrlex.specs.Tables.{count_of_tables}
+use Rattle.lrlex.specs.StateTables.{count_of_tables}
 use Rattle.lrlex.proofs.lexer.definition.LRNonStreamingLexerDef.tables.Given as goal
 
 abbrev pub invariant-lists : goal.invariant-lists

@@ -1,6 +1,6 @@
 use Rattle.std.proofs.Common.{◌≡◌, map, subst}
 use Rattle.lrlex.specs.Active.{active_places}
-use Rattle.lrlex.specs.Tables.{AreServed, ArePlaced, list_in}
+use Rattle.lrlex.specs.StateTables.{AreServed, ArePlaced, list_in}
 use Rattle.lrlex_rules.specs.Parts.{as_rule, as_state}
 use Rattle.lrlex.proofs.lexer.definition.RuleTable.of_parts.Goals as goal
 

@@ -1,6 +1,6 @@
 use Rattle.std.proofs.Common.{map, length, drop, sym, ap, ◌∙◌, subst, arith}
 use mathlib.Core.Logic.{∥∥₁_map}
-use Rattle.lrlex.specs.Tables.{AreServed}
+use Rattle.lrlex.specs.StateTables.{AreServed}
 use Rattle.lrlex.proofs.TableLemmas.{served_with_ids}
 use Rattle.lrlex.specs.Active.{active_places}
 use Rattle.lrlex.specs.Ids.{ids_of, HaveDistinctIds}

@@ -4,7 +4,7 @@ use Rattle.lrlex_base.specs.Edits.{edited}
 use Rattle.lrlex_base.specs.Places.{AreBreaksOf}
 use Rattle.lrlex_base.specs.Spans.{Fits, span, as_span}
 use Rattle.lrlex.specs.Boundaries.{Boundary}
-use Rattle.lrlex.specs.Decided.{LooksAhead}
+use Rattle.lrlex.specs.Kept.{LooksAhead}
 use Rattle.lrlex.specs.Ran.{Ran, IsRunOf}
 use Rattle.lrlex.specs.Reach.{IsRun}
 use Rattle.lrlex.specs.Relexed.{WasRelexed}

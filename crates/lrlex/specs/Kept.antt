@@ -5,7 +5,7 @@ use Rattle.lrlex_table.specs.Decided.{IsText, BeginsAlike}
 use Rattle.lrlex.specs.Tiling.{Item, Tile, Wins, top}
 use Rattle.lrlex.specs.Entries.{plain}
 use Rattle.lrlex.specs.Boundaries.{Boundary, place_and_stack, boundary_at}
-use Rattle.lrlex.specs.Edits.{begins_before}
+use Rattle.lrlex.specs.Moves.{begins_before}
 use Rattle.lrlex.specs.Reach.{Reached}
 
 -- The text's first `reach` bytes decide what wins in the state: in each text with the same first `reach` bytes the same
