@@ -8,11 +8,11 @@ use std::{fmt, io};
 pub enum Fault {
     /// The words are refused.
     Usage,
-    /// The rule file can't be opened or read, or isn't UTF-8.
+    /// The rule file can't be opened or read.
     CannotReadRules,
-    /// The input can't be opened or read, or isn't UTF-8.
+    /// The input can't be opened or read.
     CannotReadInput,
-    /// The rule text has faults, which this shows.
+    /// A file isn't UTF-8, or the rule text has faults, which this shows.
     Refused(String),
     Memory,
     /// Standard input or standard output failed.

@@ -11,8 +11,9 @@ use crate::faults::Fault;
 use crate::marks::Marks;
 use crate::words::read;
 use lrlex::{DefaultLexerTypes, LRNonStreamingLexerDef, LexRun, LexerDef};
-use lrlex_report::faults_text;
+use lrlex_report::{bad_byte_text, faults_text};
 use std::alloc::{AllocError, Global};
+use std::io::Read;
 use std::process::ExitCode;
 use std::{env, fs, io};
 
@@ -73,10 +74,18 @@ fn page_of(
     }
 }
 
+/// The text of a file that has these bytes.
+fn text_of(alloc: Global, file: &str, bytes: Vec<u8>) -> Result<String, Fault> {
+    match bad_byte_text(alloc, file, &bytes)? {
+        Some(shown) => Err(Fault::Refused(shown)),
+        None => Ok(String::from_utf8(bytes).unwrap()),
+    }
+}
+
 /// The text of a file, or this fault where it can't be read.
 fn text_at(rt: &HostRuntime, path: &str, fault: Fault) -> Result<String, Fault> {
-    match fs::read_to_string(rt, path) {
-        Ok(text) => Ok(text),
+    match fs::read(rt, path) {
+        Ok(bytes) => text_of(rt.alloc(), path, bytes),
         Err(cause) if cause.kind() == io::ErrorKind::OutOfMemory => Err(Fault::Memory),
         Err(_) => Err(fault),
     }
@@ -100,7 +109,9 @@ fn show_files(rt: &HostRuntime, words: &[&str]) -> Result<(), Fault> {
 
 /// Shows what standard input has: the rules before a line `----`, and the text behind it.
 fn show_input(rt: &HostRuntime) -> Result<(), Fault> {
-    let both = io::read_to_string(rt.alloc(), rt.reader())?;
+    let mut bytes = Vec::new(rt.alloc());
+    rt.reader().read_to_end(&mut bytes)?;
+    let both = text_of(rt.alloc(), "stdin", bytes)?;
     let Some((rules, input)) = both.as_str().split_once(BETWEEN) else {
         return Err(Fault::Usage);
     };

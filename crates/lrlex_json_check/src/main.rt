@@ -10,10 +10,11 @@ use crate::reader::{Fault, fault_of};
 use crate::tokens::RULES;
 use crate::words::command;
 use lrlex::{DefaultLexerTypes, LRNonStreamingLexerDef, LexerDef};
-use lrlex_report::place_text;
+use lrlex_report::{bad_byte_text, place_text};
 use std::alloc::{AllocError, Global};
+use std::io::Read;
 use std::process::ExitCode;
-use std::{env, io};
+use std::{env, io, str};
 
 type Definition = LRNonStreamingLexerDef<DefaultLexerTypes<u32>>;
 
@@ -34,19 +35,31 @@ fn show(rt: &HostRuntime, text: &str, fault: &Fault<'_>) -> io::Result<ExitCode>
     Ok(ExitCode::FAILURE)
 }
 
-/// Serves what standard input has.
-fn serve(rt: &HostRuntime) -> io::Result<ExitCode> {
-    let text = io::read_to_string(rt.alloc(), rt.reader())?;
+/// Says whether the text is JSON, or where it isn't.
+fn judge(rt: &HostRuntime, text: &str) -> io::Result<ExitCode> {
     let Ok(definition) = Definition::from_str(rt.alloc(), RULES)? else {
         eprintln!(rt; "The rules have faults")?;
         return Ok(ExitCode::FAILURE);
     };
-    match fault_of(rt.alloc(), &definition, text.as_str())? {
-        Some(fault) => show(rt, text.as_str(), &fault),
+    match fault_of(rt.alloc(), &definition, text)? {
+        Some(fault) => show(rt, text, &fault),
         None => {
             println!(rt; "ok")?;
             Ok(ExitCode::SUCCESS)
         }
+    }
+}
+
+/// Serves what standard input has.
+fn serve(rt: &HostRuntime) -> io::Result<ExitCode> {
+    let mut bytes = Vec::new(rt.alloc());
+    rt.reader().read_to_end(&mut bytes)?;
+    match bad_byte_text(rt.alloc(), "stdin", &bytes)? {
+        Some(shown) => {
+            print!(rt; "{shown}")?;
+            Ok(ExitCode::FAILURE)
+        }
+        None => judge(rt, str::from_utf8(&bytes).unwrap()),
     }
 }
 

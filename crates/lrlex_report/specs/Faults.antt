@@ -4,7 +4,9 @@ use Rattle.lrlex_base.specs.Spans.{as_span, span_start, span_end}
 use Rattle.lrlex_base.specs.declared.spans.Span.{Span}
 use Rattle.lrlex_rules.specs.Faults.{message, kind_text, fault_kind, fault_spans}
 use Rattle.lrlex_rules.specs.declared.faults.LexErrorKind.{LexErrorKind}
+use Rattle.lrlex_rules.specs.declared.faults.LexErrorKind.TheVariants.{UnknownDeclaration}
 use Rattle.lrlex_rules.specs.declared.faults.LexBuildError.{LexBuildError}
+use Rattle.lrlex_report.specs.Encoding.{mark_note}
 use Rattle.lrlex_report.specs.Places.{place_text}
 
 abbrev pub BeginsWith : List ℕ → List ℕ → Type 0
@@ -13,6 +15,18 @@ BeginsWith front text = (rest : List ℕ) × (text ≡ front ++ rest)
 -- the message of the kind; where `regex` refuses the pattern, its reason stands behind that
 abbrev pub IsMessageOf : LexErrorKind → List ℕ → Type 0
 IsMessageOf kind text = MatchOption (kind_text kind) (BeginsWith (message kind ++ codes ": ") text) (λ known. text ≡ known)
+
+-- what stands behind the message of an unknown declaration where the text begins with a byte order mark
+abbrev pub first_note : (rules : List ℕ) → List Span → List ℕ
+first_note rules [] = []
+first_note rules (x ∷ xs) = mark_note rules (span_start x)
+
+abbrev pub kind_note : (rules : List ℕ) → List Span → LexErrorKind → List ℕ
+kind_note rules xs UnknownDeclaration = first_note rules xs
+kind_note rules xs _ = []
+
+abbrev pub fault_note : (rules : List ℕ) → LexBuildError → List ℕ
+fault_note rules e = kind_note rules (fault_spans e) (fault_kind e)
 
 -- the message at each of these places
 abbrev pub at_each : (file rules said : List ℕ) → List Span → List ℕ
@@ -33,7 +47,8 @@ places_text file rules said (x ∷ y ∷ ys) =
 -- what is shown of a fault
 abbrev pub IsFaultText : (file rules : List ℕ) → LexBuildError → List ℕ → Type 0
 IsFaultText file rules e text =
-    (said : List ℕ) × IsMessageOf (fault_kind e) said × (text ≡ places_text file rules said (fault_spans e))
+    (said : List ℕ) × IsMessageOf (fault_kind e) said
+    × (text ≡ places_text file rules (said ++ fault_note rules e) (fault_spans e))
 
 -- what is shown of faults, one behind another
 abbrev pub AreFaultTexts : (file rules : List ℕ) → List LexBuildError → List ℕ → Type 0

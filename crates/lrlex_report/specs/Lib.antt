@@ -1,3 +1,4 @@
+pub mod Encoding
 pub mod Faults
 pub mod Marks
 pub mod Places

@@ -10,6 +10,7 @@ use Rattle.lrlex_rules.specs.Parts.{as_state, state_number}
 use Rattle.lrlex_rules.specs.declared.states.StartState.{StartState}
 use Rattle.lrlex.specs.Stops.{lex_error_span, lex_error_state}
 use Rattle.lrlex.specs.declared.errors.LRLexError.{LRLexError}
+use Rattle.lrlex_report.specs.Encoding.{mark_note}
 use Rattle.lrlex_report.specs.Places.{nearest, place_text}
 
 -- a character in quotes, a control character as Rust writes it
@@ -51,8 +52,8 @@ error_state e = option_map state_number (lex_error_state e)
 abbrev pub stop_text : (file input : List ℕ) → LRLexError → (name : Option (List ℕ)) → List ℕ
 stop_text file input e name =
     let span = lex_error_span e in
-    place_text file input (as_span span)
-    (reason (error_state e) (char_at input (nearest input (span_start span))) name)
+    let said = reason (error_state e) (char_at input (nearest input (span_start span))) name in
+    place_text file input (as_span span) (said ++ mark_note input (span_start span))
 
 -- and the name, of these start states
 abbrev pub name_in : List StartState → LRLexError → Option (List ℕ)

@@ -1,8 +1,9 @@
 //! What is wrong with a rule text.
 ghost use Rattle.std.specs.Prelude.{◌≡◌, ◌++◌, IfOk, OnOk, string_bytes};
 ghost use Rattle.lrlex_rules.specs.Faults.{fault_kind, fault_spans};
-ghost use Rattle.lrlex_report.specs.Faults.{IsMessageOf, at_each, first_text, places_text, IsFaultText, AreFaultTexts};
+ghost use Rattle.lrlex_report.specs.Faults.{IsMessageOf, fault_note, at_each, first_text, places_text, IsFaultText, AreFaultTexts};
 
+use crate::encoding::mark_note;
 use crate::places::Source;
 use lrlex_base::{Span, Spanned};
 use lrlex_rules::{LexBuildError, LexErrorKind};
@@ -30,6 +31,16 @@ fn message_of(alloc: Global, fault: &LexBuildError) -> Result<String, AllocError
             Ok(message)
         }
         kind => String::from_str(alloc, kind.message()),
+    }
+}
+
+/// What stands behind the message where a byte order mark is the unknown declaration.
+fn fault_note(rules: &str, fault: &LexBuildError) -> &'static str
+    ensures { result.now ≡ fault_note rules.now fault.now }
+{
+    match (fault.kind(), fault.spans().first()) {
+        (LexErrorKind::UnknownDeclaration, Some(first)) => mark_note(rules, first.start()),
+        _ => "",
     }
 }
 
@@ -102,7 +113,8 @@ fn shown_fault(
     ensures { IfOk result (λ shown. IsFaultText source.now.file.now source.now.text.now fault.now
         (string_bytes shown)) }
 {
-    let message = message_of(alloc, fault)?;
+    let mut message = message_of(alloc, fault)?;
+    message.push_str(fault_note(source.text, fault))?;
     let mut shown = String::new(alloc);
     push_places(alloc, &mut shown, source, &message, fault.spans())?;
     Ok(shown)

@@ -1,7 +1,8 @@
-//! Faults for people: what is wrong with a rule text, and where lexing an input stopped, each with its place, its line and a
-//! caret, as compilers show it.
+//! Faults for people: what is wrong with a rule text, where lexing an input stopped, and where bytes aren't UTF-8, each with its
+//! place, its line and a caret, as compilers show it.
 #![tactic(auto)]
 
+mod encoding;
 mod faults;
 mod marks;
 mod places;
@@ -9,6 +10,7 @@ mod stops;
 #[cfg(test)]
 mod tests;
 
+pub use crate::encoding::bad_byte_text;
 pub use crate::faults::{fault_text, faults_text};
 pub use crate::places::place_text;
 pub use crate::stops::{stop_text, stop_text_in};

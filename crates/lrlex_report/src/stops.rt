@@ -6,6 +6,7 @@ ghost use Rattle.lrlex_rules.specs.Parts.{as_state};
 ghost use Rattle.lrlex.specs.Views.{definition_states};
 ghost use Rattle.lrlex_report.specs.Stops.{quoted, unexpected, in_state, reason, char_at, state_name, error_state, stop_text, name_in};
 
+use crate::encoding::mark_note;
 use crate::places::{nearest, place_text};
 use lrlex::{LRLexError, LRNonStreamingLexerDef, LexError, LexerDef, LexerTypes, StartState};
 use std::alloc::{AllocError, Global};
@@ -107,7 +108,8 @@ fn shown_stop(
 {
     let span = error.span();
     let found = char_at(input, nearest(input, span.start()));
-    let reason = reason(alloc, error_state(error), found, name)?;
+    let mut reason = reason(alloc, error_state(error), found, name)?;
+    reason.push_str(mark_note(input, span.start()))?;
     place_text(alloc, file, input, span, &reason)
 }
 

@@ -1,7 +1,8 @@
 //! What is shown of faults and of errors.
-use crate::{faults_text, place_text, stop_text, stop_text_in};
+use crate::{bad_byte_text, faults_text, place_text, stop_text, stop_text_in};
 use lrlex::{DefaultLexerTypes, LRLexError, LRNonStreamingLexerDef, LexerDef, Span, StartStateId};
 use std::alloc::{AllocError, Global};
+use std::str;
 use std::test::Fail;
 
 /// What is wrong with the rule text, or where lexing the input stops, or nothing.
@@ -12,6 +13,14 @@ fn complaints(alloc: Global, rules: &str, input: &str) -> Result<String, AllocEr
             Some(Err(error)) => stop_text_in(alloc, &definition, "input.txt", input, error),
             _ => Ok(String::new(alloc)),
         },
+    }
+}
+
+/// The same of a rule file, which may not be text.
+fn complaints_of_file(alloc: Global, rules: &[u8], input: &str) -> Result<String, AllocError> {
+    match bad_byte_text(alloc, "tokens.l", rules)? {
+        Some(shown) => Ok(shown),
+        None => complaints(alloc, str::from_utf8(rules).unwrap(), input),
     }
 }
 
@@ -42,6 +51,19 @@ fn faults_are_shown(rt: HostRuntime) -> Result<(), Fail> {
             "%%\na) 'A'\n",
             "tokens.l:2:1: Invalid regular expression: unopened group\n\
              2 | a) 'A'\n  | ^\n",
+        ),
+        (
+            "x\n%%\n",
+            "tokens.l:1:1: Unknown declaration\n1 | x\n  | ^\n",
+        ),
+        (
+            "\u{feff}%%\na 'A'\n",
+            "tokens.l:1:1: Unknown declaration: the text begins with a byte order mark (U+FEFF)\n\
+             1 | \u{feff}%%\n  | ^\n",
+        ),
+        (
+            "\n\u{feff}%%\na 'A'\n",
+            "tokens.l:2:1: Unknown declaration\n2 | \u{feff}%%\n  | ^\n",
         ),
     ];
     for (rules, shown) in &rows {
@@ -76,12 +98,59 @@ fn errors_are_shown(rt: HostRuntime) -> Result<(), Fail> {
             "input.txt:1:6: unexpected character 'a' in start state TEXT\n\
              1 | aa[bba\n  |      ^\n",
         ),
+        (
+            "\u{feff}a",
+            "input.txt:1:1: unexpected character '\u{feff}': \
+             the text begins with a byte order mark (U+FEFF)\n1 | \u{feff}a\n  | ^\n",
+        ),
+        (
+            "a\u{feff}",
+            "input.txt:1:2: unexpected character '\u{feff}'\n1 | a\u{feff}\n  |  ^\n",
+        ),
     ];
     for (input, shown) in &rows {
         assert_eq!(rt;
             complaints(rt.alloc(), rules, input)?.as_str(),
             *shown,
             "of {input}"
+        );
+    }
+    Ok(())
+}
+
+#[test]
+fn bad_bytes_are_shown(rt: HostRuntime) -> Result<(), Fail> {
+    let rows = [
+        (
+            b"\xff".as_slice(),
+            "tokens.l:1:1: not UTF-8, byte 0xFF at offset 0\n1 | \n  | ^\n",
+        ),
+        (
+            b"%%\na 'A'\n\xe6\xbc".as_slice(),
+            "tokens.l:3:1: not UTF-8, byte 0xE6 at offset 9\n3 | \n  | ^\n",
+        ),
+        (
+            b"a\xc0\xaf 'A'\n".as_slice(),
+            "tokens.l:1:2: not UTF-8, byte 0xC0 at offset 1\n1 | a\n  |  ^\n",
+        ),
+        (
+            b"\xe6\xbc\xa2\xed\xa0\x80".as_slice(),
+            "tokens.l:1:2: not UTF-8, byte 0xED at offset 3\n1 | \u{6f22}\n  |   ^\n",
+        ),
+        (
+            b"%%\n\ta\x80b\n\xff\n".as_slice(),
+            "tokens.l:2:3: not UTF-8, byte 0x80 at offset 5\n2 | \ta\n  | \t ^\n",
+        ),
+        (
+            b"".as_slice(),
+            "tokens.l:1:1: File ends prematurely\n1 | \n  | ^\n",
+        ),
+        (b"%%\n\xe6\xbc\xa2 'A'\n".as_slice(), ""),
+    ];
+    for (bytes, shown) in &rows {
+        assert_eq!(rt;
+            complaints_of_file(rt.alloc(), *bytes, "")?.as_str(),
+            *shown
         );
     }
     Ok(())
