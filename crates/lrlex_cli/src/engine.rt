@@ -34,7 +34,7 @@ pub enum Ended {
 /// Why a run, or a report, wasn't written whole.
 #[derive(Debug, Drop)]
 pub enum EngineFault {
-    /// Memory was wanting, and nothing was written.
+    /// Out of memory, and nothing was written.
     Memory,
     /// The writer failed, or took nothing. It has a beginning of the text.
     Write(io::Error),
