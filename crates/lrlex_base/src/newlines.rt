@@ -26,7 +26,7 @@ impl<A: Allocator> Model for NewlineCache<A> {
     ghost invariant = { λ c. All (λ s. 0 < s) c.starts.items × AreStartsOfSome c.bytes c.starts.items };
 }
 
-// Adds where lines begin in a text that stands at this offset. For want of memory nothing has changed.
+// Adds where lines begin in a text that stands at this offset. Where memory runs out, nothing has changed.
 fn add_starts<A: Allocator>(
     starts: &mut Vec<usize, A>,
     at: usize,
@@ -61,8 +61,8 @@ fn move_starts(starts: &mut [usize], first: usize, from: usize, to: usize)
     }
 }
 
-// Puts line beginnings in place of those from `first` on and before `behind`, and moves those behind. For want of memory
-// nothing has changed.
+// Puts line beginnings in place of those from `first` on and before `behind`, and moves those behind. Where memory runs
+// out, nothing has changed.
 fn put_starts<A: Allocator + Clone>(
     starts: &mut Vec<usize, A>,
     first: usize,
@@ -196,7 +196,7 @@ impl<A: Allocator> NewlineCache<A> {
 
 impl<A: Allocator + Clone> NewlineCache<A> {
     /// Makes the cache of a text that of the text after an edit, in which `put` stands in place of the bytes of `removed`. The
-    /// text isn't looked at. The bytes after the edit fit `usize`. For want of memory nothing has changed.
+    /// text isn't looked at. The bytes after the edit fit `usize`. Where memory runs out, nothing has changed.
     pub fn edit(&mut self, removed: Span, put: &str) -> Result<(), AllocError>
         requires removed { span_end removed ≤ self.old.fed }
         requires put { self.old.fed - (span_end removed - span_start removed) + length put.now

@@ -17,7 +17,7 @@ pub enum Fault {
     Refused,
     /// A key doesn't fit the text.
     DoesNotFit,
-    /// Memory is wanting.
+    /// Out of memory.
     Memory,
     /// The clock or standard output failed.
     System,

@@ -1,4 +1,5 @@
 pub mod CommandLemmas
 pub mod LineLemmas
+pub mod NumberLemmas
 pub mod EngineLemmas
 pub mod SplitLemmas

@@ -35,7 +35,7 @@ abbrev pub lines_in : (q : Request) → Lexing q → List ℕ
 lines_in q x = lines x.definition.rules q.input (items x.definition 0 x.cut x.end)
 
 -- `Lexed` where the whole text was cut and `Stopped` where not, with all lines written; `Refused` with the rule text's
--- faults, those of patterns as `regex` gave them, each at places in it, and nothing written; nothing written for want of memory, and a beginning of the lines where a write failed
+-- faults, those of patterns as `regex` gave them, each at places in it, and nothing written; nothing written where memory runs out, and a beginning of the lines where a write failed
 abbrev pub IsEngineRun : Request → Option (List ℕ) → Option (List ℕ) → Result Ended EngineFault → Type 0
 IsEngineRun q old new (Ok Lexed) = (x : Lexing q) × (x.end ≡ Done) × Appends old new (lines_in q x)
 IsEngineRun q old new (Ok Stopped) = (x : Lexing q) × (x.end ≢ Done) × Appends old new (lines_in q x)
@@ -60,7 +60,7 @@ EndsWriting old new (Ok (Refused faults)) text stopped = ⊥
 EndsWriting old new (Err Memory) text stopped = Keeps old new
 EndsWriting old new (Err (Write e)) text stopped = AppendsFront old new text
 
--- all of the text at `Ok`, nothing for want of memory, and a beginning of it where a write failed
+-- all of the text at `Ok`, nothing where memory runs out, and a beginning of it where a write failed
 abbrev pub IsReport : {X : Type 0} → Option (List ℕ) → Option (List ℕ) → Result X EngineFault → List ℕ → Type 0
 IsReport old new (Ok x) text = Appends old new text
 IsReport old new (Err Memory) text = Keeps old new

@@ -2,7 +2,7 @@
 use Rattle.std.specs.Prelude.{◌≡◌, ◌<◌, ◌^◌, true, ℕ, Bool, List, Option, Some, None, String, codes, option_map, string_bytes}
 use Rattle.std.specs.Str.{bytes_eq}
 use Rattle.std.specs.Str.Parse.{IsNumeral, digits_value, without_leading_plus}
-use Rattle.clap.specs.Words.{Row, Text, first_of, takes}
+use Rattle.clap.specs.Words.{Row, Text, first_of, one_of, takes}
 use Rattle.lrlex_rules.specs.declared.flags.LexFlags.{LexFlags}
 use Rattle.lrlex_cli.specs.Command.{command, given}
 use Rattle.lrlex_cli.specs.declared.words.Words.{Words}
@@ -11,11 +11,23 @@ use Rattle.lrlex_cli.specs.declared.words.Words.{Words}
 abbrev pub truth_in : Option Text → Option Bool
 truth_in value = option_map (λ text. bytes_eq text (codes "true")) value
 
+-- the value is this number below 2^bits in decimal digits, before which a plus may stand, and no value is none
+abbrev pub IsNumberIn : (bits : ℕ) → Option Text → Option ℕ → Type 0
+IsNumberIn bits None n = n ≡ None
+IsNumberIn bits (Some text) None = ⊥
+IsNumberIn bits (Some text) (Some n) =
+    IsNumeral 10 (without_leading_plus text) × (digits_value 10 (without_leading_plus text) ≡ n) × (n < 2 ^ bits)
+
 -- the option of this name has this truth value
 abbrev pub IsTruth : List Row → Text → Option Bool → Type 0
 IsTruth rows name flag = flag ≡ truth_in (first_of name rows)
 
-pub record ReadsTruths (rows : List Row) (flags : LexFlags) : Type 0 where
+-- the option of this name has this number, in the text that `clap` hands out to be read
+abbrev pub IsNumber : (bits : ℕ) → List Row → Text → Option ℕ → Type 0
+IsNumber bits rows name n = IsNumberIn bits (one_of name rows) n
+
+-- each flag is the value of its option
+pub record ReadsFlags (rows : List Row) (flags : LexFlags) : Type 0 where
   pub dot_matches_new_line : IsTruth rows (codes "dot-matches-new-line") flags.dot_matches_new_line
   pub multi_line : IsTruth rows (codes "multi-line") flags.multi_line
   pub octal : IsTruth rows (codes "octal") flags.octal
@@ -26,26 +38,25 @@ pub record ReadsTruths (rows : List Row) (flags : LexFlags) : Type 0 where
   pub swap_greed : IsTruth rows (codes "swap-greed") flags.swap_greed
   pub ignore_whitespace : IsTruth rows (codes "ignore-whitespace") flags.ignore_whitespace
   pub unicode : IsTruth rows (codes "unicode") flags.unicode
+  pub size_limit : IsNumber 64 rows (codes "size-limit") flags.size_limit
+  pub dfa_size_limit : IsNumber 64 rows (codes "dfa-size-limit") flags.dfa_size_limit
+  pub nest_limit : IsNumber 32 rows (codes "nest-limit") flags.nest_limit
 
--- the value is this number below 2^64 in decimal digits, before which a plus may stand
-abbrev pub IsNumber : Option Text → ℕ → Type 0
-IsNumber None n = ⊥
-IsNumber (Some text) n =
-    IsNumeral 10 (without_leading_plus text) × (digits_value 10 (without_leading_plus text) ≡ n) × (n < 2 ^ 64)
-
--- from, to and text of an edit are the values of these three options, or none of the three has a value
-abbrev pub IsEdit : {Z : Type 0} → (from to put : Option Text) → Option (ℕ × ℕ × String Z) → Type 0
-IsEdit from to put (Some edit) = IsNumber from edit.0 × IsNumber to edit.1 × (put ≡ Some (string_bytes edit.2))
-IsEdit from to put None = (from ≡ None) × (to ≡ None) × (put ≡ None)
+-- from, to and text of an edit are what its three options have, and where there is none, none of the three has a value
+pub record ReadsEdit {Z : Type 0} (rows : List Row) (edit : Option (ℕ × ℕ × String Z)) : Type 0 where
+  pub from : IsNumber 64 rows (codes "from") (option_map (λ e. e.0) edit)
+  pub to : IsNumber 64 rows (codes "to") (option_map (λ e. e.1) edit)
+  pub put : first_of (codes "put") rows ≡ option_map (λ e. string_bytes e.2) edit
 
 -- the paths are the values of the two positionals, the flags those of their options, and the edit is what its three
 -- options hold
 pub record IsReadFrom (rows : List Row) (words : Words) : Type 0 where
   pub rules : first_of (codes "rules") rows ≡ Some (string_bytes words.rules)
   pub input : first_of (codes "input") rows ≡ Some (string_bytes words.input)
-  pub flags : ReadsTruths rows words.flags
-  pub edit : IsEdit (first_of (codes "from") rows) (first_of (codes "to") rows) (first_of (codes "put") rows) words.edit
+  pub flags : ReadsFlags rows words.flags
+  pub edit : ReadsEdit rows words.edit
 
--- the command takes these words, the program's own name first, and what it finds in them can be read
+-- The command takes these words, the program's own name first, and what it finds in them can be read. A number whose
+-- text can't be read isn't taken in the first place (`size_rule`, `nest_rule`).
 abbrev pub CanBeRead : List Text → Type 0
 CanBeRead words = (takes command words ≡ true) × ((w : Words) × IsReadFrom (given words) w)

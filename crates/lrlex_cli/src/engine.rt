@@ -7,7 +7,8 @@ ghost use Rattle.lrlex_cli.specs.Engine.{IsEngineRun, EndsWriting, IsReport};
 ghost use Rattle.lrlex_cli.specs.Lines.{lines};
 ghost use Rattle.lrlex_cli.specs.declared.engine.EngineFault.TheVariants.{Memory};
 ghost use Rattle.lrlex_rules.specs.Faults.{IsPlaced};
-ghost use Rattle.lrlex.specs.Views.{definition_of, items_by};
+ghost use Rattle.lrlex.specs.ItemLaws.{FitsText};
+ghost use Rattle.lrlex.specs.Views.{definition_of, item_of, items_by};
 ghost use Rattle.lrlex_cli.specs.Report.{fault_lines};
 
 use crate::lines::lines;
@@ -33,7 +34,7 @@ pub enum Ended {
 /// Why a run, or a report, wasn't written whole.
 #[derive(Debug, Drop)]
 pub enum EngineFault {
-    /// Memory was wanting, and nothing was written.
+    /// Out of memory, and nothing was written.
     Memory,
     /// The writer failed, or took nothing. It has a beginning of the text.
     Write(io::Error),
@@ -54,7 +55,7 @@ fn has_error<X>(items: &[Result<X, LRLexError>]) -> bool
     items.iter().any(|item| item.is_err())
 }
 
-/// Writes the lines of a run's items, and says whether it was stopped by an error.
+/// Writes the lines of a run's items, which fit its text, and says whether it was stopped by an error.
 fn write_items<L: LexerTypes<LexErrorT = LRLexError>, W: Write>(
     alloc: Global,
     definition: &LRNonStreamingLexerDef<L>,
@@ -62,12 +63,14 @@ fn write_items<L: LexerTypes<LexErrorT = LRLexError>, W: Write>(
     items: &[Result<L::LexemeT, LRLexError>],
     out: &mut W,
 ) -> Result<Ended, EngineFault>
+    requires { All (λ item. FitsText input.now (item_of L.StorageT.number L.LexemeT.seen item))
+        items.now }
     ensures { EndsWriting (W.contents out.old) (W.contents out.new) result
         (lines (definition_of L.StorageT.number definition.now).rules input.now
         (items_by L.StorageT.number L.LexemeT.seen items.now))
         (list_any (λ item. is_err item) items.now) }
 {
-    let text = lines::<L>(alloc, definition, input.as_bytes(), items)?;
+    let text = lines::<L>(alloc, definition, input, items)?;
     let stopped = has_error(items);
     if let Err(fault) = write_bytes(out, text.as_slice()) {
         return Err(EngineFault::Write(fault));

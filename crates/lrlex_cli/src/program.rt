@@ -22,7 +22,7 @@ pub enum Fault<'a> {
     CannotOpen(&'a str),
     /// The file at this path isn't UTF-8.
     NotText(&'a str),
-    /// Memory is wanting.
+    /// Out of memory.
     Memory,
     /// Writing or flushing standard output failed.
     CannotWrite,

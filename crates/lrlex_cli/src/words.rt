@@ -1,9 +1,9 @@
 //! The words of the command line.
-ghost use Rattle.std.specs.Prelude.{◌≡◌, ℕ, IfOk, IfErr, codes, map, option_map};
+ghost use Rattle.std.specs.Prelude.{◌≡◌, ℕ, Option, IfOk, IfErr, codes, map, option_map};
 ghost use Rattle.clap.specs.Words.{first_of, found_of, rows_of};
 ghost use Rattle.lrlex_cli.specs.declared.words.WordsFault.TheVariants.{Memory};
 ghost use Rattle.lrlex_cli.specs.Command.{given};
-ghost use Rattle.lrlex_cli.specs.Reading.{CanBeRead, IsEdit, IsNumber, IsReadFrom, ReadsTruths, truth_in};
+ghost use Rattle.lrlex_cli.specs.Reading.{CanBeRead, IsNumber, IsReadFrom, ReadsEdit, ReadsFlags, truth_in};
 
 use crate::command::lrlex_command;
 use clap::ArgMatches;
@@ -53,11 +53,31 @@ fn truth(matches: &ArgMatches<'_>, name: &str) -> Option<bool>
     }
 }
 
-/// The flags that the matches give.
-fn flags_of(matches: &ArgMatches<'_>) -> LexFlags
-    ensures { ReadsTruths (rows_of (found_of matches.now)) result }
+/// The value of an option of one number, in range of `usize`.
+fn number(matches: &ArgMatches<'_>, name: &str) -> Result<Option<usize>, WordsFault>
+    ensures value { IfOk result (IsNumber 64 (rows_of (found_of matches.now)) name.now) }
+    ensures refused { IfErr result (λ e. (n : Option ℕ)
+        → IsNumber 64 (rows_of (found_of matches.now)) name.now n → e ≡ Memory) }
 {
-    LexFlags {
+    matches.try_get_one(name).map_err(|_| WordsFault::Refused)
+}
+
+/// The same in range of `u32`.
+fn small_number(matches: &ArgMatches<'_>, name: &str) -> Result<Option<u32>, WordsFault>
+    ensures value { IfOk result (IsNumber 32 (rows_of (found_of matches.now)) name.now) }
+    ensures refused { IfErr result (λ e. (n : Option ℕ)
+        → IsNumber 32 (rows_of (found_of matches.now)) name.now n → e ≡ Memory) }
+{
+    matches.try_get_one(name).map_err(|_| WordsFault::Refused)
+}
+
+/// The flags that the matches give.
+fn flags_of(matches: &ArgMatches<'_>) -> Result<LexFlags, WordsFault>
+    ensures value { IfOk result (ReadsFlags (rows_of (found_of matches.now))) }
+    ensures refused { IfErr result (λ e. (flags : LexFlags)
+        → ReadsFlags (rows_of (found_of matches.now)) flags → e ≡ Memory) }
+{
+    Ok(LexFlags {
         dot_matches_new_line: truth(matches, "dot-matches-new-line"),
         multi_line: truth(matches, "multi-line"),
         octal: truth(matches, "octal"),
@@ -67,18 +87,10 @@ fn flags_of(matches: &ArgMatches<'_>) -> LexFlags
         swap_greed: truth(matches, "swap-greed"),
         ignore_whitespace: truth(matches, "ignore-whitespace"),
         unicode: truth(matches, "unicode"),
-        size_limit: matches.get_one("size-limit"),
-        dfa_size_limit: matches.get_one("dfa-size-limit"),
-        nest_limit: matches.get_one("nest-limit"),
-    }
-}
-
-/// The number that a value is.
-fn number(text: &str) -> Result<usize, WordsFault>
-    ensures value { IfOk result (IsNumber (Some text.now)) }
-    ensures refused { IfErr result (λ e. (n : ℕ) → IsNumber (Some text.now) n → e ≡ Memory) }
-{
-    text.parse().map_err(|_| WordsFault::Refused)
+        size_limit: number(matches, "size-limit")?,
+        dfa_size_limit: number(matches, "dfa-size-limit")?,
+        nest_limit: small_number(matches, "nest-limit")?,
+    })
 }
 
 /// The edit that the matches give: all of its three options have to be there, or none.
@@ -86,23 +98,16 @@ fn edit_of(
     alloc: Global,
     matches: &ArgMatches<'_>,
 ) -> Result<Option<(usize, usize, String)>, WordsFault>
-    ensures value { let rows = rows_of (found_of matches.now) in
-        IfOk result (IsEdit (first_of (codes "from") rows) (first_of (codes "to") rows)
-        (first_of (codes "put") rows)) }
-    ensures refused { let rows = rows_of (found_of matches.now) in
-        IfErr result (λ e. (w : Words) → IsEdit (first_of (codes "from") rows)
-        (first_of (codes "to") rows) (first_of (codes "put") rows) w.edit → e ≡ Memory) }
+    ensures value { IfOk result (ReadsEdit (rows_of (found_of matches.now))) }
+    ensures refused { IfErr result (λ e. (w : Words)
+        → ReadsEdit (rows_of (found_of matches.now)) w.edit → e ≡ Memory) }
 {
-    let from = value(matches, "from");
-    let to = value(matches, "to");
+    let from = number(matches, "from")?;
+    let to = number(matches, "to")?;
     let put = value(matches, "put");
     match (from, to, put) {
         (None, None, None) => Ok(None),
-        (Some(from), Some(to), Some(put)) => Ok(Some((
-            number(from)?,
-            number(to)?,
-            String::from_str(alloc, put)?,
-        ))),
+        (Some(from), Some(to), Some(put)) => Ok(Some((from, to, String::from_str(alloc, put)?))),
         _ => Err(WordsFault::Refused),
     }
 }
@@ -122,7 +127,7 @@ fn words_of(alloc: Global, matches: &ArgMatches<'_>) -> Result<Words, WordsFault
     Ok(Words {
         rules: String::from_str(alloc, rules)?,
         input: String::from_str(alloc, input)?,
-        flags: flags_of(matches),
+        flags: flags_of(matches)?,
         edit: edit_of(alloc, matches)?,
     })
 }

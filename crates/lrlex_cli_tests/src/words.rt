@@ -152,6 +152,27 @@ fn each_option(rt: HostRuntime) {
         ),
         two,
     );
+    let least = LexFlags {
+        size_limit: Some(0),
+        dfa_size_limit: Some(7),
+        nest_limit: Some(0),
+        ..UNSPECIFIED_LEX_FLAGS
+    };
+    expects(
+        &rt,
+        read(
+            alloc,
+            &[
+                "lrlex",
+                "--nest-limit=-0",
+                "r",
+                "--size-limit=0",
+                "--dfa-size-limit=+07",
+                "-",
+            ],
+        ),
+        least,
+    );
     let most = LexFlags {
         size_limit: Some(usize::MAX),
         ..UNSPECIFIED_LEX_FLAGS
@@ -242,7 +263,7 @@ fn the_options_of_an_edit(rt: HostRuntime) {
 #[test]
 fn refused(rt: HostRuntime) -> Result<(), Fail> {
     let alloc = rt.alloc();
-    let rows: [&[&str]; 30] = [
+    let rows: [&[&str]; 31] = [
         &[],
         &["lrlex"],
         &["lrlex", "r"],
@@ -258,6 +279,7 @@ fn refused(rt: HostRuntime) -> Result<(), Fail> {
         &["lrlex", "--nest-limit", "4294967296", "r", "i"],
         &["lrlex", "--nest-limit", "-1", "r", "i"],
         &["lrlex", "--size-limit", "18446744073709551616", "r", "i"],
+        &["lrlex", "--size-limit=-0", "r", "i"],
         &["lrlex", "--octal", "true", "--octal", "true", "r", "i"],
         &["lrlex", "--oct", "true", "r", "i"],
         &["lrlex", "-r", "i"],

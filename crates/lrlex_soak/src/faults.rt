@@ -8,7 +8,7 @@ use std::{fmt, io};
 pub enum Fault {
     /// The words are refused.
     Usage,
-    /// Memory is wanting.
+    /// Out of memory.
     Memory,
     /// Standard output failed, or the words can't be read.
     System,

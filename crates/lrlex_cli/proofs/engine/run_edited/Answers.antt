@@ -1,8 +1,11 @@
 -- Lexing again has found the items of the new text, and the lines are theirs.
 use Rattle.std.proofs.Common.{refl, sym, subst}
 use Rattle.lrlex_base.specs.Spans.{Fits}
+use Rattle.lrlex.specs.ItemLaws.{FitsText}
+use Rattle.lrlex.specs.Views.{item_of}
 use Rattle.lrlex_cli.specs.Engine.{Request}
 use Rattle.lrlex_cli.proofs.EngineLemmas.{ran, without_memory}
+use Rattle.lrlex_cli.proofs.LineLemmas.{of_items}
 use Rattle.lrlex_cli.proofs.engine.run_edited.Goals as goal
 
 pub returns-in_err-before-in-Ok : goal.returns-in_err-before-in-Ok
@@ -24,3 +27,8 @@ returns-in_ok-lexed-in-Ok g c =
 
 pub relex-requires-clause-fits : goal.relex-requires-clause-fits
 relex-requires-clause-fits g c = subst (λ t. Fits t c.args.edit.now.removed) (sym c.in_ok-before-in-Ok.ensures.text) c.requires.fits
+
+pub write_items-requires : goal.write_items-requires
+write_items-requires g c =
+    rw c.items.ensures (of_items (FitsText c.args.new.now) (item_of g.L.StorageT.Id.number g.L.LexemeT.Lexeme.seen) c.in_ok-lexed-in-Ok.lexed.items
+    (c.in_ok-lexed-in-Ok.ensures.laws.items.fit c.utf8.new))

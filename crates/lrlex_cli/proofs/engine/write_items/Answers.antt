@@ -6,15 +6,15 @@ use Rattle.lrlex_cli.proofs.engine.write_items.Goals as goal
 
 pub returns-in-Err : goal.returns-in-Err
 returns-in-Err g c =
-    let made = c.as_slice.ensures.value ∙ (rw c.as_bytes.ensures.value at c.in_ok-text.ensures) in
+    let made = c.as_slice.ensures.value ∙ c.in_ok-text.ensures in
     subst (AppendsFront _ _) made c.in-Err.ensures
 
 pub returns-then-stopped : goal.returns-then-stopped
 returns-then-stopped g c =
-    let made = c.as_slice.ensures.value ∙ (rw c.as_bytes.ensures.value at c.in_ok-text.ensures) in
+    let made = c.as_slice.ensures.value ∙ c.in_ok-text.ensures in
     (sym c.has_error-stopped.ensures ∙ c.if-stopped.true, subst (Appends _ _) made c.in_default.ensures)
 
 pub returns : goal.returns
 returns g c =
-    let made = c.as_slice.ensures.value ∙ (rw c.as_bytes.ensures.value at c.in_ok-text.ensures) in
+    let made = c.as_slice.ensures.value ∙ c.in_ok-text.ensures in
     (sym c.has_error-stopped.ensures ∙ c.if-stopped.false, subst (Appends _ _) made c.in_default.ensures)
