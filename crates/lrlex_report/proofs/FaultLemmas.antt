@@ -1,7 +1,7 @@
 -- One more fault.
 use Rattle.std.proofs.Common.{ℕ, List, [], ◌∷◌, ◌++◌, ap, refl, ◌∙◌, sym, append_assoc, append-nil}
 use Rattle.lrlex_rules.specs.declared.faults.LexBuildError.{LexBuildError}
-use Rattle.lrlex_report.specs.Faults.{IsFaultText, AreFaultTexts}
+use Rattle.lrlex_report.specs.FaultTexts.{IsFaultText, AreFaultTexts}
 
 pub AreFaultTexts_more : (file rules : List ℕ) (es : List LexBuildError) (e : LexBuildError) (shown one : List ℕ) → AreFaultTexts file rules es shown → IsFaultText file rules e one →
     AreFaultTexts file rules (es ++ e ∷ []) (shown ++ one)

@@ -7,7 +7,7 @@ use Rattle.std.proofs.lemmas.Str.{IsCharBoundary-end}
 use Rattle.std.proofs.lemmas.Bool.{cases_lt, ltb-true, ltb-false, lt-ltb, le-ltb, le-leb, lt-leb}
 use Rattle.lrlex_base.specs.Places.{whole_lines, place_of}
 use Rattle.lrlex_base.specs.Spans.{Span, span, at_place}
-use Rattle.lrlex_report.specs.Places.{nearest, before_return, line_at, heading, excerpt, place_text}
+use Rattle.lrlex_report.specs.PlaceTexts.{nearest, before_return, line_at, heading, excerpt, place_text}
 
 -- what `floor_char_boundary` ensures of its result
 abbrev pub IsLastBoundary : List ℕ → ℕ → ℕ → Type 0

@@ -5,7 +5,7 @@ use Rattle.std.specs.Option.{option_map}
 use Rattle.std.proofs.lemmas.Bool.{cond-false}
 use Rattle.lrlex_rules.specs.Parts.{as_state}
 use Rattle.lrlex_rules.specs.declared.states.StartState.{StartState}
-use Rattle.lrlex_report.specs.Stops.{state_name}
+use Rattle.lrlex_report.specs.StopTexts.{state_name}
 
 pub named : (states : List StartState) (id : ℕ) (o : Option StartState) → id ≢ 0 → o ≡ find (λ s. (as_state s).id == id) states →
     option_map (λ (s : StartState). (as_state s).name) o ≡ state_name states id

@@ -1,5 +1,5 @@
 pub mod Encoding
-pub mod Faults
+pub mod FaultTexts
 pub mod Marks
-pub mod Places
-pub mod Stops
+pub mod PlaceTexts
+pub mod StopTexts

@@ -2,7 +2,7 @@
 ghost use Rattle.std.specs.Prelude.{◌≡◌, ◌≤◌, ◌++◌, IfOk, OnOk, IsCharBoundary, codes, string_bytes, length, min, slice_range};
 ghost use Rattle.lrlex_base.specs.Places.{AreBreaksOf, line_of, column_of, whole_lines};
 ghost use Rattle.lrlex_base.specs.Spans.{as_span, span_start, span_end, span};
-ghost use Rattle.lrlex_report.specs.Places.{nearest, before_return, line_at, heading, numbered, underlined, excerpt, place_text};
+ghost use Rattle.lrlex_report.specs.PlaceTexts.{nearest, before_return, line_at, heading, numbered, underlined, excerpt, place_text};
 
 use crate::marks::{push_carets, push_line, push_padding, push_times};
 use lrlex_base::{NewlineCache, Span};

@@ -4,7 +4,7 @@ ghost use Rattle.std.specs.Option.{option_copied};
 ghost use Rattle.std.specs.Slice.Iter.{iter_rest};
 ghost use Rattle.lrlex_rules.specs.Parts.{as_state};
 ghost use Rattle.lrlex.specs.Views.{definition_states};
-ghost use Rattle.lrlex_report.specs.Stops.{quoted, unexpected, in_state, reason, char_at, state_name, error_state, stop_text, name_in};
+ghost use Rattle.lrlex_report.specs.StopTexts.{quoted, unexpected, in_state, reason, char_at, state_name, error_state, stop_text, name_in};
 
 use crate::encoding::mark_note;
 use crate::places::{nearest, place_text};

@@ -1,6 +1,6 @@
 -- The faults so far are shown.
 use Rattle.std.proofs.Common.{string_bytes, take}
-use Rattle.lrlex_report.specs.Faults.{AreFaultTexts}
+use Rattle.lrlex_report.specs.FaultTexts.{AreFaultTexts}
 use Rattle.lrlex_report.proofs.faults.faults_text.Given as goal
 
 abbrev pub invariant-loop-fault : goal.invariant-loop-fault

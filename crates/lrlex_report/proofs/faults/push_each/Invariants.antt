@@ -1,6 +1,6 @@
 -- The places so far stand behind what stood in `out`.
 use Rattle.std.proofs.Common.{◌≡◌, ◌++◌, string_bytes, take}
-use Rattle.lrlex_report.specs.Faults.{at_each}
+use Rattle.lrlex_report.specs.FaultTexts.{at_each}
 use Rattle.lrlex_report.proofs.faults.push_each.Given as goal
 
 abbrev pub invariant-loop-span : goal.invariant-loop-span

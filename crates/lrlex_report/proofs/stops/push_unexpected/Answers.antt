@@ -1,6 +1,6 @@
 use Rattle.std.proofs.Common.{◌≡◌, ◌++◌, ◌∙◌, List, ℕ, sym, ap, append_assoc, codes, string_bytes}
 use Rattle.std.proofs.lemmas.Result.{on_ok_weaker}
-use Rattle.lrlex_report.specs.Stops.{quoted, unexpected}
+use Rattle.lrlex_report.specs.StopTexts.{quoted, unexpected}
 use Rattle.lrlex_report.proofs.stops.push_unexpected.Goals as goal
 
 pub returns-in_ok-push_str-in-Some : goal.returns-in_ok-push_str-in-Some

@@ -7,7 +7,7 @@ use Rattle.lrlex_rules.specs.declared.faults.LexErrorKind.{LexErrorKind}
 use Rattle.lrlex_rules.specs.declared.faults.LexErrorKind.TheVariants.{UnknownDeclaration}
 use Rattle.lrlex_rules.specs.declared.faults.LexBuildError.{LexBuildError}
 use Rattle.lrlex_report.specs.Encoding.{mark_note}
-use Rattle.lrlex_report.specs.Places.{place_text}
+use Rattle.lrlex_report.specs.PlaceTexts.{place_text}
 
 abbrev pub BeginsWith : List ℕ → List ℕ → Type 0
 BeginsWith front text = (rest : List ℕ) × (text ≡ front ++ rest)

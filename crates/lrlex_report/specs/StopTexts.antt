@@ -11,7 +11,7 @@ use Rattle.lrlex_rules.specs.declared.states.StartState.{StartState}
 use Rattle.lrlex.specs.Stops.{lex_error_span, lex_error_state}
 use Rattle.lrlex.specs.declared.errors.LRLexError.{LRLexError}
 use Rattle.lrlex_report.specs.Encoding.{mark_note}
-use Rattle.lrlex_report.specs.Places.{nearest, place_text}
+use Rattle.lrlex_report.specs.PlaceTexts.{nearest, place_text}
 
 -- a character in quotes, a control character as Rust writes it
 abbrev pub quoted : ℕ → List ℕ
