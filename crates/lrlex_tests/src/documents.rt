@@ -1,9 +1,9 @@
 //! Documents and the pieces of a text, against worked answers, and against lexing anew.
-use crate::runs::{Change, Definition, Made, defined, lexed, push_item};
+use crate::runs::{Change, Definition, Made, Part, defined, lexed, push_item};
 use crate::shown::{equal, push_number, same, separate};
 use lrlex::{DefaultLexerTypes, Document, EditError, Piece};
 use lrlex_base::Span;
-use lrlex_callers::editing::{highlighted, typed};
+use lrlex_callers::editing::{highlighted, typed, visible};
 use std::alloc::{AllocError, Global};
 use std::process::Abort;
 use std::test::Fail;
@@ -363,5 +363,220 @@ fn callers_that_highlight_and_type(rt: HostRuntime) -> Result<(), Fail> {
             Err(EditError::OutOfMemory) => return Err(AllocError)?,
         }
     }
+    Ok(())
+}
+
+/// The pieces of a part, of a run and of a document; both texts where they differ.
+fn parts(
+    alloc: Global,
+    made: Made<'_>,
+    text: &str,
+    from: usize,
+    to: usize,
+) -> Result<String, AllocError> {
+    let mut told = String::new(alloc);
+    if let Some(definition) = defined(alloc, made)? {
+        let run = definition.run(alloc, text)?;
+        push_pieces(&mut told, run.pieces_in(alloc, from, to)?.as_slice())?;
+        let document: Edited<'_> = Document::new(alloc, &definition, text)?;
+        let mut other = String::new(alloc);
+        push_pieces(&mut other, document.pieces_in(alloc, from, to)?.as_slice())?;
+        if other.as_str() != told.as_str() {
+            told.push_str(" not ")?;
+            told.push_str(other.as_str())?;
+        }
+    }
+    Ok(told)
+}
+
+const LETTERS: &[Part<'static>] = &[Part {
+    id: Some(0),
+    name: "A",
+    place: 0,
+    len: 1,
+    pattern: "a",
+    target: None,
+}];
+
+/// What a row shows, how its definition is made, its text, the two ends of the part, and the pieces.
+type PartRow = (
+    &'static str,
+    Made<'static>,
+    &'static str,
+    usize,
+    usize,
+    &'static str,
+);
+
+const PARTS: &[PartRow] = &[
+    (
+        "an unnamed comment between lexemes",
+        Made::Read(LINES),
+        "ab #c\nd",
+        2,
+        6,
+        "2 -  |1 - #c|2 - \n",
+    ),
+    (
+        "both ends in the middle of a tile",
+        Made::Read(WORDS),
+        "abc def ghi",
+        1,
+        6,
+        "0 ID abc|1 -  |0 ID def",
+    ),
+    (
+        "one byte in the middle",
+        Made::Read(WORDS),
+        "abc de",
+        1,
+        2,
+        "0 ID abc",
+    ),
+    (
+        "one byte at a tile's end",
+        Made::Read(WORDS),
+        "abc de",
+        2,
+        3,
+        "0 ID abc",
+    ),
+    (
+        "one byte at a tile's beginning",
+        Made::Read(WORDS),
+        "abc de",
+        3,
+        4,
+        "1 -  ",
+    ),
+    (
+        "no byte, at a boundary",
+        Made::Read(WORDS),
+        "abc de",
+        3,
+        3,
+        "",
+    ),
+    (
+        "no byte, inside a tile",
+        Made::Read(WORDS),
+        "abc de",
+        1,
+        1,
+        "",
+    ),
+    (
+        "ends that are out of order",
+        Made::Read(WORDS),
+        "abc de",
+        2,
+        1,
+        "",
+    ),
+    (
+        "up to past the end",
+        Made::Read(WORDS),
+        "abc de",
+        5,
+        99,
+        "0 ID de",
+    ),
+    ("from the end on", Made::Read(WORDS), "abc de", 6, 99, ""),
+    (
+        "from past the end on",
+        Made::Read(WORDS),
+        "abc de",
+        50,
+        99,
+        "",
+    ),
+    (
+        "the greatest numbers",
+        Made::Read(WORDS),
+        "abc de",
+        0,
+        usize::MAX,
+        "0 ID abc|1 -  |0 ID de",
+    ),
+    ("an empty text", Made::Read(WORDS), "", 0, 9, ""),
+    (
+        "up to an error",
+        Made::Read(WORDS),
+        "ab!cd",
+        1,
+        5,
+        "0 ID ab",
+    ),
+    ("behind an error", Made::Read(WORDS), "ab!cd", 2, 5, ""),
+    (
+        "an error at the beginning",
+        Made::Read(WORDS),
+        "!ab",
+        0,
+        3,
+        "",
+    ),
+    (
+        "without a state 0",
+        Made::OfParts(LETTERS, false),
+        "aa",
+        0,
+        2,
+        "",
+    ),
+    (
+        "from parts",
+        Made::OfParts(LETTERS, true),
+        "aaa",
+        1,
+        2,
+        "0 A a",
+    ),
+    (
+        "characters of four bytes, with both ends inside one",
+        Made::Read(FACES),
+        "a 😀 😀",
+        4,
+        8,
+        "0 ID 😀|1 -  |0 ID 😀",
+    ),
+    (
+        "a comment that was opened before",
+        Made::Read(COMMENTS),
+        "a /* b */ c",
+        6,
+        8,
+        "2 -  b |1 - */",
+    ),
+];
+
+#[test]
+fn pieces_of_a_part(rt: HostRuntime) -> Result<(), Fail> {
+    for row in PARTS {
+        let (name, made, text, from, to, want) = *row;
+        let got = parts(rt.alloc(), made, text, from, to)?;
+        same(&rt, got.as_str(), want, name, text);
+    }
+    Ok(())
+}
+
+fn seen(alloc: Global, text: &str, from: usize, to: usize) -> Result<String, AllocError> {
+    let mut told = String::new(alloc);
+    if let Some(definition) = defined(alloc, Made::Read(LINES))? {
+        let document: Edited<'_> = Document::new(alloc, &definition, text)?;
+        for (name, part) in &visible(alloc, &document, from, to)? {
+            separate(&mut told, "|")?;
+            told.push_str(name)?;
+            told.push_str(":")?;
+            told.push_str(part)?;
+        }
+    }
+    Ok(told)
+}
+
+#[test]
+fn a_caller_that_shows_a_part(rt: HostRuntime) -> Result<(), Fail> {
+    let got = seen(rt.alloc(), "ab #c\nd", 4, 7)?;
+    same(&rt, got.as_str(), ":#c|:\n|ID:d", LINES, "ab #c\nd");
     Ok(())
 }
