@@ -7,15 +7,14 @@ use Rattle.clap.specs.declared.parser.matches.Found.{Found}
 use Rattle.clap.proofs.WalkLemmas.{one_text-rows}
 use Rattle.lrlex_cli.specs.Reading.{IsNumber, IsNumberIn}
 use Rattle.lrlex_cli.specs.declared.words.WordsFault.{WordsFault}
-use Rattle.lrlex_cli.specs.declared.words.WordsFault.TheVariants.{Memory}
 
 -- the number is read, or there is none to read
 abbrev Reads : (Option ℕ → Type 0) → Result (Option ℕ) WordsFault → Type 0
-Reads P q = IfOk q P × IfErr q (λ e. (n : Option ℕ) → P n → e ≡ Memory)
+Reads P q = IfOk q P × IfErr q (λ e. (n : Option ℕ) → ¬ (P n))
 
 refused : (P : Option ℕ → Type 0) (Q : WordsFault → Type 0) (q : Result (Option ℕ) WordsFault) → IsErrAnd q Q → ((n : Option ℕ) → P n → ⊥) → Reads P q
 refused P Q (Ok n) is never = absurd is
-refused P Q (Err e) is never = (tt, λ n h. absurd (never n h))
+refused P Q (Err e) is never = (tt, never)
 
 taken : (P : Option ℕ → Type 0) (q : Result (Option ℕ) WordsFault) (n : Option ℕ) → q ≡ Ok n → P n → Reads P q
 taken P q n is h = subst (Reads P) (sym is) (h, tt)

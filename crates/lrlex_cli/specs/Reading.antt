@@ -1,5 +1,5 @@
 -- What is read from the matches of the command.
-use Rattle.std.specs.Prelude.{◌≡◌, ◌<◌, ◌^◌, true, ℕ, Bool, List, Option, Some, None, String, codes, option_map, string_bytes}
+use Rattle.std.specs.Prelude.{◌≡◌, ◌<◌, ◌^◌, ◌⊎◌, true, ℕ, Bool, List, Option, Some, None, String, codes, option_map, string_bytes}
 use Rattle.std.specs.Str.{bytes_eq}
 use Rattle.std.specs.Str.Parse.{IsNumeral, digits_value, without_leading_plus}
 use Rattle.clap.specs.Words.{Row, Text, first_of, one_of, takes}
@@ -26,6 +26,11 @@ IsTruth rows name flag = flag ≡ truth_in (first_of name rows)
 abbrev pub IsNumber : (bits : ℕ) → List Row → Text → Option ℕ → Type 0
 IsNumber bits rows name n = IsNumberIn bits (one_of name rows) n
 
+-- the same, and none too where the option has a text that is no such number
+abbrev pub IsLimit : (bits : ℕ) → List Row → Text → Option ℕ → Type 0
+IsLimit bits rows name n =
+    IsNumber bits rows name n ⊎ ((n ≡ None) × ((k : Option ℕ) → ¬ (IsNumber bits rows name k)))
+
 -- each flag is the value of its option
 pub record ReadsFlags (rows : List Row) (flags : LexFlags) : Type 0 where
   pub dot_matches_new_line : IsTruth rows (codes "dot-matches-new-line") flags.dot_matches_new_line
@@ -38,9 +43,9 @@ pub record ReadsFlags (rows : List Row) (flags : LexFlags) : Type 0 where
   pub swap_greed : IsTruth rows (codes "swap-greed") flags.swap_greed
   pub ignore_whitespace : IsTruth rows (codes "ignore-whitespace") flags.ignore_whitespace
   pub unicode : IsTruth rows (codes "unicode") flags.unicode
-  pub size_limit : IsNumber 64 rows (codes "size-limit") flags.size_limit
-  pub dfa_size_limit : IsNumber 64 rows (codes "dfa-size-limit") flags.dfa_size_limit
-  pub nest_limit : IsNumber 32 rows (codes "nest-limit") flags.nest_limit
+  pub size_limit : IsLimit 64 rows (codes "size-limit") flags.size_limit
+  pub dfa_size_limit : IsLimit 64 rows (codes "dfa-size-limit") flags.dfa_size_limit
+  pub nest_limit : IsLimit 32 rows (codes "nest-limit") flags.nest_limit
 
 -- from, to and text of an edit are what its three options have, and where there is none, none of the three has a value
 pub record ReadsEdit {Z : Type 0} (rows : List Row) (edit : Option (ℕ × ℕ × String Z)) : Type 0 where
@@ -56,7 +61,6 @@ pub record IsReadFrom (rows : List Row) (words : Words) : Type 0 where
   pub flags : ReadsFlags rows words.flags
   pub edit : ReadsEdit rows words.edit
 
--- The command takes these words, the program's own name first, and what it finds in them can be read. A number whose
--- text can't be read isn't taken in the first place (`size_rule`, `nest_rule`).
+-- the command takes these words, the program's own name first, and what it finds in them can be read
 abbrev pub CanBeRead : List Text → Type 0
 CanBeRead words = (takes command words ≡ true) × ((w : Words) × IsReadFrom (given words) w)

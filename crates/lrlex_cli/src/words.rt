@@ -3,7 +3,7 @@ ghost use Rattle.std.specs.Prelude.{◌≡◌, ℕ, Option, IfOk, IfErr, codes, 
 ghost use Rattle.clap.specs.Words.{first_of, found_of, rows_of};
 ghost use Rattle.lrlex_cli.specs.declared.words.WordsFault.TheVariants.{Memory};
 ghost use Rattle.lrlex_cli.specs.Command.{given};
-ghost use Rattle.lrlex_cli.specs.Reading.{CanBeRead, IsNumber, IsReadFrom, ReadsEdit, ReadsFlags, truth_in};
+ghost use Rattle.lrlex_cli.specs.Reading.{CanBeRead, IsLimit, IsNumber, IsReadFrom, ReadsEdit, ReadsFlags, truth_in};
 
 use crate::command::lrlex_command;
 use clap::ArgMatches;
@@ -56,8 +56,8 @@ fn truth(matches: &ArgMatches<'_>, name: &str) -> Option<bool>
 /// The value of an option of one number, in range of `usize`.
 fn number(matches: &ArgMatches<'_>, name: &str) -> Result<Option<usize>, WordsFault>
     ensures value { IfOk result (IsNumber 64 (rows_of (found_of matches.now)) name.now) }
-    ensures refused { IfErr result (λ e. (n : Option ℕ)
-        → IsNumber 64 (rows_of (found_of matches.now)) name.now n → e ≡ Memory) }
+    ensures refused { IfErr result (λ _. (n : Option ℕ)
+        → ¬ (IsNumber 64 (rows_of (found_of matches.now)) name.now n)) }
 {
     matches.try_get_one(name).map_err(|_| WordsFault::Refused)
 }
@@ -65,19 +65,37 @@ fn number(matches: &ArgMatches<'_>, name: &str) -> Result<Option<usize>, WordsFa
 /// The same in range of `u32`.
 fn small_number(matches: &ArgMatches<'_>, name: &str) -> Result<Option<u32>, WordsFault>
     ensures value { IfOk result (IsNumber 32 (rows_of (found_of matches.now)) name.now) }
-    ensures refused { IfErr result (λ e. (n : Option ℕ)
-        → IsNumber 32 (rows_of (found_of matches.now)) name.now n → e ≡ Memory) }
+    ensures refused { IfErr result (λ _. (n : Option ℕ)
+        → ¬ (IsNumber 32 (rows_of (found_of matches.now)) name.now n)) }
 {
     matches.try_get_one(name).map_err(|_| WordsFault::Refused)
 }
 
-/// The flags that the matches give.
-fn flags_of(matches: &ArgMatches<'_>) -> Result<LexFlags, WordsFault>
-    ensures value { IfOk result (ReadsFlags (rows_of (found_of matches.now))) }
-    ensures refused { IfErr result (λ e. (flags : LexFlags)
-        → ReadsFlags (rows_of (found_of matches.now)) flags → e ≡ Memory) }
+/// The limit of this name, in range of `usize`.
+fn limit(matches: &ArgMatches<'_>, name: &str) -> Option<usize>
+    ensures { IsLimit 64 (rows_of (found_of matches.now)) name.now result }
 {
-    Ok(LexFlags {
+    match number(matches, name) {
+        Ok(limit) => limit,
+        Err(_) => None,
+    }
+}
+
+/// The same in range of `u32`.
+fn small_limit(matches: &ArgMatches<'_>, name: &str) -> Option<u32>
+    ensures { IsLimit 32 (rows_of (found_of matches.now)) name.now result }
+{
+    match small_number(matches, name) {
+        Ok(limit) => limit,
+        Err(_) => None,
+    }
+}
+
+/// The flags that the matches give.
+fn flags_of(matches: &ArgMatches<'_>) -> LexFlags
+    ensures { ReadsFlags (rows_of (found_of matches.now)) result }
+{
+    LexFlags {
         dot_matches_new_line: truth(matches, "dot-matches-new-line"),
         multi_line: truth(matches, "multi-line"),
         octal: truth(matches, "octal"),
@@ -87,10 +105,10 @@ fn flags_of(matches: &ArgMatches<'_>) -> Result<LexFlags, WordsFault>
         swap_greed: truth(matches, "swap-greed"),
         ignore_whitespace: truth(matches, "ignore-whitespace"),
         unicode: truth(matches, "unicode"),
-        size_limit: number(matches, "size-limit")?,
-        dfa_size_limit: number(matches, "dfa-size-limit")?,
-        nest_limit: small_number(matches, "nest-limit")?,
-    })
+        size_limit: limit(matches, "size-limit"),
+        dfa_size_limit: limit(matches, "dfa-size-limit"),
+        nest_limit: small_limit(matches, "nest-limit"),
+    }
 }
 
 /// The edit that the matches give: all of its three options have to be there, or none.
@@ -127,7 +145,7 @@ fn words_of(alloc: Global, matches: &ArgMatches<'_>) -> Result<Words, WordsFault
     Ok(Words {
         rules: String::from_str(alloc, rules)?,
         input: String::from_str(alloc, input)?,
-        flags: flags_of(matches)?,
+        flags: flags_of(matches),
         edit: edit_of(alloc, matches)?,
     })
 }
