@@ -93,7 +93,8 @@ fn pieces_between<'d, 't, L: LexerTypes<LexErrorT = LRLexError>>(
     requires order { first ≤ last }
     requires within { last < length boundaries.now }
     ensures tiles { IfOk result (λ pieces. AreTilesOfRun
-        (definition_of L.StorageT.number definition.now) text.now boundaries.now first pieces.items) }
+        (definition_of L.StorageT.number definition.now) text.now boundaries.now first
+        pieces.items) }
     ensures many { IfOk result (λ pieces. first + vec_len pieces ≡ last) }
 {
     let mut pieces = Vec::with_capacity(alloc, last - first)?;
