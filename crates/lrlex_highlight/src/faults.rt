@@ -1,13 +1,15 @@
 //! Why nothing is shown.
-use crate::words::USAGE;
+use clap::Error;
 use std::alloc::{AllocError, AllocFailed};
 use std::{fmt, io};
 
 /// Why the program can't do what it is asked.
 #[derive(Debug, Drop)]
 pub enum Fault {
-    /// The words are refused.
-    Usage,
+    /// The words are refused, or ask for help: what `clap` says of them.
+    Words(Error),
+    /// Standard input has no line that parts the rules from the text.
+    NoLine,
     /// The rule file can't be opened or read.
     CannotReadRules,
     /// The input can't be opened or read.
@@ -22,7 +24,8 @@ pub enum Fault {
 impl fmt::Display for Fault {
     fn fmt<W: fmt::Write>(&self, f: &mut fmt::Formatter<W>) -> fmt::Result {
         match self {
-            Fault::Usage => write!(f, "{USAGE}"),
+            Fault::Words(told) => write!(f, "{told}"),
+            Fault::NoLine => write!(f, "Standard input has no line ----"),
             Fault::CannotReadRules => write!(f, "Can't read the rule file"),
             Fault::CannotReadInput => write!(f, "Can't read the input"),
             Fault::Refused(shown) => {

@@ -113,7 +113,7 @@ fn show_input(rt: &HostRuntime) -> Result<(), Fault> {
     rt.reader().read_to_end(&mut bytes)?;
     let both = text_of(rt.alloc(), "stdin", bytes)?;
     let Some((rules, input)) = both.as_str().split_once(BETWEEN) else {
-        return Err(Fault::Usage);
+        return Err(Fault::NoLine);
     };
     let page = page_of(rt.alloc(), "stdin", rules, input, Marks::Terminal)?;
     print!(rt; "{page}")?;
@@ -134,6 +134,10 @@ fn served(rt: &HostRuntime) -> Result<(), Fault> {
 fn main(rt: HostRuntime) -> ExitCode {
     match served(&rt) {
         Ok(()) => ExitCode::SUCCESS,
+        Err(Fault::Words(told)) => {
+            let _ = told.print(&rt);
+            ExitCode::from(if told.use_stderr() { 2 } else { 0 })
+        }
         Err(fault) => {
             // There is nowhere to tell of a fault of standard error.
             let _ = eprintln!(rt; "{fault}");

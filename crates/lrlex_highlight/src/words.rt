@@ -5,9 +5,6 @@ use clap::error::ErrorKind;
 use clap::{Arg, ArgAction, ArgMatches, Command};
 use std::alloc::{AllocError, Global};
 
-/// How the program is called.
-pub const USAGE: &str = "Usage: lrlex_highlight [--html] RULES INPUT";
-
 /// What the words say.
 #[derive(Debug, Drop)]
 pub struct Words {
@@ -20,23 +17,33 @@ pub struct Words {
 
 /// The command, as `clap` has it.
 fn command<'a>(alloc: Global) -> Result<Command<'a>, AllocError> {
+    let rules = Arg::new(alloc, "rules")
+        .value_name("RULES")
+        .help("The rule file")
+        .required(true);
+    let input = Arg::new(alloc, "input")
+        .value_name("INPUT")
+        .help("The text to show")
+        .required(true);
     let html = Arg::new(alloc, "html")
         .long("html")
+        .help("Writes a page, and no text for a terminal")
         .action(ArgAction::SetTrue);
     Command::new(alloc, "lrlex_highlight")
-        .arg(Arg::new(alloc, "rules").required(true))?
-        .arg(Arg::new(alloc, "input").required(true))?
+        .about("Shows a text in colours, by the pieces into which the rules cut it.")
+        .after_help(
+            "Without words both are read from standard input, the rules before a line ----.",
+        )
+        .arg(rules)?
+        .arg(input)?
         .arg(html)
 }
 
 /// The words of the matches.
 fn words_of(alloc: Global, matches: &ArgMatches<'_>) -> Result<Words, Fault> {
-    let Some(rules) = matches.get_str("rules") else {
-        return Err(Fault::Usage);
-    };
-    let Some(input) = matches.get_str("input") else {
-        return Err(Fault::Usage);
-    };
+    // Both are there: the command takes no words without them.
+    let rules = matches.get_str("rules").unwrap_or("");
+    let input = matches.get_str("input").unwrap_or("");
     Ok(Words {
         rules: String::from_str(alloc, rules)?,
         input: String::from_str(alloc, input)?,
@@ -52,7 +59,7 @@ fn words_of(alloc: Global, matches: &ArgMatches<'_>) -> Result<Words, Fault> {
 pub fn read(alloc: Global, words: &[&str]) -> Result<Words, Fault> {
     match command(alloc)?.try_get_matches_from(words) {
         Ok(matches) => words_of(alloc, &matches),
-        Err(error) if error.kind() == ErrorKind::OutOfMemory => Err(Fault::Memory),
-        Err(_) => Err(Fault::Usage),
+        Err(told) if told.kind() == ErrorKind::OutOfMemory => Err(Fault::Memory),
+        Err(told) => Err(Fault::Words(told)),
     }
 }
