@@ -8,7 +8,7 @@ ghost use Rattle.lrlex_table.specs.Vain.{table_at, IsVain, IsVainPast, IsDeadEnd
 
 use crate::table::{MARK, Table, row_of};
 use crate::tables::{Part, Tables, together};
-use crate::walk::{Sight, Walk, cell_at};
+use crate::walk::{FAR, Sight, Walk, cell_at};
 use std::alloc::Global;
 use std::collections::HashMap;
 
@@ -255,9 +255,22 @@ impl<'d, 't> DeadEnds<'d, 't> {
         sight
     }
 
+    /// Looks once more, to keep the dead ends. Out of line and without an answer, so that a look that doesn't go far pays
+    /// for a comparison alone.
+    #[inline(never)]
+    fn look_again(&mut self, tables: &Tables, list: usize, place: usize, rest: &str)
+        requires tables { slice_get self.old.lists.now list ≡ Some tables.now }
+        requires rest { rest.now ≡ drop place self.old.text.now }
+        requires inside { place ≤ length self.old.text.now }
+        ensures lists { self.new.lists ≡ self.old.lists }
+        ensures text { self.new.text ≡ self.old.text }
+    {
+        let _ = self.look_at_each(tables, list, place, rest);
+    }
+
     /// What the tables of the list see of the text from this place on, as `Tables::look` does, so that all looks at a
-    /// text together take time in proportion to it. A look that went far in vain is made once more, to keep its dead ends,
-    /// and up to there each walk stops at the first that is known.
+    /// text together take time in proportion to it. A look that went far past its winner's end in vain is made once more, to
+    /// keep its dead ends, and up to there each walk stops at the first that is known. Where nothing wins no look follows.
     #[inline(always)]
     pub fn look(&mut self, tables: &Tables, list: usize, place: usize, rest: &str) -> Sight
         requires tables { slice_get self.old.lists.now list ≡ Some tables.now }
@@ -278,8 +291,10 @@ impl<'d, 't> DeadEnds<'d, 't> {
             return self.look_at_each(tables, list, place, rest);
         }
         let sight = tables.look(rest);
-        if sight.is_far() {
-            return self.look_at_each(tables, list, place, rest);
+        if let Some(tile) = sight.tile {
+            if sight.reach - tile.len > FAR {
+                self.look_again(tables, list, place, rest);
+            }
         }
         sight
     }

@@ -7,10 +7,3 @@ returns-then-place-self-clause-winner c ps are = (c.look_at_each.ensures.sight p
 pub returns-then-place-self-clause-decided : goal.returns-then-place-self-clause-decided
 returns-then-place-self-clause-decided c ps are none =
     decided_all ps c.args.tables.now.parts.items c.args.tables.now.asked.items c.args.rest.now c.look_at_each.result.reach are none (c.look_at_each.ensures.sight ps are).decided
-
-pub returns-then-is_far-clause-winner : goal.returns-then-is_far-clause-winner
-returns-then-is_far-clause-winner c ps are = (c.look_at_each-then-is_far.ensures.sight ps are).winner
-
-pub returns-then-is_far-clause-decided : goal.returns-then-is_far-clause-decided
-returns-then-is_far-clause-decided c ps are none =
-    decided_all ps c.args.tables.now.parts.items c.args.tables.now.asked.items c.args.rest.now c.look_at_each-then-is_far.result.reach are none (c.look_at_each-then-is_far.ensures.sight ps are).decided
