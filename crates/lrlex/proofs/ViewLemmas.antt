@@ -3,9 +3,9 @@ use Rattle.std.proofs.Common.{◌≡◌, zero, suc, ℕ, ◌<◌, Bool, true, fa
 use Rattle.std.proofs.Math.Seq.{take-append_seam}
 use Rattle.std.proofs.lemmas.Bool.{cond-true, cond-false, ltb-true, ltb-false, eqb-true}
 use Rattle.std.proofs.lemmas.List.Sums.{passes_at_first, fails_before_first}
-use Rattle.std.proofs.lemmas.List.Folds.{Any-from_list_any, list_any_at}
+use Rattle.std.proofs.lemmas.List.Folds.{Any-from_list_any, list_any_at, find_at}
 use Rattle.std.proofs.lemmas.List.{length-map, get_or_default}
-use Rattle.std.proofs.lemmas.Option.{slice_get-map, slice_get_read, same_Some, none-some}
+use Rattle.std.proofs.lemmas.Option.{slice_get-map, slice_get_past, slice_get_read, same_Some, none-some}
 use Rattle.std.specs.List.{list_any, find, position, position_or_len}
 use Rattle.regex_hir.specs.Text.{is_some_and}
 use Rattle.lrlex_rules.specs.Definition.{Definition, Rule, StartState}
@@ -141,6 +141,21 @@ found_past states q (Some i) placed past e =
 
 pub placed_past : (states : List start.StartState) (q : ℕ) → ArePlaced states → length states ≤ q → None ≡ position (λ s. (as_state s).id == q) states
 placed_past states q placed past = found_past states q _ placed past refl
+
+find_of_place : (states : List start.StartState) (q : ℕ) (b : Bool) → ArePlaced states → nat_lt q (length states) ≡ b → slice_get states q ≡ find (λ s. (as_state s).id == q) states
+find_of_place states q true placed e =
+    let p : start.StartState → Bool = λ s. (as_state s).id == q in
+    let found = position_cases (position_or_len p states) (length states) q _ refl (placed_within states q placed (ltb-true q (length states) e)) in
+    ap (slice_get states) found.0 ∙ sym (find_at p states)
+find_of_place states q false placed e =
+    let p : start.StartState → Bool = λ s. (as_state s).id == q in
+    let past = ltb-false q (length states) e in
+    slice_get_past states q past
+    ∙ sym (slice_get_past states (position_or_len p states) (none_cases (position_or_len p states) (length states) _ refl (placed_past states q placed past)))
+    ∙ sym (find_at p states)
+
+pub placed_find : (states : List start.StartState) (q : ℕ) → ArePlaced states → slice_get states q ≡ find (λ s. (as_state s).id == q) states
+placed_find states q placed = find_of_place states q _ placed refl
 
 lacks_past : (states : List start.StartState) (q : ℕ) (b : Bool) → ArePlaced states → length states ≤ q → list_any (λ s. (as_state s).id == q) states ≡ b → b ≡ false
 lacks_past states q false placed past e = refl

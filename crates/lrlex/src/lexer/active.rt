@@ -73,17 +73,28 @@ pub(crate) fn position_of(states: &[StartState], placed: bool, id: usize) -> Opt
     }
 }
 
-fn first_state(states: &[StartState], id: usize) -> Option<&StartState>
+/// The first state with the id. Where ids are places, none is looked at.
+fn first_state(states: &[StartState], placed: bool, id: usize) -> Option<&StartState>
+    requires { IsTrue placed → ArePlaced states.now }
     ensures { option_copied result ≡ find (λ s. (as_state s).id == id) states.now }
 {
-    states.iter().find(|s| s.id() == id)
+    if placed {
+        if id < states.len() {
+            Some(&states[id])
+        } else {
+            None
+        }
+    } else {
+        states.iter().find(|s| s.id() == id)
+    }
 }
 
 /// Whether the first state with the id takes rules that list no states.
-fn is_inclusive(states: &[StartState], id: usize) -> bool
+fn is_inclusive(states: &[StartState], placed: bool, id: usize) -> bool
+    requires { IsTrue placed → ArePlaced states.now }
     ensures { result ≡ is_inclusive (map as_state states.now) id }
 {
-    match first_state(states, id) {
+    match first_state(states, placed, id) {
         Some(state) => !state.exclusive(),
         None => false,
     }
@@ -104,13 +115,15 @@ fn is_active_where<S>(inclusive: bool, id: usize, rule: &Rule<S>) -> bool
 pub(crate) fn active_places<S>(
     alloc: Global,
     states: &[StartState],
+    placed: bool,
     rules: &[Rule<S>],
     id: usize,
 ) -> Result<Vec<usize>, AllocError>
+    requires { IsTrue placed → ArePlaced states.now }
     ensures { IfOk result (λ places. places.items
         ≡ active_places (map as_state states.now) (map (as_rule (λ _. 0)) rules.now) id) }
 {
-    let inclusive = is_inclusive(states, id);
+    let inclusive = is_inclusive(states, placed, id);
     let mut places = Vec::new(alloc);
     'rules: for index in 0..rules.len() {
         let rule = &rules[index];

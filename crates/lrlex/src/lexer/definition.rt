@@ -61,9 +61,9 @@ impl<S: Copy> RuleTable<S> {
         ensures rules { IfOk result (λ t. t.rules ≡ rules) }
         ensures states { IfOk result (λ t. t.start_states ≡ start_states) }
     {
-        let (lists, list_at) = lists_for(alloc, &start_states, &rules)?;
-        let tables = tables_for(alloc, &rules, &lists, budget)?;
         let placed = are_placed(&start_states);
+        let (lists, list_at) = lists_for(alloc, &start_states, placed, &rules)?;
+        let tables = tables_for(alloc, &rules, &lists, budget)?;
         Ok(RuleTable {
             rules,
             start_states,

@@ -1,8 +1,8 @@
 //! The rules that are active in each start state, as lists of places: states with the same rules share a list.
-ghost use Rattle.std.specs.Prelude.{◌≡◌, ◌<◌, ◌≤◌, ℕ, All, map, length, IfOk, IfSome};
+ghost use Rattle.std.specs.Prelude.{◌≡◌, ◌<◌, ◌≤◌, ℕ, All, map, length, IfOk, IfSome, IsTrue};
 ghost use Rattle.lrlex_rules.specs.Parts.{as_rule, as_state};
 ghost use Rattle.lrlex.specs.Active.{active_places};
-ghost use Rattle.lrlex.specs.StateTables.{list_in};
+ghost use Rattle.lrlex.specs.StateTables.{ArePlaced, list_in};
 
 use crate::lexer::active::active_places;
 use lrlex_rules::{Rule, StartState};
@@ -60,12 +60,15 @@ fn put_list(
     Ok(index)
 }
 
-/// The lists of the rules that are active in these states, each once, and which of them each state has.
+/// The lists of the rules that are active in these states, each once, and which of them each state has. `placed` says whether
+/// the id of each state is its place.
 pub(crate) fn lists_for<S>(
     alloc: Global,
     states: &[StartState],
+    placed: bool,
     rules: &[Rule<S>],
 ) -> Result<(Vec<Vec<usize>>, Vec<usize>), AllocError>
+    requires { IsTrue placed → ArePlaced states.now }
     ensures listed { IfOk result (λ r. map (list_in (map (λ v. v.items) r.0.items)) r.1.items
         ≡ map (λ s. active_places (map as_state states.now) (map (as_rule (λ _. 0)) rules.now)
         (as_state s).id) states.now) }
@@ -75,7 +78,7 @@ pub(crate) fn lists_for<S>(
     let mut known = HashMap::new(alloc);
     let mut at = Vec::with_capacity(alloc, states.len())?;
     'states: for index in 0..states.len() {
-        let places = active_places(alloc, states, rules, states[index].id())?;
+        let places = active_places(alloc, states, placed, rules, states[index].id())?;
         let list = put_list(&mut lists, &mut known, places)?;
         at.push(list)?;
     }
