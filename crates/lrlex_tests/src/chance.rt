@@ -1,9 +1,9 @@
 //! Edits by chance: lexing again gives what lexing anew gives, and asks no more.
 use crate::runs::{Definition, Made, Told, defined, edit_of, edited, lex};
-use crate::shown::equal;
+use crate::shown::{equal, push};
 use lrlex_base::Edit;
-use std::alloc::{AllocError, Global};
-use std::test::Fail;
+use std::alloc::Global;
+use std::process::Abort;
 
 /// A number below `bound`, or 0 where that is 0: the next in an order that the first state decides.
 fn below(state: &mut u64, bound: usize) -> usize {
@@ -55,18 +55,18 @@ impl Step {
 }
 
 /// So many pieces by chance.
-fn pieces(alloc: Global, state: &mut u64, count: usize) -> Result<String, AllocError> {
+fn pieces(rt: &impl Abort, alloc: Global, state: &mut u64, count: usize) -> String {
     let mut text = String::new(alloc);
     for _ in 0..count {
         let stray = below(state, 300) == 0;
         let piece = pick(state, if stray { STRAYS } else { PIECES });
-        text.push_str(piece)?;
+        push(rt, &mut text, piece);
     }
-    Ok(text)
+    text
 }
 
-/// Inserts, deletes or replaces. Long texts only shrink.
-fn step_by_chance(alloc: Global, state: &mut u64, text: &str) -> Result<Step, AllocError> {
+/// Where a change begins and ends, and of how many pieces it puts. Long texts only shrink.
+fn bounds_by_chance(state: &mut u64, text: &str) -> (usize, usize, usize) {
     let first = below(state, text.chars().count().saturating_add(1));
     let kind = if text.len() > 140 { 1 } else { below(state, 4) };
     let removed = match kind {
@@ -77,36 +77,44 @@ fn step_by_chance(alloc: Global, state: &mut u64, text: &str) -> Result<Step, Al
     let count = if kind == 1 { 0 } else { below(state, 6) };
     let from = place_of(text, first);
     let to = place_of(text, first.saturating_add(removed));
-    let put = pieces(alloc, state, count)?;
-    let text = edited(alloc, &edit_of((from, to, put.as_str())), text)?;
-    Ok(Step {
+    (from, to, count)
+}
+
+/// Inserts, deletes or replaces.
+fn step_by_chance(rt: &impl Abort, alloc: Global, state: &mut u64, text: &str) -> Step {
+    let (from, to, count) = bounds_by_chance(state, text);
+    let put = pieces(rt, alloc, state, count);
+    let text = edited(rt, alloc, &edit_of((from, to, put.as_str())), text);
+    Step {
         from,
         to,
         put,
         text,
-    })
+    }
 }
 
 /// Four changes, each of the text that the one before made, the first of this one.
-fn four_steps(alloc: Global, state: &mut u64, text: &str) -> Result<Vec<Step>, AllocError> {
+fn four_steps(rt: &impl Abort, alloc: Global, state: &mut u64, text: &str) -> Vec<Step> {
     let mut steps: Vec<Step> = Vec::new(alloc);
     for _ in 0..4 {
         let now = match steps.last() {
             Some(step) => step.text.as_str(),
             None => text,
         };
-        let next = step_by_chance(alloc, state, now)?;
-        steps.push(next)?;
+        let next = step_by_chance(rt, alloc, state, now);
+        steps.push(next).expect(rt, "memory");
     }
-    Ok(steps)
+    steps
 }
 
-fn edits_of<'s>(alloc: Global, steps: &'s [Step]) -> Result<Vec<(Edit<'s>, &'s str)>, AllocError> {
+fn edits_of<'s>(rt: &impl Abort, alloc: Global, steps: &'s [Step]) -> Vec<(Edit<'s>, &'s str)> {
     let mut edits = Vec::new(alloc);
     for step in steps {
-        edits.push((step.edit(), step.text.as_str()))?;
+        edits
+            .push((step.edit(), step.text.as_str()))
+            .expect(rt, "memory");
     }
-    Ok(edits)
+    edits
 }
 
 /// Whether two runs have the same items, tiles and boundaries with their stacks.
@@ -132,81 +140,93 @@ fn count(again: &[Told], anew: &[Told], tally: &mut [usize; 3]) {
 
 /// Lexes a text and then again after each step.
 fn lexed_again(
+    rt: &impl Abort,
     alloc: Global,
     definition: &Definition,
     text: &str,
     steps: &[Step],
-) -> Result<Vec<Told>, AllocError> {
-    let edits = edits_of(alloc, steps)?;
+) -> Vec<Told> {
+    let edits = edits_of(rt, alloc, steps);
     let mut told = Vec::new(alloc);
-    lex(alloc, definition, text, edits.as_slice(), &mut told)?;
-    Ok(told)
+    lex(rt, alloc, definition, text, edits.as_slice(), &mut told);
+    told
 }
 
 fn lex_anew(
+    rt: &impl Abort,
     alloc: Global,
     definition: &Definition,
     text: &str,
     told: &mut Vec<Told>,
-) -> Result<(), AllocError> {
-    lex(alloc, definition, text, &[], told)
+) {
+    lex(rt, alloc, definition, text, &[], told);
 }
 
 /// Lexes the text of each step.
 fn lexed_anew(
+    rt: &impl Abort,
     alloc: Global,
     definition: &Definition,
     steps: &[Step],
-) -> Result<Vec<Told>, AllocError> {
+) -> Vec<Told> {
     let mut told = Vec::new(alloc);
     for step in steps {
-        lex_anew(alloc, definition, step.text.as_str(), &mut told)?;
+        lex_anew(rt, alloc, definition, step.text.as_str(), &mut told);
     }
-    Ok(told)
+    told
 }
 
-/// Makes four edits, and leaves the last text.
+/// Makes four edits, and gives the last text.
 fn four_edits(
+    rt: &impl Abort,
     alloc: Global,
     definition: &Definition,
     state: &mut u64,
-    text: &mut String,
+    text: &str,
     tally: &mut [usize; 3],
-) -> Result<(), AllocError> {
-    let mut steps = four_steps(alloc, state, text.as_str())?;
-    let again = lexed_again(alloc, definition, text.as_str(), steps.as_slice())?;
-    let anew = lexed_anew(alloc, definition, steps.as_slice())?;
+) -> String {
+    let mut steps = four_steps(rt, alloc, state, text);
+    let again = lexed_again(rt, alloc, definition, text, steps.as_slice());
+    let anew = lexed_anew(rt, alloc, definition, steps.as_slice());
     count(again.as_slice(), anew.as_slice(), tally);
-    if let Some(Step { text: last, .. }) = steps.pop() {
-        *text = last;
-    }
-    Ok(())
+    let Step { text: last, .. } = steps.pop().expect(rt, "a step");
+    last
 }
 
-/// So many times four edits, from the empty text on. None is made where the rules are refused.
+/// So many times four edits, from the empty text on.
 fn many_edits(
+    rt: &impl Abort,
     alloc: Global,
     made: Made<'_>,
     mut state: u64,
     times: usize,
-) -> Result<[usize; 3], AllocError> {
+) -> [usize; 3] {
     let mut tally = [0; 3];
-    if let Some(definition) = defined(alloc, made)? {
-        let mut text = String::new(alloc);
-        for _ in 0..times {
-            four_edits(alloc, &definition, &mut state, &mut text, &mut tally)?;
-        }
+    let definition = defined(rt, alloc, made);
+    let mut text = String::new(alloc);
+    for _ in 0..times {
+        text = four_edits(
+            rt,
+            alloc,
+            &definition,
+            &mut state,
+            text.as_str(),
+            &mut tally,
+        );
     }
-    Ok(tally)
+    tally
+}
+
+/// The edits that are made, those that give another run, and those that ask more, where tables have so many rows.
+fn tallies(rt: &impl Abort, alloc: Global, rows: usize, times: usize, edits: usize) {
+    let made = Made::Again(STATES, rows, 40_000_000);
+    let tally = many_edits(rt, alloc, made, 2024, times);
+    equal(rt, &tally, &[edits, 0, 0], STATES, "edits by chance");
 }
 
 #[test]
-fn edits_made_by_chance(rt: HostRuntime) -> Result<(), Fail> {
-    // by tables, and by asking each rule: edits, those that gave another run, and those that asked more
-    for (rows, times, edits) in [(8_000, 2_500, 10_000), (0, 500, 2_000)] {
-        let made = Made::Again(STATES, rows, 40_000_000);
-        let tally = many_edits(rt.alloc(), made, 2024, times)?;
-        equal(&rt, &tally, &[edits, 0, 0], STATES, "edits by chance");
-    }
-    Ok(())
+fn edits_made_by_chance(rt: HostRuntime) {
+    // by tables, and by asking each rule
+    tallies(&rt, rt.alloc(), 8_000, 2_500, 10_000);
+    tallies(&rt, rt.alloc(), 0, 500, 2_000);
 }

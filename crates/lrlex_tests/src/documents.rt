@@ -1,12 +1,13 @@
 //! Documents and the pieces of a text, against worked answers, and against lexing anew.
-use crate::runs::{Change, Definition, Made, Part, defined, lexed, push_item};
-use crate::shown::{equal, push_number, same, separate};
+use crate::hostile::repeated;
+use crate::runs::{Change, Made, Part, defined, lexed, push_item};
+use crate::shown::{equal, owned, push, push_number, push_pairs, same, separate};
+use crate::texts::lexer_over;
 use lrlex::{DefaultLexerTypes, Document, EditError, Piece};
 use lrlex_base::Span;
 use lrlex_callers::editing::{highlighted, typed, visible};
-use std::alloc::{AllocError, Global};
+use std::alloc::Global;
 use std::process::Abort;
-use std::test::Fail;
 
 type Edited<'d> = Document<'d, DefaultLexerTypes<u32>>;
 
@@ -22,76 +23,75 @@ struct Shown {
     counts: [usize; 2],
 }
 
-fn push_piece(text: &mut String, piece: &Piece<'_, '_>) -> Result<(), AllocError> {
-    separate(text, "|")?;
-    push_number(text, "", piece.rule)?;
-    text.push_str(" ")?;
-    text.push_str(piece.name.unwrap_or("-"))?;
-    text.push_str(" ")?;
-    text.push_str(piece.text)
+fn push_piece(rt: &impl Abort, text: &mut String, piece: &Piece<'_, '_>) {
+    separate(rt, text, "|");
+    push_number(rt, text, "", piece.rule);
+    push(rt, text, " ");
+    push(rt, text, piece.name.unwrap_or("-"));
+    push(rt, text, " ");
+    push(rt, text, piece.text);
 }
 
-fn push_pieces(text: &mut String, pieces: &[Piece<'_, '_>]) -> Result<(), AllocError> {
+fn pieces_text(rt: &impl Abort, alloc: Global, pieces: &[Piece<'_, '_>]) -> String {
+    let mut text = String::new(alloc);
     for piece in pieces {
-        push_piece(text, piece)?;
+        push_piece(rt, &mut text, piece);
     }
-    Ok(())
+    text
 }
 
 /// Makes the edits, and answers how many of them didn't fit.
 fn make_edits(
+    rt: &impl Abort,
     alloc: Global,
     document: &mut Edited<'_>,
     changes: &[Change<'_>],
-) -> Result<usize, AllocError> {
+) -> usize {
     let mut unfit = 0usize;
     for (from, to, put) in changes {
         match document.edit(alloc, *from, *to, put) {
             Ok(()) => {}
             Err(EditError::DoesNotFit) => unfit = unfit.saturating_add(1),
-            Err(EditError::OutOfMemory) => return Err(AllocError),
+            Err(EditError::OutOfMemory) => panic!(rt; "memory"),
         }
     }
-    Ok(unfit)
+    unfit
 }
 
-fn show(alloc: Global, document: &Edited<'_>, unfit: usize) -> Result<Shown, AllocError> {
-    let mut shown = Shown {
-        text: String::from_str(alloc, document.text())?,
-        items: String::new(alloc),
-        pieces: String::new(alloc),
-        counts: [unfit, document.lexed()],
-    };
+fn items_text(rt: &impl Abort, alloc: Global, document: &Edited<'_>) -> String {
+    let mut text = String::new(alloc);
     for item in document.items() {
-        push_item(&mut shown.items, document.definition(), item)?;
+        push_item(rt, &mut text, document.definition(), item);
     }
-    let pieces = document.pieces(alloc)?;
-    push_pieces(&mut shown.pieces, pieces.as_slice())?;
-    Ok(shown)
+    text
 }
 
-fn edited(
-    alloc: Global,
-    definition: &Definition,
-    text: &str,
-    changes: &[Change<'_>],
-) -> Result<Shown, AllocError> {
-    let mut document = Document::new(alloc, definition, text)?;
-    let unfit = make_edits(alloc, &mut document, changes)?;
-    show(alloc, &document, unfit)
+fn document_pieces(rt: &impl Abort, alloc: Global, document: &Edited<'_>) -> String {
+    let pieces = document.pieces(alloc).expect(rt, "memory");
+    pieces_text(rt, alloc, pieces.as_slice())
 }
 
-/// What a document shows after these edits. None where the rules are refused.
+fn show(rt: &impl Abort, alloc: Global, document: &Edited<'_>, unfit: usize) -> Shown {
+    Shown {
+        text: owned(rt, alloc, document.text()),
+        items: items_text(rt, alloc, document),
+        pieces: document_pieces(rt, alloc, document),
+        counts: [unfit, document.lexed()],
+    }
+}
+
+/// What a document shows after these edits.
 fn edited_by(
+    rt: &impl Abort,
     alloc: Global,
     rules: &str,
     text: &str,
     changes: &[Change<'_>],
-) -> Result<Option<Shown>, AllocError> {
-    match defined(alloc, Made::Read(rules))? {
-        Some(definition) => Ok(Some(edited(alloc, &definition, text, changes)?)),
-        None => Ok(None),
-    }
+) -> Shown {
+    let definition = defined(rt, alloc, Made::Read(rules));
+    let mut document = Document::new(alloc, &definition, text).expect(rt, "memory");
+    let unfit = make_edits(rt, alloc, &mut document, changes);
+    show(rt, alloc, &document, unfit)
 }
 
 const WORDS: &str = "%%\n[a-z]+ 'ID'\n[ ] ;";
@@ -204,189 +204,188 @@ const DOCUMENTS: &[Row] = &[
     ),
 ];
 
-fn expects(rt: &impl Abort, row: &Row, got: Option<&Shown>) {
+fn expects(rt: &impl Abort, row: &Row, shown: &Shown) {
     let (name, rules, _, _, (text, items, pieces, unfit)) = *row;
-    match got {
-        Some(shown) => {
-            same(rt, shown.text.as_str(), text, name, rules);
-            same(rt, shown.items.as_str(), items, name, rules);
-            same(rt, shown.pieces.as_str(), pieces, name, rules);
-            equal(rt, &shown.counts[..1], &[unfit], name, rules);
-        }
-        None => panic!(rt; "refused: {name}"),
-    }
+    same(rt, shown.text.as_str(), text, name, rules);
+    same(rt, shown.items.as_str(), items, name, rules);
+    same(rt, shown.pieces.as_str(), pieces, name, rules);
+    equal(rt, &shown.counts[..1], &[unfit], name, rules);
 }
 
 #[test]
-fn documents_after_their_edits(rt: HostRuntime) -> Result<(), Fail> {
+fn documents_after_their_edits(rt: HostRuntime) {
     for row in DOCUMENTS {
         let (name, rules, text, changes, _) = *row;
-        let got = edited_by(rt.alloc(), rules, text, changes)?;
-        expects(&rt, row, got.as_ref());
+        let now = edited_by(&rt, rt.alloc(), rules, text, changes);
+        expects(&rt, row, &now);
         // It is what lexing the text anew gives.
-        if let Some(now) = got {
-            if let Some(anew) = lexed(rt.alloc(), Made::Read(rules), now.text.as_str())? {
-                same(&rt, now.items.as_str(), anew.items.as_str(), name, rules);
-            }
-        }
+        let anew = lexed(&rt, rt.alloc(), Made::Read(rules), now.text.as_str());
+        same(&rt, now.items.as_str(), anew.items.as_str(), name, rules);
     }
-    Ok(())
 }
 
 #[test]
-fn a_key_in_a_long_document_cuts_few_tiles_anew(rt: HostRuntime) -> Result<(), Fail> {
-    let mut text = String::new(rt.alloc());
-    for _word in 0..300 {
-        text.push_str("ab ")?;
-    }
+fn a_key_in_a_long_document_cuts_few_tiles_anew(rt: HostRuntime) {
+    let text = repeated(&rt, rt.alloc(), "", "ab ", 300, "");
     for at in [0usize, 450, 451, 900] {
-        let got = edited_by(rt.alloc(), WORDS, text.as_str(), &[(at, at, "x")])?;
-        let anew = match got {
-            Some(shown) => shown.counts[1],
-            None => usize::MAX,
-        };
+        let changes = [(at, at, "x")];
+        let shown = edited_by(&rt, rt.alloc(), WORDS, text.as_str(), &changes);
+        let anew = shown.counts[1];
         assert!(&rt; anew <= 3, "{anew} at {at}");
     }
-    Ok(())
 }
 
-/// The places of these bytes of a document, and the texts of these spans.
-fn told(
+fn push_place(rt: &impl Abort, text: &mut String, place: (usize, usize)) {
+    let (line, column) = place;
+    separate(rt, text, " ");
+    push_number(rt, text, "", line);
+    push_number(rt, text, ":", column);
+}
+
+fn push_text(rt: &impl Abort, text: &mut String, more: &str) {
+    push(rt, text, " <");
+    push(rt, text, more);
+    push(rt, text, ">");
+}
+
+fn span_of(ends: (usize, usize)) -> Span {
+    let (start, end) = ends;
+    Span::new(start, end.max(start))
+}
+
+/// The places or the positions of these bytes of a document, and the texts of these spans.
+fn by_document(
+    rt: &impl Abort,
     alloc: Global,
     text: &str,
+    of_utf_16: bool,
     bytes: &[usize],
     spans: &[(usize, usize)],
-) -> Result<String, AllocError> {
+) -> String {
     let mut told = String::new(alloc);
-    if let Some(definition) = defined(alloc, Made::Read(FACES))? {
-        let document: Edited<'_> = Document::new(alloc, &definition, text)?;
-        let lexer = definition.lexer(alloc, text)?;
-        for byte in bytes {
-            let (line, column) = document.place(*byte);
-            separate(&mut told, " ")?;
-            push_number(&mut told, "", line)?;
-            push_number(&mut told, ":", column)?;
-            if lexer.place(*byte) != (line, column) {
-                told.push_str("!")?;
-            }
-        }
-        for (start, end) in spans {
-            let span = Span::new(*start, (*end).max(*start));
-            told.push_str(" <")?;
-            told.push_str(document.text_of(span))?;
-            told.push_str(">")?;
-            if lexer.text_of(span) != document.text_of(span) {
-                told.push_str("!")?;
-            }
-        }
+    let definition = defined(rt, alloc, Made::Read(FACES));
+    let document: Edited<'_> = Document::new(alloc, &definition, text).expect(rt, "memory");
+    for byte in bytes {
+        let place = if of_utf_16 {
+            document.position(*byte)
+        } else {
+            document.place(*byte)
+        };
+        push_place(rt, &mut told, place);
     }
-    Ok(told)
+    for ends in spans {
+        push_text(rt, &mut told, document.text_of(span_of(*ends)));
+    }
+    told
+}
+
+/// The same by a lexer.
+fn by_lexer(
+    rt: &impl Abort,
+    alloc: Global,
+    text: &str,
+    of_utf_16: bool,
+    bytes: &[usize],
+    spans: &[(usize, usize)],
+) -> String {
+    let mut told = String::new(alloc);
+    let definition = defined(rt, alloc, Made::Read(FACES));
+    let lexer = lexer_over(rt, alloc, &definition, text, false);
+    for byte in bytes {
+        let place = if of_utf_16 {
+            lexer.position(*byte)
+        } else {
+            lexer.place(*byte)
+        };
+        push_place(rt, &mut told, place);
+    }
+    for ends in spans {
+        push_text(rt, &mut told, lexer.text_of(span_of(*ends)));
+    }
+    told
 }
 
 #[test]
-fn places_and_texts_at_any_number(rt: HostRuntime) -> Result<(), Fail> {
+fn places_and_texts_at_any_number(rt: HostRuntime) {
     let text = "a\n😀b";
     let bytes = [0, 1, 2, 3, 5, 6, 7, 99];
     let spans = [(2, 6), (3, 6), (0, 1), (6, 99)];
-    let got = told(rt.alloc(), text, &bytes, &spans)?;
     let want = "1:1 1:2 2:1 2:1 2:1 2:2 2:3 2:3 <😀> <> <a> <>";
-    same(&rt, got.as_str(), want, FACES, text);
-    Ok(())
-}
-
-/// The positions of these bytes of a document.
-fn positions(alloc: Global, text: &str, bytes: &[usize]) -> Result<String, AllocError> {
-    let mut told = String::new(alloc);
-    if let Some(definition) = defined(alloc, Made::Read(FACES))? {
-        let document: Edited<'_> = Document::new(alloc, &definition, text)?;
-        let lexer = definition.lexer(alloc, text)?;
-        for byte in bytes {
-            let (line, column) = document.position(*byte);
-            separate(&mut told, " ")?;
-            push_number(&mut told, "", line)?;
-            push_number(&mut told, ":", column)?;
-            if lexer.position(*byte) != (line, column) {
-                told.push_str("!")?;
-            }
-        }
-    }
-    Ok(told)
+    let got = by_document(&rt, rt.alloc(), text, false, &bytes, &spans);
+    same(&rt, got.as_str(), want, "document", text);
+    let got = by_lexer(&rt, rt.alloc(), text, false, &bytes, &spans);
+    same(&rt, got.as_str(), want, "lexer", text);
 }
 
 #[test]
-fn positions_from_0_in_code_units_of_utf_16(rt: HostRuntime) -> Result<(), Fail> {
+fn positions_from_0_in_code_units_of_utf_16(rt: HostRuntime) {
     let text = "a\n😀b�😀";
-    let got = positions(rt.alloc(), text, &[0, 1, 2, 3, 6, 7, 10, 14, 99])?;
+    let bytes = [0, 1, 2, 3, 6, 7, 10, 14, 99];
     let want = "0:0 0:1 1:0 1:0 1:2 1:3 1:4 1:6 1:6";
-    same(&rt, got.as_str(), want, FACES, text);
-    Ok(())
+    let got = by_document(&rt, rt.alloc(), text, true, &bytes, &[]);
+    same(&rt, got.as_str(), want, "document", text);
+    let got = by_lexer(&rt, rt.alloc(), text, true, &bytes, &[]);
+    same(&rt, got.as_str(), want, "lexer", text);
 }
 
-fn highlights(alloc: Global, rules: &str, text: &str) -> Result<String, AllocError> {
+fn highlights(rt: &impl Abort, alloc: Global, rules: &str, text: &str) -> String {
     let mut told = String::new(alloc);
-    if let Some(definition) = defined(alloc, Made::Read(rules))? {
-        for (name, part) in &highlighted(alloc, &definition, text)? {
-            separate(&mut told, "|")?;
-            told.push_str(name)?;
-            told.push_str(":")?;
-            told.push_str(part)?;
-        }
-    }
-    Ok(told)
+    let definition = defined(rt, alloc, Made::Read(rules));
+    let parts = highlighted(alloc, &definition, text).expect(rt, "memory");
+    push_pairs(rt, &mut told, parts.as_slice(), ":", "|");
+    told
 }
 
-fn place_behind(alloc: Global, text: &str, at: usize, keys: &str) -> Result<[usize; 2], EditError> {
-    match defined(alloc, Made::Read(LINES))? {
-        Some(definition) => {
-            let mut document = Document::new(alloc, &definition, text)?;
-            let (line, column) = typed(alloc, &mut document, at, keys)?;
-            Ok([line, column])
-        }
-        None => Ok([0, 0]),
+/// Line and column behind the keys. Line 0 and column 1 where the edit doesn't fit.
+fn place_behind(rt: &impl Abort, alloc: Global, text: &str, at: usize, keys: &str) -> [usize; 2] {
+    let definition = defined(rt, alloc, Made::Read(LINES));
+    let mut document = Document::new(alloc, &definition, text).expect(rt, "memory");
+    match typed(alloc, &mut document, at, keys) {
+        Ok((line, column)) => [line, column],
+        Err(EditError::DoesNotFit) => [0, 1],
+        Err(EditError::OutOfMemory) => panic!(rt; "memory"),
     }
 }
 
 #[test]
-fn callers_that_highlight_and_type(rt: HostRuntime) -> Result<(), Fail> {
-    let got = highlights(rt.alloc(), LINES, "ab #c\nd")?;
-    same(
-        &rt,
-        got.as_str(),
-        "ID:ab|: |:#c|:\n|ID:d",
-        LINES,
-        "ab #c\nd",
-    );
-    for (at, keys, want) in [(2usize, "x\ny", [2usize, 2usize]), (9, "x", [0, 1])] {
-        match place_behind(rt.alloc(), "ab cd", at, keys) {
-            Ok(place) => assert_eq!(&rt; place, want, "{keys}"),
-            Err(EditError::DoesNotFit) => assert_eq!(&rt; [0, 1], want, "{keys}"),
-            Err(EditError::OutOfMemory) => return Err(AllocError)?,
-        }
-    }
-    Ok(())
+fn callers_that_highlight_and_type(rt: HostRuntime) {
+    let text = "ab #c\nd";
+    let got = highlights(&rt, rt.alloc(), LINES, text);
+    same(&rt, got.as_str(), "ID:ab|: |:#c|:\n|ID:d", LINES, text);
+    let place = place_behind(&rt, rt.alloc(), "ab cd", 2, "x\ny");
+    equal(&rt, &place, &[2, 2], "x\ny", "ab cd");
+    let place = place_behind(&rt, rt.alloc(), "ab cd", 9, "x");
+    equal(&rt, &place, &[0, 1], "x", "ab cd");
 }
 
-/// The pieces of a part, of a run and of a document; both texts where they differ.
-fn parts(
+/// The pieces of a part of a run.
+fn run_part(
+    rt: &impl Abort,
     alloc: Global,
     made: Made<'_>,
     text: &str,
     from: usize,
     to: usize,
-) -> Result<String, AllocError> {
-    let mut told = String::new(alloc);
-    if let Some(definition) = defined(alloc, made)? {
-        let run = definition.run(alloc, text)?;
-        push_pieces(&mut told, run.pieces_in(alloc, from, to)?.as_slice())?;
-        let document: Edited<'_> = Document::new(alloc, &definition, text)?;
-        let mut other = String::new(alloc);
-        push_pieces(&mut other, document.pieces_in(alloc, from, to)?.as_slice())?;
-        if other.as_str() != told.as_str() {
-            told.push_str(" not ")?;
-            told.push_str(other.as_str())?;
-        }
-    }
-    Ok(told)
+) -> String {
+    let definition = defined(rt, alloc, made);
+    let run = definition.run(alloc, text).expect(rt, "memory");
+    let pieces = run.pieces_in(alloc, from, to).expect(rt, "memory");
+    pieces_text(rt, alloc, pieces.as_slice())
+}
+
+/// The pieces of a part of a document.
+fn document_part(
+    rt: &impl Abort,
+    alloc: Global,
+    made: Made<'_>,
+    text: &str,
+    from: usize,
+    to: usize,
+) -> String {
+    let definition = defined(rt, alloc, made);
+    let document: Edited<'_> = Document::new(alloc, &definition, text).expect(rt, "memory");
+    let pieces = document.pieces_in(alloc, from, to).expect(rt, "memory");
+    pieces_text(rt, alloc, pieces.as_slice())
 }
 
 const LETTERS: &[Part<'static>] = &[Part {
@@ -551,32 +550,27 @@ const PARTS: &[PartRow] = &[
 ];
 
 #[test]
-fn pieces_of_a_part(rt: HostRuntime) -> Result<(), Fail> {
+fn pieces_of_a_part(rt: HostRuntime) {
     for row in PARTS {
         let (name, made, text, from, to, want) = *row;
-        let got = parts(rt.alloc(), made, text, from, to)?;
+        let got = run_part(&rt, rt.alloc(), made, text, from, to);
+        same(&rt, got.as_str(), want, name, text);
+        let got = document_part(&rt, rt.alloc(), made, text, from, to);
         same(&rt, got.as_str(), want, name, text);
     }
-    Ok(())
 }
 
-fn seen(alloc: Global, text: &str, from: usize, to: usize) -> Result<String, AllocError> {
+fn seen(rt: &impl Abort, alloc: Global, text: &str, from: usize, to: usize) -> String {
     let mut told = String::new(alloc);
-    if let Some(definition) = defined(alloc, Made::Read(LINES))? {
-        let document: Edited<'_> = Document::new(alloc, &definition, text)?;
-        for (name, part) in &visible(alloc, &document, from, to)? {
-            separate(&mut told, "|")?;
-            told.push_str(name)?;
-            told.push_str(":")?;
-            told.push_str(part)?;
-        }
-    }
-    Ok(told)
+    let definition = defined(rt, alloc, Made::Read(LINES));
+    let document: Edited<'_> = Document::new(alloc, &definition, text).expect(rt, "memory");
+    let parts = visible(alloc, &document, from, to).expect(rt, "memory");
+    push_pairs(rt, &mut told, parts.as_slice(), ":", "|");
+    told
 }
 
 #[test]
-fn a_caller_that_shows_a_part(rt: HostRuntime) -> Result<(), Fail> {
-    let got = seen(rt.alloc(), "ab #c\nd", 4, 7)?;
+fn a_caller_that_shows_a_part(rt: HostRuntime) {
+    let got = seen(&rt, rt.alloc(), "ab #c\nd", 4, 7);
     same(&rt, got.as_str(), ":#c|:\n|ID:d", LINES, "ab #c\nd");
-    Ok(())
 }

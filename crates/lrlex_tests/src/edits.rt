@@ -1,9 +1,8 @@
 //! Lexing again after an edit: items, searches and boundaries, against worked answers.
-use crate::runs::{Change, Made, Part, Told, edit_of, lexed, relexed};
+use crate::runs::{Change, Made, Part, Told, edit_of, lexed, relexed_once};
 use crate::shown::{equal, same};
 use lrlex::StartStateOperation;
 use std::process::Abort;
-use std::test::Fail;
 
 const WORDS: &str = "%%\n[a-z]+ 'ID'\n[ ] ;";
 
@@ -16,16 +15,11 @@ const COMMENTS: &str =
 /// The items, the boundaries and the most searches.
 type Wanted = (&'static str, &'static str, u128);
 
-fn expects(rt: &impl Abort, got: Option<&Told>, wanted: Wanted) {
+fn expects(rt: &impl Abort, told: &Told, wanted: Wanted) {
     let (items, boundaries, asked) = wanted;
-    match got {
-        Some(told) => {
-            same(rt, told.items.as_str(), items, items, boundaries);
-            same(rt, told.boundaries.as_str(), boundaries, items, boundaries);
-            assert!(rt; told.asked <= asked, "{items}: asked {}", told.asked);
-        }
-        None => panic!(rt; "no run: {items}"),
-    }
+    same(rt, told.items.as_str(), items, items, boundaries);
+    same(rt, told.boundaries.as_str(), boundaries, items, boundaries);
+    assert!(rt; told.asked <= asked, "{items}: asked {}", told.asked);
 }
 
 /// Rules, old text and edit.
@@ -137,21 +131,22 @@ const AFTER_AN_EDIT: &[(&str, &str, Change<'static>, Wanted)] = &[
     ),
 ];
 
+/// Of the last of these texts before its edit.
+const BEFORE: Wanted = (
+    "OPEN 0+1, IN 1+1, CLOSE 2+1, OUT 3+1",
+    "0:0 1:0,1 2:0,1 3:0 4:0",
+    10,
+);
+
 #[test]
-fn items_and_searches_after_an_edit(rt: HostRuntime) -> Result<(), Fail> {
+fn items_and_searches_after_an_edit(rt: HostRuntime) {
     for row in AFTER_AN_EDIT {
         let (rules, old, change, wanted) = *row;
-        let told = relexed(rt.alloc(), Made::Read(rules), old, change)?;
-        expects(&rt, told.get(1), wanted);
+        let told = relexed_once(&rt, rt.alloc(), Made::Read(rules), old, change);
+        expects(&rt, &told, wanted);
     }
-    let old = lexed(rt.alloc(), Made::Read(NESTED), "(b)d")?;
-    let wanted = (
-        "OPEN 0+1, IN 1+1, CLOSE 2+1, OUT 3+1",
-        "0:0 1:0,1 2:0,1 3:0 4:0",
-        10,
-    );
-    expects(&rt, old.as_ref(), wanted);
-    Ok(())
+    let old = lexed(&rt, rt.alloc(), Made::Read(NESTED), "(b)d");
+    expects(&rt, &old, BEFORE);
 }
 
 /// An edit, two texts, whether it fits the first, and whether it makes the second of it.
@@ -228,14 +223,13 @@ const OF_PARTS: &[(bool, &str, Change<'static>, Wanted)] = &[
 ];
 
 #[test]
-fn definitions_from_parts(rt: HostRuntime) -> Result<(), Fail> {
+fn definitions_from_parts(rt: HostRuntime) {
     for row in OF_PARTS {
         let (with_state, old, change, wanted) = *row;
         let made = Made::OfParts(PARTS, with_state);
-        let told = relexed(rt.alloc(), made, old, change)?;
-        expects(&rt, told.get(1), wanted);
+        let told = relexed_once(&rt, rt.alloc(), made, old, change);
+        expects(&rt, &told, wanted);
     }
-    Ok(())
 }
 
 /// Rules, old text and edit, how many rows the tables may have, and the tiles cut anew: by tables, and where each rule is
@@ -259,23 +253,14 @@ const CUT_ANEW: &[(&str, &str, Change<'static>, usize, usize)] = &[
     ("%%\na+b|a 'X'", "aac", (2, 3, "b"), 0, 1),
 ];
 
-/// How many tiles a run cut.
-fn cut(told: Option<&Told>) -> &[usize] {
-    match told {
-        Some(told) => &told.counts[4..],
-        None => &[],
-    }
-}
-
 #[test]
-fn tiles_cut_anew_after_an_edit(rt: HostRuntime) -> Result<(), Fail> {
+fn tiles_cut_anew_after_an_edit(rt: HostRuntime) {
     for row in CUT_ANEW {
         let (rules, old, change, rows, wanted) = *row;
         let made = Made::Again(rules, rows, 40_000_000);
-        let told = relexed(rt.alloc(), made, old, change)?;
-        equal(&rt, cut(told.get(1)), &[wanted], rules, old);
+        let told = relexed_once(&rt, rt.alloc(), made, old, change);
+        equal(&rt, &told.counts[4..], &[wanted], rules, old);
     }
-    Ok(())
 }
 
 /// Rules and text, how many rows the tables may have, the tiles cut, and the bytes past each boundary.
@@ -288,15 +273,12 @@ const LOOKED_AHEAD: &[(&str, &str, usize, usize, &str)] = &[
 ];
 
 #[test]
-fn how_far_the_tiles_of_a_run_looked(rt: HostRuntime) -> Result<(), Fail> {
+fn how_far_the_tiles_of_a_run_looked(rt: HostRuntime) {
     for row in LOOKED_AHEAD {
         let (rules, text, rows, wanted, ahead) = *row;
         let made = Made::Again(rules, rows, 40_000_000);
-        let Some(told) = lexed(rt.alloc(), made, text)? else {
-            panic!(rt; "refused: {rules:?}");
-        };
-        equal(&rt, cut(Some(&told)), &[wanted], rules, text);
+        let told = lexed(&rt, rt.alloc(), made, text);
+        equal(&rt, &told.counts[4..], &[wanted], rules, text);
         same(&rt, told.ahead.as_str(), ahead, rules, text);
     }
-    Ok(())
 }

@@ -1,26 +1,26 @@
 //! Rule texts that are long, deep or full of names: each has its exact answer, and none takes long.
 use crate::runs::{Definition, Made, defined};
-use crate::shown::{equal, push_number, same, separate};
+use crate::shown::{equal, owned, push, push_number, same, separate};
 use lrlex::{LexBuildError, LexErrorKind, LexerDef, Rule, StartState};
 use lrlex_base::{Span, Spanned};
-use std::alloc::{AllocError, Global};
+use std::alloc::Global;
 use std::process::Abort;
-use std::test::Fail;
 
 /// A text that repeats a part so many times between a head and a tail.
 pub fn repeated(
+    rt: &impl Abort,
     alloc: Global,
     head: &str,
     part: &str,
     count: usize,
     tail: &str,
-) -> Result<String, AllocError> {
-    let mut text = String::from_str(alloc, head)?;
+) -> String {
+    let mut text = owned(rt, alloc, head);
     for _ in 0..count {
-        text.push_str(part)?;
+        push(rt, &mut text, part);
     }
-    text.push_str(tail)?;
-    Ok(text)
+    push(rt, &mut text, tail);
+    text
 }
 
 fn kind_name(kind: &LexErrorKind) -> &'static str {
@@ -42,30 +42,29 @@ fn kind_name(kind: &LexErrorKind) -> &'static str {
 }
 
 /// The faults of a rule text; none where it builds.
-fn faults_in(alloc: Global, rules: &str) -> Result<Vec<LexBuildError>, AllocError> {
-    match Definition::from_str(alloc, rules)? {
-        Ok(_) => Ok(Vec::new(alloc)),
-        Err(faults) => Ok(faults),
+fn faults_in(rt: &impl Abort, alloc: Global, rules: &str) -> Vec<LexBuildError> {
+    match Definition::from_str(alloc, rules).expect(rt, "memory") {
+        Ok(_) => Vec::new(alloc),
+        Err(faults) => faults,
     }
 }
 
-fn push_fault(text: &mut String, fault: &LexBuildError) -> Result<(), AllocError> {
-    separate(text, ", ")?;
-    text.push_str(kind_name(fault.kind()))?;
+fn push_fault(rt: &impl Abort, text: &mut String, fault: &LexBuildError) {
+    separate(rt, text, ", ");
+    push(rt, text, kind_name(fault.kind()));
     for span in fault.spans() {
-        push_number(text, " ", span.start())?;
-        push_number(text, "..", span.end())?;
+        push_number(rt, text, " ", span.start());
+        push_number(rt, text, "..", span.end());
     }
-    Ok(())
 }
 
 /// Each fault by its kind and its spans: `DuplicateName 6..7 12..13, InvalidName 21..21`.
-fn faults_text(alloc: Global, faults: &[LexBuildError]) -> Result<String, AllocError> {
+fn faults_text(rt: &impl Abort, alloc: Global, rules: &str) -> String {
     let mut text = String::new(alloc);
-    for fault in faults {
-        push_fault(&mut text, fault)?;
+    for fault in &faults_in(rt, alloc, rules) {
+        push_fault(rt, &mut text, fault);
     }
-    Ok(text)
+    text
 }
 
 /// A part between a head and a tail, how often, and the fault.
@@ -112,15 +111,13 @@ const REFUSED: &[(&str, &str, usize, &str, &str)] = &[
 ];
 
 #[test]
-fn long_texts_that_are_refused(rt: HostRuntime) -> Result<(), Fail> {
+fn long_texts_that_are_refused(rt: HostRuntime) {
     for row in REFUSED {
         let (head, part, count, tail, want) = *row;
-        let rules = repeated(rt.alloc(), head, part, count, tail)?;
-        let faults = faults_in(rt.alloc(), rules.as_str())?;
-        let got = faults_text(rt.alloc(), faults.as_slice())?;
+        let rules = repeated(&rt, rt.alloc(), head, part, count, tail);
+        let got = faults_text(&rt, rt.alloc(), rules.as_str());
         same(&rt, got.as_str(), want, head, part);
     }
-    Ok(())
 }
 
 /// The length of a rule's name, where the name starts and ends, and how many start states it lists.
@@ -139,30 +136,24 @@ fn state_shape(state: &StartState) -> [usize; 4] {
     [state.name().len(), place.start(), place.end(), state.id()]
 }
 
-fn push_shapes(
-    definition: &Definition,
-    of_states: bool,
-    shapes: &mut Vec<[usize; 4]>,
-) -> Result<(), AllocError> {
-    if of_states {
-        for state in definition.iter_start_states() {
-            shapes.push(state_shape(state))?;
-        }
-    } else {
-        for rule in definition.iter_rules() {
-            shapes.push(rule_shape(rule))?;
-        }
+/// The shapes of the rules of a rule text.
+fn rule_shapes(rt: &impl Abort, alloc: Global, rules: &str) -> Vec<[usize; 4]> {
+    let definition = defined(rt, alloc, Made::Read(rules));
+    let mut shapes = Vec::new(alloc);
+    for rule in definition.iter_rules() {
+        shapes.push(rule_shape(rule)).expect(rt, "memory");
     }
-    Ok(())
+    shapes
 }
 
-/// The shapes of the states or of the rules of a rule text; none where it is refused.
-fn shapes_of(alloc: Global, rules: &str, of_states: bool) -> Result<Vec<[usize; 4]>, AllocError> {
+/// The shapes of the states of a rule text.
+fn state_shapes(rt: &impl Abort, alloc: Global, rules: &str) -> Vec<[usize; 4]> {
+    let definition = defined(rt, alloc, Made::Read(rules));
     let mut shapes = Vec::new(alloc);
-    if let Some(definition) = defined(alloc, Made::Read(rules))? {
-        push_shapes(&definition, of_states, &mut shapes)?;
+    for state in definition.iter_start_states() {
+        shapes.push(state_shape(state)).expect(rt, "memory");
     }
-    Ok(shapes)
+    shapes
 }
 
 /// A part between a head and a tail, how often, and the shape of the one rule.
@@ -210,69 +201,44 @@ const LONG_NAME_AND_LIST: &[OneRule] = &[
     ),
 ];
 
-fn has_one_rule(rt: &impl Abort, alloc: Global, row: &OneRule) -> Result<(), AllocError> {
+fn has_one_rule(rt: &impl Abort, alloc: Global, row: &OneRule) {
     let (head, part, count, tail, want) = *row;
-    let rules = repeated(alloc, head, part, count, tail)?;
-    let shapes = shapes_of(alloc, rules.as_str(), false)?;
+    let rules = repeated(rt, alloc, head, part, count, tail);
+    let shapes = rule_shapes(rt, alloc, rules.as_str());
     match shapes.as_slice() {
         [shape] => equal(rt, shape, &want, head, part),
-        _ => panic!(rt; "refused, or not one rule: {head:?}, {part:?}"),
+        _ => panic!(rt; "not one rule: {head:?}, {part:?}"),
     }
-    Ok(())
 }
 
 #[test]
-fn long_texts_that_build(rt: HostRuntime) -> Result<(), Fail> {
+fn long_texts_that_build(rt: HostRuntime) {
     for row in LONG {
-        has_one_rule(&rt, rt.alloc(), row)?;
+        has_one_rule(&rt, rt.alloc(), row);
     }
-    Ok(())
 }
 
 #[test]
-fn a_long_name_and_a_long_list(rt: HostRuntime) -> Result<(), Fail> {
+fn a_long_name_and_a_long_list(rt: HostRuntime) {
     for row in LONG_NAME_AND_LIST {
-        has_one_rule(&rt, rt.alloc(), row)?;
+        has_one_rule(&rt, rt.alloc(), row);
     }
-    Ok(())
 }
 
 /// Adds so many names of seven bytes, each with these texts before and behind it.
-fn push_names(
-    text: &mut String,
-    before: &str,
-    count: usize,
-    behind: &str,
-) -> Result<(), AllocError> {
+fn push_names(rt: &impl Abort, text: &mut String, before: &str, count: usize, behind: &str) {
     for k in 0..count {
-        text.push_str(before)?;
-        push_number(text, "n", k.saturating_add(100_000))?;
-        text.push_str(behind)?;
+        push(rt, text, before);
+        push_number(rt, text, "n", k.saturating_add(100_000));
+        push(rt, text, behind);
     }
-    Ok(())
-}
-
-/// A head, so many names so many times, and a tail.
-fn named(
-    alloc: Global,
-    head: &str,
-    names: (&str, usize, &str),
-    times: usize,
-    tail: &str,
-) -> Result<String, AllocError> {
-    let (before, count, behind) = names;
-    let mut text = String::from_str(alloc, head)?;
-    for _ in 0..times {
-        push_names(&mut text, before, count, behind)?;
-    }
-    text.push_str(tail)?;
-    Ok(text)
 }
 
 #[test]
-fn ten_thousand_names(rt: HostRuntime) -> Result<(), Fail> {
-    let rules = named(rt.alloc(), "%%\n", ("x '", 10_000, "'\n"), 1, "")?;
-    let shapes = shapes_of(rt.alloc(), rules.as_str(), false)?;
+fn ten_thousand_names(rt: HostRuntime) {
+    let mut rules = owned(&rt, rt.alloc(), "%%\n");
+    push_names(&rt, &mut rules, "x '", 10_000, "'\n");
+    let shapes = rule_shapes(&rt, rt.alloc(), rules.as_str());
     equal(&rt, &[shapes.len()], &[10_000], "rules", "");
     let mut start = 6usize;
     for shape in shapes.as_slice() {
@@ -280,13 +246,14 @@ fn ten_thousand_names(rt: HostRuntime) -> Result<(), Fail> {
         equal(&rt, shape, &want, "rule", "");
         start = start.saturating_add(12);
     }
-    Ok(())
 }
 
 #[test]
-fn a_hundred_thousand_states_on_a_line(rt: HostRuntime) -> Result<(), Fail> {
-    let rules = named(rt.alloc(), "%s", (" ", 100_000, ""), 1, "\n%%\n")?;
-    let shapes = shapes_of(rt.alloc(), rules.as_str(), true)?;
+fn a_hundred_thousand_states_on_a_line(rt: HostRuntime) {
+    let mut rules = owned(&rt, rt.alloc(), "%s");
+    push_names(&rt, &mut rules, " ", 100_000, "");
+    push(&rt, &mut rules, "\n%%\n");
+    let shapes = state_shapes(&rt, rt.alloc(), rules.as_str());
     equal(&rt, &[shapes.len()], &[100_001], "states", "");
     let mut start = 3usize;
     let mut id = 1usize;
@@ -296,7 +263,6 @@ fn a_hundred_thousand_states_on_a_line(rt: HostRuntime) -> Result<(), Fail> {
         start = start.saturating_add(8);
         id = id.saturating_add(1);
     }
-    Ok(())
 }
 
 /// Whether the fault has the kind of duplicates' names or states, and so many places of this length, the first from
@@ -333,17 +299,16 @@ const DUPLICATES: &[(&str, &str, &str, &str, usize, usize)] = &[
 ];
 
 #[test]
-fn ten_thousand_duplicates_of_one_name(rt: HostRuntime) -> Result<(), Fail> {
+fn ten_thousand_duplicates_of_one_name(rt: HostRuntime) {
     for row in DUPLICATES {
         let (head, part, tail, kind, start, step) = *row;
-        let rules = repeated(rt.alloc(), head, part, 10_000, tail)?;
-        let faults = faults_in(rt.alloc(), rules.as_str())?;
+        let rules = repeated(&rt, rt.alloc(), head, part, 10_000, tail);
+        let faults = faults_in(&rt, rt.alloc(), rules.as_str());
         match faults.as_slice() {
             [fault] => assert!(rt; is_at(fault, kind, 10_000, 1, start, step), "{head:?}"),
             _ => panic!(rt; "not one fault: {head:?}"),
         }
     }
-    Ok(())
 }
 
 /// Where the first fault stands that isn't as said: of this kind, with two places of seven bytes so far apart, the first
@@ -366,22 +331,24 @@ fn first_wrong(
 }
 
 /// Five thousand states and as many rules, each declared twice.
-fn pairs(alloc: Global) -> Result<String, AllocError> {
-    let mut rules = named(alloc, "%s", (" ", 5_000, ""), 2, "\n%%\n")?;
-    push_names(&mut rules, "x '", 5_000, "'\n")?;
-    push_names(&mut rules, "x '", 5_000, "'\n")?;
-    Ok(rules)
+fn pairs(rt: &impl Abort, alloc: Global) -> String {
+    let mut rules = owned(rt, alloc, "%s");
+    push_names(rt, &mut rules, " ", 5_000, "");
+    push_names(rt, &mut rules, " ", 5_000, "");
+    push(rt, &mut rules, "\n%%\n");
+    push_names(rt, &mut rules, "x '", 5_000, "'\n");
+    push_names(rt, &mut rules, "x '", 5_000, "'\n");
+    rules
 }
 
 #[test]
-fn five_thousand_pairs_of_duplicates(rt: HostRuntime) -> Result<(), Fail> {
-    let rules = pairs(rt.alloc())?;
-    let faults = faults_in(rt.alloc(), rules.as_str())?;
+fn five_thousand_pairs_of_duplicates(rt: HostRuntime) {
+    let rules = pairs(&rt, rt.alloc());
+    let faults = faults_in(&rt, rt.alloc(), rules.as_str());
     assert_eq!(rt; faults.len(), 10_000);
     let (states, names) = faults.as_slice().split_at(5_000);
     let wrong = first_wrong(states, STATE, 3, 8, 40_000);
     equal(&rt, &[wrong], &[0], "wrong state", "");
     let wrong = first_wrong(names, NAME, 80_009, 12, 60_000);
     equal(&rt, &[wrong], &[0], "wrong name", "");
-    Ok(())
 }

@@ -1,8 +1,7 @@
 //! Texts in which looks go far past a tile's end in vain: time grows with the text, and no answer changes.
 use crate::hostile::repeated;
-use crate::runs::{Change, Made, lexed, relexed, tables_of};
+use crate::runs::{Change, Made, lexed, relexed_once, tables_of};
 use crate::shown::{equal, same};
-use std::test::Fail;
 
 const ONE: &str = "%%\na 'A'\na*b 'B'";
 
@@ -22,26 +21,19 @@ const LONG: &[(&str, &str, usize, &str, usize)] = &[
 ];
 
 #[test]
-fn long_looks_in_vain(rt: HostRuntime) -> Result<(), Fail> {
-    let alloc = rt.alloc();
+fn long_looks_in_vain(rt: HostRuntime) {
     for row in LONG {
         let (rules, part, count, tail, tiles) = *row;
-        let input = repeated(alloc, "", part, count, tail)?;
-        let Some(run) = lexed(alloc, Made::Read(rules), input.as_str())? else {
-            panic!(rt; "refused: {rules:?}");
-        };
+        let input = repeated(&rt, rt.alloc(), "", part, count, tail);
+        let run = lexed(&rt, rt.alloc(), Made::Read(rules), input.as_str());
         equal(&rt, &run.counts[..2], &[tiles, tiles], rules, "tiles");
     }
-    Ok(())
 }
 
 #[test]
-fn two_tables(rt: HostRuntime) -> Result<(), Fail> {
-    let Some(got) = tables_of(rt.alloc(), Made::Read(TWO_TABLES))? else {
-        panic!(rt; "the rules are refused");
-    };
+fn two_tables(rt: HostRuntime) {
+    let got = tables_of(&rt, rt.alloc(), Made::Read(TWO_TABLES));
     equal(&rt, &[got[0], got[2]], &[2, 0], TWO_TABLES, "");
-    Ok(())
 }
 
 /// Rules, a head, a part, how often, what follows.
@@ -60,21 +52,15 @@ const SHORT: &[(&str, &str, &str, usize, &str)] = &[
 ];
 
 #[test]
-fn the_same_as_by_asking(rt: HostRuntime) -> Result<(), Fail> {
-    let alloc = rt.alloc();
+fn the_same_as_by_asking(rt: HostRuntime) {
     for row in SHORT {
         let (rules, head, part, count, tail) = *row;
-        let input = repeated(alloc, head, part, count, tail)?;
-        let Some(asking) = lexed(alloc, Made::Within(rules, 0, 0), input.as_str())? else {
-            panic!(rt; "refused: {rules:?}");
-        };
-        let Some(got) = lexed(alloc, Made::Read(rules), input.as_str())? else {
-            panic!(rt; "refused: {rules:?}");
-        };
+        let input = repeated(&rt, rt.alloc(), head, part, count, tail);
+        let asking = lexed(&rt, rt.alloc(), Made::Within(rules, 0, 0), input.as_str());
+        let got = lexed(&rt, rt.alloc(), Made::Read(rules), input.as_str());
         same(&rt, got.items.as_str(), asking.items.as_str(), rules, tail);
         equal(&rt, &got.counts, &asking.counts, rules, tail);
     }
-    Ok(())
 }
 
 /// An edit of a text of 600 bytes `a`, with a `b` behind 300 of them.
@@ -88,16 +74,18 @@ const EDITS: &[Change<'_>] = &[
 ];
 
 #[test]
-fn edits_of_such_a_text(rt: HostRuntime) -> Result<(), Fail> {
-    let alloc = rt.alloc();
-    let front = repeated(alloc, "", "a", 300, "b")?;
-    let old = repeated(alloc, front.as_str(), "a", 300, "")?;
+fn edits_of_such_a_text(rt: HostRuntime) {
+    let front = repeated(&rt, rt.alloc(), "", "a", 300, "b");
+    let old = repeated(&rt, rt.alloc(), front.as_str(), "a", 300, "");
     for edit in EDITS {
-        let told = relexed(alloc, Made::Read(ONE), old.as_str(), *edit)?;
-        let asking = relexed(alloc, Made::Within(ONE, 0, 0), old.as_str(), *edit)?;
-        let ([_, got], [_, want]) = (told.as_slice(), asking.as_slice()) else {
-            panic!(rt; "the edit doesn't fit");
-        };
+        let got = relexed_once(&rt, rt.alloc(), Made::Read(ONE), old.as_str(), *edit);
+        let want = relexed_once(
+            &rt,
+            rt.alloc(),
+            Made::Within(ONE, 0, 0),
+            old.as_str(),
+            *edit,
+        );
         same(&rt, got.items.as_str(), want.items.as_str(), ONE, edit.2);
         same(
             &rt,
@@ -107,5 +95,4 @@ fn edits_of_such_a_text(rt: HostRuntime) -> Result<(), Fail> {
             edit.2,
         );
     }
-    Ok(())
 }

@@ -1,144 +1,148 @@
 //! Parts as they were handed in, look-ups by id and name, and both calls that set token ids.
 use crate::runs::{Definition, Made, Part, defined, of_parts};
-use crate::shown::{push_number, same, separate};
+use crate::shown::{equal, owned, push, push_number, same, separate};
 use lrlex::{DEFAULT_LEX_FLAGS, LexerDef, Rule, StartStateOperation};
 use lrlex_base::{LexerTypes, Span};
-use std::alloc::{AllocError, Global};
+use std::alloc::Global;
 use std::collections::{HashMap, HashSet};
-use std::test::Fail;
+use std::process::Abort;
 
 /// Adds a rule's name and id: `ID 0`, `- none`.
-fn push_rule(text: &mut String, rule: &Rule<u32>) -> Result<(), AllocError> {
-    separate(text, ", ")?;
-    text.push_str(rule.name().unwrap_or("-"))?;
+fn push_rule(rt: &impl Abort, text: &mut String, rule: &Rule<u32>) {
+    separate(rt, text, ", ");
+    push(rt, text, rule.name().unwrap_or("-"));
     match rule.tok_id() {
-        Some(id) => push_number(text, " ", id as usize),
-        None => text.push_str(" none"),
+        Some(id) => push_number(rt, text, " ", id as usize),
+        None => push(rt, text, " none"),
     }
 }
 
 /// Adds the words in order, behind those that are there, or `none` where there is no set.
-fn push_in_order(
-    text: &mut String,
-    words: &mut Vec<String>,
-    is_set: bool,
-) -> Result<(), AllocError> {
-    words.sort()?;
+fn push_in_order(rt: &impl Abort, text: &mut String, words: &mut Vec<String>, is_set: bool) {
+    words.sort().expect(rt, "memory");
     let mut between = "";
     for word in words.as_slice() {
-        text.push_str(between)?;
-        text.push_str(word.as_str())?;
+        push(rt, text, between);
+        push(rt, text, word.as_str());
         between = ", ";
     }
-    text.push_str(if is_set { " | " } else { "none | " })
+    push(rt, text, if is_set { " | " } else { "none | " });
 }
 
-fn push_names(
-    alloc: Global,
-    text: &mut String,
-    names: Option<&HashSet<&str>>,
-) -> Result<(), AllocError> {
+fn push_names(rt: &impl Abort, alloc: Global, text: &mut String, names: Option<&HashSet<&str>>) {
     let mut words = Vec::new(alloc);
     if let Some(names) = names {
         for name in names.iter() {
-            words.push(String::from_str(alloc, *name)?)?;
+            words.push(owned(rt, alloc, *name)).expect(rt, "memory");
         }
     }
-    push_in_order(text, &mut words, names.is_some())
+    push_in_order(rt, text, &mut words, names.is_some());
 }
 
 fn push_own_names(
+    rt: &impl Abort,
     alloc: Global,
     text: &mut String,
     names: Option<&HashSet<String>>,
-) -> Result<(), AllocError> {
+) {
     let mut words = Vec::new(alloc);
     if let Some(names) = names {
         for name in names.iter() {
-            words.push(String::from_str(alloc, name.as_str())?)?;
+            words
+                .push(owned(rt, alloc, name.as_str()))
+                .expect(rt, "memory");
         }
     }
-    push_in_order(text, &mut words, names.is_some())
+    push_in_order(rt, text, &mut words, names.is_some());
 }
 
 /// A name with its place: `A 2..3`.
-fn placed(alloc: Global, name: &str, place: Span) -> Result<String, AllocError> {
-    let mut text = String::from_str(alloc, name)?;
-    push_number(&mut text, " ", place.start())?;
-    push_number(&mut text, "..", place.end())?;
-    Ok(text)
+fn placed(rt: &impl Abort, alloc: Global, name: &str, place: Span) -> String {
+    let mut text = owned(rt, alloc, name);
+    push_number(rt, &mut text, " ", place.start());
+    push_number(rt, &mut text, "..", place.end());
+    text
 }
 
 fn push_places(
+    rt: &impl Abort,
     alloc: Global,
     text: &mut String,
     names: Option<&HashSet<(String, Span)>>,
-) -> Result<(), AllocError> {
+) {
     let mut words = Vec::new(alloc);
     if let Some(names) = names {
         for key in names.iter() {
-            words.push(placed(alloc, key.0.as_str(), key.1)?)?;
+            words
+                .push(placed(rt, alloc, key.0.as_str(), key.1))
+                .expect(rt, "memory");
         }
     }
-    push_in_order(text, &mut words, names.is_some())
+    push_in_order(rt, text, &mut words, names.is_some());
 }
 
-fn map_of<'a>(alloc: Global, ids: &[(&'a str, u32)]) -> Result<HashMap<&'a str, u32>, AllocError> {
+fn map_of<'a>(rt: &impl Abort, alloc: Global, ids: &[(&'a str, u32)]) -> HashMap<&'a str, u32> {
     let mut map = HashMap::new(alloc);
     for (name, id) in ids {
-        map.insert(*name, *id)?;
+        let put: Result<_, _> = map.insert(*name, *id);
+        put.expect(rt, "memory");
     }
-    Ok(map)
+    map
 }
 
 /// Sets ids, and tells both sets.
 fn push_sets(
+    rt: &impl Abort,
     alloc: Global,
     text: &mut String,
     definition: &mut Definition,
     ids: &HashMap<&str, u32>,
-) -> Result<(), AllocError> {
-    let (lacking, unused) = definition.set_rule_ids(alloc, ids)?;
-    push_names(alloc, text, lacking.as_ref())?;
-    push_own_names(alloc, text, unused.as_ref())
+) {
+    let (lacking, unused) = definition.set_rule_ids(alloc, ids).expect(rt, "memory");
+    push_names(rt, alloc, text, lacking.as_ref());
+    push_own_names(rt, alloc, text, unused.as_ref());
 }
 
 /// The same with places.
 fn push_spanned_sets(
+    rt: &impl Abort,
     alloc: Global,
     text: &mut String,
     definition: &mut Definition,
     ids: &HashMap<&str, u32>,
-) -> Result<(), AllocError> {
-    let (lacking, unused) = definition.set_rule_ids_spanned(alloc, ids)?;
-    push_names(alloc, text, lacking.as_ref())?;
-    push_places(alloc, text, unused.as_ref())
+) {
+    let (lacking, unused) = definition
+        .set_rule_ids_spanned(alloc, ids)
+        .expect(rt, "memory");
+    push_names(rt, alloc, text, lacking.as_ref());
+    push_places(rt, alloc, text, unused.as_ref());
 }
 
 /// Sets ids, with places or without, and tells both sets.
 fn sets_text(
+    rt: &impl Abort,
     alloc: Global,
     definition: &mut Definition,
     ids: &[(&str, u32)],
     spanned: bool,
-) -> Result<String, AllocError> {
-    let map = map_of(alloc, ids)?;
+) -> String {
+    let map = map_of(rt, alloc, ids);
     let mut text = String::new(alloc);
     if spanned {
-        push_spanned_sets(alloc, &mut text, definition, &map)?;
+        push_spanned_sets(rt, alloc, &mut text, definition, &map);
     } else {
-        push_sets(alloc, &mut text, definition, &map)?;
+        push_sets(rt, alloc, &mut text, definition, &map);
     }
-    Ok(text)
+    text
 }
 
 /// All rules: `ID none, - 1`.
-fn rules_text(alloc: Global, rules: &[Rule<u32>]) -> Result<String, AllocError> {
+fn rules_text(rt: &impl Abort, alloc: Global, rules: &[Rule<u32>]) -> String {
     let mut text = String::new(alloc);
     for rule in rules {
-        push_rule(&mut text, rule)?;
+        push_rule(rt, &mut text, rule);
     }
-    Ok(text)
+    text
 }
 
 /// The rule that a look-up by id finds, by both calls.
@@ -166,29 +170,28 @@ where
 }
 
 /// The rule that a look-up by id finds, by both calls: `B 0, B 0`, or nothing.
-fn found_text(alloc: Global, definition: &Definition, id: u32) -> Result<String, AllocError> {
+fn found_text(rt: &impl Abort, alloc: Global, definition: &Definition, id: u32) -> String {
     let mut text = String::new(alloc);
     if let Some((found, first)) = by_id(definition, id) {
-        push_rule(&mut text, found)?;
-        push_rule(&mut text, first)?;
+        push_rule(rt, &mut text, found);
+        push_rule(rt, &mut text, first);
     }
-    Ok(text)
+    text
 }
 
 /// The rule that a look-up by id finds in a rule text's definition, once its rules have these ids.
 fn found_in(
+    rt: &impl Abort,
     alloc: Global,
     rules: &str,
     ids: Option<&[(&str, u32)]>,
     id: u32,
-) -> Result<String, AllocError> {
-    let Some(mut definition) = defined(alloc, Made::Read(rules))? else {
-        return String::from_str(alloc, "refused");
-    };
+) -> String {
+    let mut definition = defined(rt, alloc, Made::Read(rules));
     if let Some(ids) = ids {
-        let _ = sets_text(alloc, &mut definition, ids, false)?;
+        let _ = sets_text(rt, alloc, &mut definition, ids, false);
     }
-    found_text(alloc, &definition, id)
+    found_text(rt, alloc, &definition, id)
 }
 
 const THREE: &str = "%%\na 'A'\nb 'B'\n[ ] ;";
@@ -220,26 +223,22 @@ const BY_NAME: &[(&str, &str)] = &[
 ];
 
 #[test]
-fn look_ups_give_the_first(rt: HostRuntime) -> Result<(), Fail> {
+fn look_ups_give_the_first(rt: HostRuntime) {
     for row in BY_ID {
         let (rules, ids, id, want) = *row;
-        let got = found_in(rt.alloc(), rules, ids, id)?;
+        let got = found_in(&rt, rt.alloc(), rules, ids, id);
         same(&rt, got.as_str(), want, rules, "by id");
     }
-    Ok(())
 }
 
 #[test]
-fn look_ups_by_name(rt: HostRuntime) -> Result<(), Fail> {
-    let Some(definition) = defined(rt.alloc(), Made::Read(THREE))? else {
-        panic!(rt; "refused");
-    };
+fn look_ups_by_name(rt: HostRuntime) {
+    let definition = defined(&rt, rt.alloc(), Made::Read(THREE));
     for row in BY_NAME {
         let (name, want) = *row;
         let got = by_name(&definition, name).unwrap_or("none");
         same(&rt, got, want, THREE, name);
     }
-    Ok(())
 }
 
 const POPS: Option<(usize, StartStateOperation)> = Some((1, StartStateOperation::Pop));
@@ -253,25 +252,30 @@ const ONE: &[Part<'static>] = &[Part {
     target: POPS,
 }];
 
-#[test]
-fn parts_are_kept_as_handed_in(rt: HostRuntime) -> Result<(), Fail> {
-    let definition = of_parts(rt.alloc(), ONE, true, true)?;
-    let Some(rule) = definition.get_rule(0) else {
-        panic!(rt; "no rule");
-    };
+/// The rule is that one.
+fn is_kept(rt: &impl Abort, rule: &Rule<u32>) {
     assert!(rt; rule.tok_id() == Some(4));
-    same(&rt, rule.name().unwrap_or("none"), "A", "name", "");
+    same(rt, rule.name().unwrap_or("none"), "A", "name", "");
     assert!(rt; rule.name_span() == Span::new(2, 3));
-    same(&rt, rule.re_str(), "a)|(b", "pattern", "");
+    same(rt, rule.re_str(), "a)|(b", "pattern", "");
     assert!(rt; rule.start_states().is_empty());
     assert!(rt; rule.target_state() == POPS);
+}
+
+#[test]
+fn parts_are_kept_as_handed_in(rt: HostRuntime) {
+    let definition = of_parts(&rt, rt.alloc(), ONE, true, true);
+    is_kept(&rt, definition.get_rule(0).expect(&rt, "a rule"));
     assert!(rt; definition.get_rule(1).is_none());
-    assert!(rt; definition.iter_start_states().count() == 1);
-    let Some(flags) = definition.lex_flags() else {
-        panic!(rt; "no flags");
-    };
+    equal(
+        &rt,
+        &[definition.iter_start_states().count()],
+        &[1],
+        "states",
+        "",
+    );
+    let flags = definition.lex_flags().expect(&rt, "flags");
     assert!(rt; *flags == DEFAULT_LEX_FLAGS);
-    Ok(())
 }
 
 /// Two rules named A, of which the second stands at 2..3.
@@ -304,14 +308,13 @@ const IDS: &[(&[(&str, u32)], bool, &str, &str)] = &[
 ];
 
 #[test]
-fn two_rules_of_one_name(rt: HostRuntime) -> Result<(), Fail> {
-    let mut definition = of_parts(rt.alloc(), TWINS, true, true)?;
+fn two_rules_of_one_name(rt: HostRuntime) {
+    let mut definition = of_parts(&rt, rt.alloc(), TWINS, true, true);
     for row in IDS {
         let (ids, spanned, sets, rules) = *row;
-        let got = sets_text(rt.alloc(), &mut definition, ids, spanned)?;
+        let got = sets_text(&rt, rt.alloc(), &mut definition, ids, spanned);
         same(&rt, got.as_str(), sets, "two rules A", rules);
-        let got = rules_text(rt.alloc(), definition.rules())?;
+        let got = rules_text(&rt, rt.alloc(), definition.rules());
         same(&rt, got.as_str(), rules, "two rules A", sets);
     }
-    Ok(())
 }

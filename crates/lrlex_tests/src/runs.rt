@@ -1,12 +1,13 @@
 //! What runs and definitions answer, as plain data: no row holds one itself.
-use crate::shown::{push_number, separate};
+use crate::shown::{owned, push, push_number, separate};
 use lrlex::{
     Budget, DEFAULT_LEX_FLAGS, DefaultLexeme, DefaultLexerTypes, LRLexError,
     LRNonStreamingLexerDef, LexRun, LexerDef, Rule, StartState, StartStateOperation,
     UNSPECIFIED_LEX_FLAGS,
 };
 use lrlex_base::{Edit, LexError, Lexeme, Span};
-use std::alloc::{AllocError, Global};
+use std::alloc::Global;
+use std::process::Abort;
 
 /// The definition of each row, with ids of type `u32`.
 pub type Definition = LRNonStreamingLexerDef<DefaultLexerTypes<u32>>;
@@ -36,13 +37,8 @@ pub struct Part<'r> {
     pub target: Option<(usize, StartStateOperation)>,
 }
 
-/// Adds the rule of a part; nothing where its pattern is refused.
-fn push_rule(
-    alloc: Global,
-    rules: &mut Vec<Rule<u32>>,
-    part: &Part<'_>,
-    unset: bool,
-) -> Result<(), AllocError> {
+/// The rule of a part.
+fn rule_of(rt: &impl Abort, alloc: Global, part: &Part<'_>, unset: bool) -> Rule<u32> {
     let flags = if unset {
         UNSPECIFIED_LEX_FLAGS
     } else {
@@ -51,91 +47,86 @@ fn push_rule(
     let made = Rule::new(
         alloc,
         part.id,
-        Some(String::from_str(alloc, part.name)?),
+        Some(owned(rt, alloc, part.name)),
         Span::new(part.place, part.place.saturating_add(part.len)),
-        String::from_str(alloc, part.pattern)?,
+        owned(rt, alloc, part.pattern),
         Vec::new(alloc),
         part.target,
         &flags,
-    )?;
-    match made {
-        Ok(rule) => Ok(rules.push(rule)?),
-        Err(_) => Ok(()),
+    );
+    match made.expect(rt, "memory") {
+        Ok(rule) => rule,
+        Err(_) => panic!(rt; "refused: {}", part.pattern),
     }
 }
 
 /// State 0, inclusive, or no state.
-fn states(alloc: Global, initial: bool) -> Result<Vec<StartState>, AllocError> {
+fn states(rt: &impl Abort, alloc: Global, initial: bool) -> Vec<StartState> {
     let mut states = Vec::new(alloc);
     if initial {
-        states.push(StartState::new(alloc, 0, "INITIAL", false, Span::new(0, 0))?)?;
+        let made = StartState::new(alloc, 0, "INITIAL", false, Span::new(0, 0));
+        states.push(made.expect(rt, "memory")).expect(rt, "memory");
     }
-    Ok(states)
+    states
 }
 
-fn rules_of(alloc: Global, parts: &[Part<'_>], unset: bool) -> Result<Vec<Rule<u32>>, AllocError> {
+fn rules_of(rt: &impl Abort, alloc: Global, parts: &[Part<'_>], unset: bool) -> Vec<Rule<u32>> {
     let mut rules = Vec::new(alloc);
     for part in parts {
-        push_rule(alloc, &mut rules, part, unset)?;
+        rules
+            .push(rule_of(rt, alloc, part, unset))
+            .expect(rt, "memory");
     }
-    Ok(rules)
+    rules
 }
 
 /// A definition of these parts, whose rules have unset flags or the default ones.
 pub fn of_parts(
+    rt: &impl Abort,
     alloc: Global,
     parts: &[Part<'_>],
     initial: bool,
     unset: bool,
-) -> Result<Definition, AllocError> {
-    let rules = rules_of(alloc, parts, unset)?;
-    Definition::from_rules(alloc, states(alloc, initial)?, rules)
+) -> Definition {
+    let rules = rules_of(rt, alloc, parts, unset);
+    Definition::from_rules(alloc, states(rt, alloc, initial), rules).expect(rt, "memory")
 }
 
-fn read(alloc: Global, rules: &str) -> Result<Option<Definition>, AllocError> {
-    Ok(Definition::from_str(alloc, rules)?.ok())
-}
-
-fn read_again(
-    alloc: Global,
-    rules: &str,
-    budget: Budget,
-) -> Result<Option<Definition>, AllocError> {
-    match Definition::from_str(alloc, rules)? {
-        Ok(definition) => Ok(Some(definition.with_budget(alloc, budget)?)),
-        Err(_) => Ok(None),
+fn read(rt: &impl Abort, alloc: Global, rules: &str) -> Definition {
+    match Definition::from_str(alloc, rules).expect(rt, "memory") {
+        Ok(definition) => definition,
+        Err(_) => panic!(rt; "refused: {rules:?}"),
     }
 }
 
-fn read_within(
-    alloc: Global,
-    rules: &str,
-    budget: Budget,
-) -> Result<Option<Definition>, AllocError> {
-    let built = Definition::new_with_budget(alloc, rules, UNSPECIFIED_LEX_FLAGS, budget)?;
-    Ok(built.ok())
+fn read_within(rt: &impl Abort, alloc: Global, rules: &str, budget: Budget) -> Definition {
+    let built = Definition::new_with_budget(alloc, rules, UNSPECIFIED_LEX_FLAGS, budget);
+    match built.expect(rt, "memory") {
+        Ok(definition) => definition,
+        Err(_) => panic!(rt; "refused: {rules:?}"),
+    }
 }
 
-/// The definition that is made so. None where its rules are refused.
-pub fn defined(alloc: Global, made: Made<'_>) -> Result<Option<Definition>, AllocError> {
+/// The definition that is made so.
+pub fn defined(rt: &impl Abort, alloc: Global, made: Made<'_>) -> Definition {
     match made {
-        Made::Read(rules) => read(alloc, rules),
-        Made::Again(rules, rows, work) => read_again(alloc, rules, Budget::new(rows, work)),
-        Made::Within(rules, rows, work) => read_within(alloc, rules, Budget::new(rows, work)),
-        Made::OfParts(parts, initial) => Ok(Some(of_parts(alloc, parts, initial, false)?)),
+        Made::Read(rules) => read(rt, alloc, rules),
+        Made::Again(rules, rows, work) => read(rt, alloc, rules)
+            .with_budget(alloc, Budget::new(rows, work))
+            .expect(rt, "memory"),
+        Made::Within(rules, rows, work) => read_within(rt, alloc, rules, Budget::new(rows, work)),
+        Made::OfParts(parts, initial) => of_parts(rt, alloc, parts, initial, false),
     }
 }
 
 /// How many tables it has, how many rows these have, and how many rules have none.
-pub fn tables_of(alloc: Global, made: Made<'_>) -> Result<Option<[usize; 3]>, AllocError> {
-    match defined(alloc, made)? {
-        Some(definition) => Ok(Some([
-            definition.tables(),
-            definition.table_rows(),
-            definition.asked_rules(),
-        ])),
-        None => Ok(None),
-    }
+pub fn tables_of(rt: &impl Abort, alloc: Global, made: Made<'_>) -> [usize; 3] {
+    let definition = defined(rt, alloc, made);
+    [
+        definition.tables(),
+        definition.table_rows(),
+        definition.asked_rules(),
+    ]
 }
 
 /// What a run holds.
@@ -157,53 +148,58 @@ pub fn searches(told: &Told) -> usize {
     usize::try_from(told.asked).unwrap_or(usize::MAX)
 }
 
+fn push_lexeme(rt: &impl Abort, text: &mut String, name: &str, lexeme: &DefaultLexeme<u32>) {
+    push(rt, text, name);
+    if lexeme.faulty() {
+        push(rt, text, " faulty");
+    }
+    push_number(rt, text, " ", lexeme.span().start());
+    push_number(rt, text, "+", lexeme.span().len());
+}
+
+fn push_error(rt: &impl Abort, text: &mut String, error: &LRLexError) {
+    push_number(rt, text, "error ", error.span().start());
+    push_number(rt, text, "..", error.span().end());
+    if let Some(state) = error.lexing_state() {
+        push_number(rt, text, " in ", state.id());
+    }
+}
+
 /// Adds an item.
 pub fn push_item(
+    rt: &impl Abort,
     text: &mut String,
     definition: &Definition,
     item: &Result<DefaultLexeme<u32>, LRLexError>,
-) -> Result<(), AllocError> {
-    separate(text, ", ")?;
+) {
+    separate(rt, text, ", ");
     match item {
         Ok(lexeme) => {
-            text.push_str(definition.name_of(lexeme.tok_id()).unwrap_or("?"))?;
-            if lexeme.faulty() {
-                text.push_str(" faulty")?;
-            }
-            push_number(text, " ", lexeme.span().start())?;
-            push_number(text, "+", lexeme.span().len())
+            let name = definition.name_of(lexeme.tok_id()).unwrap_or("?");
+            push_lexeme(rt, text, name, lexeme);
         }
-        Err(error) => {
-            push_number(text, "error ", error.span().start())?;
-            push_number(text, "..", error.span().end())?;
-            match error.lexing_state() {
-                Some(state) => push_number(text, " in ", state.id()),
-                None => Ok(()),
-            }
-        }
+        Err(error) => push_error(rt, text, error),
     }
 }
 
-fn push_stack(text: &mut String, stack: &[(usize, usize)]) -> Result<(), AllocError> {
+fn push_stack(rt: &impl Abort, text: &mut String, stack: &[(usize, usize)]) {
     let mut between = ":";
     for (count, state) in stack {
-        push_number(text, between, *state)?;
+        push_number(rt, text, between, *state);
         if *count != 1 {
-            push_number(text, "*", *count)?;
+            push_number(rt, text, "*", *count);
         }
         between = ",";
     }
-    Ok(())
 }
 
-fn push_boundaries(told: &mut Told, run: &Run<'_, '_>) -> Result<(), AllocError> {
+fn push_boundaries(rt: &impl Abort, told: &mut Told, run: &Run<'_, '_>) {
     for k in 0..run.boundaries() {
-        separate(&mut told.boundaries, " ")?;
-        push_number(&mut told.boundaries, "", run.place(k))?;
-        push_stack(&mut told.boundaries, run.stack(k))?;
-        push_number(&mut told.ahead, " ", usize::from(run.ahead(k)))?;
+        separate(rt, &mut told.boundaries, " ");
+        push_number(rt, &mut told.boundaries, "", run.place(k));
+        push_stack(rt, &mut told.boundaries, run.stack(k));
+        push_number(rt, &mut told.ahead, " ", usize::from(run.ahead(k)));
     }
-    Ok(())
 }
 
 /// How many runs the last stack has.
@@ -233,56 +229,55 @@ fn counted(alloc: Global, run: &Run<'_, '_>) -> Told {
     }
 }
 
-fn tell(alloc: Global, run: &Run<'_, '_>) -> Result<Told, AllocError> {
+fn tell(rt: &impl Abort, alloc: Global, run: &Run<'_, '_>) -> Told {
     let mut told = counted(alloc, run);
     for item in run.items() {
-        push_item(&mut told.items, run.definition(), item)?;
+        push_item(rt, &mut told.items, run.definition(), item);
     }
     if run.tiles() < 1_000 {
-        push_boundaries(&mut told, run)?;
+        push_boundaries(rt, &mut told, run);
     }
-    Ok(told)
+    told
 }
 
-/// Lexes a text, and again after each edit, beside which stands the text that it makes. It stops at one that doesn't.
-/// Adds what each run holds.
+/// Lexes a text, and again after each edit, beside which stands the text that it makes. Adds what each run holds.
 pub fn lex<'t>(
+    rt: &impl Abort,
     alloc: Global,
     definition: &Definition,
     text: &'t str,
     steps: &[(Edit<'_>, &'t str)],
     told: &mut Vec<Told>,
-) -> Result<(), AllocError> {
-    let mut run = definition.run(alloc, text)?;
-    told.push(tell(alloc, &run)?)?;
+) {
+    let mut run = definition.run(alloc, text).expect(rt, "memory");
+    told.push(tell(rt, alloc, &run)).expect(rt, "memory");
     for (edit, new) in steps {
         if !edit.gives(run.text(), new) {
-            return Ok(());
+            panic!(rt; "the edit doesn't make {new:?}");
         }
-        run = run.relex(alloc, edit, new)?;
-        told.push(tell(alloc, &run)?)?;
+        run = run.relex(alloc, edit, new).expect(rt, "memory");
+        told.push(tell(rt, alloc, &run)).expect(rt, "memory");
     }
-    Ok(())
 }
 
-/// The same by a definition that is made so. None where its rules are refused.
+/// The same by a definition that is made so.
 fn lexed_through(
+    rt: &impl Abort,
     alloc: Global,
     made: Made<'_>,
     text: &str,
     steps: &[(Edit<'_>, &str)],
-) -> Result<Vec<Told>, AllocError> {
+) -> Vec<Told> {
+    let definition = defined(rt, alloc, made);
     let mut told = Vec::new(alloc);
-    if let Some(definition) = defined(alloc, made)? {
-        lex(alloc, &definition, text, steps, &mut told)?;
-    }
-    Ok(told)
+    lex(rt, alloc, &definition, text, steps, &mut told);
+    told
 }
 
-/// What lexing a text tells. None where the rules are refused.
-pub fn lexed(alloc: Global, made: Made<'_>, text: &str) -> Result<Option<Told>, AllocError> {
-    let mut told = lexed_through(alloc, made, text, &[])?;
-    Ok(told.pop())
+/// What lexing a text tells.
+pub fn lexed(rt: &impl Abort, alloc: Global, made: Made<'_>, text: &str) -> Told {
+    let mut told = lexed_through(rt, alloc, made, text, &[]);
+    told.pop().expect(rt, "a run")
 }
 
 /// The bytes from the first number to the second give way to the text.
@@ -296,24 +291,35 @@ pub fn edit_of(change: Change<'_>) -> Edit<'_> {
     }
 }
 
-/// The text that the edit makes, or an empty one where it doesn't fit.
-pub fn edited(alloc: Global, edit: &Edit<'_>, old: &str) -> Result<String, AllocError> {
-    if edit.fits(old) {
-        edit.apply(alloc, old)
-    } else {
-        Ok(String::new(alloc))
+/// The text that the edit makes.
+pub fn edited(rt: &impl Abort, alloc: Global, edit: &Edit<'_>, old: &str) -> String {
+    if !edit.fits(old) {
+        panic!(rt; "the edit doesn't fit {old:?}");
     }
+    edit.apply(alloc, old).expect(rt, "memory")
 }
 
-/// What lexing the old text tells, and what lexing again after the edit does. The first alone where the edit doesn't fit,
-/// none where the rules are refused.
+/// What lexing the old text tells, and what lexing again after the edit does.
 pub fn relexed(
+    rt: &impl Abort,
     alloc: Global,
     made: Made<'_>,
     old: &str,
     change: Change<'_>,
-) -> Result<Vec<Told>, AllocError> {
+) -> Vec<Told> {
     let edit = edit_of(change);
-    let new = edited(alloc, &edit, old)?;
-    lexed_through(alloc, made, old, &[(edit, new.as_str())])
+    let new = edited(rt, alloc, &edit, old);
+    lexed_through(rt, alloc, made, old, &[(edit, new.as_str())])
+}
+
+/// What lexing again after the edit tells.
+pub fn relexed_once(
+    rt: &impl Abort,
+    alloc: Global,
+    made: Made<'_>,
+    old: &str,
+    change: Change<'_>,
+) -> Told {
+    let mut told = relexed(rt, alloc, made, old, change);
+    told.pop().expect(rt, "a run")
 }

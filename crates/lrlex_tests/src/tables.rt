@@ -1,8 +1,8 @@
 //! Which rules have a table, and that lexing by tables and by asking each rule answer alike.
 use crate::runs::{Made, lexed, searches, tables_of};
-use crate::shown::{equal, push_number, same};
-use std::alloc::{AllocError, Global};
-use std::test::Fail;
+use crate::shown::{equal, owned, push, push_number, same};
+use std::alloc::Global;
+use std::process::Abort;
 
 const WORK: usize = 40_000_000;
 
@@ -21,44 +21,40 @@ const WITH_TABLES: &[(&str, usize, usize)] = &[
 ];
 
 #[test]
-fn rules_with_and_without_a_table(rt: HostRuntime) -> Result<(), Fail> {
+fn rules_with_and_without_a_table(rt: HostRuntime) {
     for row in WITH_TABLES {
         let (rules, tables, asked) = *row;
-        let Some(got) = tables_of(rt.alloc(), Made::Read(rules))? else {
-            panic!(rt; "refused: {rules:?}");
-        };
+        let got = tables_of(&rt, rt.alloc(), Made::Read(rules));
         equal(&rt, &[got[0], got[2]], &[tables, asked], rules, "");
     }
-    Ok(())
 }
 
 /// A rule text of so many exclusive states, each with one rule, whose table has three rows.
-fn small_states(alloc: Global, states: usize) -> Result<String, AllocError> {
-    let mut rules = String::from_str(alloc, "%x")?;
+fn small_states(rt: &impl Abort, alloc: Global, states: usize) -> String {
+    let mut rules = owned(rt, alloc, "%x");
     for state in 0..states {
-        push_number(&mut rules, " s", state)?;
+        push_number(rt, &mut rules, " s", state);
     }
-    rules.push_str("\n%%\n")?;
+    push(rt, &mut rules, "\n%%\n");
     for state in 0..states {
-        push_number(&mut rules, "<s", state)?;
-        push_number(&mut rules, ">a 'R", state)?;
-        rules.push_str("'\n")?;
+        push_number(rt, &mut rules, "<s", state);
+        push_number(rt, &mut rules, ">a 'R", state);
+        push(rt, &mut rules, "'\n");
     }
-    Ok(rules)
+    rules
 }
 
+/// Rows; tables, rows that they have, rules that are asked.
+const SHARED: &[(usize, [usize; 3])] = &[(0, [0, 0, 40]), (60, [19, 57, 21]), (200, [40, 120, 0])];
+
 #[test]
-fn small_states_share_the_rows(rt: HostRuntime) -> Result<(), Fail> {
-    let rules = small_states(rt.alloc(), 40)?;
-    // rows; tables, rows that they have, rules that are asked
-    for (rows, want) in [(0, [0, 0, 40]), (60, [19, 57, 21]), (200, [40, 120, 0])] {
-        let made = Made::Within(rules.as_str(), rows, WORK);
-        let Some(got) = tables_of(rt.alloc(), made)? else {
-            panic!(rt; "the rules are refused");
-        };
-        equal(&rt, &got, &want, "forty states", "");
+fn small_states_share_the_rows(rt: HostRuntime) {
+    let rules = small_states(&rt, rt.alloc(), 40);
+    for row in SHARED {
+        let made = Made::Within(rules.as_str(), row.0, WORK);
+        let got = tables_of(&rt, rt.alloc(), made);
+        equal(&rt, &got, &row.1, "forty states", "");
     }
-    Ok(())
 }
 
 /// Rules, and an input.
@@ -83,36 +79,23 @@ const BOTH_WAYS: &[(&str, &str)] = &[
     ),
 ];
 
-/// The items, where tables may have so many rows.
-fn items_within(
-    alloc: Global,
-    rules: &str,
-    input: &str,
-    rows: usize,
-    work: usize,
-) -> Result<String, AllocError> {
-    match lexed(alloc, Made::Within(rules, rows, work), input)? {
-        Some(told) => Ok(told.items),
-        None => String::from_str(alloc, "refused"),
-    }
+/// The items are these, where tables may have so many rows.
+fn gives(rt: &impl Abort, alloc: Global, rules: &str, input: &str, rows: usize, want: &str) {
+    let got = lexed(rt, alloc, Made::Within(rules, rows, WORK), input);
+    same(rt, got.items.as_str(), want, rules, input);
 }
 
 #[test]
-fn the_same_by_tables_and_by_asking(rt: HostRuntime) -> Result<(), Fail> {
-    let alloc = rt.alloc();
+fn the_same_by_tables_and_by_asking(rt: HostRuntime) {
     for row in BOTH_WAYS {
         let (rules, input) = *row;
-        let Some(asking) = tables_of(alloc, Made::Within(rules, 0, 0))? else {
-            panic!(rt; "refused: {rules:?}");
-        };
-        equal(&rt, &asking[..1], &[0], rules, "tables");
-        let want = items_within(alloc, rules, input, 0, 0)?;
-        for most in [8_000, 20, 0] {
-            let got = items_within(alloc, rules, input, most, WORK)?;
-            same(&rt, got.as_str(), want.as_str(), rules, input);
-        }
+        let tables = tables_of(&rt, rt.alloc(), Made::Within(rules, 0, 0));
+        equal(&rt, &tables[..1], &[0], rules, "tables");
+        let asking = lexed(&rt, rt.alloc(), Made::Within(rules, 0, 0), input);
+        gives(&rt, rt.alloc(), rules, input, 8_000, asking.items.as_str());
+        gives(&rt, rt.alloc(), rules, input, 20, asking.items.as_str());
+        gives(&rt, rt.alloc(), rules, input, 0, asking.items.as_str());
     }
-    Ok(())
 }
 
 const END: &str = "%%\na$ 'X'\n[ab] 'Y'";
@@ -131,13 +114,10 @@ const SEARCHES: &[(&str, &str, usize, usize)] = &[
 ];
 
 #[test]
-fn one_search_for_each_rule_without_a_table_at_each_boundary(rt: HostRuntime) -> Result<(), Fail> {
+fn one_search_for_each_rule_without_a_table_at_each_boundary(rt: HostRuntime) {
     for row in SEARCHES {
         let (rules, input, most, wanted) = *row;
-        let Some(told) = lexed(rt.alloc(), Made::Within(rules, most, WORK), input)? else {
-            panic!(rt; "refused: {rules:?}");
-        };
+        let told = lexed(&rt, rt.alloc(), Made::Within(rules, most, WORK), input);
         equal(&rt, &[searches(&told)], &[wanted], rules, input);
     }
-    Ok(())
 }

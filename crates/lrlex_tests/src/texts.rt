@@ -1,30 +1,33 @@
 //! The input's own text at the spans of lexemes: the matched text, its place and its whole lines.
-ghost use Rattle.std.specs.Prelude.{◌≡◌, IfOk};
+ghost use Rattle.std.specs.Prelude.{◌≡◌};
 ghost use Rattle.lrlex.specs.Lexers.{lexer_text};
 
 use crate::runs::{Definition, Made, defined};
-use crate::shown::{equal, push_number, same, separate};
+use crate::shown::{equal, owned, push, push_number, same, separate};
 use lrlex::{DefaultLexerTypes, LRNonStreamingLexer};
 use lrlex_base::{Lexeme, Lexer, NonStreamingLexer, Span};
-use std::alloc::{AllocError, Global};
-use std::test::Fail;
+use std::alloc::Global;
+use std::process::Abort;
 
-type LexerOver<'lexer, 'input> = LRNonStreamingLexer<'lexer, 'input, DefaultLexerTypes<u32>>;
+pub type LexerOver<'lexer, 'input> = LRNonStreamingLexer<'lexer, 'input, DefaultLexerTypes<u32>>;
 
 /// The lexer of an input, made at once or of its run.
-fn lexer_over<'lexer, 'input>(
+pub fn lexer_over<'lexer, 'input>(
+    rt: &impl Abort,
     alloc: Global,
     definition: &'lexer Definition,
     input: &'input str,
     of_run: bool,
-) -> Result<LexerOver<'lexer, 'input>, AllocError>
-    ensures { IfOk result (λ lexer. lexer_text lexer ≡ input.now) }
+) -> LexerOver<'lexer, 'input>
+    ensures { lexer_text result ≡ input.now }
 {
-    if of_run {
-        definition.run(alloc, input)?.into_lexer(alloc)
+    let lexer = if of_run {
+        let run = definition.run(alloc, input).expect(rt, "memory");
+        run.into_lexer(alloc)
     } else {
         definition.lexer(alloc, input)
-    }
+    };
+    lexer.expect(rt, "memory")
 }
 
 /// What a lexer says of an item or a span. The texts outlive it.
@@ -47,10 +50,11 @@ fn place_at<'input>(lexer: &LexerOver<'_, 'input>, input: &'input str, span: Spa
 }
 
 fn push_lexemes<'input>(
+    rt: &impl Abort,
     lexer: &LexerOver<'_, 'input>,
     input: &'input str,
     places: &mut Vec<Place<'input>>,
-) -> Result<(), AllocError>
+)
     requires { lexer_text lexer.now ≡ input.now }
 {
     for item in lexer.iter() {
@@ -58,87 +62,73 @@ fn push_lexemes<'input>(
             Ok(lexeme) => place_at(lexer, input, lexeme.span()),
             Err(_) => Place::Not("error"),
         };
-        places.push(place)?;
+        places.push(place).expect(rt, "memory");
     }
-    Ok(())
 }
 
 /// Adds the places of spans, each by its start and length.
 fn push_spans<'input>(
+    rt: &impl Abort,
     lexer: &LexerOver<'_, 'input>,
     input: &'input str,
     spans: &[(usize, usize)],
     places: &mut Vec<Place<'input>>,
-) -> Result<(), AllocError>
+)
     requires { lexer_text lexer.now ≡ input.now }
 {
     for (start, len) in spans {
         let span = Span::new(*start, start.saturating_add(*len));
-        places.push(place_at(lexer, input, span))?;
+        places
+            .push(place_at(lexer, input, span))
+            .expect(rt, "memory");
     }
-    Ok(())
-}
-
-/// Adds the places of the lexemes, and of these spans.
-fn push_places<'input>(
-    alloc: Global,
-    definition: &Definition,
-    input: &'input str,
-    of_run: bool,
-    spans: &[(usize, usize)],
-    places: &mut Vec<Place<'input>>,
-) -> Result<(), AllocError> {
-    let lexer = lexer_over(alloc, definition, input, of_run)?;
-    push_lexemes(&lexer, input, places)?;
-    push_spans(&lexer, input, spans, places)
 }
 
 /// The places of the lexemes of an input, and of these spans.
 fn places_over<'input>(
+    rt: &impl Abort,
     alloc: Global,
     rules: &str,
     input: &'input str,
     of_run: bool,
     spans: &[(usize, usize)],
-) -> Result<Vec<Place<'input>>, AllocError> {
+) -> Vec<Place<'input>> {
     let mut places = Vec::new(alloc);
-    match defined(alloc, Made::Read(rules))? {
-        Some(definition) => {
-            push_places(alloc, &definition, input, of_run, spans, &mut places)?;
-        }
-        None => places.push(Place::Not("refused"))?,
-    }
-    Ok(places)
+    let definition = defined(rt, alloc, Made::Read(rules));
+    let lexer = lexer_over(rt, alloc, &definition, input, of_run);
+    push_lexemes(rt, &lexer, input, &mut places);
+    push_spans(rt, &lexer, input, spans, &mut places);
+    places
 }
 
-fn push_at(text: &mut String, before: &str, at: (usize, usize)) -> Result<(), AllocError> {
+fn push_at(rt: &impl Abort, text: &mut String, before: &str, at: (usize, usize)) {
     let (line, column) = at;
-    push_number(text, before, line)?;
-    push_number(text, ":", column)
+    push_number(rt, text, before, line);
+    push_number(rt, text, ":", column);
 }
 
-fn push_place(text: &mut String, place: Place<'_>) -> Result<(), AllocError> {
+fn push_place(rt: &impl Abort, text: &mut String, place: Place<'_>) {
     match place {
         Place::At(matched, start, end, lines) => {
-            text.push_str(matched)?;
-            push_at(text, " at ", start)?;
-            push_at(text, "-", end)?;
-            text.push_str(" in [")?;
-            text.push_str(lines)?;
-            text.push_str("]")
+            push(rt, text, matched);
+            push_at(rt, text, " at ", start);
+            push_at(rt, text, "-", end);
+            push(rt, text, " in [");
+            push(rt, text, lines);
+            push(rt, text, "]");
         }
-        Place::Not(why) => text.push_str(why),
+        Place::Not(why) => push(rt, text, why),
     }
 }
 
 /// The places, each as `a at 1:2-1:3 in [ a]`.
-fn places_text(alloc: Global, places: &[Place<'_>]) -> Result<String, AllocError> {
+fn places_text(rt: &impl Abort, alloc: Global, places: &[Place<'_>]) -> String {
     let mut text = String::new(alloc);
     for place in places {
-        separate(&mut text, ", ")?;
-        push_place(&mut text, *place)?;
+        separate(rt, &mut text, ", ");
+        push_place(rt, &mut text, *place);
     }
-    Ok(text)
+    text
 }
 
 const WORDS: &str = "%%\n[a-z❤]+ 'ID'\n[ \\n] ;";
@@ -184,55 +174,47 @@ fn way(of_run: bool) -> &'static str {
 }
 
 #[test]
-fn lines_and_columns_of_lexemes(rt: HostRuntime) -> Result<(), Fail> {
+fn lines_and_columns_of_lexemes(rt: HostRuntime) {
     for row in PLACES {
         let (rules, input, want) = *row;
         for of_run in [false, true] {
-            let places = places_over(rt.alloc(), rules, input, of_run, &[])?;
-            let got = places_text(rt.alloc(), places.as_slice())?;
+            let places = places_over(&rt, rt.alloc(), rules, input, of_run, &[]);
+            let got = places_text(&rt, rt.alloc(), places.as_slice());
             same(&rt, got.as_str(), want, way(of_run), input);
         }
     }
-    Ok(())
 }
 
 /// So many letters `a`, with blanks between them.
-fn letters(alloc: Global, count: usize) -> Result<String, AllocError> {
+fn letters(rt: &impl Abort, alloc: Global, count: usize) -> String {
     let mut text = String::new(alloc);
     for k in 0..count {
-        text.push_str(if k > 0 { " a" } else { "a" })?;
+        push(rt, &mut text, if k > 0 { " a" } else { "a" });
     }
-    Ok(text)
+    text
 }
 
 /// So many lines, the one with number i, from 0, of i letters.
-fn staircase(alloc: Global, count: usize) -> Result<String, AllocError> {
+fn staircase(rt: &impl Abort, alloc: Global, count: usize) -> String {
     let mut text = String::new(alloc);
     for i in 0..count {
         if i > 0 {
-            text.push_str("\n")?;
+            push(rt, &mut text, "\n");
         }
-        text.push_str(letters(alloc, i)?.as_str())?;
+        push(rt, &mut text, letters(rt, alloc, i).as_str());
     }
-    Ok(text)
+    text
 }
 
-/// How many of the places are none, or begin a line and have other whole lines than that line of the staircase.
-fn wrong_steps(alloc: Global, places: &[Place<'_>]) -> Result<usize, AllocError> {
-    let mut wrong = 0usize;
-    for place in places {
-        let right = match *place {
-            Place::At(_, (line, 1), _, lines) => {
-                letters(alloc, line.saturating_sub(1))?.as_str() == lines
-            }
-            Place::At(_, _, _, _) => true,
-            Place::Not(_) => false,
-        };
-        if !right {
-            wrong = wrong.saturating_add(1);
+/// Whether the place is one, and has the whole lines of that line of the staircase, if it begins a line.
+fn is_step(rt: &impl Abort, alloc: Global, place: &Place<'_>) -> bool {
+    match *place {
+        Place::At(_, (line, 1), _, lines) => {
+            letters(rt, alloc, line.saturating_sub(1)).as_str() == lines
         }
+        Place::At(_, _, _, _) => true,
+        Place::Not(_) => false,
     }
-    Ok(wrong)
 }
 
 fn lines_at<'input>(place: Option<&Place<'input>>) -> &'input str {
@@ -251,40 +233,41 @@ const SPANS: &[(usize, usize)] = &[(0, 0), (0, 2), (0, 4), (0, 7), (4, 3)];
 /// The whole lines of each.
 const LINES: &[&str] = &["", "\na", "\na\na a", "\na\na a\na a a", "a a\na a a"];
 
-#[test]
-fn whole_lines_of_many(rt: HostRuntime) -> Result<(), Fail> {
-    let input = staircase(rt.alloc(), 71)?;
-    for of_run in [false, true] {
-        let places = places_over(rt.alloc(), STEP_RULES, input.as_str(), of_run, SPANS)?;
-        // the lexemes of the staircase, and five spans
-        assert_eq!(rt; places.len(), 2_490);
-        let (steps, spans) = places.as_slice().split_at(2_485);
-        let wrong = wrong_steps(rt.alloc(), steps)?;
-        equal(&rt, &[wrong], &[0], "wrong lines", way(of_run));
-        for (place, lines) in spans.iter().zip(LINES) {
-            same(&rt, lines_at(Some(place)), *lines, "lines", way(of_run));
-        }
+fn lines_of_many(rt: &impl Abort, alloc: Global, input: &str, of_run: bool) {
+    let places = places_over(rt, alloc, STEP_RULES, input, of_run, SPANS);
+    // the lexemes of the staircase, and five spans
+    assert_eq!(rt; places.len(), 2_490);
+    let (steps, spans) = places.as_slice().split_at(2_485);
+    for place in steps {
+        assert!(rt; is_step(rt, alloc, place), "wrong lines {}", way(of_run));
     }
-    Ok(())
+    for (place, lines) in spans.iter().zip(LINES) {
+        same(rt, lines_at(Some(place)), *lines, "lines", way(of_run));
+    }
 }
 
 #[test]
-fn a_span_past_the_text_fits_nothing(rt: HostRuntime) -> Result<(), Fail> {
+fn whole_lines_of_many(rt: HostRuntime) {
+    let input = staircase(&rt, rt.alloc(), 71);
+    lines_of_many(&rt, rt.alloc(), input.as_str(), false);
+    lines_of_many(&rt, rt.alloc(), input.as_str(), true);
+}
+
+#[test]
+fn a_span_past_the_text_fits_nothing(rt: HostRuntime) {
     assert!(rt; !Span::new(100, 100).fits("a b c"));
-    let places = places_over(rt.alloc(), STEP_RULES, "a b c", false, &[(100, 0)])?;
+    let places = places_over(&rt, rt.alloc(), STEP_RULES, "a b c", false, &[(100, 0)]);
     let got = lines_at(places.as_slice().last());
     same(&rt, got, "past the input", "100..100", "a b c");
-    Ok(())
 }
 
 #[test]
-fn a_text_outlives_its_lexer(rt: HostRuntime) -> Result<(), Fail> {
-    let input = String::from_str(rt.alloc(), "❤ b")?;
+fn a_text_outlives_its_lexer(rt: HostRuntime) {
+    let input = owned(&rt, rt.alloc(), "❤ b");
     // the lexer and its definition are gone
-    let places = places_over(rt.alloc(), WORDS, input.as_str(), false, &[])?;
+    let places = places_over(&rt, rt.alloc(), WORDS, input.as_str(), false, &[]);
     match places.as_slice().first() {
         Some(Place::At(matched, _, _, _)) => same(&rt, *matched, "❤", "first", "❤ b"),
         _ => panic!(rt; "no lexeme"),
     }
-    Ok(())
 }
