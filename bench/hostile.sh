@@ -75,6 +75,7 @@ states 4000 x '<sNUMBER>a+NUMBER' >"$scratch/exclusive_4000.l"
 states 4000 s '<sNUMBER>a+NUMBER' >"$scratch/inclusive_4000.l"
 states 4000 s 'aNUMBER' >"$scratch/everywhere_4000.l"
 states 400 s '<sNUMBER,INITIAL>(a|b)*a(a|b){8}NUMBER' >"$scratch/state_blow_ups.l"
+{ states 100000 x a | head -n 2; echo "a 'R0'"; } >"$scratch/exclusive_100000.l"
 echo "ab" >"$scratch/text"
 
 # measure NAME [WORD]: the quickest of three builds, by this word too; its figures go to the file `out`. False where there is
