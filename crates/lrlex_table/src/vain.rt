@@ -8,7 +8,7 @@ ghost use Rattle.lrlex_table.specs.Vain.{table_at, IsVain, IsVainPast, IsDeadEnd
 
 use crate::table::{MARK, Table, row_of};
 use crate::tables::{Part, Tables, together};
-use crate::walk::{FAR, Sight, Walk, cell_at};
+use crate::walk::{Sight, Walk, cell_at};
 use std::alloc::Global;
 use std::collections::HashMap;
 
@@ -269,8 +269,8 @@ impl<'d, 't> DeadEnds<'d, 't> {
     }
 
     /// What the tables of the list see of the text from this place on, as `Tables::look` does, so that all looks at a
-    /// text together take time in proportion to it. A look that went far past its winner's end in vain is made once more, to
-    /// keep its dead ends, and up to there each walk stops at the first that is known. Where nothing wins no look follows.
+    /// text together take time in proportion to it. A look that went far in vain is made once more, to keep its dead ends,
+    /// and up to there each walk stops at the first that is known.
     #[inline(always)]
     pub fn look(&mut self, tables: &Tables, list: usize, place: usize, rest: &str) -> Sight
         requires tables { slice_get self.old.lists.now list ≡ Some tables.now }
@@ -291,10 +291,8 @@ impl<'d, 't> DeadEnds<'d, 't> {
             return self.look_at_each(tables, list, place, rest);
         }
         let sight = tables.look(rest);
-        if let Some(tile) = sight.tile {
-            if sight.reach - tile.len > FAR {
-                self.look_again(tables, list, place, rest);
-            }
+        if sight.is_far() {
+            self.look_again(tables, list, place, rest);
         }
         sight
     }
