@@ -11,6 +11,9 @@ const TWO_TABLES: &str = "%%\na 'A'\n(a{13})*b 'B'\n(a{17})*c 'C'";
 
 const STATES: &str = "%x s\n%%\na <s>'A'\na*b 'B'\n<s>a <INITIAL>'T'\n<s>a*c 'C'";
 
+/// A rule that has no table wins, where the table of the other looks in vain.
+const ASKED: &str = "%%\n\\ba 'A'\na*b 'B'";
+
 /// Rules, a part, how often, what follows; tiles.
 const LONG: &[(&str, &str, usize, &str, usize)] = &[
     (ONE, "a", 1_000_000, "", 1_000_000),
@@ -18,6 +21,7 @@ const LONG: &[(&str, &str, usize, &str, usize)] = &[
     (PAIRS, "ab", 500_000, "", 1_000_000),
     (TWO_TABLES, "a", 200_000, "", 200_000),
     (STATES, "a", 200_000, "", 200_000),
+    (ASKED, "a", 200_000, "", 200_000),
 ];
 
 #[test]
