@@ -34,3 +34,5 @@ pub mod CountedLemmas
 pub mod DocumentLemmas
 pub mod Utf16Lemmas
 pub mod ListLemmas
+pub mod NotedLemmas
+pub mod MergedLemmas

@@ -10,7 +10,7 @@ use Rattle.std.specs.List.{list_any, find, position, position_or_len}
 use Rattle.regex_hir.specs.Text.{is_some_and}
 use Rattle.lrlex_rules.specs.Definition.{Definition, Rule, StartState}
 use Rattle.lrlex_rules.specs.Patterns.{match_length, pattern_of}
-use Rattle.lrlex.specs.Active.{is_active, taken_by, taken_by_any, no_rule, rule_at}
+use Rattle.lrlex.specs.Active.{is_active, is_inclusive, taken_by, taken_by_any, no_rule, rule_at}
 use Rattle.lrlex_rules.specs.Parts.{RuleParts, as_rule, as_state}
 use Rattle.lrlex.specs.Views.{definition_of}
 use Rattle.lrlex.specs.StateTables.{ArePlaced}
@@ -156,6 +156,10 @@ find_of_place states q false placed e =
 
 pub placed_find : (states : List start.StartState) (q : ℕ) → ArePlaced states → slice_get states q ≡ find (λ s. (as_state s).id == q) states
 placed_find states q placed = find_of_place states q _ placed refl
+
+pub placed_inclusive : (states : List start.StartState) (i : ℕ) (s : start.StartState) → ArePlaced states → slice_get states i ≡ Some s →
+    not (as_state s).exclusive ≡ is_inclusive (map as_state states) i
+placed_inclusive states i s placed at = inclusive_as states i (Some s) (sym at ∙ placed_find states i placed)
 
 lacks_past : (states : List start.StartState) (q : ℕ) (b : Bool) → ArePlaced states → length states ≤ q → list_any (λ s. (as_state s).id == q) states ≡ b → b ≡ false
 lacks_past states q false placed past e = refl

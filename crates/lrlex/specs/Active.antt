@@ -1,5 +1,5 @@
 -- Which rules are active in a start state, and what each takes of a text.
-use Rattle.std.specs.Prelude.{ℕ, ◌+◌, Bool, not, ◌&&◌, ◌==◌, List, [], ◌∷◌, Option, Some, None, is_some, is_none, unwrap_or, if◌then◌else◌, slice_get, count_by}
+use Rattle.std.specs.Prelude.{ℕ, ◌+◌, Bool, not, ◌&&◌, ◌==◌, nat_lt, List, [], ◌∷◌, Option, Some, None, is_some, is_none, unwrap_or, if◌then◌else◌, slice_get, count_by}
 use Rattle.std.specs.List.{find, list_any}
 use Rattle.regex_hir.specs.Text.{is_some_and}
 use Rattle.regex.specs.Patterns.{default_config}
@@ -15,10 +15,17 @@ is_state d q = list_any (λ s. s.id == q) d.states
 abbrev pub is_inclusive : List StartState → ℕ → Bool
 is_inclusive states q = is_some_and (find (λ s. s.id == q) states) (λ s. not s.exclusive)
 
+-- the rule lists no states
+abbrev pub lists_none : Rule → Bool
+lists_none r = is_none (slice_get r.start_states 0)
+
+-- the rule lists the state
+abbrev pub lists_state : ℕ → Rule → Bool
+lists_state q r = list_any (λ s. s == q) r.start_states
+
 -- whether the rule is active in a state with the id that takes rules that list no states, or doesn't
 abbrev pub is_active_where : Bool → ℕ → Rule → Bool
-is_active_where inclusive q r =
-    if is_none (slice_get r.start_states 0) then inclusive else list_any (λ s. s == q) r.start_states
+is_active_where inclusive q r = if lists_none r then inclusive else lists_state q r
 
 -- whether the rule is active in the state
 unfoldable pub is_active : List StartState → ℕ → Rule → Bool
@@ -36,6 +43,12 @@ places_from p k (r ∷ rs) = if p r then (k ∷ places_from p (k + 1) rs) else p
 -- the places of the rules that are active in the state, in order
 abbrev pub active_places : List StartState → List Rule → ℕ → List ℕ
 active_places states rules q = places_from (is_active states q) 0 rules
+
+-- the numbers of two rising lists, in rising order
+abbrev pub merged : List ℕ → List ℕ → List ℕ
+merged [] ys = ys
+merged (x ∷ xs) [] = x ∷ xs
+merged (x ∷ xs) (y ∷ ys) = if nat_lt y x then y ∷ merged (x ∷ xs) ys else x ∷ merged xs (y ∷ ys)
 
 -- how many bytes of the text the rule takes in the state: none where it is not active
 unfoldable pub taken_by : Definition → ℕ → List ℕ → Rule → ℕ

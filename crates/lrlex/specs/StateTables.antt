@@ -1,6 +1,7 @@
 -- Start states by their places, and the tables of each.
-use Rattle.std.specs.Prelude.{◌≡◌, ℕ, List, [], map, Some, unwrap_or, vec_len, slice_get, slice_index_or}
+use Rattle.std.specs.Prelude.{◌≡◌, ℕ, ◌<◌, List, [], map, Some, All, Vec, unwrap_or, vec_len, slice_get, slice_index_or}
 use Rattle.std.specs.List.{sum_by}
+use Rattle.std.specs.declared.alloc.Global.{Global}
 use Rattle.regex.specs.Patterns.{Re}
 use Rattle.lrlex_rules.specs.Definition.{Rule}
 use Rattle.lrlex_rules.specs.Parts.{RuleParts, as_rule, as_state}
@@ -25,6 +26,14 @@ patterns_on rules places = map (pattern_in rules) places
 -- the list at a place
 abbrev pub list_in : List (List ℕ) → ℕ → List ℕ
 list_in lists j = slice_index_or lists j []
+
+-- the lists at these places
+abbrev pub lists_at : List (Vec ℕ Global) → List ℕ → List (List ℕ)
+lists_at lists at = map (list_in (map (λ v. v.items) lists)) at
+
+-- the lists hold only what is below the number
+abbrev pub AreBelow : ℕ → List (List ℕ) → Type 0
+AreBelow n lists = (i : ℕ) → All (λ k. k < n) (list_in lists i)
 
 -- each list of rules has its tables at its place
 abbrev pub AreServed : {S : Type 0} → List (RuleParts S) → List (List ℕ) → List Tables → Type 0

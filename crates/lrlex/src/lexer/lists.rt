@@ -1,10 +1,10 @@
 //! The rules that are active in each start state, as lists of places: states with the same rules share a list.
-ghost use Rattle.std.specs.Prelude.{◌≡◌, ◌<◌, ◌≤◌, ℕ, All, map, length, IfOk, IfSome, IsTrue};
+ghost use Rattle.std.specs.Prelude.{◌≡◌, ◌<◌, ◌≤◌, ◌∷◌, ◌++◌, [], ℕ, All, map, length, IfOk, IfSome, IsTrue};
 ghost use Rattle.lrlex_rules.specs.Parts.{as_rule, as_state};
 ghost use Rattle.lrlex.specs.Active.{active_places};
-ghost use Rattle.lrlex.specs.StateTables.{ArePlaced, list_in};
+ghost use Rattle.lrlex.specs.StateTables.{ArePlaced, list_in, lists_at};
 
-use crate::lexer::active::active_places;
+use crate::lexer::active::{active_places, listed_places, places_where, unlisted_places};
 use lrlex_rules::{Rule, StartState};
 use std::alloc::{AllocError, Global};
 use std::collections::HashMap;
@@ -60,6 +60,70 @@ fn put_list(
     Ok(index)
 }
 
+/// Gives the next state the list that has these places.
+fn add_list(
+    lists: &mut Vec<Vec<usize>>,
+    known: &mut HashMap<u64, usize>,
+    at: &mut Vec<usize>,
+    places: Vec<usize>,
+) -> Result<(), AllocError>
+    requires { All (λ j. j < length lists.old.items) at.old.items }
+    ensures within { IfOk result (λ _. All (λ j. j < length lists.new.items) at.new.items) }
+    ensures added { IfOk result (λ _. lists_at lists.new.items at.new.items
+        ≡ lists_at lists.old.items at.old.items ++ places.items ∷ []) }
+{
+    let list = put_list(lists, known, places)?;
+    at.push(list)?;
+    Ok(())
+}
+
+/// The lists of the rules that are active in these states, and which of them each state has: by states, each of which looks at
+/// each rule.
+fn lists_by_states<S>(
+    alloc: Global,
+    states: &[StartState],
+    rules: &[Rule<S>],
+) -> Result<(Vec<Vec<usize>>, Vec<usize>), AllocError>
+    ensures listed { IfOk result (λ r. lists_at r.0.items r.1.items
+        ≡ map (λ s. active_places (map as_state states.now) (map (as_rule (λ _. 0)) rules.now)
+        (as_state s).id) states.now) }
+    ensures within { IfOk result (λ r. All (λ j. j < length r.0.items) r.1.items) }
+{
+    let mut lists = Vec::new(alloc);
+    let mut known = HashMap::new(alloc);
+    let mut at = Vec::with_capacity(alloc, states.len())?;
+    'states: for index in 0..states.len() {
+        let places = active_places(alloc, states, rules, states[index].id())?;
+        add_list(&mut lists, &mut known, &mut at, places)?;
+    }
+    Ok((lists, at))
+}
+
+/// The same by rules, each of which is looked at once, and the states that it lists. The id of each state is its place.
+fn lists_by_rules<S>(
+    alloc: Global,
+    states: &[StartState],
+    rules: &[Rule<S>],
+) -> Result<(Vec<Vec<usize>>, Vec<usize>), AllocError>
+    requires { ArePlaced states.now }
+    ensures listed { IfOk result (λ r. lists_at r.0.items r.1.items
+        ≡ map (λ s. active_places (map as_state states.now) (map (as_rule (λ _. 0)) rules.now)
+        (as_state s).id) states.now) }
+    ensures within { IfOk result (λ r. All (λ j. j < length r.0.items) r.1.items) }
+{
+    let unlisted = unlisted_places(alloc, rules)?;
+    let listed = listed_places(alloc, states.len(), rules)?;
+    let mut lists = Vec::new(alloc);
+    let mut known = HashMap::new(alloc);
+    let mut at = Vec::with_capacity(alloc, states.len())?;
+    'states: for index in 0..states.len() {
+        let inclusive = !states[index].exclusive();
+        let places = places_where(alloc, inclusive, &listed[index], &unlisted)?;
+        add_list(&mut lists, &mut known, &mut at, places)?;
+    }
+    Ok((lists, at))
+}
+
 /// The lists of the rules that are active in these states, each once, and which of them each state has. `placed` says whether
 /// the id of each state is its place.
 pub(crate) fn lists_for<S>(
@@ -74,13 +138,9 @@ pub(crate) fn lists_for<S>(
         (as_state s).id) states.now) }
     ensures within { IfOk result (λ r. All (λ j. j < length r.0.items) r.1.items) }
 {
-    let mut lists = Vec::new(alloc);
-    let mut known = HashMap::new(alloc);
-    let mut at = Vec::with_capacity(alloc, states.len())?;
-    'states: for index in 0..states.len() {
-        let places = active_places(alloc, states, placed, rules, states[index].id())?;
-        let list = put_list(&mut lists, &mut known, places)?;
-        at.push(list)?;
+    if placed {
+        lists_by_rules(alloc, states, rules)
+    } else {
+        lists_by_states(alloc, states, rules)
     }
-    Ok((lists, at))
 }
