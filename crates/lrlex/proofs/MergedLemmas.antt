@@ -23,14 +23,7 @@ pub merged_behind : (y : ℕ) (xs ys : List ℕ) → (0 < length xs → y < get_
 merged_behind y [] ys lt = refl
 merged_behind y (x ∷ xs) ys lt = merged_second x y xs ys (lt (omega arith))
 
--- the same of what is left of both
-pub merged_below : (xs ys : List ℕ) (i j : ℕ) → i < length xs → j < length ys → get_or ys j 0 < get_or xs i 0 →
-    merged (drop i xs) (drop j ys) ≡ get_or ys j 0 ∷ merged (drop i xs) (drop (j + 1) ys)
-merged_below xs ys i j lt within less =
-    ap₂ merged (drop_more xs i 0 lt) (drop_more ys j 0 within)
-    ∙ merged_second (get_or xs i 0) (get_or ys j 0) (drop (i + 1) xs) (drop (j + 1) ys) less
-    ∙ ap (λ zs. get_or ys j 0 ∷ merged zs (drop (j + 1) ys)) (sym (drop_more xs i 0 lt))
-
+-- the first comes first also of what is left of both
 pub merged_from : (xs ys : List ℕ) (i j : ℕ) → i < length xs → (j < length ys → get_or xs i 0 ≤ get_or ys j 0) →
     merged (drop i xs) (drop j ys) ≡ get_or xs i 0 ∷ merged (drop (i + 1) xs) (drop j ys)
 merged_from xs ys i j lt le =

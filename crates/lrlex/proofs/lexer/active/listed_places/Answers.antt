@@ -1,8 +1,8 @@
-use Rattle.std.proofs.Common.{◌≡◌, ◌<◌, ℕ, [], ◌∷◌, ◌++◌, ◌==◌, cond, drop, length, map, take, All, sym, ap, ap₂, subst, ◌∙◌, inl, inr, arith}
+use Rattle.std.proofs.Common.{◌<◌, [], ◌∷◌, ◌++◌, ◌==◌, cond, drop, length, map, take, All, sym, ap, ap₂, subst, ◌∙◌, inl, inr, arith}
 use Rattle.std.proofs.lemmas.Bool.{cases_lt}
 use Rattle.std.proofs.lemmas.List.{length-map, length-take-le}
 use Rattle.std.specs.List.{list_any}
-use Rattle.lrlex.specs.Active.{lists_state, places_from}
+use Rattle.lrlex.specs.Active.{lists_state}
 use Rattle.lrlex.specs.StateTables.{AreBelow, list_in}
 use Rattle.lrlex_rules.specs.Parts.{as_rule}
 use Rattle.lrlex.proofs.ListLemmas.{list_in_past}

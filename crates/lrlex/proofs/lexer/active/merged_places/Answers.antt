@@ -1,7 +1,7 @@
-use Rattle.std.proofs.Common.{◌≡◌, ◌+◌, ◌<◌, ◌≤◌, length, get_or, drop, [], ◌∷◌, ◌++◌, sym, ap, ◌∙◌, arith}
+use Rattle.std.proofs.Common.{◌+◌, ◌<◌, ◌≤◌, length, get_or, drop, [], ◌∷◌, ◌++◌, sym, ap, ◌∙◌, arith}
 use Rattle.std.proofs.lemmas.List.{append_assoc}
 use Rattle.lrlex.specs.Active.{merged}
-use Rattle.lrlex.proofs.MergedLemmas.{merged_from, merged_below}
+use Rattle.lrlex.proofs.MergedLemmas.{merged_from}
 use Rattle.lrlex.proofs.lexer.active.merged_places.Goals as goal
 use Rattle.lrlex.proofs.lexer.active.merged_places.Goals.{then-below-test+else-others-next, else-below-test}
 

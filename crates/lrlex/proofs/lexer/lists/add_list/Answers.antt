@@ -1,4 +1,4 @@
-use Rattle.std.proofs.Common.{◌≡◌, ◌<◌, ◌∷◌, ◌++◌, [], map, length, All, ap, ap₂, ◌∙◌}
+use Rattle.std.proofs.Common.{◌∷◌, ◌++◌, [], map, length, ap, ap₂, ◌∙◌}
 use Rattle.std.proofs.lemmas.List.{map-append}
 use Rattle.lrlex.specs.StateTables.{list_in}
 use Rattle.lrlex.proofs.ListLemmas.{listed_again}
