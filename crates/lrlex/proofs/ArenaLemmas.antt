@@ -1,14 +1,14 @@
 -- Boundaries whose stacks are ranges of one list of entries: what one more of each changes.
-use Rattle.std.proofs.Common.{◌≡◌, ℕ, zero, suc, ◌+◌, ◌-◌, ◌<◌, ◌≤◌, max, List, [], ◌∷◌, ◌++◌, All, length, take, drop, get_or, refl, sym, ap, ap₂, ◌∙◌, subst, arith, length-append, length-take-le, take-take, take-add, drop-drop, take-append-drop}
+use Rattle.std.proofs.Common.{◌≡◌, ℕ, zero, suc, ◌+◌, ◌-◌, ◌<◌, ◌≤◌, List, [], ◌∷◌, ◌++◌, All, length, take, drop, get_or, refl, sym, ap, ap₂, ◌∙◌, subst, arith, length-append, length-take-le, take-take, take-add, drop-drop, take-append-drop}
 use Rattle.std.specs.List.{slice_range}
 use Rattle.std.proofs.lemmas.List.{take_all, length-drop, get_or_default, take-append-le, drop-append-le}
 use Rattle.std.proofs.lemmas.List.Elements.{All-head, All-push, All-weaker}
 use Rattle.std.proofs.lemmas.List.Quantifiers.{all_pairs_push}
 use Rattle.lrlex.specs.Boundaries.{Boundary, boundary_at, last_entries, most_entries}
-use Rattle.lrlex.specs.Ranges.{no_stretch, last_stretch, stretch_at, entries_of, boundaries_from, IsRange, AreRising, AreBegun, AreInOrder}
+use Rattle.lrlex.specs.Ranges.{no_stretch, last_stretch, longest, stretch_at, entries_of, boundaries_from, IsRange, AreRising, AreBegun, AreInOrder}
 use Rattle.lrlex.specs.Entries.{Stay}
 use Rattle.lrlex.specs.declared.lexer.stretch.Stretch.{Stretch}
-use Rattle.lrlex.proofs.StretchLemmas.{last_stretch-All, begun_by-All, begun_by-all, stretch_at-begun, stretch_at-before, stretch_at-last, last_of_front}
+use Rattle.lrlex.proofs.StretchLemmas.{last_stretch-All, begun_by-All, begun_by-all, stretch_at-begun, stretch_at-before, stretch_at-last, stretch_at-from, last_of_front, longest-above, longest-below}
 
 -- ---- ranges of a list of entries
 
@@ -63,7 +63,7 @@ place_is entries ss ps ms i d e lt =
     get_or_default ps i d 0 within ∙ ap (λ (m : Boundary). m.place) (sym (boundary_at-bounds entries ss ps i within) ∙ ap (λ ms. boundary_at ms i) e)
 
 -- the stacks agree
-bounds_agree : (entries more : List (ℕ × ℕ)) (ss now : List Stretch) (k : ℕ) (ps : List ℕ) →
+pub bounds_agree : (entries more : List (ℕ × ℕ)) (ss now : List Stretch) (k : ℕ) (ps : List ℕ) →
     ((i : ℕ) → i < k + length ps → entries_of more (stretch_at now i) ≡ entries_of entries (stretch_at ss i)) → boundaries_from more now k ps ≡ boundaries_from entries ss k ps
 bounds_agree entries more ss now k [] h = refl
 bounds_agree entries more ss now k (p ∷ ps) h =
@@ -76,20 +76,6 @@ bounds_push entries ss k [] p j e =
     ap (λ i. record { place = p; entries = entries_of entries (stretch_at ss i) } ∷ []) at
 bounds_push entries ss k (x ∷ ps) p j e = ap (λ ms. record { place = x; entries = entries_of entries (stretch_at ss k) } ∷ ms) (bounds_push entries ss (k + 1) ps p j (omega arith))
 
--- ---- the greatest number of entries
-
-max-swap : (a b n : ℕ) → max a (max b n) ≡ max (max a b) n
-max-swap a b n = omega arith
-
-pub most_entries-last : (ms : List Boundary) (m : Boundary) → most_entries (ms ++ m ∷ []) ≡ max (most_entries ms) (length m.entries)
-most_entries-last [] m = omega arith
-most_entries-last (x ∷ ms) m = ap (max (length x.entries)) (most_entries-last ms m) ∙ max-swap (length x.entries) (most_entries ms) (length m.entries)
-
-most_entries-at : (ms : List Boundary) (i : ℕ) → length (boundary_at ms i).entries ≤ most_entries ms
-most_entries-at [] i = omega arith
-most_entries-at (m ∷ ms) zero = omega arith
-most_entries-at (m ∷ ms) (suc i) = omega (arith, most_entries-at ms i)
-
 -- ---- the fields
 
 no_range : (entries : List (ℕ × ℕ)) → IsRange (length entries) no_stretch
@@ -101,9 +87,9 @@ pub record Holds (entries : List (ℕ × ℕ)) (s : Stretch) (stack : List (ℕ 
   pub is : entries_of entries s ≡ stack
 
 -- the stretch that the boundary is in
-pub range_is : {entries : List (ℕ × ℕ)} {ss now : List Stretch} {ps : List ℕ} {peak : ℕ} {ms : List Boundary} {s : Stretch} (i : ℕ) → AreInOrder entries ss ps peak → boundaries_from entries ss 0 ps ≡ ms → i < length ms →
+pub range_is : {entries : List (ℕ × ℕ)} {ss now : List Stretch} {ps : List ℕ} {ms : List Boundary} {s : Stretch} (i : ℕ) → AreInOrder entries ss ps → boundaries_from entries ss 0 ps ≡ ms → i < length ms →
     s ≡ stretch_at now i → now ≡ ss → Holds entries s (boundary_at ms i).entries
-range_is {entries} {ss} {now} {ps} {peak} {ms} {s} i h e lt is e' =
+range_is {entries} {ss} {now} {ps} {ms} {s} i h e lt is e' =
     let at : s ≡ stretch_at ss i = is ∙ ap (λ xs. stretch_at xs i) e' in
     record {
       range = subst (IsRange (length entries)) (sym at) (begun_by-All (IsRange (length entries)) no_stretch ss i (no_range entries) h.ranges);
@@ -111,15 +97,15 @@ range_is {entries} {ss} {now} {ps} {peak} {ms} {s} i h e lt is e' =
     }
 
 -- the stretch that begins with the boundary
-pub entered_is : {entries : List (ℕ × ℕ)} {ss : List Stretch} {ps : List ℕ} {peak n : ℕ} {ms : List Boundary} {s : Stretch} (i : ℕ) → AreInOrder entries ss ps peak → boundaries_from entries ss 0 ps ≡ ms → i < length ms →
+pub entered_is : {entries : List (ℕ × ℕ)} {ss : List Stretch} {ps : List ℕ} {n : ℕ} {ms : List Boundary} {s : Stretch} (i : ℕ) → AreInOrder entries ss ps → boundaries_from entries ss 0 ps ≡ ms → i < length ms →
     AreBegun ss (n + 1) i → n < length ss → s ≡ get_or ss n s → Holds entries s (boundary_at ms i).entries
-entered_is {entries} {ss} {ps} {peak} {n} {ms} {s} i h e lt begun within is =
+entered_is {entries} {ss} {ps} {n} {ms} {s} i h e lt begun within is =
     range_is i h e lt (is ∙ sym (last_of_front no_stretch ss n s within) ∙ sym (stretch_at-begun begun)) refl
 
 -- two boundaries in one stretch
-pub same_entries : {entries : List (ℕ × ℕ)} {ss : List Stretch} {ps : List ℕ} {peak n j k : ℕ} {ms : List Boundary} → AreInOrder entries ss ps peak → boundaries_from entries ss 0 ps ≡ ms → AreBegun ss n j → AreBegun ss n k →
+pub same_entries : {entries : List (ℕ × ℕ)} {ss : List Stretch} {ps : List ℕ} {n j k : ℕ} {ms : List Boundary} → AreInOrder entries ss ps → boundaries_from entries ss 0 ps ≡ ms → AreBegun ss n j → AreBegun ss n k →
     j < length ms → k < length ms → (boundary_at ms j).entries ≡ (boundary_at ms k).entries
-same_entries {entries} {ss} {ps} {peak} {n} {j} {k} {ms} h e bj bk lj lk =
+same_entries {entries} {ss} {ps} {n} {j} {k} {ms} h e bj bk lj lk =
     sym (range_is j h e lj refl refl).is ∙ ap (entries_of entries) (stretch_at-begun bj ∙ sym (stretch_at-begun bk)) ∙ (range_is k h e lk refl refl).is
 
 -- from the last stretch on
@@ -136,9 +122,9 @@ last_entries-is entries ss (p ∷ ps) h =
     ∙ ap (entries_of entries) (after_last ss (length (p ∷ ps)) (length ps) h (omega arith))
 
 -- the last boundary's stretch
-pub last_range : {entries : List (ℕ × ℕ)} {ss now : List Stretch} {ps : List ℕ} {peak : ℕ} {ms : List Boundary} {s : Stretch} → AreInOrder entries ss ps peak → boundaries_from entries ss 0 ps ≡ ms →
+pub last_range : {entries : List (ℕ × ℕ)} {ss now : List Stretch} {ps : List ℕ} {ms : List Boundary} {s : Stretch} → AreInOrder entries ss ps → boundaries_from entries ss 0 ps ≡ ms →
     s ≡ last_stretch no_stretch now → now ≡ ss → Holds entries s (last_entries ms)
-last_range {entries} {ss} {now} {ps} {peak} {ms} {s} h e is e' =
+last_range {entries} {ss} {now} {ps} {ms} {s} h e is e' =
     let at : s ≡ last_stretch no_stretch ss = is ∙ ap (last_stretch no_stretch) e' in
     record {
       range = subst (IsRange (length entries)) (sym at) (last_stretch-All (IsRange (length entries)) no_stretch ss (no_range entries) h.ranges);
@@ -175,64 +161,84 @@ pub stays_same : {entries old stack : List (ℕ × ℕ)} {s : Stretch} {k : ℕ}
 stays_same {entries} {old} {stack} {s} {k} h st = sym (front_of_range entries s.first s.end k (room h st)) ∙ ap (take k) h.is ∙ sym st.same
 
 -- more entries
-pub bounds_more_entries : {entries more : List (ℕ × ℕ)} {ss : List Stretch} {ps : List ℕ} {peak : ℕ} → more ≡ entries ++ drop (length entries) more → AreInOrder entries ss ps peak →
+pub bounds_more_entries : {entries more : List (ℕ × ℕ)} {ss : List Stretch} {ps : List ℕ} → more ≡ entries ++ drop (length entries) more → AreInOrder entries ss ps →
     boundaries_from more ss 0 ps ≡ boundaries_from entries ss 0 ps
-bounds_more_entries {entries} {more} {ss} {ps} {peak} e h =
+bounds_more_entries {entries} {more} {ss} {ps} e h =
     bounds_agree entries more ss ss 0 ps (λ i lt. let s = stretch_at ss i in
     let r : IsRange (length entries) s = begun_by-All (IsRange (length entries)) no_stretch ss i (no_range entries) h.ranges in
     ap (λ rs. entries_of rs s) e ∙ slice_range-append entries (drop (length entries) more) s.first s.end r.ordered r.within)
 
-pub in_order_more_entries : {entries more : List (ℕ × ℕ)} {ss : List Stretch} {ps : List ℕ} {peak : ℕ} → more ≡ entries ++ drop (length entries) more → AreInOrder entries ss ps peak → AreInOrder more ss ps peak
-in_order_more_entries {entries} {more} {ss} {ps} {peak} e h =
+pub in_order_more_entries : {entries more : List (ℕ × ℕ)} {ss : List Stretch} {ps : List ℕ} → more ≡ entries ++ drop (length entries) more → AreInOrder entries ss ps → AreInOrder more ss ps
+in_order_more_entries {entries} {more} {ss} {ps} e h =
     let long : length entries ≤ length more = omega (arith, ap length e, length-append entries (drop (length entries) more)) in
     record {
       ranges = All-weaker (IsRange (length entries)) (IsRange (length more)) (λ s r. record { ordered = r.ordered; within = omega (arith, r.within) }) ss h.ranges;
       begun = h.begun;
       rising = h.rising;
-      most = h.most ∙ ap most_entries (sym (bounds_more_entries e h));
     }
 
 longer : (ss : List Stretch) (ps now : List ℕ) (p : ℕ) → now ≡ ps ++ p ∷ [] → All (λ s. s.from < length ps) ss → All (λ s. s.from < length now) ss
 longer ss ps now p e h = All-weaker (λ s. s.from < length ps) (λ s. s.from < length now) (λ s lt. omega (arith, ap length e, length-append ps (p ∷ []))) ss h
 
 -- one more boundary with the last one's stack
-pub bounds_repeat : {entries : List (ℕ × ℕ)} {ss : List Stretch} {ps now : List ℕ} {peak : ℕ} (p : ℕ) → now ≡ ps ++ p ∷ [] → AreInOrder entries ss ps peak →
+pub bounds_repeat : {entries : List (ℕ × ℕ)} {ss : List Stretch} {ps now : List ℕ} (p : ℕ) → now ≡ ps ++ p ∷ [] → AreInOrder entries ss ps →
     boundaries_from entries ss 0 now ≡ boundaries_from entries ss 0 ps ++ record { place = p; entries = last_entries (boundaries_from entries ss 0 ps) } ∷ []
-bounds_repeat {entries} {ss} {ps} {now} {peak} p e h =
+bounds_repeat {entries} {ss} {ps} {now} p e h =
     let same : entries_of entries (stretch_at ss (length ps)) ≡ last_entries (boundaries_from entries ss 0 ps) =
     ap (entries_of entries) (after_last ss (length ps) (length ps) h.begun (omega arith)) ∙ sym (last_entries-is entries ss ps h.begun) in
     ap (boundaries_from entries ss 0) e ∙ bounds_push entries ss 0 ps p (length ps) (omega arith) ∙ ap (λ r. boundaries_from entries ss 0 ps ++ record { place = p; entries = r } ∷ []) same
 
-pub in_order_repeat : {entries : List (ℕ × ℕ)} {ss : List Stretch} {ps now : List ℕ} {peak : ℕ} (p : ℕ) → now ≡ ps ++ p ∷ [] → AreInOrder entries ss ps peak → AreInOrder entries ss now peak
-in_order_repeat {entries} {ss} {ps} {now} {peak} p e h =
-    let old = boundaries_from entries ss 0 ps in
-    let known = most_entries-at old (length old - 1) in
-    let grown = most_entries-last old (record { place = p; entries = last_entries old }) in
+pub in_order_repeat : {entries : List (ℕ × ℕ)} {ss : List Stretch} {ps now : List ℕ} (p : ℕ) → now ≡ ps ++ p ∷ [] → AreInOrder entries ss ps → AreInOrder entries ss now
+in_order_repeat {entries} {ss} {ps} {now} p e h =
     record {
       ranges = h.ranges;
       begun = longer ss ps now p e h.begun;
       rising = h.rising;
-      most = omega (arith, h.most, known, grown, ap most_entries (bounds_repeat p e h));
     }
 
 -- one more boundary with a stretch of its own
-pub bounds_enter : {entries : List (ℕ × ℕ)} {ss now : List Stretch} {ps places : List ℕ} {peak : ℕ} (s : Stretch) (p : ℕ) → now ≡ ss ++ s ∷ [] → places ≡ ps ++ p ∷ [] → s.from ≡ length ps → AreInOrder entries ss ps peak →
+pub bounds_enter : {entries : List (ℕ × ℕ)} {ss now : List Stretch} {ps places : List ℕ} (s : Stretch) (p : ℕ) → now ≡ ss ++ s ∷ [] → places ≡ ps ++ p ∷ [] → s.from ≡ length ps → AreInOrder entries ss ps →
     boundaries_from entries now 0 places ≡ boundaries_from entries ss 0 ps ++ record { place = p; entries = entries_of entries s } ∷ []
-bounds_enter {entries} {ss} {now} {ps} {places} {peak} s p e e' from h =
+bounds_enter {entries} {ss} {now} {ps} {places} s p e e' from h =
     ap₂ (λ ss ps. boundaries_from entries ss 0 ps) e e' ∙ bounds_push entries (ss ++ s ∷ []) 0 ps p (length ps) (omega arith)
     ∙ ap₂ (λ ms t. ms ++ record { place = p; entries = entries_of entries t } ∷ [])
     (bounds_agree entries entries ss (ss ++ s ∷ []) 0 ps (λ i lt. ap (entries_of entries) (stretch_at-before ss s i (omega arith))))
     (stretch_at-last ss s (length ps) (omega arith))
 
-pub in_order_enter : {entries : List (ℕ × ℕ)} {ss now : List Stretch} {ps places : List ℕ} {peak top : ℕ} (s : Stretch) (p : ℕ) → now ≡ ss ++ s ∷ [] → places ≡ ps ++ p ∷ [] →
-    s.from ≡ length ps → IsRange (length entries) s → top ≡ max peak (length (entries_of entries s)) → AreInOrder entries ss ps peak → AreInOrder entries now places top
-in_order_enter {entries} {ss} {now} {ps} {places} {peak} {top} s p e e' from range is h =
-    let old = boundaries_from entries ss 0 ps in
-    let m : Boundary = record { place = p; entries = entries_of entries s } in
+pub in_order_enter : {entries : List (ℕ × ℕ)} {ss now : List Stretch} {ps places : List ℕ} (s : Stretch) (p : ℕ) → now ≡ ss ++ s ∷ [] → places ≡ ps ++ p ∷ [] →
+    s.from ≡ length ps → IsRange (length entries) s → AreInOrder entries ss ps → AreInOrder entries now places
+in_order_enter {entries} {ss} {now} {ps} {places} s p e e' from range h =
     let here : s.from < length places = omega (arith, ap length e', length-append ps (p ∷ [])) in
     record {
       ranges = subst (All (IsRange (length entries))) (sym e) (All-push (IsRange (length entries)) ss s h.ranges range);
       begun = subst (All (λ t. t.from < length places)) (sym e) (All-push (λ t. t.from < length places) ss s (longer ss ps places p e' h.begun) here);
       rising = subst AreRising (sym e) (all_pairs_push (λ s t. s.from < t.from) ss s h.rising (λ k d lt. omega (arith, h.begun k d lt)));
-      most = is ∙ ap (λ n. max n (length m.entries)) h.most ∙ sym (most_entries-last old m) ∙ ap most_entries (sym (bounds_enter s p e e' from h));
     }
+
+-- ---- the greatest number of entries
+
+most_entries-at : (ms : List Boundary) (i : ℕ) → length (boundary_at ms i).entries ≤ most_entries ms
+most_entries-at [] i = omega arith
+most_entries-at (m ∷ ms) zero = omega arith
+most_entries-at (m ∷ ms) (suc i) = omega (arith, most_entries-at ms i)
+
+most_entries-below : (entries : List (ℕ × ℕ)) (ss : List Stretch) (k : ℕ) (ps : List ℕ) (n : ℕ) → ((i : ℕ) → length (entries_of entries (stretch_at ss i)) ≤ n) → most_entries (boundaries_from entries ss k ps) ≤ n
+most_entries-below entries ss k [] n h = omega arith
+most_entries-below entries ss k (p ∷ ps) n h = omega (arith, h k, most_entries-below entries ss (k + 1) ps n h)
+
+-- each boundary has a stretch's stack or none, and each stretch is that of the boundary with which it begins
+pub longest_is : {entries : List (ℕ × ℕ)} {ss : List Stretch} {ps : List ℕ} → AreInOrder entries ss ps → longest ss ≡ most_entries (boundaries_from entries ss 0 ps)
+longest_is {entries} {ss} {ps} h =
+    let ms = boundaries_from entries ss 0 ps in
+    let below : most_entries ms ≤ longest ss =
+    most_entries-below entries ss 0 ps (longest ss) (λ i. let s = stretch_at ss i in
+    let r : IsRange (length entries) s = begun_by-All (IsRange (length entries)) no_stretch ss i (no_range entries) h.ranges in
+    let le : s.end - s.first ≤ longest ss = begun_by-All (λ s. s.end - s.first ≤ longest ss) no_stretch ss i (omega arith) (longest-above ss) in
+    omega (arith, length_of_range entries s.first s.end r.within)) in
+    let above : longest ss ≤ most_entries ms =
+    longest-below ss (most_entries ms) (λ j d lt. let s = get_or ss j d in
+    let is = boundary_at-bounds entries ss ps s.from (h.begun j d lt) in
+    let at = stretch_at-from ss j d h.rising lt in
+    let long = length_of_range entries s.first s.end (h.ranges j d lt).within in
+    omega (arith, most_entries-at ms s.from, ap (λ (m : Boundary). length m.entries) is, ap (λ s. length (entries_of entries s)) at)) in
+    omega arith

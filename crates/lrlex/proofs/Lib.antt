@@ -1,4 +1,5 @@
 pub mod ArenaLemmas
+pub mod SliceLemmas
 pub mod BegunLemmas
 pub mod BestLemmas
 pub mod CountLemmas

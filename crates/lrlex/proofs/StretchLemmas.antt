@@ -1,11 +1,11 @@
 -- Which stretch a boundary is in.
-use Rattle.std.proofs.Common.{◌≡◌, ℕ, zero, suc, ◌+◌, ◌-◌, ◌<◌, ◌≤◌, ◌≢◌, Bool, true, false, cond, leb, List, [], ◌∷◌, ◌++◌, All, Some, slice_get, length, take, drop, get_or, refl, sym, ap, ◌∙◌, arith, inl, inr, ◌⊎◌, take-append-drop, length-drop}
+use Rattle.std.proofs.Common.{◌≡◌, ℕ, zero, suc, ◌+◌, ◌-◌, ◌<◌, ◌≤◌, ◌≢◌, max, Bool, true, false, cond, leb, List, [], ◌∷◌, ◌++◌, All, Some, slice_get, length, take, drop, get_or, refl, sym, ap, ◌∙◌, arith, inl, inr, ◌⊎◌, take-append-drop, length-drop, length-take, length-take-le}
 use Rattle.std.proofs.lemmas.Bool.{cases_lt, le-leb, lt-leb}
-use Rattle.std.proofs.lemmas.List.{get_or-drop, get_or_default}
-use Rattle.std.proofs.lemmas.List.Elements.{All-head, All-tail, All-more, All-weaker}
+use Rattle.std.proofs.lemmas.List.{get_or-take, get_or-drop, get_or_default}
+use Rattle.std.proofs.lemmas.List.Elements.{All-nil, All-cons, All-head, All-tail, All-more, All-weaker}
 use Rattle.std.specs.List.Sorted.{IsPartitionedBy}
 use Rattle.std.proofs.lemmas.List.Sorted.{IsPartitionedBy-leb}
-use Rattle.lrlex.specs.Ranges.{AreBegun, AreRising, no_stretch, last_stretch, begun_by, stretch_at}
+use Rattle.lrlex.specs.Ranges.{AreBegun, AreRising, no_stretch, last_stretch, begun_by, longest, stretch_at}
 use Rattle.lrlex.specs.declared.lexer.stretch.Stretch.{Stretch}
 
 pub last_stretch-some : (b s : Stretch) (ss : List Stretch) → slice_get ss (length ss - 1) ≡ Some s → last_stretch b ss ≡ s
@@ -103,3 +103,55 @@ begun_same {ss} {n} {k} {next} rising h none e = record {
       let above = not_before ss n (n + j) d rising (omega arith) (omega arith) (cases_lt n (n + j)) in
       omega (arith, ap (λ s. s.from) at, ap (λ s. s.from) first, none d (omega arith));
 }
+
+-- a stretch is that of the boundary with which it begins
+pub stretch_at-from : (ss : List Stretch) (j : ℕ) (d : Stretch) → AreRising ss → j < length ss → stretch_at ss (get_or ss j d).from ≡ get_or ss j d
+stretch_at-from ss j d rising lt =
+    let begun : AreBegun ss (j + 1) (get_or ss j d).from = record {
+      within = omega arith;
+      begun = λ i d' le.
+          let at = get_or-take (j + 1) ss i d' (omega (arith, length-take-le (j + 1) ss (omega arith))) in
+          let same = get_or_default ss j d d' lt in
+          let before = not_before ss i j d' rising (omega (arith, length-take-le (j + 1) ss (omega arith))) lt (cases_lt i j) in
+          omega (arith, ap (λ s. s.from) at, ap (λ s. s.from) same);
+      later = λ i d' le.
+          let at = get_or-drop (j + 1) ss i d' in
+          let same = get_or_default ss j d d' lt in
+          let above = rising j (j + 1 + i) d' (omega arith) (omega (arith, length-drop (j + 1) ss)) in
+          omega (arith, ap (λ s. s.from) at, ap (λ s. s.from) same);
+    } in
+    stretch_at-begun begun ∙ last_of_front no_stretch ss j d lt
+
+-- ---- the greatest number of entries
+
+pub longest-above : (ss : List Stretch) → All (λ s. s.end - s.first ≤ longest ss) ss
+longest-above [] = All-nil (λ s. s.end - s.first ≤ 0)
+longest-above (s ∷ ss) =
+    let n = max (s.end - s.first) (longest ss) in
+    All-cons (λ t. t.end - t.first ≤ n) s ss (omega arith)
+    (All-weaker (λ t. t.end - t.first ≤ longest ss) (λ t. t.end - t.first ≤ n) (λ t le. omega arith) ss (longest-above ss))
+
+pub longest-below : (ss : List Stretch) (n : ℕ) → All (λ s. s.end - s.first ≤ n) ss → longest ss ≤ n
+longest-below [] n h = omega arith
+longest-below (s ∷ ss) n h =
+    omega (arith, All-head (λ s. s.end - s.first ≤ n) s ss h, longest-below ss n (All-tail (λ s. s.end - s.first ≤ n) s ss h))
+
+pub longest-last : (ss : List Stretch) (s : Stretch) → longest (ss ++ s ∷ []) ≡ max (longest ss) (s.end - s.first)
+longest-last [] s = omega arith
+longest-last (x ∷ ss) s = omega (arith, longest-last ss s)
+
+-- ---- parts of what rises
+
+pub rising-take : (ss : List Stretch) (n : ℕ) → AreRising ss → AreRising (take n ss)
+rising-take ss n h i j d lt within =
+    let long = length-take n ss in
+    let a = get_or-take n ss i d (omega arith) in
+    let b = get_or-take n ss j d (omega arith) in
+    omega (arith, ap (λ s. s.from) a, ap (λ s. s.from) b, h i j d lt (omega arith))
+
+pub rising-drop : (ss : List Stretch) (n : ℕ) → AreRising ss → AreRising (drop n ss)
+rising-drop ss n h i j d lt within =
+    let long = length-drop n ss in
+    let a = get_or-drop n ss i d in
+    let b = get_or-drop n ss j d in
+    omega (arith, ap (λ s. s.from) a, ap (λ s. s.from) b, h (n + i) (n + j) d (omega arith) (omega arith))

@@ -8,4 +8,4 @@ abbrev pub boundaries_of : Inside → List Boundary
 boundaries_of a = boundaries_from a.entries.items a.stretches.items 0 a.places.items
 
 abbrev pub AreKept : Inside → Type 0
-AreKept a = AreInOrder a.entries.items a.stretches.items a.places.items a.peak
+AreKept a = AreInOrder a.entries.items a.stretches.items a.places.items

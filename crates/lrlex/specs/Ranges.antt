@@ -1,7 +1,7 @@
 -- Boundaries whose stacks are ranges of one list of entries.
-use Rattle.std.specs.Prelude.{◌≡◌, ℕ, ◌+◌, ◌<◌, ◌≤◌, List, All, [], ◌∷◌, nat_le, if◌then◌else◌, length, take, drop, slice_range}
+use Rattle.std.specs.Prelude.{ℕ, ◌+◌, ◌-◌, ◌*◌, ◌^◌, ◌<◌, ◌≤◌, max, Bool, List, All, [], ◌∷◌, nat_eq, nat_le, nat_lt, if◌then◌else◌, length, take, drop, slice_range}
 use Rattle.std.specs.List.{AllPairs}
-use Rattle.lrlex.specs.Boundaries.{Boundary, most_entries}
+use Rattle.lrlex.specs.Boundaries.{Boundary}
 use Rattle.lrlex.specs.declared.lexer.stretch.Stretch.{Stretch}
 
 -- what stands before the first stretch
@@ -35,6 +35,37 @@ pub record IsRange (len : ℕ) (s : Stretch) : Type 0 where
   pub ordered : s.first ≤ s.end
   pub within : s.end ≤ len
 
+-- the greatest number of entries of a stretch
+abbrev pub longest : List Stretch → ℕ
+longest [] = 0
+longest (s ∷ ss) = max (s.end - s.first) (longest ss)
+
+-- how many entries the stretch has beyond those of the one before, where both begin with the same
+abbrev pub own_entries : Stretch → Stretch → ℕ
+own_entries before s = if nat_eq s.first before.first then s.end - before.end else s.end - s.first
+
+-- how many entries the stretches have among them
+abbrev pub entries_among : Stretch → List Stretch → ℕ
+entries_among before [] = 0
+entries_among before (s ∷ ss) = own_entries before s + entries_among s ss
+
+-- whether more than half of the entries, and more than some, are beyond those that the stretches have among them
+abbrev pub are_loose : List (ℕ × ℕ) → List Stretch → Bool
+are_loose entries ss = nat_lt (2 * entries_among no_stretch ss + 64) (length entries)
+
+-- the place once what stood at p stands at q
+abbrev pub moved_place : ℕ → ℕ → ℕ → ℕ
+moved_place p q place = (place + q) - p
+
+-- the place fits the numbers once it is moved
+pub record IsMovablePlace (p q place : ℕ) : Type 0 where
+  pub from : p ≤ place
+  pub fits : place + q < p + 2 ^ 64
+
+-- the stretch once the boundary at i is the one at j
+abbrev pub moved_stretch : ℕ → ℕ → Stretch → Stretch
+moved_stretch i j s = record { from = moved_place i j s.from; first = s.first; end = s.end }
+
 -- each stretch begins behind the one before
 abbrev pub AreRising : List Stretch → Type 0
 AreRising ss = AllPairs (λ s t. s.from < t.from) ss
@@ -46,8 +77,7 @@ pub record AreBegun (ss : List Stretch) (n k : ℕ) : Type 0 where
   pub later : All (λ s. k < s.from) (drop n ss)
 
 -- the fields of the program's boundaries, once they are lists
-pub record AreInOrder (entries : List (ℕ × ℕ)) (ss : List Stretch) (ps : List ℕ) (peak : ℕ) : Type 0 where
+pub record AreInOrder (entries : List (ℕ × ℕ)) (ss : List Stretch) (ps : List ℕ) : Type 0 where
   pub ranges : All (IsRange (length entries)) ss
   pub begun : All (λ s. s.from < length ps) ss
   pub rising : AreRising ss
-  pub most : peak ≡ most_entries (boundaries_from entries ss 0 ps)

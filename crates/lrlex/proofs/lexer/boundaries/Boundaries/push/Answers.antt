@@ -1,4 +1,4 @@
-use Rattle.std.proofs.Common.{[], ◌∷◌, ◌++◌, max, length, ap, ap₂, sym, arith, ◌∙◌}
+use Rattle.std.proofs.Common.{[], ◌∷◌, ◌++◌, ap₂, arith, ◌∙◌}
 use Rattle.lrlex.specs.declared.lexer.stretch.Stretch.{Stretch}
 use Rattle.lrlex.proofs.ArenaLemmas.{last_range, stays_whole, stays_within, stays_same, in_order_more_entries, in_order_repeat, in_order_enter, bounds_more_entries, bounds_enter}
 use Rattle.lrlex.proofs.lexer.boundaries.Boundaries.push.Goals as goal
@@ -33,9 +33,8 @@ invariant_of-self-in_err-push-2 c =
 pub invariant_of-self-2 : goal.invariant_of-self-2
 invariant_of-self-2 c =
     let s : Stretch = record { from = c.len-from.result; first = c.in_ok-first.first; end = c.in_ok-first.end } in
-    let top = c.max-self-inside.ensures ∙ ap (λ stack. max c.self.inside.peak (length stack)) (sym c.in_ok-first.ensures.stack) in
     in_order_enter s c.args.place c.in_ok-push-2.ensures.items c.in_ok-push.ensures.items (omega arith)
-    (record { ordered = c.in_ok-first.ensures.ordered; within = c.in_ok-first.ensures.within }) top
+    (record { ordered = c.in_ok-first.ensures.ordered; within = c.in_ok-first.ensures.within })
     (in_order_more_entries c.stored.ensures.longer c.self.invariant)
 
 pub returns : goal.returns

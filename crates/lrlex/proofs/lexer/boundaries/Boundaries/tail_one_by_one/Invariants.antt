@@ -2,7 +2,7 @@ use Rattle.std.proofs.Common.{◌≡◌, ◌+◌, ◌-◌, ◌≤◌, ◌++◌, 
 use Rattle.lrlex.specs.Boundaries.{boundary_at, last_entries}
 use Rattle.lrlex.specs.Moves.{moved_boundary}
 use Rattle.lrlex.specs.Ranges.{AreBegun}
-use Rattle.lrlex.proofs.lexer.boundaries.Boundaries.append_moved.Given as goal
+use Rattle.lrlex.proofs.lexer.boundaries.Boundaries.tail_one_by_one.Given as goal
 
 abbrev pub invariant-tail : goal.invariant-tail
 invariant-tail l = record {
