@@ -249,6 +249,16 @@ fn ten_thousand_names(rt: HostRuntime) {
 }
 
 #[test]
+fn twenty_thousand_states_with_a_rule_each(rt: HostRuntime) {
+    let mut rules = owned(&rt, rt.alloc(), "%s");
+    push_names(&rt, &mut rules, " ", 20_000, "");
+    push(&rt, &mut rules, "\n%%\n");
+    push_names(&rt, &mut rules, "<", 20_000, ">x ;\n");
+    let shapes = state_shapes(&rt, rt.alloc(), rules.as_str());
+    equal(&rt, &[shapes.len()], &[20_001], "states", "");
+}
+
+#[test]
 fn a_hundred_thousand_states_on_a_line(rt: HostRuntime) {
     let mut rules = owned(&rt, rt.alloc(), "%s");
     push_names(&rt, &mut rules, " ", 100_000, "");
