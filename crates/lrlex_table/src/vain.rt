@@ -8,7 +8,7 @@ ghost use Rattle.lrlex_table.specs.Vain.{table_at, IsVain, IsVainPast, IsDeadEnd
 
 use crate::table::{MARK, Table, row_of};
 use crate::tables::{Part, Tables, together};
-use crate::walk::{Sight, Walk, cell_at};
+use crate::walk::{FAR, Sight, Walk, cell_at};
 use std::alloc::Global;
 use std::collections::HashMap;
 
@@ -291,7 +291,8 @@ impl<'d, 't> DeadEnds<'d, 't> {
             return self.look_at_each(tables, list, place, rest);
         }
         let sight = tables.look(rest);
-        if sight.is_far() {
+        // mostly decided by the reach alone
+        if sight.reach > FAR && sight.is_far() {
             self.look_again(tables, list, place, rest);
         }
         sight
