@@ -1,7 +1,11 @@
 //! Lexing again after an edit: items, searches and boundaries, against worked answers.
-use crate::runs::{Change, Made, Part, Told, edit_of, lexed, relexed_once};
+use crate::runs::{
+    Change, Definition, Made, Part, Told, defined, edit_of, lex, lexed, relexed_once,
+};
 use crate::shown::{equal, same};
 use lrlex::StartStateOperation;
+use lrlex_base::Edit;
+use std::alloc::Global;
 use std::process::Abort;
 
 const WORDS: &str = "%%\n[a-z]+ 'ID'\n[ ] ;";
@@ -280,5 +284,50 @@ fn how_far_the_tiles_of_a_run_looked(rt: HostRuntime) {
         let told = lexed(&rt, rt.alloc(), made, text);
         equal(&rt, &told.counts[4..], &[wanted], rules, text);
         same(&rt, told.ahead.as_str(), ahead, rules, text);
+    }
+}
+
+/// What each of so many edits leaves: in turn the first makes the new text of the old one, and the second the old one again.
+fn in_turn(
+    rt: &impl Abort,
+    alloc: Global,
+    definition: &Definition,
+    edits: [(Edit<'_>, &str); 2],
+    times: usize,
+) -> Vec<Told> {
+    let [(_, new), (_, old)] = edits;
+    let mut steps = Vec::new(alloc);
+    for _ in 0..times {
+        steps.push(edits[0]).expect(rt, "memory");
+        steps.push(edits[1]).expect(rt, "memory");
+    }
+    let mut told = Vec::new(alloc);
+    lex(rt, alloc, definition, old, steps.as_slice(), &mut told);
+    // both anew, behind the others
+    lex(rt, alloc, definition, new, &[], &mut told);
+    lex(rt, alloc, definition, old, &[], &mut told);
+    told
+}
+
+/// Brackets inside others: one more in front of them moves each stack behind it, so each edit leaves entries behind that no
+/// boundary needs any more.
+#[test]
+fn a_long_chain_of_edits_that_move_all_stacks(rt: HostRuntime) {
+    let definition = defined(&rt, rt.alloc(), Made::Read(NESTED));
+    let (old, new) = ("a((((((((((x))))))))))b", "a(((((((((((x))))))))))b");
+    let edits = [(edit_of((1, 1, "(")), new), (edit_of((1, 2, "")), old)];
+    let told = in_turn(&rt, rt.alloc(), &definition, edits, 100);
+    let anew = &told[told.len().saturating_sub(2)..];
+    for (step, now) in told.iter().enumerate() {
+        let want = anew.get((step + 1) % 2).expect(&rt, "a run");
+        same(&rt, now.items.as_str(), want.items.as_str(), old, "items");
+        same(
+            &rt,
+            now.boundaries.as_str(),
+            want.boundaries.as_str(),
+            old,
+            "boundaries",
+        );
+        equal(&rt, &now.counts[..4], &want.counts[..4], old, "counts");
     }
 }
