@@ -55,10 +55,13 @@ impl<'e> Edit<'e> {
         ensures { IfOk result (λ s.
             string_bytes s ≡ edited old.now (as_span self.now.removed) self.now.put.now) }
     {
-        let mut new = String::new(alloc);
-        new.push_str(&old[..self.removed.start()])?;
+        let front = &old[..self.removed.start()];
+        let tail = &old[self.removed.end()..];
+        let kept = front.len() + tail.len();
+        let mut new = String::with_capacity(alloc, kept.saturating_add(self.put.len()))?;
+        new.push_str(front)?;
         new.push_str(self.put)?;
-        new.push_str(&old[self.removed.end()..])?;
+        new.push_str(tail)?;
         Ok(new)
     }
 }
