@@ -5,7 +5,6 @@ use std::alloc::{Allocator, Global};
 use std::fs::{Metadata, OpenFile, OpenOptions};
 use std::io;
 use std::io::{ErrorKind, Seek, SeekFrom, Write};
-use std::process::Abort;
 use std::rt::Files;
 
 const RULES: &str = "%%\n[a-z❤]+ 'ID'\n[ ] ;";
@@ -143,6 +142,8 @@ const LEXED: Row<'static> = Row {
     status: 0,
 };
 
+use std::process::Abort;
+
 /// Whether the program does over these files what the row says, and reads nothing from standard input.
 fn does_with(files: &TestFiles<'_>, row: &Row<'_>) -> bool {
     let stdin = TestReader::new(&[], 1, 1, ErrorKind::Other);
@@ -150,8 +151,8 @@ fn does_with(files: &TestFiles<'_>, row: &Row<'_>) -> bool {
 }
 
 /// Holds the program to what it tells of a file that fails, and to lexing where none does.
-fn expects<R: AllocGlobal + Abort>(
-    rt: &R,
+fn expects(
+    rt: &(impl AllocGlobal + Abort),
     failing: &str,
     len: usize,
     told: &'static str,

@@ -43,7 +43,7 @@ pub(crate) fn does<R: Files + AllocGlobal>(
 }
 
 /// Holds the program to the row over each standard input. `ends` is how often it asks for more at the end.
-fn expects<R: Files + AllocGlobal + Abort>(rt: &R, row: Row<'_>, ends: u64) {
+fn expects(rt: &(impl Files + AllocGlobal + Abort), row: Row<'_>, ends: u64) {
     let bytes = row.stdin.as_bytes();
     for most in 1..=4usize {
         let calls = (bytes.len().div_ceil(most) as u64).saturating_add(ends);
@@ -112,7 +112,7 @@ fn standard_input_that_fails_at_each_call(rt: HostRuntime) {
 }
 
 /// Whether this standard input isn't lexed, by so many calls of `read`.
-fn is_no_text<R: Files + AllocGlobal>(rt: &R, bytes: &[u8], most: usize, calls: u64) -> bool {
+fn is_no_text(rt: &(impl Files + AllocGlobal), bytes: &[u8], most: usize, calls: u64) -> bool {
     let row = Row {
         words: &[],
         stdin: "",

@@ -66,7 +66,7 @@ fn came_of_report(alloc: Global, rules: &str, out: &mut TestWriter) -> Came {
     }
 }
 
-fn came_of<R: AllocGlobal + Abort>(rt: &R, call: Call<'_>, out: &mut TestWriter) -> Came {
+fn came_of(rt: &(impl AllocGlobal + Abort), call: Call<'_>, out: &mut TestWriter) -> Came {
     match call {
         Call::Run(rules, input) => came_of_run(&ran(rt, rules, input, out)),
         Call::Edited(old, edit, new) => came_of_run(&ran_edited(rt, WORDS, old, edit, new, out)),
@@ -87,8 +87,8 @@ fn troubles(at: u64) -> [(Trouble, ErrorKind); 3] {
 }
 
 /// Whether the call comes to this, and leaves its writer with these bytes after so many calls of `write`.
-fn leaves<R: AllocGlobal + Abort>(
-    rt: &R,
+fn leaves(
+    rt: &(impl AllocGlobal + Abort),
     call: Call<'_>,
     mut out: TestWriter,
     want: (Came, &[u8], u64),
@@ -98,7 +98,7 @@ fn leaves<R: AllocGlobal + Abort>(
 }
 
 /// Holds the call to its whole output, and to what it comes to, over each writer.
-fn expects<R: AllocGlobal + Abort>(rt: &R, call: Call<'_>, whole: &str, came: Came) {
+fn expects(rt: &(impl AllocGlobal + Abort), call: Call<'_>, whole: &str, came: Came) {
     let whole = whole.as_bytes();
     for most in 1..=4usize {
         let calls = whole.len().div_ceil(most);
