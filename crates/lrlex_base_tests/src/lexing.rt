@@ -6,10 +6,10 @@ use lrlex_base::{
     DefaultLexeme, DefaultLexerTypes, Items, LexError, Lexeme, Lexer, NewlineCache,
     NonStreamingLexer, Span,
 };
-use std::alloc::{AllocError, Global};
+use std::alloc::Global;
 use std::error::Error;
 use std::fmt;
-use std::test::Fail;
+use std::process::Abort;
 
 // An error at a place.
 #[derive(Clone, Copy, Debug)]
@@ -78,88 +78,97 @@ impl<'input> NonStreamingLexer<'input, Types> for Found<'input> {
     }
 }
 
-#[test]
-fn words_have_texts_lines_and_columns(rt: HostRuntime) -> Result<(), Fail> {
-    let text = " a\n❤ b";
-    let mut items: Vec<Result<DefaultLexeme<u32>, Stop>> = Vec::new(rt.alloc());
-    items.push(Ok(DefaultLexeme::new(0, 1, 1)))?;
-    items.push(Ok(DefaultLexeme::new(0, 3, 3)))?;
-    items.push(Ok(DefaultLexeme::new(0, 7, 1)))?;
-    let newlines = NewlineCache::from_str(rt.alloc(), text)?;
-    let lexer = Found {
-        text,
-        newlines,
-        items,
-    };
-    let rows = [
-        ("a", ((1, 2), (1, 3)), " a"),
-        ("❤", ((2, 1), (2, 2)), "❤ b"),
-        ("b", ((2, 3), (2, 4)), "❤ b"),
-    ];
-    let mut found = lexer.iter();
-    for (word, places, lines) in rows {
-        let lexeme = found.next().ok_or("too few")?.ok().ok_or("an error")?;
-        let span = lexeme.span();
-        assert!(rt; span.fits(text));
-        assert_eq!(rt; lexer.span_str(span), word);
-        assert_eq!(rt; lexer.line_col(span), places, "of {word}");
-        assert_eq!(rt; lexer.span_lines_str(span), lines, "of {word}");
+/// A lexer of this text with these items.
+fn lexer_of<'t>(
+    rt: &impl Abort,
+    alloc: Global,
+    text: &'t str,
+    items: &[(usize, usize)],
+) -> Found<'t> {
+    let mut made: Vec<Result<DefaultLexeme<u32>, Stop>> = Vec::new(alloc);
+    for (start, len) in items {
+        let lexeme = DefaultLexeme::new(0, (*start).min(9), (*len).min(9));
+        made.push(Ok(lexeme)).expect(rt, "memory");
     }
-    assert!(rt; found.next().is_none());
-    Ok(())
+    Found {
+        text,
+        newlines: NewlineCache::from_str(alloc, text).expect(rt, "memory"),
+        items: made,
+    }
+}
+
+/// A word, its place and that of its end, and its line.
+type Word = (&'static str, ((usize, usize), (usize, usize)), &'static str);
+
+const WORDS: &[Word] = &[
+    ("a", ((1, 2), (1, 3)), " a"),
+    ("❤", ((2, 1), (2, 2)), "❤ b"),
+    ("b", ((2, 3), (2, 4)), "❤ b"),
+];
+
+/// Whether the span is that of the word, with its place and its line.
+fn is_word(lexer: &Found<'_>, span: Span, word: &Word) -> bool {
+    let (text, places, lines) = *word;
+    span.fits(lexer.text)
+        && lexer.span_str(span) == text
+        && lexer.line_col(span) == places
+        && lexer.span_lines_str(span) == lines
 }
 
 #[test]
-fn whole_lines_of_the_triangle(rt: HostRuntime) -> Result<(), Fail> {
-    let text = triangle(rt.alloc())?;
-    let text = text.as_str();
-    let newlines = NewlineCache::from_str(rt.alloc(), text)?;
-    let lexer = Found {
-        text,
-        newlines,
-        items: Vec::new(rt.alloc()),
-    };
-    let rows = [
-        (0, 0, ""),
-        (0, 2, "\na"),
-        (0, 4, "\na\na a"),
-        (0, 7, "\na\na a\na a a"),
-        (4, 7, "a a\na a a"),
-    ];
-    for (start, end, lines) in rows {
-        assert!(rt; start <= end && Span::new(start, end).fits(text));
-        assert_eq!(rt;
-            lexer.span_lines_str(Span::new(start, end)),
-            lines,
-            "of {start}..{end}"
-        );
+fn words_have_texts_lines_and_columns(rt: HostRuntime) {
+    let lexer = lexer_of(&rt, rt.alloc(), " a\n❤ b", &[(1, 1), (3, 3), (7, 1)]);
+    let mut words = WORDS.iter();
+    for item in lexer.iter() {
+        match (item, words.next()) {
+            (Ok(lexeme), Some(word)) => assert!(rt; is_word(&lexer, lexeme.span(), word)),
+            _ => panic!(rt; "an error, or too many"),
+        }
+    }
+    assert!(rt; words.next().is_none());
+}
+
+/// Whether the whole lines from one byte to another are these.
+fn has_lines(lexer: &Found<'_>, start: usize, end: usize, lines: &str) -> bool {
+    if start > end {
+        return false;
+    }
+    let span = Span::new(start, end);
+    span.fits(lexer.text) && lexer.span_lines_str(span) == lines
+}
+
+/// The two ends of a span of the triangle, and its whole lines.
+const LINES: &[(usize, usize, &str)] = &[
+    (0, 0, ""),
+    (0, 2, "\na"),
+    (0, 4, "\na\na a"),
+    (0, 7, "\na\na a\na a a"),
+    (4, 7, "a a\na a a"),
+];
+
+#[test]
+fn whole_lines_of_the_triangle(rt: HostRuntime) {
+    let text = triangle(rt.alloc()).expect(&rt, "memory");
+    let lexer = lexer_of(&rt, rt.alloc(), text.as_str(), &[]);
+    for (start, end, lines) in LINES {
+        assert!(rt; has_lines(&lexer, *start, *end, lines), "{start}..{end}");
     }
     let mut at = 1usize;
     for i in 1..71usize {
-        let line = triangle_line(rt.alloc(), i)?;
-        assert!(rt; at < 10_000 && Span::new(at, at + 1).fits(text));
-        assert_eq!(rt;
-            lexer.span_lines_str(Span::new(at, at + 1)),
-            line.as_str(),
-            "line {i}"
-        );
-        at += 2 * i;
+        let line = triangle_line(rt.alloc(), i).expect(&rt, "memory");
+        let same = has_lines(&lexer, at, at.saturating_add(1), line.as_str());
+        assert!(rt; same, "line {i}");
+        at = at.saturating_add(2 * i);
     }
-    Ok(())
 }
 
 #[test]
-fn a_text_outlives_its_lexer(rt: HostRuntime) -> Result<(), Fail> {
+fn a_text_outlives_its_lexer(rt: HostRuntime) {
     let text = "ab";
-    let newlines = NewlineCache::from_str(rt.alloc(), text)?;
-    let lexer = Found {
-        text,
-        newlines,
-        items: Vec::new(rt.alloc()),
-    };
-    assert!(rt; Span::new(1, 2).fits(text));
-    let part = lexer.span_str(Span::new(1, 2));
+    let lexer = lexer_of(&rt, rt.alloc(), text, &[]);
+    let span = Span::new(1, 2);
+    assert!(rt; span.fits(lexer.text));
+    let part = lexer.span_str(span);
     drop(lexer);
-    assert_eq!(rt; part, "b");
-    Ok(())
+    assert!(rt; part == "b");
 }

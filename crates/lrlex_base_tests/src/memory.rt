@@ -1,155 +1,201 @@
-//! Want of memory: in heaps of rising sizes, each of which refuses a later request than the ones before.
+//! Out of memory: in heaps of rising sizes, each of which refuses a later request than the ones before. What a program sees of
+//! the calls over the usual heap, `lrlex_refusals` shows.
+use crate::tokens::{renamed, tokens_of};
 use linked_list_allocator::LocalHeap;
 use lrlex_base::{CTTokenMapBuilder, Edit, NewlineCache, Span, ct_token_map};
 use std::collections::HashMap;
-use std::test::Fail;
 
 #[test]
-fn a_piece_without_a_newline_takes_no_memory(rt: HostRuntime) -> Result<(), Fail> {
-    let none = LocalHeap::new(rt.alloc(), 1)?;
+fn a_piece_without_a_newline_takes_no_memory(rt: HostRuntime) {
+    let none = LocalHeap::new(rt.alloc(), 1).expect(&rt, "memory");
     let mut cache = NewlineCache::new(&none);
-    assert!(rt; cache.feed("abc").is_ok());
-    assert_eq!(rt; cache.fed(), 3);
-    assert!(rt; NewlineCache::from_str(&none, "abc").is_ok());
-    assert!(rt; NewlineCache::from_str(&none, "a\n").is_err());
-    Ok(())
+    let fed = cache.feed("abc").is_ok() && cache.fed() == 3;
+    let made = NewlineCache::from_str(&none, "abc").is_ok();
+    let refused = NewlineCache::from_str(&none, "a\n").is_err();
+    assert!(rt; fed && made && refused);
+}
+
+/// Whether a piece is refused, where the cache of what was fed is what it was, and takes a piece without a newline even now.
+/// None where the cache has changed.
+fn is_refused(cache: &mut NewlineCache<&LocalHeap>) -> Option<bool> {
+    let before = cache.fed();
+    if before >= 10_000 {
+        return None;
+    }
+    let last = cache.span_line_bytes(Span::new(before, before));
+    if cache.feed("a\nb\nc\n\n\nd").is_ok() {
+        return Some(false);
+    }
+    if cache.fed() != before || cache.span_line_bytes(Span::new(before, before)) != last {
+        return None;
+    }
+    let taken = cache.feed("abc").is_ok() && cache.fed() == before + 3;
+    if taken { Some(true) } else { None }
+}
+
+/// Whether one of eight pieces is refused by the heap.
+fn refuses_a_piece(heap: &LocalHeap) -> Option<bool> {
+    let mut cache = NewlineCache::new(heap);
+    for _ in 0..8 {
+        if is_refused(&mut cache)? {
+            return Some(true);
+        }
+    }
+    Some(false)
 }
 
 #[test]
-fn a_refused_piece_changes_no_cache(rt: HostRuntime) -> Result<(), Fail> {
+fn a_refused_piece_changes_no_cache(rt: HostRuntime) {
     let (mut fed, mut made) = (0u32, 0u32);
     for size in 1..=64usize {
-        let heap = LocalHeap::new(rt.alloc(), size * 32)?;
-        let mut cache = NewlineCache::new(&heap);
-        for _ in 0..8 {
-            let before = cache.fed();
-            assert!(rt; before < 10_000);
-            let last = cache.span_line_bytes(Span::new(before, before));
-            if cache.feed("a\nb\nc\n\n\nd").is_err() {
-                fed = fed.saturating_add(1);
-                assert_eq!(rt; cache.fed(), before);
-                let end = cache.fed();
-                assert_eq!(rt; cache.span_line_bytes(Span::new(end, end)), last);
-                // A piece without a newline is taken even now.
-                assert!(rt; cache.feed("abc").is_ok());
-                assert_eq!(rt; cache.fed(), before + 3);
-                break;
-            }
+        let heap = LocalHeap::new(rt.alloc(), size * 32).expect(&rt, "memory");
+        if refuses_a_piece(&heap).expect(&rt, "the same cache") {
+            fed = fed.saturating_add(1);
         }
-        if NewlineCache::from_str(&heap, "a\nb\n").is_err() {
+        let small = LocalHeap::new(rt.alloc(), size).expect(&rt, "memory");
+        if NewlineCache::from_str(&small, "a\nb\n").is_err() {
             made = made.saturating_add(1);
         }
     }
     assert!(rt; fed > 8 && made > 0, "{fed} and {made}");
-    Ok(())
+}
+
+/// Whether the edit of this cache, which is of a text of at least four bytes, is made. None where it is refused and the cache
+/// has changed, or made and the cache has another length.
+fn is_edited(cache: &mut NewlineCache<&LocalHeap>) -> Option<bool> {
+    let before = cache.fed();
+    if before < 4 || before >= 10_000 {
+        return None;
+    }
+    let lines = cache.span_line_bytes(Span::new(4, 4));
+    if cache.edit(Span::new(1, 2), "\n\n\n\n\n\n\n\n").is_ok() {
+        return if cache.fed() == before + 7 {
+            Some(true)
+        } else {
+            None
+        };
+    }
+    let same = cache.fed() == before && cache.span_line_bytes(Span::new(4, 4)) == lines;
+    if same { Some(false) } else { None }
 }
 
 #[test]
-fn a_refused_edit_changes_no_cache(rt: HostRuntime) -> Result<(), Fail> {
+fn a_refused_edit_changes_no_cache(rt: HostRuntime) {
     let (mut edited, mut refused) = (0u32, 0u32);
     for size in 1..=64usize {
-        let heap = LocalHeap::new(rt.alloc(), size * 32)?;
+        let heap = LocalHeap::new(rt.alloc(), size * 32).expect(&rt, "memory");
         let Ok(mut cache) = NewlineCache::from_str(&heap, "a\nb\nc") else {
             continue;
         };
-        let before = cache.fed();
-        assert!(rt; 4 <= before && before < 10_000);
-        let lines = cache.span_line_bytes(Span::new(4, 4));
-        if cache.edit(Span::new(1, 2), "\n\n\n\n\n\n\n\n").is_ok() {
+        if is_edited(&mut cache).expect(&rt, "the same cache") {
             edited = edited.saturating_add(1);
-            assert_eq!(rt; cache.fed(), before + 7);
         } else {
             refused = refused.saturating_add(1);
-            assert_eq!(rt; cache.fed(), before);
-            assert_eq!(rt; cache.span_line_bytes(Span::new(4, 4)), lines);
         }
     }
     assert!(rt; edited > 8 && refused > 1, "{edited} and {refused}");
-    Ok(())
 }
 
+const OLD: &str = "0123456789012345678901234567890123456789";
+
+const NEW: &str = "0123456789abcdefghijklmnopqrstuvwxyzabcdefghijklmnopqrstuvwxyz0123456789";
+
 #[test]
-fn a_refused_edit_makes_no_text(rt: HostRuntime) -> Result<(), Fail> {
-    let old = "0123456789012345678901234567890123456789";
+fn a_refused_edit_makes_no_text(rt: HostRuntime) {
     let edit = Edit {
         removed: Span::new(10, 30),
         put: "abcdefghijklmnopqrstuvwxyzabcdefghijklmnopqrstuvwxyz",
     };
-    let want = "0123456789abcdefghijklmnopqrstuvwxyzabcdefghijklmnopqrstuvwxyz0123456789";
-    assert!(rt; edit.fits(old));
+    assert!(rt; edit.fits(OLD));
     let (mut made, mut refused) = (0u32, 0u32);
     for size in 1..=32usize {
-        let heap = LocalHeap::new(rt.alloc(), size * 16)?;
-        match edit.apply(&heap, old) {
+        let heap = LocalHeap::new(rt.alloc(), size * 16).expect(&rt, "memory");
+        match edit.apply(&heap, OLD) {
             Ok(text) => {
-                assert_eq!(rt; text.as_str(), want);
+                assert!(rt; text.as_str() == NEW);
                 made = made.saturating_add(1);
             }
             Err(_) => refused = refused.saturating_add(1),
         }
     }
     assert!(rt; made > 8 && refused > 3, "{made} and {refused}");
-    Ok(())
+}
+
+const MODULE: &str =
+    "mod x {\n    pub const T_PLUS: u8 = 0;\n    pub const T_ID: u8 = 1;\n    #[allow(dead_code)]\n    pub const TOK_IDS: &[u8] = &[0, 1];\n}\n";
+
+/// What a builder's three calls came to over a heap.
+#[derive(Clone, Copy, PartialEq, Eq)]
+enum Came {
+    NewRefused,
+    RenameRefused,
+    BuildRefused,
+    Made,
+    Wrong,
+}
+
+/// What the builder's calls come to, of which those before the one that counts have roomy heaps.
+fn came_of(
+    heaps: [&LocalHeap; 3],
+    tokens: &HashMap<String, u8>,
+    renames: &HashMap<&str, &str>,
+) -> Came {
+    let [new, rename, build] = heaps;
+    let Ok(builder) = CTTokenMapBuilder::new(new, "x", "u8", tokens) else {
+        return Came::NewRefused;
+    };
+    let Ok(builder) = builder.rename_map(rename, Some(renames)) else {
+        return Came::RenameRefused;
+    };
+    match builder.build(build) {
+        Err(_) => Came::BuildRefused,
+        Ok(Ok(text)) if text.as_str() == MODULE => Came::Made,
+        Ok(_) => Came::Wrong,
+    }
 }
 
 #[test]
-fn a_refused_module_is_no_fault(rt: HostRuntime) -> Result<(), Fail> {
-    let alloc = rt.alloc();
-    let mut tokens: HashMap<String, u8> = HashMap::new(alloc);
-    tokens.insert(String::from_str(alloc, "+")?, 0)?;
-    tokens.insert(String::from_str(alloc, "ID")?, 1)?;
-    let mut renames: HashMap<&str, &str> = HashMap::new(alloc);
-    renames.insert("+", "PLUS")?;
-    let want =
-        "mod x {\n    pub const T_PLUS: u8 = 0;\n    pub const T_ID: u8 = 1;\n    #[allow(dead_code)]\n    pub const TOK_IDS: &[u8] = &[0, 1];\n}\n";
-    let roomy = LocalHeap::new(alloc, 4096)?;
-    let (mut new, mut renamed, mut built, mut made) = (0u32, 0u32, 0u32, 0u32);
+fn a_refused_module_is_no_fault(rt: HostRuntime) {
+    let tokens = tokens_of(&rt, rt.alloc(), "+,ID", 0);
+    let renames = renamed(&rt, rt.alloc(), "+", "PLUS");
+    let roomy = LocalHeap::new(rt.alloc(), 4096).expect(&rt, "memory");
+    let mut counts = [0u32; 4];
     for size in 1..=32usize {
-        let heap = LocalHeap::new(alloc, size * 16)?;
-        if CTTokenMapBuilder::new(&heap, "x", "u8", &tokens).is_err() {
-            new = new.saturating_add(1);
-        }
-        let builder = CTTokenMapBuilder::new(&roomy, "x", "u8", &tokens)?;
-        if builder.rename_map(&heap, Some(&renames)).is_err() {
-            renamed = renamed.saturating_add(1);
-        }
-        let builder = CTTokenMapBuilder::new(&roomy, "x", "u8", &tokens)?;
-        let builder = builder.rename_map(&roomy, Some(&renames))?;
-        match builder.build(&heap) {
-            Err(_) => built = built.saturating_add(1),
-            Ok(answer) => {
-                assert_eq!(rt; answer.ok().ok_or("a fault")?.as_str(), want);
-                made = made.saturating_add(1);
-            }
+        let heap = LocalHeap::new(rt.alloc(), size * 16).expect(&rt, "memory");
+        let came = [
+            came_of([&heap, &roomy, &roomy], &tokens, &renames),
+            came_of([&roomy, &heap, &roomy], &tokens, &renames),
+            came_of([&roomy, &roomy, &heap], &tokens, &renames),
+        ];
+        for one in came {
+            let index = match one {
+                Came::NewRefused => 0,
+                Came::RenameRefused => 1,
+                Came::BuildRefused => 2,
+                Came::Made => 3,
+                Came::Wrong => panic!(rt; "another module"),
+            };
+            counts[index] = counts[index].saturating_add(1);
         }
     }
-    assert!(rt;
-        new > 3 && renamed > 3 && built > 3 && made > 3,
-        "{new}, {renamed}, {built} and {made}"
-    );
-    Ok(())
+    assert!(rt; counts.iter().all(|count| *count > 3), "{counts:?}");
 }
 
+const ONE_TOKEN: &str =
+    "#[allow(dead_code)]\nmod x {\n    pub const T_PLUS: u8 = 3;\n    #[allow(dead_code)]\n    pub const TOK_IDS: &[u8] = &[3];\n}\n";
+
 #[test]
-fn a_refused_module_in_one_call_is_no_fault(rt: HostRuntime) -> Result<(), Fail> {
-    let alloc = rt.alloc();
-    let mut tokens: HashMap<String, u8> = HashMap::new(alloc);
-    tokens.insert(String::from_str(alloc, "+")?, 3)?;
-    let mut renames: HashMap<&str, &str> = HashMap::new(alloc);
-    renames.insert("+", "PLUS")?;
-    let want =
-        "#[allow(dead_code)]\nmod x {\n    pub const T_PLUS: u8 = 3;\n    #[allow(dead_code)]\n    pub const TOK_IDS: &[u8] = &[3];\n}\n";
+fn a_refused_module_in_one_call_is_no_fault(rt: HostRuntime) {
+    let tokens = tokens_of(&rt, rt.alloc(), "+", 3);
+    let renames = renamed(&rt, rt.alloc(), "+", "PLUS");
     let (mut made, mut refused) = (0u32, 0u32);
     for size in 1..=64usize {
-        let heap = LocalHeap::new(alloc, size * 64)?;
+        let heap = LocalHeap::new(rt.alloc(), size * 64).expect(&rt, "memory");
         match ct_token_map(&heap, "x", "u8", &tokens, Some(&renames)) {
-            Ok(answer) => {
-                assert_eq!(rt; answer.ok().ok_or("a fault")?.as_str(), want);
-                made = made.saturating_add(1);
-            }
+            Ok(Ok(text)) if text.as_str() == ONE_TOKEN => made = made.saturating_add(1),
+            Ok(_) => panic!(rt; "another module"),
             Err(_) => refused = refused.saturating_add(1),
         }
     }
     assert!(rt; made > 8 && refused > 8, "{made} and {refused}");
-    Ok(())
 }

@@ -4,10 +4,8 @@ ghost use Rattle.lrlex_base.specs.Places.{AreBreaksOf};
 
 use lrlex_base::{Edit, NewlineCache, Span};
 use std::alloc::{AllocError, Global};
-use std::process::Abort;
-use std::test::Fail;
 
-// A cache that was fed the three pieces, one after the other.
+/// A cache that was fed the three pieces, one after the other.
 fn fed_in_turn(alloc: Global, a: &str, b: &str, c: &str) -> Result<NewlineCache, AllocError>
     requires { length a.now + length b.now + length c.now < 2 ^ 64 }
     ensures { IfOk result (AreBreaksOf (a.now ++ b.now ++ c.now)) }
@@ -19,7 +17,7 @@ fn fed_in_turn(alloc: Global, a: &str, b: &str, c: &str) -> Result<NewlineCache,
     Ok(cache)
 }
 
-// A cache that was fed the text character by character.
+/// A cache that was fed the text character by character.
 fn fed_by_characters(alloc: Global, text: &str) -> Result<NewlineCache, AllocError>
     ensures { IfOk result (AreBreaksOf text.now) }
 {
@@ -34,96 +32,93 @@ fn fed_by_characters(alloc: Global, text: &str) -> Result<NewlineCache, AllocErr
     Ok(cache)
 }
 
-// Asserts which place each byte of the text has.
-fn assert_places(
-    rt: &impl Abort,
-    cache: &NewlineCache,
-    text: &str,
-    places: &[(usize, Option<(usize, usize)>)],
-)
+/// Whether each byte of the text has the place that is named.
+fn has_places(cache: &NewlineCache, text: &str, places: &[(usize, Option<(usize, usize)>)]) -> bool
     requires { AreBreaksOf text.now cache.now }
 {
     for (byte, place) in places {
-        assert!(rt; *byte > text.len() || text.is_char_boundary(*byte));
-        assert_eq!(rt;
-            cache.byte_to_line_num_and_col_num(text, *byte),
-            *place,
-            "at {byte}"
-        );
+        if *byte <= text.len() && !text.is_char_boundary(*byte) {
+            return false;
+        }
+        if cache.byte_to_line_num_and_col_num(text, *byte) != *place {
+            return false;
+        }
     }
+    true
 }
 
-// Asserts between which bytes the whole lines of each span stand.
-fn assert_lines(rt: &impl Abort, cache: &NewlineCache, lines: &[(usize, usize, (usize, usize))]) {
+/// Whether the whole lines of each span stand between the bytes that are named.
+fn has_lines(cache: &NewlineCache, lines: &[(usize, usize, (usize, usize))]) -> bool {
     for (start, end, ends) in lines {
-        assert!(rt; *start <= *end && *end <= cache.fed());
-        assert_eq!(rt;
-            cache.span_line_bytes(Span::new(*start, *end)),
-            *ends,
-            "of {start}..{end}"
-        );
+        if *start > *end || *end > cache.fed() {
+            return false;
+        }
+        if cache.span_line_bytes(Span::new(*start, *end)) != *ends {
+            return false;
+        }
+    }
+    true
+}
+
+const HEART: &str = " a\n❤ b";
+
+const HEART_PLACES: &[(usize, Option<(usize, usize)>)] = &[
+    (0, Some((1, 1))),
+    (1, Some((1, 2))),
+    (2, Some((1, 3))),
+    (3, Some((2, 1))),
+    (6, Some((2, 2))),
+    (7, Some((2, 3))),
+    (8, Some((2, 4))),
+    (9, None),
+];
+
+const HEART_LINES: &[(usize, usize, (usize, usize))] = &[
+    (1, 2, (0, 2)),
+    (1, 3, (0, 8)),
+    (3, 6, (3, 8)),
+    (8, 8, (3, 8)),
+];
+
+#[test]
+fn places_count_lines_and_characters(rt: HostRuntime) {
+    let whole = NewlineCache::from_str(rt.alloc(), HEART).expect(&rt, "memory");
+    let fed = fed_by_characters(rt.alloc(), HEART).expect(&rt, "memory");
+    assert!(rt; has_places(&whole, HEART, HEART_PLACES) && has_lines(&whole, HEART_LINES));
+    assert!(rt; has_places(&fed, HEART, HEART_PLACES) && has_lines(&fed, HEART_LINES));
+    assert!(rt; whole.fed() == 8);
+    // of a text of another length no place is known
+    for byte in [0, 3, 9] {
+        assert!(rt; whole.byte_to_line_num_and_col_num("abc", byte).is_none());
     }
 }
 
-#[test]
-fn places_count_lines_and_characters(rt: HostRuntime) -> Result<(), Fail> {
-    let text = " a\n❤ b";
-    let whole = NewlineCache::from_str(rt.alloc(), text)?;
-    let fed = fed_by_characters(rt.alloc(), text)?;
-    let places = [
-        (0, Some((1, 1))),
-        (1, Some((1, 2))),
-        (2, Some((1, 3))),
-        (3, Some((2, 1))),
-        (6, Some((2, 2))),
-        (7, Some((2, 3))),
-        (8, Some((2, 4))),
-        (9, None),
-    ];
-    assert_places(&rt, &whole, text, &places);
-    assert_places(&rt, &fed, text, &places);
-    let lines = [
-        (1, 2, (0, 2)),
-        (1, 3, (0, 8)),
-        (3, 6, (3, 8)),
-        (8, 8, (3, 8)),
-    ];
-    assert_lines(&rt, &whole, &lines);
-    assert_lines(&rt, &fed, &lines);
-    assert_eq!(rt; whole.fed(), 8);
-    assert_eq!(rt; whole.byte_to_line_num_and_col_num("abc", 0), None);
-    assert_eq!(rt; whole.byte_to_line_num_and_col_num("abc", 3), None);
-    assert_eq!(rt; whole.byte_to_line_num_and_col_num("abc", 9), None);
-    Ok(())
-}
+const PLACES: &[(usize, Option<(usize, usize)>)] = &[
+    (0, Some((1, 1))),
+    (1, Some((1, 2))),
+    (2, Some((2, 1))),
+    (3, Some((2, 2))),
+    (4, None),
+];
+
+const LINES: &[(usize, usize, (usize, usize))] = &[
+    (0, 0, (0, 1)),
+    (1, 1, (0, 1)),
+    (2, 2, (2, 3)),
+    (3, 3, (2, 3)),
+    (0, 3, (0, 3)),
+];
 
 #[test]
-fn pieces_answer_as_the_whole(rt: HostRuntime) -> Result<(), Fail> {
+fn pieces_answer_as_the_whole(rt: HostRuntime) {
     let text = "a\nb";
-    let whole = NewlineCache::from_str(rt.alloc(), text)?;
-    let pieces = fed_in_turn(rt.alloc(), "a\n", "", "b")?;
-    let places = [
-        (0, Some((1, 1))),
-        (1, Some((1, 2))),
-        (2, Some((2, 1))),
-        (3, Some((2, 2))),
-        (4, None),
-    ];
-    assert_places(&rt, &whole, text, &places);
-    assert_places(&rt, &pieces, text, &places);
-    let lines = [
-        (0, 0, (0, 1)),
-        (1, 1, (0, 1)),
-        (2, 2, (2, 3)),
-        (3, 3, (2, 3)),
-        (0, 3, (0, 3)),
-    ];
-    assert_lines(&rt, &whole, &lines);
-    assert_lines(&rt, &pieces, &lines);
-    Ok(())
+    let whole = NewlineCache::from_str(rt.alloc(), text).expect(&rt, "memory");
+    let pieces = fed_in_turn(rt.alloc(), "a\n", "", "b").expect(&rt, "memory");
+    assert!(rt; has_places(&whole, text, PLACES) && has_lines(&whole, LINES));
+    assert!(rt; has_places(&pieces, text, PLACES) && has_lines(&pieces, LINES));
 }
 
-// Line number i (from 0) of the triangle: i letters `a` with a blank between each two.
+/// Line number i (from 0) of the triangle: i letters `a` with a blank between each two.
 pub(crate) fn triangle_line(alloc: Global, i: usize) -> Result<String, AllocError> {
     let mut line = String::new(alloc);
     for j in 0..i {
@@ -132,7 +127,7 @@ pub(crate) fn triangle_line(alloc: Global, i: usize) -> Result<String, AllocErro
     Ok(line)
 }
 
-// The triangle: its 71 lines, with a newline between each two.
+/// The triangle: its 71 lines, with a newline between each two.
 pub(crate) fn triangle(alloc: Global) -> Result<String, AllocError> {
     let mut text = String::new(alloc);
     for i in 0..71usize {
@@ -144,105 +139,109 @@ pub(crate) fn triangle(alloc: Global) -> Result<String, AllocError> {
     Ok(text)
 }
 
-// Asserts the place of each byte of the triangle, and the ends of its line.
-fn assert_triangle(rt: &impl Abort, cache: &NewlineCache, text: &str)
+/// Whether a byte in column `k` (from 0) of line `i` (from 0), which has so many bytes, has that place and line.
+fn is_in_line(cache: &NewlineCache, text: &str, at: usize, i: usize, k: usize, len: usize) -> bool
+    requires { AreBreaksOf text.now cache.now }
+{
+    if !text.is_char_boundary(at) || at > cache.fed() || k > at || at >= 10_000 || len >= 10_000 {
+        return false;
+    }
+    let place = Some((i.saturating_add(1), k.saturating_add(1)));
+    cache.byte_to_line_num_and_col_num(text, at) == place
+        && cache.span_line_bytes(Span::new(at, at)) == (at - k, at - k + len)
+}
+
+/// Whether each byte of the triangle has its place, and the ends of its line.
+fn is_triangle(cache: &NewlineCache, text: &str) -> bool
     requires { AreBreaksOf text.now cache.now }
 {
     let mut at = 0usize;
     for i in 0..71usize {
         let len = if i > 0 { 2 * i - 1 } else { 0 };
         for k in 0..=len {
-            assert!(rt; text.is_char_boundary(at) && at <= cache.fed());
-            assert_eq!(rt;
-                cache.byte_to_line_num_and_col_num(text, at),
-                Some((i + 1, k + 1)),
-                "at {at}"
-            );
-            assert!(rt; k <= at && at < 10_000);
-            assert_eq!(rt;
-                cache.span_line_bytes(Span::new(at, at)),
-                (at - k, at - k + len),
-                "at {at}"
-            );
-            at += 1;
+            if !is_in_line(cache, text, at, i, k, len) {
+                return false;
+            }
+            at = at.saturating_add(1);
         }
     }
-    assert_eq!(rt; at, text.len().saturating_add(1));
+    at == text.len().saturating_add(1)
 }
 
 #[test]
-fn seventy_one_lines_fed_whole_and_byte_by_byte(rt: HostRuntime) -> Result<(), Fail> {
-    let text = triangle(rt.alloc())?;
-    let text = text.as_str();
-    let whole = NewlineCache::from_str(rt.alloc(), text)?;
-    assert_triangle(&rt, &whole, text);
-    let bytes = fed_by_characters(rt.alloc(), text)?;
-    assert_triangle(&rt, &bytes, text);
-    Ok(())
+fn seventy_one_lines_fed_whole_and_byte_by_byte(rt: HostRuntime) {
+    let text = triangle(rt.alloc()).expect(&rt, "memory");
+    let whole = NewlineCache::from_str(rt.alloc(), text.as_str()).expect(&rt, "memory");
+    assert!(rt; is_triangle(&whole, text.as_str()));
+    let bytes = fed_by_characters(rt.alloc(), text.as_str()).expect(&rt, "memory");
+    assert!(rt; is_triangle(&bytes, text.as_str()));
 }
 
-// Asserts that the cache of the old text, once edited, answers as one that was fed the new text.
-fn assert_edit(
-    rt: &(impl Abort + AllocGlobal),
-    old: &str,
-    start: usize,
-    end: usize,
-    put: &str,
-) -> Result<(), AllocError> {
-    let alloc = rt.alloc();
-    assert!(rt; start <= end && old.len() < 1000 && put.len() < 1000);
-    let edit = Edit {
-        removed: Span::new(start, end),
-        put,
-    };
-    assert!(rt; edit.fits(old));
+/// Whether the two caches have the same length and the same lines.
+fn is_same(cache: &NewlineCache, other: &NewlineCache) -> bool {
+    let fed = cache.fed();
+    if fed != other.fed() || fed >= 1_000 {
+        return false;
+    }
+    for byte in 0..=fed {
+        let here = Span::new(byte, byte);
+        if cache.span_line_bytes(here) != other.span_line_bytes(here) {
+            return false;
+        }
+    }
+    true
+}
+
+/// Whether the cache of the old text, once edited, answers as one that was fed the new text.
+fn follows(alloc: Global, old: &str, edit: &Edit<'_>) -> Result<bool, AllocError> {
+    if !edit.fits(old) {
+        return Ok(false);
+    }
     let new = edit.apply(alloc, old)?;
     let fed = NewlineCache::from_str(alloc, &new)?;
     let mut cache = NewlineCache::from_str(alloc, old)?;
-    assert!(rt; end <= cache.fed() && cache.fed() < 1000);
-    cache.edit(edit.removed, put)?;
-    assert_eq!(rt; cache.fed(), fed.fed());
-    for byte in 0..new.len() + 1 {
-        assert!(rt; byte <= cache.fed() && byte <= fed.fed());
-        let here = Span::new(byte, byte);
-        assert_eq!(rt;
-            cache.span_line_bytes(here),
-            fed.span_line_bytes(here),
-            "at {byte} of {new}"
-        );
+    if edit.removed.end() > cache.fed() || cache.fed() >= 1_000 || edit.put.len() >= 1_000 {
+        return Ok(false);
     }
-    Ok(())
+    cache.edit(edit.removed, edit.put)?;
+    Ok(is_same(&cache, &fed))
 }
 
+/// The old text, the two ends of what is removed, and what is put.
+const EDITS: &[(&str, usize, usize, &str)] = &[
+    ("", 0, 0, ""),
+    ("", 0, 0, "\n"),
+    ("", 0, 0, "a\nb\n"),
+    ("a\nb\nc", 0, 0, "x"),
+    ("a\nb\nc", 0, 0, "x\n"),
+    ("a\nb\nc", 0, 1, ""),
+    ("a\nb\nc", 0, 2, "\n\n\n"),
+    ("a\nb\nc", 1, 2, "x"),
+    ("a\nb\nc", 2, 3, "\n\n"),
+    ("a\nb\nc", 2, 2, "❤"),
+    ("a\nb\nc", 1, 4, ""),
+    ("a\nb\nc", 1, 4, "\n"),
+    ("a\nb\nc", 0, 5, ""),
+    ("a\nb\nc", 0, 5, "\n"),
+    ("a\nb\nc", 4, 5, ""),
+    ("a\nb\nc", 5, 5, "d"),
+    ("a\nb\nc", 5, 5, "\n"),
+    ("\n\n\n", 1, 2, ""),
+    ("\n\n\n", 3, 3, "\n"),
+    ("a\r\nb\r\n", 1, 3, "\n"),
+    ("a\r\nb\r\n", 2, 3, ""),
+    ("a\r\nb\r\n", 4, 6, "\r\n\r\n"),
+    ("❤\n❤\n", 3, 4, "\r\n"),
+];
+
 #[test]
-fn an_edited_cache_is_that_of_the_edited_text(rt: HostRuntime) -> Result<(), Fail> {
-    let edits = [
-        ("", 0, 0, ""),
-        ("", 0, 0, "\n"),
-        ("", 0, 0, "a\nb\n"),
-        ("a\nb\nc", 0, 0, "x"),
-        ("a\nb\nc", 0, 0, "x\n"),
-        ("a\nb\nc", 0, 1, ""),
-        ("a\nb\nc", 0, 2, "\n\n\n"),
-        ("a\nb\nc", 1, 2, "x"),
-        ("a\nb\nc", 2, 3, "\n\n"),
-        ("a\nb\nc", 2, 2, "❤"),
-        ("a\nb\nc", 1, 4, ""),
-        ("a\nb\nc", 1, 4, "\n"),
-        ("a\nb\nc", 0, 5, ""),
-        ("a\nb\nc", 0, 5, "\n"),
-        ("a\nb\nc", 4, 5, ""),
-        ("a\nb\nc", 5, 5, "d"),
-        ("a\nb\nc", 5, 5, "\n"),
-        ("\n\n\n", 1, 2, ""),
-        ("\n\n\n", 3, 3, "\n"),
-        ("a\r\nb\r\n", 1, 3, "\n"),
-        ("a\r\nb\r\n", 2, 3, ""),
-        ("a\r\nb\r\n", 4, 6, "\r\n\r\n"),
-        ("❤\n❤\n", 3, 4, "\r\n"),
-    ];
-    for (old, start, end, put) in &edits {
-        assert_edit(&rt, old, *start, *end, put)?;
+fn an_edited_cache_is_that_of_the_edited_text(rt: HostRuntime) {
+    for (old, start, end, put) in EDITS {
+        let edit = Edit {
+            removed: Span::new(*start, (*end).max(*start)),
+            put,
+        };
+        let follows = follows(rt.alloc(), old, &edit).expect(&rt, "memory");
+        assert!(rt; follows, "{old:?}, {start}..{end}");
     }
-    Ok(())
 }

@@ -1,95 +1,137 @@
 //! The text of a token module, and its faults.
 use lrlex_base::{CTTokenMapBuilder, TokenMapFault, ct_token_map};
-use std::alloc::{AllocError, Global};
+use std::alloc::Global;
 use std::collections::HashMap;
-use std::test::Fail;
+use std::process::Abort;
 
-// The text, or the fault in a few words.
-fn told(alloc: Global, answer: Result<String, TokenMapFault>) -> Result<String, AllocError> {
-    match answer {
-        Ok(text) => Ok(text),
-        Err(TokenMapFault::BadModuleName) => String::from_str(alloc, "bad module"),
-        Err(TokenMapFault::BadTypeName) => String::from_str(alloc, "bad type"),
-        Err(TokenMapFault::BadTokenName(name)) => format!(in alloc; "bad {name}"),
-        Err(TokenMapFault::SameConstant(name)) => format!(in alloc; "same {name}"),
-    }
+/// The text, or the fault in a few words.
+fn told(rt: &impl Abort, alloc: Global, answer: Result<String, TokenMapFault>) -> String {
+    let (fault, name) = match answer {
+        Ok(text) => return text,
+        Err(TokenMapFault::BadModuleName) => ("bad module", String::new(alloc)),
+        Err(TokenMapFault::BadTypeName) => ("bad type", String::new(alloc)),
+        Err(TokenMapFault::BadTokenName(name)) => ("bad ", name),
+        Err(TokenMapFault::SameConstant(name)) => ("same ", name),
+    };
+    let mut text = String::from_str(alloc, fault).expect(rt, "memory");
+    text.push_str(name.as_str()).expect(rt, "memory");
+    text
 }
 
-// A map of these names, which commas part, to the ids from `first` on.
-fn tokens_of(alloc: Global, names: &str, first: u8) -> Result<HashMap<String, u8>, AllocError> {
+/// A map of these names, which commas part, to the ids from `first` on.
+pub(crate) fn tokens_of(
+    rt: &impl Abort,
+    alloc: Global,
+    names: &str,
+    first: u8,
+) -> HashMap<String, u8> {
     let mut tokens: HashMap<String, u8> = HashMap::new(alloc);
     let mut id = first;
     for name in names.split(',') {
-        tokens.insert(String::from_str(alloc, name)?, id)?;
+        let name = String::from_str(alloc, name).expect(rt, "memory");
+        let put: Result<_, _> = tokens.insert(name, id);
+        put.expect(rt, "memory");
         id = id.saturating_add(1);
     }
-    Ok(tokens)
+    tokens
 }
 
+/// A map that renames one name.
+pub(crate) fn renamed<'t>(
+    rt: &impl Abort,
+    alloc: Global,
+    from: &'t str,
+    to: &'t str,
+) -> HashMap<&'t str, &'t str> {
+    let mut renames: HashMap<&str, &str> = HashMap::new(alloc);
+    let put: Result<_, _> = renames.insert(from, to);
+    put.expect(rt, "memory");
+    renames
+}
+
+/// What the builder gives for the module `x` over `u8`, without the attribute for dead code.
+fn built(rt: &impl Abort, alloc: Global, names: &str, first: u8, from: &str, to: &str) -> String {
+    let tokens = tokens_of(rt, alloc, names, first);
+    let renames = renamed(rt, alloc, from, to);
+    let builder = CTTokenMapBuilder::new(alloc, "x", "u8", &tokens).expect(rt, "memory");
+    let builder = builder
+        .rename_map(alloc, Some(&renames))
+        .expect(rt, "memory");
+    told(rt, alloc, builder.build(alloc).expect(rt, "memory"))
+}
+
+/// Names, the first id, a name and what it is renamed to; the text or the fault.
+const MODULES: &[(&str, u8, &str, &str, &str)] = &[
+    (
+        "+,ID",
+        0,
+        "+",
+        "PLUS",
+        "mod x {\n    pub const T_PLUS: u8 = 0;\n    pub const T_ID: u8 = 1;\n    #[allow(dead_code)]\n    pub const TOK_IDS: &[u8] = &[0, 1];\n}\n",
+    ),
+    (
+        "",
+        3,
+        "-",
+        "a",
+        "mod x {\n    pub const T_: u8 = 3;\n    #[allow(dead_code)]\n    pub const TOK_IDS: &[u8] = &[3];\n}\n",
+    ),
+    (
+        "é",
+        3,
+        "-",
+        "a",
+        "mod x {\n    pub const T_é: u8 = 3;\n    #[allow(dead_code)]\n    pub const TOK_IDS: &[u8] = &[3];\n}\n",
+    ),
+    ("id,ID", 0, "-", "a", "same id"),
+    ("b,B", 0, "-", "a", "same b"),
+    ("+,PLUS", 0, "+", "PLUS", "same PLUS"),
+    ("+", 0, "-", "a", "bad +"),
+    ("+", 0, "+", "a b", "bad +"),
+    ("❤", 0, "-", "a", "bad ❤"),
+];
+
 #[test]
-fn modules_of_tokens(rt: HostRuntime) -> Result<(), Fail> {
-    let alloc = rt.alloc();
-    let rows: [(&str, u8, &str, &str, &str); 9] = [
-        (
-            "+,ID",
-            0,
-            "+",
-            "PLUS",
-            "mod x {\n    pub const T_PLUS: u8 = 0;\n    pub const T_ID: u8 = 1;\n    #[allow(dead_code)]\n    pub const TOK_IDS: &[u8] = &[0, 1];\n}\n",
-        ),
-        (
-            "",
-            3,
-            "-",
-            "a",
-            "mod x {\n    pub const T_: u8 = 3;\n    #[allow(dead_code)]\n    pub const TOK_IDS: &[u8] = &[3];\n}\n",
-        ),
-        (
-            "é",
-            3,
-            "-",
-            "a",
-            "mod x {\n    pub const T_é: u8 = 3;\n    #[allow(dead_code)]\n    pub const TOK_IDS: &[u8] = &[3];\n}\n",
-        ),
-        ("id,ID", 0, "-", "a", "same id"),
-        ("b,B", 0, "-", "a", "same b"),
-        ("+,PLUS", 0, "+", "PLUS", "same PLUS"),
-        ("+", 0, "-", "a", "bad +"),
-        ("+", 0, "+", "a b", "bad +"),
-        ("❤", 0, "-", "a", "bad ❤"),
-    ];
-    for (names, first, from, to, want) in rows {
-        let tokens = tokens_of(alloc, names, first)?;
-        let mut renames: HashMap<&str, &str> = HashMap::new(alloc);
-        renames.insert(from, to)?;
-        let builder = CTTokenMapBuilder::new(alloc, "x", "u8", &tokens)?.rename_map(
-            alloc,
-            Some(&renames),
-        )?;
-        assert_eq!(rt; told(alloc, builder.build(alloc)?)?.as_str(), want);
+fn modules_of_tokens(rt: HostRuntime) {
+    for row in MODULES {
+        let (names, first, from, to, want) = *row;
+        let got = built(&rt, rt.alloc(), names, first, from, to);
+        assert_eq!(rt; got.as_str(), want);
     }
-    Ok(())
 }
 
-#[test]
-fn names_of_modules_and_types(rt: HostRuntime) -> Result<(), Fail> {
-    let alloc = rt.alloc();
-    let empty =
-        "#[allow(dead_code)]\nmod x {\n    #[allow(dead_code)]\n    pub const TOK_IDS: &[u8] = &[];\n}\n";
-    let rows: [(&str, &str, &str); 6] = [
-        ("x", "u8", empty),
-        ("_", "", "bad module"),
-        ("1x", "u8", "bad module"),
-        ("", "u8", "bad module"),
-        ("x", "u 8", "bad type"),
-        ("x", "_", "bad type"),
-    ];
+const EMPTY: &str =
+    "#[allow(dead_code)]\nmod x {\n    #[allow(dead_code)]\n    pub const TOK_IDS: &[u8] = &[];\n}\n";
+
+/// Module and type; the text or the fault.
+const NAMES: &[(&str, &str, &str)] = &[
+    ("x", "u8", EMPTY),
+    ("_", "", "bad module"),
+    ("1x", "u8", "bad module"),
+    ("", "u8", "bad module"),
+    ("x", "u 8", "bad type"),
+    ("x", "_", "bad type"),
+];
+
+/// What the call gives for no tokens, with the attribute for dead code.
+fn of_call(rt: &impl Abort, alloc: Global, module: &str, kind: &str) -> String {
     let none: HashMap<String, u8> = HashMap::new(alloc);
-    for (module, kind, want) in rows {
-        let written = ct_token_map(alloc, module, kind, &none, None)?;
-        assert_eq!(rt; told(alloc, written)?.as_str(), want);
-        let builder = CTTokenMapBuilder::new(alloc, module, kind, &none)?.allow_dead_code(true);
-        assert_eq!(rt; told(alloc, builder.build(alloc)?)?.as_str(), want);
+    let written = ct_token_map(alloc, module, kind, &none, None).expect(rt, "memory");
+    told(rt, alloc, written)
+}
+
+/// What the builder gives for the same.
+fn of_builder(rt: &impl Abort, alloc: Global, module: &str, kind: &str) -> String {
+    let none: HashMap<String, u8> = HashMap::new(alloc);
+    let builder = CTTokenMapBuilder::new(alloc, module, kind, &none).expect(rt, "memory");
+    let written = builder.allow_dead_code(true).build(alloc);
+    told(rt, alloc, written.expect(rt, "memory"))
+}
+
+#[test]
+fn names_of_modules_and_types(rt: HostRuntime) {
+    for (module, kind, want) in NAMES {
+        assert_eq!(rt; of_call(&rt, rt.alloc(), module, kind).as_str(), *want);
+        assert_eq!(rt; of_builder(&rt, rt.alloc(), module, kind).as_str(), *want);
     }
-    Ok(())
 }
