@@ -125,7 +125,7 @@ const MODULE: &str =
     "mod x {\n    pub const T_PLUS: u8 = 0;\n    pub const T_ID: u8 = 1;\n    #[allow(dead_code)]\n    pub const TOK_IDS: &[u8] = &[0, 1];\n}\n";
 
 /// What a builder's three calls came to over a heap.
-#[derive(Clone, Copy, PartialEq, Eq)]
+#[derive(Clone, Copy)]
 enum Came {
     NewRefused,
     RenameRefused,
@@ -135,23 +135,42 @@ enum Came {
 }
 
 /// What the builder's calls come to, of which those before the one that counts have roomy heaps.
-fn came_of(
-    heaps: [&LocalHeap; 3],
+fn came_of<'h>(
+    new: &'h LocalHeap,
+    rename: &'h LocalHeap,
+    build: &'h LocalHeap,
     tokens: &HashMap<String, u8>,
     renames: &HashMap<&str, &str>,
 ) -> Came {
-    let [new, rename, build] = heaps;
     let Ok(builder) = CTTokenMapBuilder::new(new, "x", "u8", tokens) else {
         return Came::NewRefused;
     };
     let Ok(builder) = builder.rename_map(rename, Some(renames)) else {
         return Came::RenameRefused;
     };
-    match builder.build(build) {
-        Err(_) => Came::BuildRefused,
-        Ok(Ok(text)) if text.as_str() == MODULE => Came::Made,
-        Ok(_) => Came::Wrong,
+    let Ok(answer) = builder.build(build) else {
+        return Came::BuildRefused;
+    };
+    let Ok(text) = answer else {
+        return Came::Wrong;
+    };
+    if text.as_str() == MODULE {
+        Came::Made
+    } else {
+        Came::Wrong
     }
+}
+
+/// Counts what the calls came to.
+fn count(counts: &mut [u32; 5], came: Came) {
+    let index = match came {
+        Came::NewRefused => 0,
+        Came::RenameRefused => 1,
+        Came::BuildRefused => 2,
+        Came::Made => 3,
+        Came::Wrong => 4,
+    };
+    counts[index] = counts[index].saturating_add(1);
 }
 
 #[test]
@@ -159,26 +178,27 @@ fn a_refused_module_is_no_fault(rt: HostRuntime) {
     let tokens = tokens_of(&rt, rt.alloc(), "+,ID", 0);
     let renames = renamed(&rt, rt.alloc(), "+", "PLUS");
     let roomy = LocalHeap::new(rt.alloc(), 4096).expect(&rt, "memory");
-    let mut counts = [0u32; 4];
+    let mut counts = [0u32; 5];
     for size in 1..=32usize {
         let heap = LocalHeap::new(rt.alloc(), size * 16).expect(&rt, "memory");
-        let came = [
-            came_of([&heap, &roomy, &roomy], &tokens, &renames),
-            came_of([&roomy, &heap, &roomy], &tokens, &renames),
-            came_of([&roomy, &roomy, &heap], &tokens, &renames),
-        ];
-        for one in came {
-            let index = match one {
-                Came::NewRefused => 0,
-                Came::RenameRefused => 1,
-                Came::BuildRefused => 2,
-                Came::Made => 3,
-                Came::Wrong => panic!(rt; "another module"),
-            };
-            counts[index] = counts[index].saturating_add(1);
-        }
+        count(
+            &mut counts,
+            came_of(&heap, &roomy, &roomy, &tokens, &renames),
+        );
+        count(
+            &mut counts,
+            came_of(&roomy, &heap, &roomy, &tokens, &renames),
+        );
+        count(
+            &mut counts,
+            came_of(&roomy, &roomy, &heap, &tokens, &renames),
+        );
     }
-    assert!(rt; counts.iter().all(|count| *count > 3), "{counts:?}");
+    let [new, renamed, built, made, wrong] = counts;
+    assert!(rt;
+        new > 3 && renamed > 3 && built > 3 && made > 3 && wrong == 0,
+        "{counts:?}"
+    );
 }
 
 const ONE_TOKEN: &str =
@@ -192,8 +212,11 @@ fn a_refused_module_in_one_call_is_no_fault(rt: HostRuntime) {
     for size in 1..=64usize {
         let heap = LocalHeap::new(rt.alloc(), size * 64).expect(&rt, "memory");
         match ct_token_map(&heap, "x", "u8", &tokens, Some(&renames)) {
-            Ok(Ok(text)) if text.as_str() == ONE_TOKEN => made = made.saturating_add(1),
-            Ok(_) => panic!(rt; "another module"),
+            Ok(Ok(text)) => {
+                assert!(rt; text.as_str() == ONE_TOKEN);
+                made = made.saturating_add(1);
+            }
+            Ok(Err(_fault)) => panic!(rt; "a fault"),
             Err(_) => refused = refused.saturating_add(1),
         }
     }
