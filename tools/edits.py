@@ -14,6 +14,7 @@ import sys
 
 TOP = os.path.dirname(os.path.dirname(os.path.abspath(__file__)))
 EDIT = re.compile(r"^## (\S+)\n\n`(\S+)`[^\n]*\n\n```\n((?:file: .*\nold: .*\nnew: .*\n)+)```$", re.M)
+GOAL = re.compile(r"^(?:note: )?((?:\./)?(?:src|proofs)/\S+:\d+:\d+: .*)$", re.M)
 VERDICT = re.compile(r"^only=(\d+) proved=(\d+)$", re.M)
 
 
@@ -75,8 +76,8 @@ def checked(folder, functions):
 
 def goal_of(told):
     """The first line that names the goal which isn't proved."""
-    lines = [line for line in told.splitlines() if re.match(r"(\./)?(src|proofs)/\S+:\d+:\d+: error", line)]
-    return lines[0][:160] if lines else ""
+    found = GOAL.search(told)
+    return found.group(1)[:160] if found else "rt names no goal"
 
 
 def changed(folder, changes):
