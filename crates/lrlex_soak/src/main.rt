@@ -6,7 +6,6 @@ mod chance;
 mod documents;
 mod edits;
 mod facts;
-mod faults;
 mod lexers;
 mod mapping;
 mod mistakes;
@@ -15,48 +14,45 @@ mod patterns;
 mod places;
 mod reading;
 mod record;
-mod relexing;
 mod rules;
 mod soak;
 mod texts;
 mod tiling;
 mod ways;
-mod winners;
-mod words;
 
-use crate::faults::Fault;
 use crate::record::tell;
 use crate::soak::soak;
-use crate::words::{Words, read};
-use std::alloc::{AllocError, Global};
 use std::process::ExitCode;
 use std::{env, io};
 
-/// The words, copied.
-fn words_given(rt: &HostRuntime, alloc: Global) -> io::Result<Vec<String>> {
-    Ok(env::args(rt)?.collect(alloc)?)
-}
+/// How many cases make 10,000 edits of documents and some more.
+const CASES: u64 = 250;
 
-/// The same words, borrowed.
-fn borrowed(alloc: Global, words: &[String]) -> Result<Vec<&str>, AllocError> {
-    words.iter().map(|word| word.as_str()).collect(alloc)
-}
-
-/// What the words say.
-fn asked_for(rt: &HostRuntime) -> Result<Words, Fault> {
-    let owned = words_given(rt, rt.alloc())?;
-    let words = borrowed(rt.alloc(), owned.as_slice())?;
-    read(rt.alloc(), words.as_slice())
+/// The number that the word at this place is, or the usual one where there is no word. None where the word is no number.
+fn number(words: &[String], place: usize, usual: u64) -> Option<u64> {
+    match words.get(place) {
+        Some(word) => word.as_str().parse::<u64>().ok(),
+        None => Some(usual),
+    }
 }
 
 /// Tries what the words ask for, and prints how much that was. Whether nothing differs.
-fn served(rt: &HostRuntime) -> Result<bool, Fault> {
-    let words = asked_for(rt)?;
-    let seed = words.seed;
+fn served(rt: &HostRuntime) -> io::Result<bool> {
+    let words: Vec<String> = env::args(rt)?.collect(rt.alloc())?;
+    let words = words.as_slice();
+    let numbers = (
+        number(words, 1, CASES),
+        number(words, 2, 1),
+        number(words, 3, 0),
+    );
+    let ((Some(cases), Some(seed), Some(first)), true) = (numbers, words.len() <= 4) else {
+        eprintln!(rt; "Usage: lrlex_soak [CASES] [SEED] [FIRST]")?;
+        return Ok(false);
+    };
     println!(rt; "seed: {seed}")?;
-    let record = soak(rt, words)?;
-    tell(rt, &record.tally)?;
-    Ok(record.tally.differ == 0)
+    let tally = soak(rt, cases, seed, first)?;
+    tell(rt, &tally)?;
+    Ok(tally.differ == 0)
 }
 
 fn main(rt: HostRuntime) -> ExitCode {
@@ -64,8 +60,13 @@ fn main(rt: HostRuntime) -> ExitCode {
         Ok(true) => ExitCode::SUCCESS,
         Ok(false) => ExitCode::FAILURE,
         Err(fault) => {
+            let what = if fault.kind() == io::ErrorKind::OutOfMemory {
+                "Out of memory"
+            } else {
+                "Standard output failed, or the words can't be read"
+            };
             // There is nowhere to tell of a fault of standard error.
-            let _ = eprintln!(rt; "{fault}");
+            let _ = eprintln!(rt; "{what}");
             ExitCode::FAILURE
         }
     }
