@@ -1,7 +1,7 @@
 //! Does what a case says and compares what comes of it.
 use crate::building::{Definition, Refusal, build, ids_of};
 use crate::reading::{Trouble, parsed, text_in};
-use crate::showing::{Lexed, faults_told, lexed, rules_told, sets_told, states_told};
+use crate::showing::{Lexing, faults_told, lexed, rules_told, sets_told, states_told};
 use lrlex::{Budget, LexerDef};
 use lrlex_base::Id;
 use serde_json::Value;
@@ -43,7 +43,7 @@ fn compare(
 fn compare_lexed(
     alloc: Global,
     case: &Value,
-    lexed: &Lexed,
+    lexed: &Lexing,
     differences: &mut String,
 ) -> Result<(), AllocError> {
     compare(alloc, case, "items", lexed.items.as_str(), differences)?;

@@ -132,7 +132,7 @@ pub fn rules_told<T: Id>(alloc: Global, rules: &[Rule<T>]) -> Result<String, All
 
 /// What lexing an input gave: items, places and counts as JSON, and how often a rule was asked.
 #[derive(Drop)]
-pub struct Lexed {
+pub struct Lexing {
     pub items: String,
     pub places: String,
     pub tiles: String,
@@ -213,11 +213,11 @@ pub fn lexed<T: Id>(
     alloc: Global,
     definition: &Definition<T>,
     input: &str,
-) -> Result<Lexed, AllocError> {
+) -> Result<Lexing, AllocError> {
     let (items, places) = items_told(alloc, definition, input)?;
     let run = definition.run(alloc, input)?;
     let (tiles, entries_peak, asked) = (run.tiles(), run.entries_peak(), run.asked());
-    Ok(Lexed {
+    Ok(Lexing {
         items,
         places,
         tiles: format!(in alloc; "{tiles}")?,
