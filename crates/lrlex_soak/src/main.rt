@@ -19,46 +19,43 @@ mod soak;
 mod texts;
 mod tiling;
 mod ways;
+mod words;
 
 use crate::record::tell;
 use crate::soak::soak;
+use crate::words::command;
 use std::process::ExitCode;
 use std::{env, io};
 
 /// How many cases make 10,000 edits of documents and some more.
 const CASES: u64 = 250;
 
-/// The number that the word at this place is, or the usual one where there is no word. None where the word is no number.
-fn number(words: &[String], place: usize, usual: u64) -> Option<u64> {
-    match words.get(place) {
-        Some(word) => word.as_str().parse::<u64>().ok(),
-        None => Some(usual),
-    }
-}
-
-/// Tries what the words ask for, and prints how much that was. Whether nothing differs.
-fn served(rt: &HostRuntime) -> io::Result<bool> {
+/// Tries what the words ask for, and prints how much that was.
+fn served(rt: &HostRuntime) -> io::Result<ExitCode> {
     let words: Vec<String> = env::args(rt)?.collect(rt.alloc())?;
-    let words = words.as_slice();
-    let numbers = (
-        number(words, 1, CASES),
-        number(words, 2, 1),
-        number(words, 3, 0),
-    );
-    let ((Some(cases), Some(seed), Some(first)), true) = (numbers, words.len() <= 4) else {
-        eprintln!(rt; "Usage: lrlex_soak [CASES] [SEED] [FIRST]")?;
-        return Ok(false);
+    let matches = match command(rt.alloc())?.try_get_matches_from(words.as_slice()) {
+        Ok(matches) => matches,
+        Err(told) => {
+            told.print(rt)?;
+            return Ok(ExitCode::from(if told.use_stderr() { 2 } else { 0 }));
+        }
     };
+    let cases = matches.get_one::<u64>("cases").unwrap_or(CASES);
+    let seed = matches.get_one::<u64>("seed").unwrap_or(1);
+    let first = matches.get_one::<u64>("first").unwrap_or(0);
     println!(rt; "seed: {seed}")?;
     let tally = soak(rt, cases, seed, first)?;
     tell(rt, &tally)?;
-    Ok(tally.differ == 0)
+    Ok(if tally.differ == 0 {
+        ExitCode::SUCCESS
+    } else {
+        ExitCode::FAILURE
+    })
 }
 
 fn main(rt: HostRuntime) -> ExitCode {
     match served(&rt) {
-        Ok(true) => ExitCode::SUCCESS,
-        Ok(false) => ExitCode::FAILURE,
+        Ok(status) => status,
         Err(fault) => {
             let what = if fault.kind() == io::ErrorKind::OutOfMemory {
                 "Out of memory"
