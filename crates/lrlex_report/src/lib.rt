@@ -7,8 +7,6 @@ mod faults;
 mod marks;
 mod places;
 mod stops;
-#[cfg(test)]
-mod tests;
 
 pub use crate::encoding::bad_byte_text;
 pub use crate::faults::{fault_text, faults_text};

@@ -19,6 +19,8 @@ mod long_inputs;
 #[cfg(test)]
 mod parts;
 #[cfg(test)]
+mod reports;
+#[cfg(test)]
 mod runs;
 #[cfg(test)]
 mod shown;
