@@ -88,6 +88,14 @@ fn rules_of<T: Id>(
     Ok(Ok(rules))
 }
 
+fn states_of(alloc: Global, list: &[Value]) -> Result<Vec<StartState>, Trouble> {
+    let mut states = Vec::new(alloc);
+    for value in list {
+        states.push(state_of(alloc, value)?)?;
+    }
+    Ok(states)
+}
+
 /// Puts the definition together from states and rules.
 fn from_parts<T: Id>(alloc: Global, parts: &Value, flags: &LexFlags) -> Result<Built<T>, Trouble> {
     let list = list_in(parts, "rules")?;
@@ -98,12 +106,12 @@ fn from_parts<T: Id>(alloc: Global, parts: &Value, flags: &LexFlags) -> Result<B
     }
 }
 
-fn states_of(alloc: Global, list: &[Value]) -> Result<Vec<StartState>, Trouble> {
-    let mut states = Vec::new(alloc);
-    for value in list {
-        states.push(state_of(alloc, value)?)?;
+/// Reads the definition from a rule text.
+fn from_text<T: Id>(alloc: Global, rules: &str, flags: LexFlags) -> Result<Built<T>, Trouble> {
+    match Definition::<T>::new_with_options(alloc, rules, flags)? {
+        Ok(definition) => Ok(Ok(definition)),
+        Err(faults) => Ok(Err(Refusal::Faulty(faults))),
     }
-    Ok(states)
 }
 
 /// Builds the definition of the case, from its parts where it has some, else from its rule text.
@@ -111,12 +119,6 @@ pub fn build<T: Id>(alloc: Global, case: &Value) -> Result<Built<T>, Trouble> {
     let flags = flags_of(case.get("flags").ok_or(Trouble::Malformed)?);
     match case.get("from_rules") {
         Some(parts) => from_parts(alloc, parts, &flags),
-        None => {
-            let rules = text_in(case, "rules")?;
-            match Definition::<T>::new_with_options(alloc, rules, flags)? {
-                Ok(definition) => Ok(Ok(definition)),
-                Err(faults) => Ok(Err(Refusal::Faulty(faults))),
-            }
-        }
+        None => from_text(alloc, text_in(case, "rules")?, flags),
     }
 }

@@ -5,7 +5,7 @@ use serde_json::Value;
 use std::alloc::{AllocError, AllocFailed, Global};
 
 /// Why a case can't be replayed.
-#[derive(Clone, Copy)]
+#[derive(Clone, Copy, Debug)]
 pub enum Trouble {
     Memory,
     Malformed,
@@ -33,21 +33,14 @@ pub struct RuleParts {
     pub target: Option<(usize, StartStateOperation)>,
 }
 
-/// What the text says, if it is JSON.
-pub fn parsed(alloc: Global, text: &str) -> Result<Option<Value>, AllocError> {
-    match Value::from_str(alloc, text) {
-        Ok(value) => Ok(Some(value)),
-        Err(fault) if fault.is_memory() => Err(AllocError),
-        Err(_) => Ok(None),
-    }
+/// The text that is this member, if it is one.
+fn str_in<'v>(value: &'v Value, member: &str) -> Option<&'v str> {
+    value.get(member)?.as_str()
 }
 
 /// The text that is this member.
 pub fn text_in<'v>(value: &'v Value, member: &str) -> Result<&'v str, Trouble> {
-    value
-        .get(member)
-        .and_then(Value::as_str)
-        .ok_or(Trouble::Malformed)
+    str_in(value, member).ok_or(Trouble::Malformed)
 }
 
 /// The elements of the list, if the value is one.
@@ -68,16 +61,20 @@ pub fn count_of(value: &Value) -> Result<usize, Trouble> {
     }
 }
 
-/// The span `[start, end]`.
-fn span_of(value: Option<&Value>) -> Result<Span, Trouble> {
-    let Some([start, end]) = elements_of(value) else {
-        return Err(Trouble::Malformed);
-    };
-    let (start, end) = (count_of(start)?, count_of(end)?);
+/// The span from one place to another.
+fn span_between(start: usize, end: usize) -> Result<Span, Trouble> {
     if start <= end {
         Ok(Span::new(start, end))
     } else {
         Err(Trouble::Malformed)
+    }
+}
+
+/// The span `[start, end]`.
+fn span_of(value: Option<&Value>) -> Result<Span, Trouble> {
+    match elements_of(value) {
+        Some([start, end]) => span_between(count_of(start)?, count_of(end)?),
+        _ => Err(Trouble::Malformed),
     }
 }
 
@@ -108,16 +105,27 @@ pub fn flags_of(value: &Value) -> LexFlags {
     }
 }
 
+/// The start state of these parts.
+fn state_from(
+    alloc: Global,
+    id: &Value,
+    name: &Value,
+    exclusive: &Value,
+    span: &Value,
+) -> Result<StartState, Trouble> {
+    let name = name.as_str().ok_or(Trouble::Malformed)?;
+    let exclusive = exclusive.as_bool().ok_or(Trouble::Malformed)?;
+    let id = count_of(id)?;
+    let span = span_of(Some(span))?;
+    Ok(StartState::new(alloc, id, name, exclusive, span)?)
+}
+
 /// The start state `[id, name, exclusive, [start, end]]`.
 pub fn state_of(alloc: Global, value: &Value) -> Result<StartState, Trouble> {
-    let Some([id, name, exclusive, span]) = elements_of(Some(value)) else {
-        return Err(Trouble::Malformed);
-    };
-    let (Some(name), Some(exclusive)) = (name.as_str(), exclusive.as_bool()) else {
-        return Err(Trouble::Malformed);
-    };
-    let (id, span) = (count_of(id)?, span_of(Some(span))?);
-    Ok(StartState::new(alloc, id, name, exclusive, span)?)
+    match elements_of(Some(value)) {
+        Some([id, name, exclusive, span]) => state_from(alloc, id, name, exclusive, span),
+        _ => Err(Trouble::Malformed),
+    }
 }
 
 /// The ids of a list.
@@ -129,35 +137,43 @@ fn counts_of(alloc: Global, list: &[Value]) -> Result<Vec<usize>, Trouble> {
     Ok(counts)
 }
 
+/// The operation of this name.
+fn operation_of(value: &Value) -> Result<StartStateOperation, Trouble> {
+    match value.as_str() {
+        Some("ReplaceStack") => Ok(StartStateOperation::ReplaceStack),
+        Some("Push") => Ok(StartStateOperation::Push),
+        Some("Pop") => Ok(StartStateOperation::Pop),
+        _ => Err(Trouble::Malformed),
+    }
+}
+
 /// The target `[id, operation]`, or none.
 fn target_of(value: Option<&Value>) -> Result<Option<(usize, StartStateOperation)>, Trouble> {
-    let Some(elements) = elements_of(value) else {
-        return Ok(None);
-    };
-    let [id, operation] = elements else {
-        return Err(Trouble::Malformed);
-    };
-    let operation = match operation.as_str() {
-        Some("ReplaceStack") => StartStateOperation::ReplaceStack,
-        Some("Push") => StartStateOperation::Push,
-        Some("Pop") => StartStateOperation::Pop,
-        _ => return Err(Trouble::Malformed),
-    };
-    Ok(Some((count_of(id)?, operation)))
+    match elements_of(value) {
+        None => Ok(None),
+        Some([id, operation]) => Ok(Some((count_of(id)?, operation_of(operation)?))),
+        Some(_) => Err(Trouble::Malformed),
+    }
+}
+
+/// The name of a rule, if it has one.
+fn name_of(alloc: Global, value: &Value) -> Result<Option<String>, AllocError> {
+    match str_in(value, "name") {
+        Some(name) => Ok(Some(String::from_str(alloc, name)?)),
+        None => Ok(None),
+    }
 }
 
 /// The parts of a rule beside its id.
 pub fn parts_of(alloc: Global, value: &Value) -> Result<RuleParts, Trouble> {
     let name_span = span_of(value.get("name_span"))?;
     let target = target_of(value.get("target"))?;
-    let re_str = String::from_str(alloc, text_in(value, "re_str")?)?;
-    let start_states = counts_of(alloc, list_in(value, "start_states")?)?;
-    let name = match value.get("name").and_then(Value::as_str) {
-        Some(name) => Some(String::from_str(alloc, name)?),
-        None => None,
-    };
+    let pattern = text_in(value, "re_str")?;
+    let states = list_in(value, "start_states")?;
+    let start_states = counts_of(alloc, states)?;
+    let re_str = String::from_str(alloc, pattern)?;
     Ok(RuleParts {
-        name,
+        name: name_of(alloc, value)?,
         name_span,
         re_str,
         start_states,

@@ -1,125 +1,170 @@
 //! Does what a case says and compares what comes of it.
 use crate::building::{Definition, Refusal, build, ids_of};
-use crate::reading::{Trouble, parsed, text_in};
-use crate::showing::{Lexing, faults_told, lexed, rules_told, sets_told, states_told};
+use crate::findings::Findings;
+use crate::reading::{Trouble, text_in};
+use crate::showing::{
+    faults_value, items_value, places_value, rules_value, sets_value, states_value,
+};
 use lrlex::{Budget, LexerDef};
 use lrlex_base::Id;
-use serde_json::Value;
+use serde_json::{Map, Value};
 use std::alloc::{AllocError, Global};
 
-/// What the case expects of the field.
-fn expected_of<'v>(case: &'v Value, field: &str) -> Option<&'v Value> {
-    case.get("expected")?.get(field)
+/// What a run counts.
+#[derive(Clone, Copy)]
+struct Counts {
+    tiles: usize,
+    entries_peak: usize,
+    asked: u128,
 }
 
-/// Tells that what came of the field isn't what the case expects.
-fn tell(case: &Value, field: &str, got: &str, differences: &mut String) -> Result<(), AllocError> {
-    let id = case.get("id").and_then(Value::as_str).unwrap_or("?");
-    match expected_of(case, field) {
-        Some(expected) => write!(
-            differences,
-            "{id}: {field}: expected {expected}, got {got}\n"
-        ),
-        None => write!(differences, "{id}: {field}: expected nothing, got {got}\n"),
-    }
+/// What a run of the input counts.
+fn counts_of<T: Id>(
+    alloc: Global,
+    definition: &Definition<T>,
+    input: &str,
+) -> Result<Counts, AllocError> {
+    let run = definition.run(alloc, input)?;
+    Ok(Counts {
+        tiles: run.tiles(),
+        entries_peak: run.entries_peak(),
+        asked: run.asked(),
+    })
 }
 
-/// Compares what came, as JSON, with the field of the case's expectation.
-fn compare(
+/// Compares what a run counts.
+fn compare_counts(
     alloc: Global,
     case: &Value,
-    field: &str,
-    got: &str,
-    differences: &mut String,
-) -> Result<(), AllocError> {
-    let value = parsed(alloc, got)?;
-    if value.is_some() && value.as_ref() == expected_of(case, field) {
-        return Ok(());
-    }
-    tell(case, field, got, differences)
+    counts: Counts,
+    findings: &mut Findings,
+) -> Result<(), Trouble> {
+    let Counts {
+        tiles,
+        entries_peak,
+        asked,
+    } = counts;
+    findings.compare(alloc, case, "tiles", Value::from(tiles))?;
+    findings.compare(alloc, case, "entries_peak", Value::from(entries_peak))?;
+    findings.compare_most(alloc, case, "asked_max", asked)
 }
 
-/// Compares the items, the places and the counts that lexing the case's input gave. The searches may be fewer than the case has.
+/// The items and the places of the lexer of the input.
+fn lexed<T: Id>(
+    alloc: Global,
+    definition: &Definition<T>,
+    input: &str,
+) -> Result<(Value, Value), AllocError> {
+    let lexer = definition.lexer(alloc, input)?;
+    let items = items_value(alloc, &lexer)?;
+    let places = places_value(alloc, &lexer, input)?;
+    Ok((items, places))
+}
+
+/// Compares the items and the places of a lexer.
 fn compare_lexed(
     alloc: Global,
     case: &Value,
-    lexed: &Lexing,
-    differences: &mut String,
-) -> Result<(), AllocError> {
-    compare(alloc, case, "items", lexed.items.as_str(), differences)?;
-    compare(alloc, case, "linecols", lexed.places.as_str(), differences)?;
-    compare(alloc, case, "tiles", lexed.tiles.as_str(), differences)?;
-    compare(
-        alloc,
-        case,
-        "entries_peak",
-        lexed.entries_peak.as_str(),
-        differences,
-    )?;
-    match expected_of(case, "asked_max").and_then(Value::as_u64) {
-        Some(most) if lexed.asked <= most as u128 => Ok(()),
-        _ => {
-            let asked = lexed.asked;
-            let asked = format!(in alloc; "{asked}")?;
-            tell(case, "asked_max", asked.as_str(), differences)
-        }
-    }
+    lexed: (Value, Value),
+    findings: &mut Findings,
+) -> Result<(), Trouble> {
+    let (items, places) = lexed;
+    findings.compare(alloc, case, "items", items)?;
+    findings.compare(alloc, case, "linecols", places)
 }
 
-/// Compares a definition, what setting the case's token ids gives, and what lexing its input gives then: by its tables, and
-/// without any, so that each rule is asked.
+/// Compares what lexing the case's input gives: the lexer's items and places, and the run's counts.
+fn compare_run<T: Id>(
+    alloc: Global,
+    case: &Value,
+    definition: &Definition<T>,
+    findings: &mut Findings,
+) -> Result<(), Trouble> {
+    let input = text_in(case, "input")?;
+    compare_lexed(alloc, case, lexed(alloc, definition, input)?, findings)?;
+    compare_counts(alloc, case, counts_of(alloc, definition, input)?, findings)
+}
+
+/// Sets the token ids of these members. Gives what that told.
+fn set_ids<T: Id>(
+    alloc: Global,
+    members: &Map<String, Value>,
+    definition: &mut Definition<T>,
+) -> Result<Value, Trouble> {
+    let ids = ids_of::<T>(alloc, members)?;
+    let sets = definition.set_rule_ids_spanned(alloc, &ids)?;
+    Ok(sets_value(alloc, sets)?)
+}
+
+/// Compares a definition, what setting the case's token ids gives, and what lexing its input gives then.
 fn compare_definition<T: Id>(
     alloc: Global,
     case: &Value,
+    definition: &mut Definition<T>,
+    findings: &mut Findings,
+) -> Result<(), Trouble> {
+    if let Some(members) = case.get("ids").and_then(Value::as_object) {
+        let sets = set_ids(alloc, members, definition)?;
+        findings.compare(alloc, case, "set_ids", sets)?;
+    }
+    let states = states_value(alloc, definition.iter_start_states().as_slice())?;
+    findings.compare(alloc, case, "states", states)?;
+    let rules = rules_value(alloc, definition.rules())?;
+    findings.compare(alloc, case, "rules", rules)?;
+    compare_run(alloc, case, definition, findings)
+}
+
+/// Compares a definition twice: by its tables, and without any, so that each rule is asked.
+fn compare_both<T: Id>(
+    alloc: Global,
+    case: &Value,
     definition: Definition<T>,
-    differences: &mut String,
+    findings: &mut Findings,
 ) -> Result<(), Trouble> {
     let mut definition = definition;
-    if let Some(members) = case.get("ids").and_then(Value::as_object) {
-        let ids = ids_of::<T>(alloc, members)?;
-        let (lacking, unused) = definition.set_rule_ids_spanned(alloc, &ids)?;
-        let told = sets_told(alloc, lacking.as_ref(), unused.as_ref())?;
-        compare(alloc, case, "set_ids", told.as_str(), differences)?;
-    }
-    let states = states_told(alloc, definition.iter_start_states().as_slice())?;
-    compare(alloc, case, "states", states.as_str(), differences)?;
-    let rules = rules_told(alloc, definition.rules())?;
-    compare(alloc, case, "rules", rules.as_str(), differences)?;
-    let input = text_in(case, "input")?;
-    compare_lexed(alloc, case, &lexed(alloc, &definition, input)?, differences)?;
+    compare_definition(alloc, case, &mut definition, findings)?;
     let asking = definition.with_budget(alloc, Budget::new(0, 0))?;
-    compare_lexed(alloc, case, &lexed(alloc, &asking, input)?, differences)?;
-    Ok(())
+    compare_run(alloc, case, &asking, findings)
+}
+
+/// Compares why there is no definition.
+fn compare_refusal(
+    alloc: Global,
+    case: &Value,
+    refusal: Refusal,
+    findings: &mut Findings,
+) -> Result<(), Trouble> {
+    match refusal {
+        Refusal::Faulty(faults) => {
+            findings.compare(alloc, case, "faults", faults_value(alloc, &faults)?)
+        }
+        Refusal::Rule(place) => {
+            findings.compare(alloc, case, "rule_refused", Value::from(place))
+        }
+    }
 }
 
 /// Replays a case, with ids of this type.
-fn replay_with<T: Id>(
-    alloc: Global,
-    case: &Value,
-    differences: &mut String,
-) -> Result<(), Trouble> {
+fn replay_with<T: Id>(alloc: Global, case: &Value, findings: &mut Findings) -> Result<(), Trouble> {
     match build::<T>(alloc, case)? {
-        Ok(definition) => return compare_definition(alloc, case, definition, differences),
-        Err(Refusal::Faulty(faults)) => {
-            let told = faults_told(alloc, &faults)?;
-            compare(alloc, case, "faults", told.as_str(), differences)?;
-        }
-        Err(Refusal::Rule(place)) => {
-            let told = format!(in alloc; "{place}")?;
-            compare(alloc, case, "rule_refused", told.as_str(), differences)?;
-        }
+        Ok(definition) => compare_both(alloc, case, definition, findings),
+        Err(refusal) => compare_refusal(alloc, case, refusal, findings),
     }
-    Ok(())
 }
 
-/// Replays a case, with ids of the type that it names. Gives what differs, a line a difference.
-pub fn replay(alloc: Global, case: &Value) -> Result<String, Trouble> {
-    let mut differences = String::new(alloc);
+/// Replays a case, with ids of the type that it names.
+fn replay_by_storage(alloc: Global, case: &Value, findings: &mut Findings) -> Result<(), Trouble> {
     match text_in(case, "storage")? {
-        "u8" => replay_with::<u8>(alloc, case, &mut differences)?,
-        "u16" => replay_with::<u16>(alloc, case, &mut differences)?,
-        "u32" => replay_with::<u32>(alloc, case, &mut differences)?,
-        _ => return Err(Trouble::Malformed),
+        "u8" => replay_with::<u8>(alloc, case, findings),
+        "u16" => replay_with::<u16>(alloc, case, findings),
+        "u32" => replay_with::<u32>(alloc, case, findings),
+        _ => Err(Trouble::Malformed),
     }
-    Ok(differences)
+}
+
+/// Replays a case. Gives what differs.
+pub fn replay(alloc: Global, case: &Value) -> Result<Findings, Trouble> {
+    let mut findings = Findings::new(alloc);
+    replay_by_storage(alloc, case, &mut findings)?;
+    Ok(findings)
 }

@@ -1,10 +1,41 @@
 //! What came of a case, as the JSON in which cases tell it.
-use crate::building::Definition;
-use lrlex::{LRLexError, LexBuildError, LexErrorKind, Rule, StartState, StartStateOperation};
+ghost use Rattle.std.specs.Prelude.{◌≡◌};
+ghost use Rattle.lrlex.specs.Lexers.{lexer_text};
+
+use lrlex::{
+    DefaultLexeme, DefaultLexerTypes, LRLexError, LRNonStreamingLexer, LexBuildError, LexErrorKind,
+    Rule, StartState, StartStateOperation,
+};
 use lrlex_base::{Id, LexError, Lexeme, Lexer, NonStreamingLexer, Span, Spanned};
-use serde_json::Value;
+use serde_json::{Map, Value};
 use std::alloc::{AllocError, Global};
 use std::collections::HashSet;
+
+/// Line and column.
+type Place = (usize, usize);
+
+/// An item of a run, as plain numbers.
+#[derive(Clone, Copy)]
+enum Item {
+    /// A lexeme: its id and its span.
+    Lexeme(Option<u64>, Span),
+    /// An error: its span, and the state in which no rule matched.
+    Error(Span, Option<usize>),
+}
+
+/// A rule, with its id as a number.
+#[derive(Clone, Copy)]
+struct RuleSeen<'r> {
+    id: Option<u64>,
+    name: Option<&'r str>,
+    name_span: Span,
+    re_str: &'r str,
+    start_states: &'r [usize],
+    target: Option<(usize, StartStateOperation)>,
+}
+
+/// A lexer with ids of this type.
+type LexerOver<'lexer, 'input, T> = LRNonStreamingLexer<'lexer, 'input, DefaultLexerTypes<T>>;
 
 fn kind_name(kind: &LexErrorKind) -> &'static str {
     match kind {
@@ -24,253 +55,274 @@ fn kind_name(kind: &LexErrorKind) -> &'static str {
     }
 }
 
-/// A text, quoted as JSON does.
-fn quoted(alloc: Global, text: &str) -> Result<Value, AllocError> {
+fn numbers_value(alloc: Global, numbers: &[usize]) -> Result<Value, AllocError> {
+    let mut list = Vec::new(alloc);
+    for number in numbers {
+        list.push(Value::from(*number))?;
+    }
+    Ok(Value::Array(list))
+}
+
+fn span_value(alloc: Global, span: Span) -> Result<Value, AllocError> {
+    numbers_value(alloc, &[span.start(), span.end()])
+}
+
+fn text_value(alloc: Global, text: &str) -> Result<Value, AllocError> {
     Ok(Value::String(String::from_str(alloc, text)?))
 }
 
-/// What stands before an element of a list: a comma, or the bracket that opens the list.
-fn before(place: usize) -> &'static str {
-    if place == 0 { "[" } else { "," }
+/// Puts a member into an object.
+fn put(
+    map: &mut Map<String, Value>,
+    alloc: Global,
+    name: &str,
+    value: Value,
+) -> Result<(), AllocError> {
+    map.insert(String::from_str(alloc, name)?, value)?;
+    Ok(())
 }
 
-/// What closes a list of so many elements, which opens one of none.
-fn behind(count: usize) -> &'static str {
-    if count == 0 { "[]" } else { "]" }
+fn fault_value(alloc: Global, fault: &LexBuildError) -> Result<Value, AllocError> {
+    let mut spans = Vec::new(alloc);
+    for span in fault.spans() {
+        spans.push(span_value(alloc, *span)?)?;
+    }
+    let mut map = Map::new(alloc);
+    put(&mut map, alloc, "spans", Value::Array(spans))?;
+    put(
+        &mut map,
+        alloc,
+        "kind",
+        text_value(alloc, kind_name(fault.kind()))?,
+    )?;
+    Ok(Value::Object(map))
 }
 
 /// The faults, each by its kind and its spans.
-pub fn faults_told(alloc: Global, faults: &[LexBuildError]) -> Result<String, AllocError> {
-    let mut told = String::new(alloc);
-    for (place, fault) in faults.iter().enumerate() {
-        let (before, kind) = (before(place), kind_name(fault.kind()));
-        write!(told, "{before}{{\"kind\":\"{kind}\",\"spans\":")?;
-        spans_told(fault.spans(), &mut told)?;
-        told.push('}')?;
+pub fn faults_value(alloc: Global, faults: &[LexBuildError]) -> Result<Value, AllocError> {
+    let mut list = Vec::new(alloc);
+    for fault in faults {
+        list.push(fault_value(alloc, fault)?)?;
     }
-    told.push_str(behind(faults.len()))?;
-    Ok(told)
+    Ok(Value::Array(list))
 }
 
-/// The spans, each as `[start, end]`.
-fn spans_told(spans: &[Span], told: &mut String) -> Result<(), AllocError> {
-    for (place, span) in spans.iter().enumerate() {
-        let (before, start, end) = (before(place), span.start(), span.end());
-        write!(told, "{before}[{start},{end}]")?;
-    }
-    told.push_str(behind(spans.len()))
+fn state_value(alloc: Global, state: &StartState) -> Result<Value, AllocError> {
+    let id = Value::from(state.id());
+    let exclusive = Value::from(state.exclusive());
+    let name = text_value(alloc, state.name())?;
+    let span = span_value(alloc, state.name_span())?;
+    Ok(Value::Array(vec![in alloc; id, name, exclusive, span]?))
 }
 
 /// The start states, each as `[id, name, exclusive, span]`.
-pub fn states_told(alloc: Global, states: &[StartState]) -> Result<String, AllocError> {
-    let mut told = String::new(alloc);
-    for (place, state) in states.iter().enumerate() {
-        let name = quoted(alloc, state.name())?;
-        let (before, id, exclusive) = (before(place), state.id(), state.exclusive());
-        let (start, end) = (state.name_span().start(), state.name_span().end());
-        write!(told, "{before}[{id},{name},{exclusive},[{start},{end}]]")?;
+pub fn states_value(alloc: Global, states: &[StartState]) -> Result<Value, AllocError> {
+    let mut list = Vec::new(alloc);
+    for state in states {
+        list.push(state_value(alloc, state)?)?;
     }
-    told.push_str(behind(states.len()))?;
-    Ok(told)
+    Ok(Value::Array(list))
 }
 
-/// The name of a rule, or null for none.
-fn name_told(alloc: Global, name: Option<&str>) -> Result<Value, AllocError> {
+fn operation_name(operation: StartStateOperation) -> &'static str {
+    match operation {
+        StartStateOperation::ReplaceStack => "ReplaceStack",
+        StartStateOperation::Push => "Push",
+        StartStateOperation::Pop => "Pop",
+    }
+}
+
+fn target_value(
+    alloc: Global,
+    target: Option<(usize, StartStateOperation)>,
+) -> Result<Value, AllocError> {
+    let Some((state, operation)) = target else {
+        return Ok(Value::Null);
+    };
+    let operation = text_value(alloc, operation_name(operation))?;
+    Ok(Value::Array(vec![in alloc; Value::from(state), operation]?))
+}
+
+fn name_value(alloc: Global, name: Option<&str>) -> Result<Value, AllocError> {
     match name {
-        Some(name) => quoted(alloc, name),
+        Some(name) => text_value(alloc, name),
         None => Ok(Value::Null),
     }
 }
 
-/// Tells a rule with this id: all its fields.
-fn rule_told(
-    alloc: Global,
-    id: Option<u64>,
-    name: Option<&str>,
-    span: Span,
-    pattern: &str,
-    states: &[usize],
-    target: Option<(usize, StartStateOperation)>,
-    told: &mut String,
-) -> Result<(), AllocError> {
-    let (id, start, end) = (Value::from(id), span.start(), span.end());
-    let name = name_told(alloc, name)?;
-    let pattern = quoted(alloc, pattern)?;
-    write!(
-        told,
-        "{{\"tok_id\":{id},\"name\":{name},\"name_span\":[{start},{end}],\"re_str\":{pattern},\"start_states\":{states:?}"
+fn rule_value(alloc: Global, rule: RuleSeen<'_>) -> Result<Value, AllocError> {
+    let mut map = Map::new(alloc);
+    put(&mut map, alloc, "tok_id", Value::from(rule.id))?;
+    put(&mut map, alloc, "name", name_value(alloc, rule.name)?)?;
+    put(
+        &mut map,
+        alloc,
+        "name_span",
+        span_value(alloc, rule.name_span)?,
     )?;
-    match target {
-        Some((state, operation)) => write!(told, ",\"target\":[{state},\"{operation:?}\"]}}"),
-        None => told.push_str(",\"target\":null}"),
+    put(&mut map, alloc, "re_str", text_value(alloc, rule.re_str)?)?;
+    put(
+        &mut map,
+        alloc,
+        "start_states",
+        numbers_value(alloc, rule.start_states)?,
+    )?;
+    put(&mut map, alloc, "target", target_value(alloc, rule.target)?)?;
+    Ok(Value::Object(map))
+}
+
+fn rule_seen<T: Id>(rule: &Rule<T>) -> RuleSeen<'_> {
+    let id = match rule.tok_id() {
+        Some(id) => id.to_u64(),
+        None => None,
+    };
+    RuleSeen {
+        id,
+        name: rule.name(),
+        name_span: rule.name_span(),
+        re_str: rule.re_str(),
+        start_states: rule.start_states(),
+        target: rule.target_state(),
     }
 }
 
 /// The rules, each with all its fields.
-pub fn rules_told<T: Id>(alloc: Global, rules: &[Rule<T>]) -> Result<String, AllocError> {
-    let mut told = String::new(alloc);
-    for (place, rule) in rules.iter().enumerate() {
-        told.push_str(before(place))?;
-        let id = match rule.tok_id() {
-            Some(id) => id.to_u64(),
-            None => None,
-        };
-        rule_told(
-            alloc,
-            id,
-            rule.name(),
-            rule.name_span(),
-            rule.re_str(),
-            rule.start_states(),
-            rule.target_state(),
-            &mut told,
-        )?;
+pub fn rules_value<T: Id>(alloc: Global, rules: &[Rule<T>]) -> Result<Value, AllocError> {
+    let mut list = Vec::new(alloc);
+    for rule in rules {
+        list.push(rule_value(alloc, rule_seen(rule))?)?;
     }
-    told.push_str(behind(rules.len()))?;
-    Ok(told)
+    Ok(Value::Array(list))
 }
 
-/// What lexing an input gave: items, places and counts as JSON, and how often a rule was asked.
-#[derive(Drop)]
-pub struct Lexing {
-    pub items: String,
-    pub places: String,
-    pub tiles: String,
-    pub entries_peak: String,
-    pub asked: u128,
+fn item_seen<T: Id>(item: &Result<DefaultLexeme<T>, LRLexError>) -> Item {
+    match item {
+        Ok(lexeme) => Item::Lexeme(lexeme.tok_id().to_u64(), lexeme.span()),
+        Err(error) => {
+            let state = match error.lexing_state() {
+                Some(state) => Some(state.id()),
+                None => None,
+            };
+            Item::Error(error.span(), state)
+        }
+    }
 }
 
-/// Line and column of both ends of a span.
-type Ends = ((usize, usize), (usize, usize));
-
-/// Tells an item, as `["lex", id, start, length]` or `["err", place, state]`.
-fn item_told(
-    place: usize,
-    id: Option<u64>,
-    error: Option<&LRLexError>,
-    span: Span,
-    told: &mut String,
-) -> Result<(), AllocError> {
-    let (before, start, len) = (before(place), span.start(), span.len());
-    let Some(error) = error else {
-        let id = Value::from(id);
-        return write!(told, "{before}[\"lex\",{id},{start},{len}]");
+fn item_value(alloc: Global, item: Item) -> Result<Value, AllocError> {
+    let list = match item {
+        Item::Lexeme(id, span) => {
+            let kind = text_value(alloc, "lex")?;
+            let start = Value::from(span.start());
+            let len = Value::from(span.len());
+            vec![in alloc; kind, Value::from(id), start, len]?
+        }
+        Item::Error(span, state) => {
+            let kind = text_value(alloc, "err")?;
+            vec![in alloc; kind, Value::from(span.start()), Value::from(state)]?
+        }
     };
-    match error.lexing_state() {
-        Some(state) => {
-            let state = state.id();
-            write!(told, "{before}[\"err\",{start},{state}]")
-        }
-        None => write!(told, "{before}[\"err\",{start},null]"),
-    }
+    Ok(Value::Array(list))
 }
 
-/// Tells line and column of both ends, or null for none.
-fn ends_told(place: usize, ends: Option<Ends>, told: &mut String) -> Result<(), AllocError> {
-    let before = before(place);
-    match ends {
-        Some(((line, column), (end_line, end_column))) => {
-            write!(
-                told,
-                "{before}[[{line},{column}],[{end_line},{end_column}]]"
-            )
-        }
-        None => write!(told, "{before}null"),
-    }
-}
-
-/// The items of the lexer of the input, and line and column of both ends of each item's span; null where a span doesn't fit it.
-fn items_told<T: Id>(
+/// The items of a lexer, as `["lex", id, start, length]` or `["err", place, state]`.
+pub fn items_value<T: Id>(
     alloc: Global,
-    definition: &Definition<T>,
-    input: &str,
-) -> Result<(String, String), AllocError> {
-    let lexer = definition.lexer(alloc, input)?;
-    let mut items = String::new(alloc);
-    let mut places = String::new(alloc);
-    let mut count: usize = 0;
+    lexer: &LexerOver<'_, '_, T>,
+) -> Result<Value, AllocError> {
+    let mut list = Vec::new(alloc);
     for item in lexer.iter() {
-        let (id, error, span) = match &item {
-            Ok(lexeme) => (lexeme.tok_id().to_u64(), None, lexeme.span()),
-            Err(error) => (None, Some(error), error.span()),
-        };
-        let ends = if span.fits(input) {
-            Some(lexer.line_col(span))
-        } else {
-            None
-        };
-        item_told(count, id, error, span, &mut items)?;
-        ends_told(count, ends, &mut places)?;
-        count = count.saturating_add(1);
+        list.push(item_value(alloc, item_seen(&item))?)?;
     }
-    items.push_str(behind(count))?;
-    places.push_str(behind(count))?;
-    Ok((items, places))
+    Ok(Value::Array(list))
 }
 
-/// What lexing the input by the definition gives.
-pub fn lexed<T: Id>(
-    alloc: Global,
-    definition: &Definition<T>,
-    input: &str,
-) -> Result<Lexing, AllocError> {
-    let (items, places) = items_told(alloc, definition, input)?;
-    let run = definition.run(alloc, input)?;
-    let (tiles, entries_peak, asked) = (run.tiles(), run.entries_peak(), run.asked());
-    Ok(Lexing {
-        items,
-        places,
-        tiles: format!(in alloc; "{tiles}")?,
-        entries_peak: format!(in alloc; "{entries_peak}")?,
-        asked,
-    })
-}
-
-/// The names in their order, as JSON; null for none.
-fn names_told(
-    alloc: Global,
-    names: Option<&HashSet<&str>>,
-    told: &mut String,
-) -> Result<(), AllocError> {
-    let Some(names) = names else {
-        return told.push_str("null");
+/// Line and column of both ends, or null for none.
+fn ends_value(alloc: Global, ends: Option<(Place, Place)>) -> Result<Value, AllocError> {
+    let Some(((line, column), (end_line, end_column))) = ends else {
+        return Ok(Value::Null);
     };
+    let start = numbers_value(alloc, &[line, column])?;
+    let end = numbers_value(alloc, &[end_line, end_column])?;
+    Ok(Value::Array(vec![in alloc; start, end]?))
+}
+
+/// Line and column of both ends of a span of the lexer of this input; none where the span doesn't fit it.
+fn ends_of<T: Id>(lexer: &LexerOver<'_, '_, T>, span: Span, input: &str) -> Option<(Place, Place)>
+    requires { lexer_text lexer.now ≡ input.now }
+{
+    if span.fits(input) {
+        Some(lexer.line_col(span))
+    } else {
+        None
+    }
+}
+
+/// Line and column of both ends of each item's span, of the lexer of this input; null where a span doesn't fit it.
+pub fn places_value<T: Id>(
+    alloc: Global,
+    lexer: &LexerOver<'_, '_, T>,
+    input: &str,
+) -> Result<Value, AllocError>
+    requires { lexer_text lexer.now ≡ input.now }
+{
+    let mut list = Vec::new(alloc);
+    for item in lexer.iter() {
+        let span = match item {
+            Ok(lexeme) => lexeme.span(),
+            Err(error) => error.span(),
+        };
+        list.push(ends_value(alloc, ends_of(lexer, span, input))?)?;
+    }
+    Ok(Value::Array(list))
+}
+
+/// The names in their order.
+fn names_value(alloc: Global, names: &HashSet<&str>) -> Result<Value, AllocError> {
     let mut sorted = Vec::new(alloc);
     for name in names {
         sorted.push(*name)?;
     }
     sorted.sort_unstable();
-    for (place, name) in sorted.iter().enumerate() {
-        let (before, name) = (before(place), quoted(alloc, name)?);
-        write!(told, "{before}{name}")?;
+    let mut list = Vec::new(alloc);
+    for name in sorted.as_slice() {
+        list.push(text_value(alloc, name)?)?;
     }
-    told.push_str(behind(sorted.len()))
+    Ok(Value::Array(list))
 }
 
-/// What setting token ids gave: the names without a rule, and the rules' names without an id, these with their places and in the
-/// order of them, as `[name, span]`; each null for none.
-pub fn sets_told(
-    alloc: Global,
-    lacking: Option<&HashSet<&str>>,
-    unused: Option<&HashSet<(String, Span)>>,
-) -> Result<String, AllocError> {
-    let mut told = String::from_str(alloc, "[")?;
-    names_told(alloc, lacking, &mut told)?;
-    told.push(',')?;
-    let Some(names) = unused else {
-        told.push_str("null]")?;
-        return Ok(told);
-    };
+fn spanned_value(alloc: Global, start: usize, end: usize, name: &str) -> Result<Value, AllocError> {
+    let span = numbers_value(alloc, &[start, end])?;
+    let name = text_value(alloc, name)?;
+    Ok(Value::Array(vec![in alloc; name, span]?))
+}
+
+/// The names with their places, in the order of these, as `[name, span]`.
+fn all_spanned_value(alloc: Global, names: &HashSet<(String, Span)>) -> Result<Value, AllocError> {
     let mut sorted = Vec::new(alloc);
     for (name, span) in names {
         sorted.push((span.start(), span.end(), name.as_str()))?;
     }
     sorted.sort_unstable();
-    for (place, (start, end, name)) in sorted.iter().enumerate() {
-        let (before, name) = (before(place), quoted(alloc, name)?);
-        write!(told, "{before}[{name},[{start},{end}]]")?;
+    let mut list = Vec::new(alloc);
+    for (start, end, name) in sorted.as_slice() {
+        list.push(spanned_value(alloc, *start, *end, name)?)?;
     }
-    told.push_str(behind(sorted.len()))?;
-    told.push(']')?;
-    Ok(told)
+    Ok(Value::Array(list))
+}
+
+/// What setting token ids gave: the names without a rule, and the rules' names without an id; each null for none.
+pub fn sets_value(
+    alloc: Global,
+    sets: (Option<HashSet<&str>>, Option<HashSet<(String, Span)>>),
+) -> Result<Value, AllocError> {
+    let (lacking, unused) = sets;
+    let lacking = match lacking {
+        Some(names) => names_value(alloc, &names)?,
+        None => Value::Null,
+    };
+    let unused = match unused {
+        Some(names) => all_spanned_value(alloc, &names)?,
+        None => Value::Null,
+    };
+    Ok(Value::Array(vec![in alloc; lacking, unused]?))
 }
