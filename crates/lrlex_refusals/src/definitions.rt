@@ -3,112 +3,112 @@ use crate::expected::{
     Definition, FAULTY, IDS, OLD, RULE_FACTS, RULES, RuleFacts, STATE_FACTS, are_faults, are_items,
     are_rules, is_rule, is_state,
 };
-use crate::look::{Look, TRIES};
+use crate::fault::{Fault, TRIES, count, expect};
 use lrlex::{
     Budget, DEFAULT_LEX_FLAGS, LexBuildResult, LexFlags, LexerDef, Rule, Span, StartState,
     UNSPECIFIED_LEX_FLAGS,
 };
 use std::alloc::{AllocError, Global};
 
-/// The definition of `RULES`. These have no fault, as the call `from_str` shows; if they had, this would tell that memory ran
-/// out, which no refusal accounts for.
-pub fn made(alloc: Global) -> Result<Definition, AllocError> {
+/// The definition of `RULES`.
+pub fn made(alloc: Global) -> Result<Definition, Fault> {
     match Definition::from_str(alloc, RULES)? {
         Ok(definition) => Ok(definition),
-        Err(_) => Err(AllocError),
+        Err(_) => Err(Fault::Wrong("faults of good rules")),
     }
 }
 
+/// The definition has the start states of `RULES`.
+fn expect_states(definition: &Definition) -> Result<(), Fault> {
+    let mut states = definition.iter_start_states();
+    for (id, want) in STATE_FACTS.iter().enumerate() {
+        match states.next() {
+            Some(state) => expect("start state", is_state(state, id, *want))?,
+            None => return Err(Fault::Wrong("number of start states")),
+        }
+    }
+    expect("number of start states", states.next().is_none())
+}
+
+/// The definition lexes the text as `RULES` lex the old one.
+fn expect_lexing(alloc: Global, definition: &Definition, text: &str) -> Result<(), Fault> {
+    let run = definition.run(alloc, text)?;
+    expect("items by the definition", are_items(run.items(), OLD.items))
+}
+
 /// The definition is that of `RULES`, of which so many have no table, and lexes this text as the old one.
-fn see_definition(
+fn expect_definition(
     alloc: Global,
     definition: &Definition,
     asked: usize,
     text: &str,
-    look: &mut Look,
-) -> Result<(), AllocError> {
-    look.see("rules", are_rules(definition.rules(), &IDS));
-    let states = definition.iter_start_states().as_slice();
-    look.see("number of start states", states.len() == STATE_FACTS.len());
-    for (id, (state, want)) in states.iter().zip(STATE_FACTS.iter()).enumerate() {
-        look.see("start state", is_state(state, id, want));
-    }
-    look.see("rules without a table", definition.asked_rules() == asked);
-    let run = definition.run(alloc, text)?;
-    look.see("items by the definition", are_items(run.items(), OLD.items));
-    Ok(())
+) -> Result<(), Fault> {
+    expect("rules", are_rules(definition.rules(), &IDS))?;
+    expect_states(definition)?;
+    expect("rules without a table", definition.asked_rules() == asked)?;
+    expect_lexing(alloc, definition, text)
 }
 
 /// What was built is that definition.
-fn see_built(
+fn expect_built(
     alloc: Global,
-    built: LexBuildResult<Definition>,
+    built: &LexBuildResult<Definition>,
     asked: usize,
     text: &str,
-    look: &mut Look,
-) -> Result<(), AllocError> {
+) -> Result<(), Fault> {
     match built {
-        Ok(definition) => see_definition(alloc, &definition, asked, text, look),
-        Err(_) => {
-            look.see("faults of good rules", false);
-            Ok(())
-        }
+        Ok(definition) => expect_definition(alloc, definition, asked, text),
+        Err(_) => Err(Fault::Wrong("faults of good rules")),
     }
 }
 
-pub fn from_str(alloc: Global, look: &mut Look) -> Result<(), AllocError> {
+pub fn from_str(alloc: Global, told: &mut u32) -> Result<(), Fault> {
     for _ in 0..TRIES {
         match Definition::from_str(alloc, RULES) {
-            Ok(built) => return see_built(alloc, built, 1, OLD.text, look),
-            Err(_) => look.refused(),
+            Ok(built) => return expect_built(alloc, &built, 1, OLD.text),
+            Err(_) => count(told),
         }
     }
-    Err(AllocError)
+    Err(Fault::Memory)
 }
 
 /// The same, of a rule text with faults.
-pub fn from_str_faults(alloc: Global, look: &mut Look) -> Result<(), AllocError> {
+pub fn from_str_faults(alloc: Global, told: &mut u32) -> Result<(), Fault> {
     for _ in 0..TRIES {
         match Definition::from_str(alloc, FAULTY) {
-            Ok(Ok(_)) => {
-                look.see("no fault", false);
-                return Ok(());
-            }
-            Ok(Err(faults)) => {
-                look.see("faults", are_faults(faults.as_slice()));
-                return Ok(());
-            }
-            Err(_) => look.refused(),
+            Ok(Ok(_)) => return Err(Fault::Wrong("no fault")),
+            Ok(Err(faults)) => return expect("faults", are_faults(faults.as_slice())),
+            Err(_) => count(told),
         }
     }
-    Err(AllocError)
+    Err(Fault::Memory)
 }
 
 /// In either case of letters.
-pub fn new_with_options(alloc: Global, look: &mut Look) -> Result<(), AllocError> {
+pub fn new_with_options(alloc: Global, told: &mut u32) -> Result<(), Fault> {
+    let flags = LexFlags {
+        case_insensitive: Some(true),
+        ..UNSPECIFIED_LEX_FLAGS
+    };
     for _ in 0..TRIES {
-        let flags = LexFlags {
-            case_insensitive: Some(true),
-            ..UNSPECIFIED_LEX_FLAGS
-        };
         match Definition::new_with_options(alloc, RULES, flags) {
-            Ok(built) => return see_built(alloc, built, 1, "AB 12 \"X Y\" 34\n", look),
-            Err(_) => look.refused(),
+            Ok(built) => return expect_built(alloc, &built, 1, "AB 12 \"X Y\" 34\n"),
+            Err(_) => count(told),
         }
     }
-    Err(AllocError)
+    Err(Fault::Memory)
 }
 
 /// Without tables.
-pub fn new_with_budget(alloc: Global, look: &mut Look) -> Result<(), AllocError> {
+pub fn new_with_budget(alloc: Global, told: &mut u32) -> Result<(), Fault> {
     for _ in 0..TRIES {
         let none = Budget::new(0, 0);
         match Definition::new_with_budget(alloc, RULES, UNSPECIFIED_LEX_FLAGS, none) {
-            Ok(built) => return see_built(alloc, built, 7, OLD.text, look),
-            Err(_) => look.refused(),
+            Ok(built) => return expect_built(alloc, &built, 7, OLD.text),
+            Err(_) => count(told),
         }
     }
-    Err(AllocError)
+    Err(Fault::Memory)
 }
 
 /// A rule of these parts. The inner `Err` is a refusal of its pattern.
@@ -133,57 +133,65 @@ fn rule_of(
     )
 }
 
-/// The definition of the rules and start states of `RULES`, put together. A rule that is refused is left out.
-fn put_together(alloc: Global) -> Result<Definition, AllocError> {
+/// The rules of `RULES`, put together.
+fn rules(alloc: Global) -> Result<Vec<Rule<u32>>, Fault> {
     let mut rules = Vec::new(alloc);
     for facts in &RULE_FACTS {
-        if let Ok(rule) = rule_of(alloc, facts)? {
-            rules.push(rule)?;
+        match rule_of(alloc, facts)? {
+            Ok(rule) => rules.push(rule)?,
+            Err(_) => return Err(Fault::Wrong("refusal of a good pattern")),
         }
     }
+    Ok(rules)
+}
+
+/// The start states of `RULES`, put together.
+fn states(alloc: Global) -> Result<Vec<StartState>, Fault> {
     let mut states = Vec::new(alloc);
     for (id, (name, exclusive, span)) in STATE_FACTS.iter().enumerate() {
         let span = Span::new(span.0, span.1.max(span.0));
         states.push(StartState::new(alloc, id, *name, *exclusive, span)?)?;
     }
-    Ok(Definition::from_rules(alloc, states, rules)?)
+    Ok(states)
 }
 
-pub fn from_rules(alloc: Global, look: &mut Look) -> Result<(), AllocError> {
+pub fn from_rules(alloc: Global, told: &mut u32) -> Result<(), Fault> {
     for _ in 0..TRIES {
-        match put_together(alloc) {
-            Ok(definition) => return see_definition(alloc, &definition, 1, OLD.text, look),
-            Err(_) => look.refused(),
+        match Definition::from_rules(alloc, states(alloc)?, rules(alloc)?) {
+            Ok(definition) => return expect_definition(alloc, &definition, 1, OLD.text),
+            Err(_) => count(told),
         }
     }
-    Err(AllocError)
+    Err(Fault::Memory)
 }
 
-/// The rule of these parts, made once more where its first try is refused.
-pub fn rule_new(alloc: Global, look: &mut Look) -> Result<(), AllocError> {
+pub fn rule_new(alloc: Global, told: &mut u32) -> Result<(), Fault> {
     for facts in &RULE_FACTS {
-        let mut made = rule_of(alloc, facts);
-        if made.is_err() {
-            look.refused();
-            made = rule_of(alloc, facts);
-        }
-        match made? {
-            Ok(rule) => look.see("rule", is_rule(&rule, facts, facts.id)),
-            Err(_) => look.see("refusal of a good pattern", false),
-        }
+        one_rule(alloc, facts, told)?;
     }
     Ok(())
 }
 
-pub fn start_state_new(alloc: Global, look: &mut Look) -> Result<(), AllocError> {
+fn one_rule(alloc: Global, facts: &RuleFacts, told: &mut u32) -> Result<(), Fault> {
     for _ in 0..TRIES {
-        match StartState::new(alloc, 3, "AB", true, Span::new(2, 4)) {
-            Ok(state) => {
-                look.see("state", is_state(&state, 3, &("AB", true, (2, 4))));
-                return Ok(());
+        match rule_of(alloc, facts) {
+            Ok(Ok(rule)) => {
+                expect("rule", is_rule(&rule, facts))?;
+                return expect("id", rule.tok_id() == facts.id);
             }
-            Err(_) => look.refused(),
+            Ok(Err(_)) => return Err(Fault::Wrong("refusal of a good pattern")),
+            Err(_) => count(told),
         }
     }
-    Err(AllocError)
+    Err(Fault::Memory)
+}
+
+pub fn start_state_new(alloc: Global, told: &mut u32) -> Result<(), Fault> {
+    for _ in 0..TRIES {
+        match StartState::new(alloc, 3, "AB", true, Span::new(2, 4)) {
+            Ok(state) => return expect("state", is_state(&state, 3, ("AB", true, (2, 4)))),
+            Err(_) => count(told),
+        }
+    }
+    Err(Fault::Memory)
 }

@@ -22,6 +22,7 @@ pub const RULES: &str = r#"%x TEXT
 [^a-z0-9"]+ ;"#;
 
 /// A rule. The place of its name is that in `RULES`.
+#[derive(Clone, Copy)]
 pub struct RuleFacts {
     pub id: Option<u32>,
     pub name: Option<&'static str>,
@@ -32,7 +33,7 @@ pub struct RuleFacts {
 }
 
 /// The rules of `RULES`.
-pub static RULE_FACTS: [RuleFacts; 7] = [
+pub const RULE_FACTS: [RuleFacts; 7] = [
     RuleFacts {
         id: Some(0),
         name: Some("NAME"),
@@ -92,7 +93,7 @@ pub static RULE_FACTS: [RuleFacts; 7] = [
 ];
 
 /// The ids of the rules of `RULES`.
-pub static IDS: [Option<u32>; 7] = [
+pub const IDS: [Option<u32>; 7] = [
     Some(0),
     Some(1),
     Some(2),
@@ -103,12 +104,13 @@ pub static IDS: [Option<u32>; 7] = [
 ];
 
 /// The start states of `RULES`: name, whether exclusive, and the place of the name.
-pub static STATE_FACTS: [(&str, bool, (usize, usize)); 2] = [
+pub const STATE_FACTS: [(&str, bool, (usize, usize)); 2] = [
     ("INITIAL", false, (0, 0)),
     ("TEXT", true, (3, 7)),
 ];
 
 /// A text, and what lexing it by `RULES` gives.
+#[derive(Clone, Copy)]
 pub struct Lexed {
     pub text: &'static str,
     /// Each lexeme: its id, and where it starts and ends.
@@ -123,7 +125,7 @@ pub struct Lexed {
     pub lines: &'static str,
 }
 
-pub static OLD: Lexed = Lexed {
+pub const OLD: Lexed = Lexed {
     text: "ab 12 \"x y\" 34\n",
     items: &[(0, 0, 2), (2, 3, 5), (4, 7, 10), (1, 12, 14)],
     tiles: &[
@@ -146,7 +148,7 @@ pub static OLD: Lexed = Lexed {
 /// What stands at bytes 3..5 of the old text gives way to this.
 pub const PUT: &str = "cd\n5";
 
-pub static NEW: Lexed = Lexed {
+pub const NEW: Lexed = Lexed {
     text: "ab cd\n5 \"x y\" 34\n",
     items: &[(0, 0, 2), (0, 3, 5), (2, 6, 7), (4, 9, 12), (1, 14, 16)],
     tiles: &[
@@ -172,7 +174,7 @@ pub static NEW: Lexed = Lexed {
 pub const FAULTY: &str = "%s AA\n%s AA\n%%\na 'Y'\nb 'Y'\n( 'OPEN'\n";
 
 /// The faults of `FAULTY`: what is wrong, and where.
-pub static FAULTS: [(&str, &[(usize, usize)]); 3] = [
+pub const FAULTS: [(&str, &[(usize, usize)]); 3] = [
     ("Start state already exists", &[(3, 5), (9, 11)]),
     ("Rule name already exists", &[(18, 19), (24, 25)]),
     ("Invalid regular expression", &[(27, 27)]),
@@ -183,14 +185,13 @@ pub const REPORT: &str =
     "1:4: Start state already exists, again at 2:4\n4:4: Rule name already exists, again at 5:4\n6:1: Invalid regular expression\n";
 
 /// Whether a span is from the one byte to the other.
-fn is_span(span: Span, want: (usize, usize)) -> bool {
+pub fn is_span(span: Span, want: (usize, usize)) -> bool {
     (span.start(), span.end()) == want
 }
 
-/// Whether the rule is this one, with this id.
-pub fn is_rule(rule: &Rule<u32>, want: &RuleFacts, id: Option<u32>) -> bool {
-    rule.tok_id() == id
-        && rule.name() == want.name
+/// Whether the rule is this one, its id apart.
+pub fn is_rule(rule: &Rule<u32>, want: &RuleFacts) -> bool {
+    rule.name() == want.name
         && is_span(rule.name_span(), want.name_span)
         && rule.re_str() == want.pattern
         && rule.start_states() == want.start_states
@@ -198,22 +199,23 @@ pub fn is_rule(rule: &Rule<u32>, want: &RuleFacts, id: Option<u32>) -> bool {
 }
 
 /// Whether the rules are those of `RULES`, with these ids.
-pub fn are_rules(rules: &[Rule<u32>], ids: &[Option<u32>; 7]) -> bool {
-    for (rule, (want, id)) in rules.iter().zip(RULE_FACTS.iter().zip(ids.iter())) {
-        if !is_rule(rule, want, *id) {
+pub fn are_rules(rules: &[Rule<u32>], ids: &[Option<u32>]) -> bool {
+    let alike = rules.iter().zip(RULE_FACTS.iter()).zip(ids.iter());
+    for ((rule, want), id) in alike {
+        if !is_rule(rule, want) || rule.tok_id() != *id {
             return false;
         }
     }
-    rules.len() == RULE_FACTS.len()
+    rules.len() == RULE_FACTS.len() && rules.len() == ids.len()
 }
 
 /// Whether the start state is this one.
-pub fn is_state(state: &StartState, id: usize, want: &(&str, bool, (usize, usize))) -> bool {
+pub fn is_state(state: &StartState, id: usize, want: (&str, bool, (usize, usize))) -> bool {
     let (name, exclusive, span) = want;
     state.id() == id
-        && state.name() == *name
-        && state.exclusive() == *exclusive
-        && is_span(state.name_span(), *span)
+        && state.name() == name
+        && state.exclusive() == exclusive
+        && is_span(state.name_span(), span)
 }
 
 /// Whether the item is this lexeme.
@@ -234,33 +236,41 @@ pub fn are_items(items: &[Item], wants: &[(u32, usize, usize)]) -> bool {
     items.len() == wants.len()
 }
 
+/// Whether the piece is this tile.
+fn is_piece(piece: &Piece<'_, '_>, text: &str, want: (usize, usize, usize)) -> bool {
+    let (rule, start, end) = want;
+    let name = RULE_FACTS.get(rule).and_then(|facts| facts.name);
+    piece.rule == rule
+        && piece.name == name
+        && is_span(piece.span, (start, end))
+        && text.get(start..end) == Some(piece.text)
+}
+
 /// Whether the pieces are the tiles.
 pub fn are_pieces(pieces: &[Piece<'_, '_>], want: &Lexed) -> bool {
-    for (piece, (rule, start, end)) in pieces.iter().zip(want.tiles.iter()) {
-        let name = match RULE_FACTS.get(*rule) {
-            Some(facts) => facts.name,
-            None => None,
-        };
-        if piece.rule != *rule
-            || piece.name != name
-            || !is_span(piece.span, (*start, *end))
-            || want.text.get(*start..*end) != Some(piece.text)
-        {
+    for (piece, tile) in pieces.iter().zip(want.tiles.iter()) {
+        if !is_piece(piece, want.text, *tile) {
             return false;
         }
     }
     pieces.len() == want.tiles.len()
 }
 
+/// Whether the fault is this one.
+fn is_fault(fault: &LexBuildError, want: (&str, &[(usize, usize)])) -> bool {
+    let (message, spans) = want;
+    for (span, place) in fault.spans().iter().zip(spans.iter()) {
+        if !is_span(*span, *place) {
+            return false;
+        }
+    }
+    fault.kind().message() == message && fault.spans().len() == spans.len()
+}
+
 /// Whether the faults are those of `FAULTY`.
 pub fn are_faults(faults: &[LexBuildError]) -> bool {
-    for (fault, (message, places)) in faults.iter().zip(FAULTS.iter()) {
-        for (span, place) in fault.spans().iter().zip(places.iter()) {
-            if !is_span(*span, *place) {
-                return false;
-            }
-        }
-        if fault.kind().message() != *message || fault.spans().len() != places.len() {
+    for (fault, want) in faults.iter().zip(FAULTS.iter()) {
+        if !is_fault(fault, *want) {
             return false;
         }
     }

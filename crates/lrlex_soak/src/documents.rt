@@ -1,10 +1,10 @@
-//! A document after each of its edits, and a run lexed again, are what lexing the text anew gives, and take no more than that.
+//! A document after each of its edits is what lexing its text anew gives.
 use crate::edits::Step;
-use crate::facts::{Definition, Facts, cuts_of, facts_of, facts_of_run, items_of, joined};
+use crate::facts::{Counts, Definition, Facts, cuts_of, facts_of, items_of, joined};
 use crate::places::{Place, counted};
 use crate::record::{Record, add};
+use crate::relexing::{compare_facts, compare_run, relexed};
 use lrlex::{DefaultLexerTypes, Document, EditError};
-use lrlex_base::{Edit, Span};
 use std::alloc::{AllocError, Global};
 
 type Edited<'d> = Document<'d, DefaultLexerTypes<u32>>;
@@ -15,10 +15,33 @@ struct Shown<'d> {
     /// Whether the edit was made.
     made: bool,
     text: String,
-    /// All that lexing gave, but for the boundaries, which a document doesn't tell.
     facts: Facts<'d>,
     /// The places before the bytes that the edit names.
     places: [Place; 3],
+}
+
+/// The place before a byte, as the document tells it.
+fn place_of(document: &Edited<'_>, byte: usize) -> Place {
+    Place {
+        place: document.place(byte),
+        position: document.position(byte),
+    }
+}
+
+/// All that lexing gave, but for the boundaries.
+fn facts_shown<'d>(alloc: Global, document: &Edited<'d>) -> Result<Facts<'d>, AllocError> {
+    let pieces = document.pieces(alloc)?;
+    Ok(Facts {
+        items: items_of(alloc, document.items())?,
+        boundaries: Vec::new(alloc),
+        pieces: cuts_of(alloc, document.text(), pieces.as_slice())?,
+        joined: joined(alloc, pieces.as_slice())?,
+        counts: Counts {
+            tiles: document.tiles(),
+            asked: document.asked(),
+            lexed: document.lexed(),
+        },
+    })
 }
 
 /// What the document shows.
@@ -29,28 +52,25 @@ fn show<'d>(
     bytes: [usize; 3],
 ) -> Result<Shown<'d>, AllocError> {
     let [first, second, third] = bytes;
-    let places = [
-        (document.place(first), document.position(first)),
-        (document.place(second), document.position(second)),
-        (document.place(third), document.position(third)),
-    ];
-    let pieces = document.pieces(alloc)?;
-    let facts = Facts {
-        items: items_of(alloc, document.items())?,
-        boundaries: Vec::new(alloc),
-        pieces: cuts_of(alloc, document.text(), pieces.as_slice())?,
-        joined: joined(alloc, pieces.as_slice())?,
-        tiles: document.tiles(),
-        asked: document.asked(),
-        lexed: document.lexed(),
-    };
-    let text = String::from_str(alloc, document.text())?;
     Ok(Shown {
         made,
-        text,
-        facts,
-        places,
+        text: String::from_str(alloc, document.text())?,
+        facts: facts_shown(alloc, document)?,
+        places: [
+            place_of(document, first),
+            place_of(document, second),
+            place_of(document, third),
+        ],
     })
+}
+
+/// Makes the edit. Whether it fits.
+fn is_made(alloc: Global, document: &mut Edited<'_>, step: &Step) -> Result<bool, AllocError> {
+    match document.edit(alloc, step.from, step.to, step.put.as_str()) {
+        Ok(()) => Ok(true),
+        Err(EditError::DoesNotFit) => Ok(false),
+        Err(EditError::OutOfMemory) => Err(AllocError),
+    }
 }
 
 /// What a document shows at first and after each of these edits.
@@ -64,104 +84,94 @@ fn all_shown<'d>(
     let mut all = Vec::new(alloc);
     all.push(show(alloc, &document, true, [0, 0, 0])?)?;
     for step in steps {
-        let made = match document.edit(alloc, step.from, step.to, step.put.as_str()) {
-            Ok(()) => true,
-            Err(EditError::DoesNotFit) => false,
-            Err(EditError::OutOfMemory) => return Err(AllocError),
-        };
+        let made = is_made(alloc, &mut document, step)?;
         all.push(show(alloc, &document, made, step.bytes)?)?;
     }
     Ok(all)
 }
 
-/// What the runs after each edit that fits answer. It stops at one that doesn't make its text.
-fn relexed<'d>(
+/// Compares the places that the document tells with those that are counted by hand.
+fn compare_places(
     alloc: Global,
-    definition: &'d Definition,
-    text: &str,
-    steps: &[Step],
-) -> Result<Vec<Facts<'d>>, AllocError> {
-    let mut run = definition.run(alloc, text)?;
-    let mut facts = Vec::new(alloc);
-    for step in steps {
-        if step.fits {
-            let edit = Edit {
-                removed: Span::new(step.from, step.to.max(step.from)),
-                put: step.put.as_str(),
-            };
-            let new = step.after.as_str();
-            if !edit.gives(run.text(), new) {
-                return Ok(facts);
-            }
-            run = run.relex(alloc, &edit, new)?;
-            facts.push(facts_of_run(alloc, &run)?)?;
-        }
-    }
-    Ok(facts)
-}
-
-/// Compares items and pieces.
-fn compare_facts(anew: &Facts<'_>, got: &Facts<'_>, record: &mut Record) {
-    let (items, pieces) = (anew.items.as_slice(), anew.pieces.as_slice());
-    record.same("items after an edit", items, got.items.as_slice());
-    record.same("pieces after an edit", pieces, got.pieces.as_slice());
-    let texts = [anew.joined.as_str()];
-    record.same("texts after an edit", &texts, &[got.joined.as_str()]);
-}
-
-/// Compares a document after an edit with the run of its text, and the places that it tells with those that are counted by hand.
-fn compare_shown(step: &Step, anew: &Facts<'_>, got: &Shown<'_>, record: &mut Record) {
-    let text = step.after.as_str();
-    record.same("whether an edit fits", &[step.fits], &[got.made]);
-    record.same("text after an edit", &[text], &[got.text.as_str()]);
-    compare_facts(anew, &got.facts, record);
-    record.same("tiles of a document", &[anew.tiles], &[got.facts.tiles]);
+    step: &Step,
+    places: &[Place],
+    record: &mut Record,
+) -> Result<(), AllocError> {
     let [first, second, third] = step.bytes;
+    let text = step.after.as_str();
     let expected = [
         counted(text, first),
         counted(text, second),
         counted(text, third),
     ];
     add(&mut record.tally.counted, expected.len());
-    record.same("places after an edit", &expected, &got.places);
+    record.same(alloc, "places after an edit", &expected, places)
+}
+
+/// Compares a document after an edit with the run of its text.
+fn compare_shown(
+    alloc: Global,
+    step: &Step,
+    anew: &Facts<'_>,
+    got: &Shown<'_>,
+    record: &mut Record,
+) -> Result<(), AllocError> {
+    record.same(alloc, "whether an edit fits", &[step.fits], &[got.made])?;
+    record.same(
+        alloc,
+        "text after an edit",
+        &[step.after.as_str()],
+        &[got.text.as_str()],
+    )?;
+    compare_facts(alloc, anew, &got.facts, record)?;
+    let tiles = got.facts.counts.tiles;
+    record.same(alloc, "tiles of a document", &[anew.counts.tiles], &[tiles])?;
+    compare_places(alloc, step, &got.places, record)
 }
 
 /// Compares a document that an edit doesn't fit with what it was before.
-fn compare_unfit(before: &Facts<'_>, got: &Facts<'_>, record: &mut Record) {
+fn compare_unfit(
+    alloc: Global,
+    before: &Shown<'_>,
+    got: &Shown<'_>,
+    record: &mut Record,
+) -> Result<(), AllocError> {
     add(&mut record.tally.unfit, 1);
-    compare_facts(before, got, record);
-    let counts = [(before.tiles, before.asked, before.lexed)];
-    let after = [(got.tiles, got.asked, got.lexed)];
-    record.same("counts after no edit", &counts, &after);
+    compare_facts(alloc, &before.facts, &got.facts, record)?;
+    record.same(
+        alloc,
+        "counts after no edit",
+        &[before.facts.counts],
+        &[got.facts.counts],
+    )
+}
+
+/// Counts an edit.
+fn count(counts: Counts, record: &mut Record) {
+    add(&mut record.tally.edits, 1);
+    add(&mut record.tally.tiles_after, counts.tiles);
+    add(&mut record.tally.tiles_anew, counts.lexed);
 }
 
 /// Compares a document and a run after an edit that fits with the run of the new text.
 fn compare_fit(
+    alloc: Global,
     anew: &Facts<'_>,
-    got: &Facts<'_>,
+    got: &Shown<'_>,
     relexed: Option<&Facts<'_>>,
     record: &mut Record,
-) {
-    add(&mut record.tally.edits, 1);
-    add(&mut record.tally.tiles_after, got.tiles);
-    add(&mut record.tally.tiles_anew, got.lexed);
-    let Some(run) = relexed else {
-        record.law("an edit makes its text", false);
-        return;
+) -> Result<(), AllocError> {
+    count(got.facts.counts, record);
+    let Some(relexed) = relexed else {
+        return record.law(alloc, "an edit makes its text", false);
     };
-    let counts = [(run.tiles, run.asked, run.lexed)];
-    let after = [(got.tiles, got.asked, got.lexed)];
-    record.same("counts of a document", &counts, &after);
-    compare_facts(anew, run, record);
-    let boundaries = anew.boundaries.as_slice();
     record.same(
-        "boundaries after an edit",
-        boundaries,
-        run.boundaries.as_slice(),
-    );
-    let few = run.asked <= anew.asked && run.lexed <= anew.lexed;
-    record.law("no more searches and tiles than anew", few);
-    record.same("tiles after an edit", &[anew.tiles], &[run.tiles]);
+        alloc,
+        "counts of a document",
+        &[relexed.counts],
+        &[got.facts.counts],
+    )?;
+    compare_run(alloc, anew, relexed, record)
 }
 
 /// Takes a document and a run through these edits of the text, and compares them after each with the run of the new text.
@@ -179,11 +189,11 @@ pub fn compare_edits(
     for (number, (step, got)) in steps.iter().zip(all.iter().skip(1)).enumerate() {
         record.at = number;
         let anew = facts_of(alloc, definition, step.after.as_str())?;
-        compare_shown(step, &anew, got, record);
+        compare_shown(alloc, step, &anew, got, record)?;
         if step.fits {
-            compare_fit(&anew, &got.facts, runs.next(), record);
+            compare_fit(alloc, &anew, got, runs.next(), record)?;
         } else if let Some(before) = before {
-            compare_unfit(&before.facts, &got.facts, record);
+            compare_unfit(alloc, before, got, record)?;
         }
         before = Some(got);
     }

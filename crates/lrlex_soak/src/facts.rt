@@ -36,6 +36,14 @@ pub struct Cut<'d> {
     pub has_its_text: bool,
 }
 
+/// Tiles, searches, and tiles that were cut anew.
+#[derive(Clone, Copy, PartialEq, Eq, Debug)]
+pub struct Counts {
+    pub tiles: usize,
+    pub asked: u128,
+    pub lexed: usize,
+}
+
 /// All that lexing a text answers.
 #[derive(Drop)]
 pub struct Facts<'d> {
@@ -45,10 +53,7 @@ pub struct Facts<'d> {
     pub pieces: Vec<Cut<'d>>,
     /// The texts of the pieces.
     pub joined: String,
-    /// Tiles, searches, and tiles that were cut anew.
-    pub tiles: usize,
-    pub asked: u128,
-    pub lexed: usize,
+    pub counts: Counts,
 }
 
 /// The fact that an item is.
@@ -60,10 +65,7 @@ pub fn fact_of(item: &Item) -> Fact {
         }
         Err(error) => {
             let span = error.span();
-            let state = match error.lexing_state() {
-                Some(state) => Some(state.id()),
-                None => None,
-            };
+            let state = error.lexing_state().map(|state| state.id());
             Fact::Fault(span.start(), span.end(), state)
         }
     }
@@ -108,14 +110,24 @@ pub fn joined(alloc: Global, pieces: &[Piece<'_, '_>]) -> Result<String, AllocEr
     Ok(text)
 }
 
+/// Adds a boundary: its place and its stack.
+fn push_boundary(
+    facts: &mut Vec<Fact>,
+    place: usize,
+    stack: &[(usize, usize)],
+) -> Result<(), AllocError> {
+    facts.push(Fact::Boundary(place))?;
+    for (count, state) in stack {
+        facts.push(Fact::States(*count, *state))?;
+    }
+    Ok(())
+}
+
 /// The boundaries of a run.
 fn boundaries_of(alloc: Global, run: &Run<'_, '_>) -> Result<Vec<Fact>, AllocError> {
     let mut facts = Vec::new(alloc);
     for index in 0..run.boundaries() {
-        facts.push(Fact::Boundary(run.place(index)))?;
-        for (count, state) in run.stack(index) {
-            facts.push(Fact::States(*count, *state))?;
-        }
+        push_boundary(&mut facts, run.place(index), run.stack(index))?;
     }
     Ok(facts)
 }
@@ -128,9 +140,11 @@ pub fn facts_of_run<'d>(alloc: Global, run: &Run<'d, '_>) -> Result<Facts<'d>, A
         boundaries: boundaries_of(alloc, run)?,
         pieces: cuts_of(alloc, run.text(), pieces.as_slice())?,
         joined: joined(alloc, pieces.as_slice())?,
-        tiles: run.tiles(),
-        asked: run.asked(),
-        lexed: run.lexed(),
+        counts: Counts {
+            tiles: run.tiles(),
+            asked: run.asked(),
+            lexed: run.lexed(),
+        },
     })
 }
 

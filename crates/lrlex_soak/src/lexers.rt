@@ -1,16 +1,54 @@
 //! A lexer has the items of a run, and tells their texts and their places.
-use crate::facts::{Definition, Fact, fact_of};
+use crate::facts::{Definition, Fact, Facts, Item, fact_of};
 use crate::places::{Place, counted};
 use crate::record::{Record, add};
-use lrlex_base::{LexError, Lexeme, Lexer, NonStreamingLexer};
+use lrlex::{DefaultLexerTypes, LRNonStreamingLexer};
+use lrlex_base::{LexError, Lexeme, Lexer, NonStreamingLexer, Span};
 use std::alloc::{AllocError, Global};
+
+type LexerOf<'lexer, 'input> = LRNonStreamingLexer<'lexer, 'input, DefaultLexerTypes<u32>>;
 
 /// Line and column.
 type At = (usize, usize);
 
-/// What the lexer tells of one of its items: its text, both ends by `line_col`, none where its span doesn't fit, and the places
-/// of its start and its end.
-type Told<'t> = (Fact, &'t str, Option<(At, At)>, Place, Place);
+/// What a lexer tells of one of its items.
+#[derive(Clone, Copy, PartialEq, Eq, Debug)]
+struct Told<'t> {
+    item: Fact,
+    text: &'t str,
+    /// Both ends by `line_col`; none where the item's span doesn't fit.
+    ends: Option<(At, At)>,
+    start: Place,
+    end: Place,
+}
+
+/// The place before a byte, as the lexer tells it.
+fn place_of(lexer: &LexerOf<'_, '_>, byte: usize) -> Place {
+    Place {
+        place: lexer.place(byte),
+        position: lexer.position(byte),
+    }
+}
+
+/// The span of an item.
+fn span_of(item: &Item) -> Span {
+    match item {
+        Ok(lexeme) => lexeme.span(),
+        Err(error) => error.span(),
+    }
+}
+
+/// What the lexer tells of an item, whose ends are at these lines and columns by `line_col`.
+fn told_of<'t>(lexer: &LexerOf<'_, 't>, item: &Item, ends: Option<(At, At)>) -> Told<'t> {
+    let span = span_of(item);
+    Told {
+        item: fact_of(item),
+        text: lexer.text_of(span),
+        ends,
+        start: place_of(lexer, span.start()),
+        end: place_of(lexer, span.end()),
+    }
+}
 
 /// What the lexer of the text tells.
 fn all_told<'t>(
@@ -21,19 +59,13 @@ fn all_told<'t>(
     let lexer = definition.lexer(alloc, text)?;
     let mut told = Vec::new(alloc);
     for item in lexer.iter() {
-        let span = match &item {
-            Ok(lexeme) => lexeme.span(),
-            Err(error) => error.span(),
-        };
+        let span = span_of(&item);
         let ends = if span.fits(text) {
             Some(lexer.line_col(span))
         } else {
             None
         };
-        let (start, end) = (span.start(), span.end());
-        let start = (lexer.place(start), lexer.position(start));
-        let end = (lexer.place(end), lexer.position(end));
-        told.push((fact_of(&item), lexer.text_of(span), ends, start, end))?;
+        told.push(told_of(&lexer, &item, ends))?;
     }
     Ok(told)
 }
@@ -46,24 +78,33 @@ fn expected_of<'t>(text: &'t str, item: Fact) -> Told<'t> {
         Fact::States(_, _) => (0, 0),
     };
     let (from, to) = (counted(text, start), counted(text, end));
-    let shown = text.get(start..end).unwrap_or("");
-    (item, shown, Some((from.0, to.0)), from, to)
+    Told {
+        item,
+        text: text.get(start..end).unwrap_or(""),
+        ends: Some((from.place, to.place)),
+        start: from,
+        end: to,
+    }
 }
 
-/// Compares what the lexer of the text tells with these items of a run, counting lines and columns by hand.
+/// Compares what the lexer of the text tells with what a run answered, counting lines and columns by hand.
 pub fn compare_lexer(
     alloc: Global,
     definition: &Definition,
     text: &str,
-    items: &[Fact],
+    facts: &Facts<'_>,
     record: &mut Record,
 ) -> Result<(), AllocError> {
     let mut expected = Vec::new(alloc);
-    for item in items {
+    for item in &facts.items {
         expected.push(expected_of(text, *item))?;
     }
     let told = all_told(alloc, definition, text)?;
     add(&mut record.tally.counted, told.len());
-    record.same("items of a lexer", expected.as_slice(), told.as_slice());
-    Ok(())
+    record.same(
+        alloc,
+        "items of a lexer",
+        expected.as_slice(),
+        told.as_slice(),
+    )
 }

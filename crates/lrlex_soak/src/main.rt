@@ -6,6 +6,7 @@ mod chance;
 mod documents;
 mod edits;
 mod facts;
+mod faults;
 mod lexers;
 mod mapping;
 mod mistakes;
@@ -14,56 +15,57 @@ mod patterns;
 mod places;
 mod reading;
 mod record;
+mod relexing;
 mod rules;
 mod soak;
 mod texts;
 mod tiling;
 mod ways;
+mod winners;
 mod words;
 
+use crate::faults::Fault;
 use crate::record::tell;
 use crate::soak::soak;
-use crate::words::command;
+use crate::words::{Words, read};
+use std::alloc::{AllocError, Global};
 use std::process::ExitCode;
 use std::{env, io};
 
-/// How many cases make 10,000 edits of documents and some more.
-const CASES: u64 = 250;
+/// The words, copied.
+fn words_given(rt: &HostRuntime, alloc: Global) -> io::Result<Vec<String>> {
+    Ok(env::args(rt)?.collect(alloc)?)
+}
 
-/// Tries what the words ask for, and prints how much that was.
-fn served(rt: &HostRuntime) -> io::Result<ExitCode> {
-    let words: Vec<String> = env::args(rt)?.collect(rt.alloc())?;
-    let matches = match command(rt.alloc())?.try_get_matches_from(words.as_slice()) {
-        Ok(matches) => matches,
-        Err(told) => {
-            told.print(rt)?;
-            return Ok(ExitCode::from(if told.use_stderr() { 2 } else { 0 }));
-        }
-    };
-    let cases = matches.get_one::<u64>("cases").unwrap_or(CASES);
-    let seed = matches.get_one::<u64>("seed").unwrap_or(1);
-    let first = matches.get_one::<u64>("first").unwrap_or(0);
+/// The same words, borrowed.
+fn borrowed(alloc: Global, words: &[String]) -> Result<Vec<&str>, AllocError> {
+    words.iter().map(|word| word.as_str()).collect(alloc)
+}
+
+/// What the words say.
+fn asked_for(rt: &HostRuntime) -> Result<Words, Fault> {
+    let owned = words_given(rt, rt.alloc())?;
+    let words = borrowed(rt.alloc(), owned.as_slice())?;
+    read(rt.alloc(), words.as_slice())
+}
+
+/// Tries what the words ask for, and prints how much that was. Whether nothing differs.
+fn served(rt: &HostRuntime) -> Result<bool, Fault> {
+    let words = asked_for(rt)?;
+    let seed = words.seed;
     println!(rt; "seed: {seed}")?;
-    let tally = soak(rt, cases, seed, first)?;
-    tell(rt, &tally)?;
-    Ok(if tally.differ == 0 {
-        ExitCode::SUCCESS
-    } else {
-        ExitCode::FAILURE
-    })
+    let record = soak(rt, words)?;
+    tell(rt, &record.tally)?;
+    Ok(record.tally.differ == 0)
 }
 
 fn main(rt: HostRuntime) -> ExitCode {
     match served(&rt) {
-        Ok(status) => status,
+        Ok(true) => ExitCode::SUCCESS,
+        Ok(false) => ExitCode::FAILURE,
         Err(fault) => {
-            let what = if fault.kind() == io::ErrorKind::OutOfMemory {
-                "Out of memory"
-            } else {
-                "Standard output failed, or the words can't be read"
-            };
             // There is nowhere to tell of a fault of standard error.
-            let _ = eprintln!(rt; "{what}");
+            let _ = eprintln!(rt; "{fault}");
             ExitCode::FAILURE
         }
     }

@@ -2,9 +2,9 @@
 use crate::chance::Chance;
 use crate::facts::{Definition, Fact, Facts, facts_of};
 use crate::naming::{Called, has_name, names_in, names_of};
-use crate::reading::read;
 use crate::record::{Record, add};
 use crate::rules::RuleText;
+use crate::ways::asking_definition;
 use lrlex::LexerDef;
 use std::alloc::{AllocError, Global};
 use std::collections::HashMap;
@@ -71,10 +71,9 @@ fn sets_expected(
     }
     let mut unused = Vec::new(alloc);
     for rule in rules {
-        if let Some(name) = rule.name {
-            if id_for(ids, name).is_none() {
-                unused.push(name)?;
-            }
+        match rule.name {
+            Some(name) if id_for(ids, name).is_none() => unused.push(name)?,
+            _ => {}
         }
     }
     add(&mut record.tally.lacking, lacking.len());
@@ -83,16 +82,22 @@ fn sets_expected(
     format!(in alloc; "{lacking:?} {unused:?}")
 }
 
+/// The map.
+fn map_of<'n>(alloc: Global, ids: &[(&'n str, u32)]) -> Result<HashMap<&'n str, u32>, AllocError> {
+    let mut map = HashMap::new(alloc);
+    for (name, id) in ids {
+        map.insert(*name, *id)?;
+    }
+    Ok(map)
+}
+
 /// Sets the ids of the map. What that tells, in order.
 fn set_ids(
     alloc: Global,
     definition: &mut Definition,
     ids: &[(&str, u32)],
 ) -> Result<String, AllocError> {
-    let mut map = HashMap::new(alloc);
-    for (name, id) in ids {
-        map.insert(*name, *id)?;
-    }
+    let map = map_of(alloc, ids)?;
     let (lacking, unused) = definition.set_rule_ids(alloc, &map)?;
     let mut names = Vec::new(alloc);
     if let Some(lacking) = &lacking {
@@ -132,7 +137,18 @@ fn items_expected(
     Ok(items)
 }
 
-/// What the lexemes of these items must be called: each as the first rule that has its id by the map.
+/// The name of the first rule that has this id by the map.
+fn first_named<'n>(rules: &[Called<'n>], ids: &[(&str, u32)], id: u32) -> Option<&'n str> {
+    for rule in rules {
+        match rule.name {
+            Some(name) if id_for(ids, name) == Some(id) => return Some(name),
+            _ => {}
+        }
+    }
+    None
+}
+
+/// What the lexemes of these items must be called.
 fn names_expected<'n>(
     alloc: Global,
     rules: &[Called<'n>],
@@ -142,18 +158,39 @@ fn names_expected<'n>(
     let mut names = Vec::new(alloc);
     for item in items {
         if let Fact::Lexeme(id, _, _) = item {
-            let mut first = None;
-            for rule in rules.iter().rev() {
-                if let Some(name) = rule.name {
-                    if id_for(ids, name) == Some(u32::try_from(*id).unwrap_or(u32::MAX)) {
-                        first = Some(name);
-                    }
-                }
-            }
-            names.push(first)?;
+            let id = u32::try_from(*id).unwrap_or(u32::MAX);
+            names.push(first_named(rules, ids, id))?;
         }
     }
     Ok(names)
+}
+
+/// Compares what lexing the text gives once the ids are the map's with what follows from the run before.
+fn compare_mapped(
+    alloc: Global,
+    changed: &Definition,
+    rules: &[Called<'_>],
+    ids: &[(&str, u32)],
+    text: &str,
+    before: &Facts<'_>,
+    record: &mut Record,
+) -> Result<(), AllocError> {
+    let items = items_expected(alloc, before, ids)?;
+    let after = facts_of(alloc, changed, text)?;
+    record.same(
+        alloc,
+        "items by a map",
+        items.as_slice(),
+        after.items.as_slice(),
+    )?;
+    let expected = names_expected(alloc, rules, ids, items.as_slice())?;
+    let names = names_of(alloc, changed, items.as_slice())?;
+    record.same(
+        alloc,
+        "names by a map",
+        expected.as_slice(),
+        names.as_slice(),
+    )
 }
 
 /// Sets token ids by chance, and compares what comes of that. `before` is the run of the text by the definition as read.
@@ -166,27 +203,27 @@ pub fn compare_mapping(
     before: &Facts<'_>,
     record: &mut Record,
 ) -> Result<(), AllocError> {
-    let Ok(mut changed) = read(alloc, rules)? else {
-        record.law("the same rule text is accepted again", false);
-        return Ok(());
+    let Some(mut changed) = asking_definition(alloc, rules)? else {
+        return record.law(alloc, "the same rule text is accepted again", false);
     };
     let called = names_in(alloc, original)?;
-    let called = called.as_slice();
-    let ids = ids_by_chance(alloc, chance, called)?;
-    let ids = ids.as_slice();
+    let ids = ids_by_chance(alloc, chance, called.as_slice())?;
     add(&mut record.tally.maps, 1);
-    let expected = sets_expected(alloc, called, ids, record)?;
-    let sets = set_ids(alloc, &mut changed, ids)?;
+    let expected = sets_expected(alloc, called.as_slice(), ids.as_slice(), record)?;
+    let sets = set_ids(alloc, &mut changed, ids.as_slice())?;
     record.same(
+        alloc,
         "names without a counterpart",
         &[expected.as_str()],
         &[sets.as_str()],
-    );
-    let items = items_expected(alloc, before, ids)?;
-    let after = facts_of(alloc, &changed, text)?;
-    record.same("items by a map", items.as_slice(), after.items.as_slice());
-    let expected = names_expected(alloc, called, ids, items.as_slice())?;
-    let names = names_of(alloc, &changed, items.as_slice())?;
-    record.same("names by a map", expected.as_slice(), names.as_slice());
-    Ok(())
+    )?;
+    compare_mapped(
+        alloc,
+        &changed,
+        called.as_slice(),
+        ids.as_slice(),
+        text,
+        before,
+        record,
+    )
 }

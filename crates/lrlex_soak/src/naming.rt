@@ -1,11 +1,11 @@
 //! The ids and the names of a definition that was read.
-use crate::facts::{Definition, Fact, Facts};
+use crate::facts::{Cut, Definition, Fact, Facts};
 use crate::record::Record;
 use lrlex::LexerDef;
 use std::alloc::{AllocError, Global};
 
 /// What a rule is called: its id, its name, and where that stands in the rule text.
-#[derive(Clone, Copy)]
+#[derive(Clone, Copy, PartialEq, Eq, Debug)]
 pub struct Called<'d> {
     pub id: Option<u32>,
     pub name: Option<&'d str>,
@@ -31,11 +31,53 @@ pub fn names_in(alloc: Global, definition: &Definition) -> Result<Vec<Called<'_>
 /// Whether one of the rules has the name.
 pub fn has_name(rules: &[Called<'_>], name: &str) -> bool {
     for rule in rules {
-        if rule.name == Some(name) {
-            return true;
+        match rule.name {
+            Some(own) if own == name => return true,
+            _ => {}
         }
     }
     false
+}
+
+/// Whether no rule has the name of one before it.
+fn are_distinct(rules: &[Called<'_>]) -> bool {
+    for (place, rule) in rules.iter().enumerate() {
+        let before = rules.get(..place).unwrap_or(&[]);
+        if rule.name.is_some_and(|name| has_name(before, name)) {
+            return false;
+        }
+    }
+    true
+}
+
+/// Whether each name stands where its rule says.
+fn are_placed(text: &str, rules: &[Called<'_>]) -> bool {
+    for rule in rules {
+        if let Some(name) = rule.name {
+            if text.get(rule.start..rule.end).unwrap_or("") != name {
+                return false;
+            }
+        }
+    }
+    true
+}
+
+/// The ids of rules whose ids are their places.
+fn places(alloc: Global, count: usize) -> Result<Vec<Option<u32>>, AllocError> {
+    let mut places = Vec::new(alloc);
+    for place in 0..count {
+        places.push(u32::try_from(place).ok())?;
+    }
+    Ok(places)
+}
+
+/// The ids of these rules.
+fn ids(alloc: Global, rules: &[Called<'_>]) -> Result<Vec<Option<u32>>, AllocError> {
+    let mut ids = Vec::new(alloc);
+    for rule in rules {
+        ids.push(rule.id)?;
+    }
+    Ok(ids)
 }
 
 /// Compares the ids of the rules that were read with their places, and their names with one another and with the text.
@@ -47,18 +89,15 @@ pub fn compare_rules(
 ) -> Result<(), AllocError> {
     let rules = names_in(alloc, definition)?;
     let rules = rules.as_slice();
-    let (mut are_places, mut are_distinct, mut are_placed) = (true, true, true);
-    for (place, rule) in rules.iter().enumerate() {
-        are_places &= rule.id == u32::try_from(place).ok();
-        if let Some(name) = rule.name {
-            are_distinct &= !has_name(rules.get(..place).unwrap_or(&[]), name);
-            are_placed &= text.get(rule.start..rule.end) == Some(name);
-        }
-    }
-    record.law("ids are places", are_places);
-    record.law("names are distinct", are_distinct);
-    record.law("names stand in the rule text", are_placed);
-    Ok(())
+    let places = places(alloc, rules.len())?;
+    let ids = ids(alloc, rules)?;
+    record.same(alloc, "ids are places", places.as_slice(), ids.as_slice())?;
+    record.law(alloc, "names are distinct", are_distinct(rules))?;
+    record.law(
+        alloc,
+        "names stand in the rule text",
+        are_placed(text, rules),
+    )
 }
 
 /// What the lexemes of these items are called.
@@ -76,6 +115,17 @@ pub fn names_of<'d>(
     Ok(names)
 }
 
+/// The names of the pieces that have one.
+fn names_given<'d>(alloc: Global, pieces: &[Cut<'d>]) -> Result<Vec<Option<&'d str>>, AllocError> {
+    let mut names = Vec::new(alloc);
+    for piece in pieces {
+        if piece.name.is_some() {
+            names.push(piece.name)?;
+        }
+    }
+    Ok(names)
+}
+
 /// Compares what the lexemes of a run are called by their ids with the names of its pieces.
 pub fn compare_names(
     alloc: Global,
@@ -83,13 +133,12 @@ pub fn compare_names(
     facts: &Facts<'_>,
     record: &mut Record,
 ) -> Result<(), AllocError> {
-    let mut given = Vec::new(alloc);
-    for piece in &facts.pieces {
-        if piece.name.is_some() {
-            given.push(piece.name)?;
-        }
-    }
+    let given = names_given(alloc, facts.pieces.as_slice())?;
     let names = names_of(alloc, definition, facts.items.as_slice())?;
-    record.same("names of lexemes", given.as_slice(), names.as_slice());
-    Ok(())
+    record.same(
+        alloc,
+        "names of lexemes",
+        given.as_slice(),
+        names.as_slice(),
+    )
 }

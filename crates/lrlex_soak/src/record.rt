@@ -1,4 +1,5 @@
 //! What was tried, counted, and what differs.
+use std::alloc::{AllocError, Global};
 use std::fmt::Debug;
 use std::io;
 
@@ -80,28 +81,67 @@ pub struct Record {
     pub tally: Tally,
     /// Which edit, or which byte, is being looked at.
     pub at: usize,
-    /// A line for each comparison that failed in this case.
-    pub differences: String,
+    /// A line for each comparison that failed since they were taken last.
+    differences: Vec<String>,
 }
 
 impl Record {
-    /// Compares what came with what must come.
-    pub fn same<T: PartialEq + Debug>(&mut self, law: &str, expected: &[T], got: &[T]) {
-        add(&mut self.tally.compared, 1);
-        if expected != got {
-            add(&mut self.tally.differ, 1);
-            let at = self.at;
-            // where there is no memory for the line, the count tells still
-            let _ = write!(
-                self.differences,
-                "{law} (at {at}): expected {expected:?}, got {got:?}\n"
-            );
+    /// Nothing yet.
+    pub fn new(alloc: Global) -> Record {
+        Record {
+            tally: Tally::NONE,
+            at: 0,
+            differences: Vec::new(alloc),
         }
     }
 
+    /// What differs.
+    pub fn differences(&self) -> &[String] {
+        self.differences.as_slice()
+    }
+
+    /// Forgets what differs, once that is told.
+    pub fn forget(&mut self) {
+        self.differences.clear();
+    }
+
+    /// Counts a comparison that came out well.
+    fn count(&mut self) {
+        add(&mut self.tally.compared, 1);
+    }
+
+    /// Counts a comparison that failed.
+    fn add(&mut self, difference: String) -> Result<(), AllocError> {
+        self.count();
+        add(&mut self.tally.differ, 1);
+        self.differences.push(difference)?;
+        Ok(())
+    }
+
+    /// Compares what came with what must come.
+    pub fn same<T: PartialEq + Debug>(
+        &mut self,
+        alloc: Global,
+        law: &str,
+        expected: &[T],
+        got: &[T],
+    ) -> Result<(), AllocError> {
+        if expected == got {
+            self.count();
+            return Ok(());
+        }
+        let at = self.at;
+        self.add(format!(in alloc; "{law} (at {at}): expected {expected:?}, got {got:?}")?)
+    }
+
     /// Takes down whether a law holds.
-    pub fn law(&mut self, law: &str, holds: bool) {
-        self.same(law, &[true], &[holds]);
+    pub fn law(&mut self, alloc: Global, law: &str, holds: bool) -> Result<(), AllocError> {
+        if holds {
+            self.count();
+            return Ok(());
+        }
+        let at = self.at;
+        self.add(format!(in alloc; "{law} (at {at})")?)
     }
 }
 

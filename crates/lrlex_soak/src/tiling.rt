@@ -23,8 +23,16 @@ fn follow(pieces: &[Cut<'_>]) -> bool {
     true
 }
 
+/// The state on top of the last boundary's stack.
+fn last_state(boundaries: &[Fact]) -> Option<usize> {
+    match boundaries.last() {
+        Some(Fact::States(_, state)) => Some(*state),
+        _ => None,
+    }
+}
+
 /// What the items must be: the lexemes of the named pieces, each with its rule's place as its id, and then an error where
-/// the pieces end before the text does, in the state on top of the last boundary's stack.
+/// the pieces end before the text does.
 fn items_expected(alloc: Global, text: &str, facts: &Facts<'_>) -> Result<Vec<Fact>, AllocError> {
     let mut items = Vec::new(alloc);
     for piece in &facts.pieces {
@@ -34,38 +42,67 @@ fn items_expected(alloc: Global, text: &str, facts: &Facts<'_>) -> Result<Vec<Fa
     }
     let end = end_of(facts.pieces.as_slice());
     if end < text.len() {
-        let state = match facts.boundaries.as_slice().last() {
-            Some(Fact::States(_, state)) => Some(*state),
-            _ => None,
-        };
-        items.push(Fact::Fault(end, end, state))?;
+        items.push(Fact::Fault(end, end, last_state(facts.boundaries.as_slice())))?;
     }
     Ok(items)
 }
 
-/// Whether boundaries stand at 0 and behind each piece, and nowhere else.
-fn compare_boundaries(
-    alloc: Global,
-    facts: &Facts<'_>,
-    record: &mut Record,
-) -> Result<(), AllocError> {
-    let mut expected = Vec::new(alloc);
-    expected.push(0)?;
-    for piece in &facts.pieces {
-        expected.push(piece.end)?;
-    }
+/// Where boundaries must stand: at 0 and behind each piece.
+fn places_expected(alloc: Global, pieces: &[Cut<'_>]) -> Result<Vec<usize>, AllocError> {
     let mut places = Vec::new(alloc);
-    for fact in &facts.boundaries {
+    places.push(0)?;
+    for piece in pieces {
+        places.push(piece.end)?;
+    }
+    Ok(places)
+}
+
+/// Where boundaries stand.
+fn places_of(alloc: Global, boundaries: &[Fact]) -> Result<Vec<usize>, AllocError> {
+    let mut places = Vec::new(alloc);
+    for fact in boundaries {
         if let Fact::Boundary(place) = fact {
             places.push(*place)?;
         }
     }
+    Ok(places)
+}
+
+/// Counts the run, and what it has.
+fn count(record: &mut Record, facts: &Facts<'_>) {
+    add(&mut record.tally.runs, 1);
+    add(&mut record.tally.tiles, facts.counts.tiles);
+    for item in &facts.items {
+        match item {
+            Fact::Lexeme(_, _, _) => add(&mut record.tally.lexemes, 1),
+            _ => add(&mut record.tally.errors, 1),
+        }
+    }
+}
+
+/// Compares the items and the boundaries of a run with its pieces.
+fn compare_items(
+    alloc: Global,
+    text: &str,
+    facts: &Facts<'_>,
+    record: &mut Record,
+) -> Result<(), AllocError> {
+    let pieces = facts.pieces.as_slice();
+    let items = items_expected(alloc, text, facts)?;
     record.same(
+        alloc,
+        "items by pieces",
+        items.as_slice(),
+        facts.items.as_slice(),
+    )?;
+    let expected = places_expected(alloc, pieces)?;
+    let places = places_of(alloc, facts.boundaries.as_slice())?;
+    record.same(
+        alloc,
         "boundaries by pieces",
         expected.as_slice(),
         places.as_slice(),
-    );
-    Ok(())
+    )
 }
 
 /// Compares what a run of the text by a definition that was read answers with itself: all follows from its pieces.
@@ -75,25 +112,17 @@ pub fn compare_tiling(
     facts: &Facts<'_>,
     record: &mut Record,
 ) -> Result<(), AllocError> {
-    add(&mut record.tally.runs, 1);
-    add(&mut record.tally.tiles, facts.tiles);
-    for item in &facts.items {
-        match item {
-            Fact::Lexeme(_, _, _) => add(&mut record.tally.lexemes, 1),
-            _ => add(&mut record.tally.errors, 1),
-        }
-    }
+    count(record, facts);
     let pieces = facts.pieces.as_slice();
     let front = text.get(..end_of(pieces)).unwrap_or("no front");
-    let count = pieces.len();
-    record.law("pieces follow one another", follow(pieces));
-    record.same("pieces joined", &[front], &[facts.joined.as_str()]);
+    record.law(alloc, "pieces follow one another", follow(pieces))?;
+    record.same(alloc, "pieces joined", &[front], &[facts.joined.as_str()])?;
+    compare_items(alloc, text, facts, record)?;
+    let counts = facts.counts;
     record.same(
+        alloc,
         "tiles and tiles cut",
-        &[count, count],
-        &[facts.tiles, facts.lexed],
-    );
-    let items = items_expected(alloc, text, facts)?;
-    record.same("items by pieces", items.as_slice(), facts.items.as_slice());
-    compare_boundaries(alloc, facts, record)
+        &[pieces.len(), pieces.len()],
+        &[counts.tiles, counts.lexed],
+    )
 }

@@ -1,9 +1,8 @@
 //! The definitions of one rule text that find winners in different ways.
-use crate::facts::{Definition, winners_of};
-use crate::reading::read;
+use crate::facts::{Definition, Fact, winners_of};
 use crate::record::{Record, add};
 use crate::rules::RuleText;
-use lrlex::{Budget, LexerDef};
+use lrlex::Budget;
 use std::alloc::{AllocError, Global};
 
 /// The definitions of one rule text that find winners in different ways.
@@ -13,51 +12,74 @@ pub struct Ways {
     pub asking: Definition,
     /// Goes by tables, as far as the usual budget goes.
     pub tabled: Definition,
-    /// Goes by tables, as far as a small budget goes, which it got once it was read.
+    /// Goes by tables, as far as a small budget goes.
     pub mixed: Definition,
 }
 
-/// All definitions of a rule text, or none where that is refused. Counts their rules and their tables.
-pub fn ways_of(
-    alloc: Global,
-    rules: &RuleText,
-    record: &mut Record,
-) -> Result<Option<Ways>, AllocError> {
-    let asking = read(alloc, rules)?;
-    let tabled = Definition::new_with_options(alloc, rules.text.as_str(), rules.flags)?;
-    let again = read(alloc, rules)?;
-    let (Ok(asking), Ok(tabled), Ok(again)) = (asking, tabled, again) else {
-        return Ok(None);
-    };
-    let mixed = again.with_budget(alloc, Budget::new(20, 1_000_000))?;
-    add(&mut record.tally.rules, tabled.rules().len());
-    add(&mut record.tally.tables, tabled.tables());
-    add(&mut record.tally.rows, tabled.table_rows());
-    add(&mut record.tally.untabled, tabled.asked_rules());
-    add(&mut record.tally.untabled_mixed, mixed.asked_rules());
-    Ok(Some(Ways {
-        asking,
-        tabled,
-        mixed,
-    }))
+/// What all of them answer on one text.
+#[derive(Drop)]
+pub struct Answers {
+    pub asking: Vec<Fact>,
+    pub tabled: Vec<Fact>,
+    pub mixed: Vec<Fact>,
 }
 
-/// Compares, at each place of a text, what wins by tables with what wins by asking each rule.
-pub fn compare_winners(
+/// The definition of a rule text with no tables, or none where that is refused.
+pub fn asking_definition(
     alloc: Global,
-    ways: &Ways,
-    text: &str,
-    record: &mut Record,
-) -> Result<(), AllocError> {
-    for (place, _) in text.char_indices() {
-        let rest = text.get(place..).unwrap_or("");
-        let asking = winners_of(alloc, &ways.asking, rest)?;
-        let tabled = winners_of(alloc, &ways.tabled, rest)?;
-        let mixed = winners_of(alloc, &ways.mixed, rest)?;
-        record.at = place;
-        add(&mut record.tally.places, 1);
-        record.same("by tables", asking.as_slice(), tabled.as_slice());
-        record.same("by few tables", asking.as_slice(), mixed.as_slice());
+    rules: &RuleText,
+) -> Result<Option<Definition>, AllocError> {
+    let nothing = Budget::new(0, 0);
+    let built = Definition::new_with_budget(alloc, rules.text.as_str(), rules.flags, nothing)?;
+    Ok(built.ok())
+}
+
+/// The definition of a rule text with its usual tables, or none where that is refused.
+fn tabled_definition(alloc: Global, rules: &RuleText) -> Result<Option<Definition>, AllocError> {
+    let built = Definition::new_with_options(alloc, rules.text.as_str(), rules.flags)?;
+    Ok(built.ok())
+}
+
+/// The definition of a rule text that gets few tables later, or none where that is refused.
+fn mixed_definition(alloc: Global, rules: &RuleText) -> Result<Option<Definition>, AllocError> {
+    match asking_definition(alloc, rules)? {
+        Some(definition) => {
+            let few = Budget::new(20, 1_000_000);
+            Ok(Some(definition.with_budget(alloc, few)?))
+        }
+        None => Ok(None),
     }
-    Ok(())
+}
+
+/// All definitions of a rule text, or none where that is refused.
+pub fn ways_of(alloc: Global, rules: &RuleText) -> Result<Option<Ways>, AllocError> {
+    let asking = asking_definition(alloc, rules)?;
+    let tabled = tabled_definition(alloc, rules)?;
+    let mixed = mixed_definition(alloc, rules)?;
+    match (asking, tabled, mixed) {
+        (Some(asking), Some(tabled), Some(mixed)) => Ok(Some(Ways {
+            asking,
+            tabled,
+            mixed,
+        })),
+        _ => Ok(None),
+    }
+}
+
+/// What all of them answer on the text.
+pub fn answers_on(alloc: Global, ways: &Ways, text: &str) -> Result<Answers, AllocError> {
+    Ok(Answers {
+        asking: winners_of(alloc, &ways.asking, text)?,
+        tabled: winners_of(alloc, &ways.tabled, text)?,
+        mixed: winners_of(alloc, &ways.mixed, text)?,
+    })
+}
+
+/// Counts the rules of the definitions and their tables.
+pub fn count_sizes(ways: &Ways, record: &mut Record) {
+    add(&mut record.tally.rules, ways.tabled.rules().len());
+    add(&mut record.tally.tables, ways.tabled.tables());
+    add(&mut record.tally.rows, ways.tabled.table_rows());
+    add(&mut record.tally.untabled, ways.tabled.asked_rules());
+    add(&mut record.tally.untabled_mixed, ways.mixed.asked_rules());
 }
