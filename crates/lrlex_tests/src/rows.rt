@@ -808,7 +808,7 @@ fn are_alike(rt: &impl Abort, got: &Told, want: &Told, counts: usize, row: &str)
     }
 }
 
-/// Tables of the usual size, of so many rows and of none.
+/// The most rows of tables: more than these rules need, few, and none.
 const BUDGETS: &[usize] = &[8_000, 20, 0];
 
 fn are_alike_by_all(
@@ -816,7 +816,7 @@ fn are_alike_by_all(
     alloc: Global,
     rules: &'static str,
     text: &str,
-    steps: &[Step<'_>],
+    steps: &[Step],
 ) {
     let asking = lexed_last(rt, alloc, Made::Within(rules, 0, 0), text, steps);
     assert!(rt; count_of(&asking, TABLES) == 0, "{rules:?}");
@@ -840,7 +840,7 @@ fn the_same_by_tables_and_by_asking(rt: HostRuntime) {
 }
 
 /// Each run is that of its text lexed anew, and asks no more.
-fn are_as_anew(rt: &impl Abort, alloc: Global, made: Made<'_>, text: &str, steps: &[Step<'_>]) {
+fn are_as_anew(rt: &impl Abort, alloc: Global, made: Made<'_>, text: &str, steps: &[Step]) {
     let again = lexed(rt, alloc, made, text, steps);
     for (step, got) in steps.iter().zip(again.as_slice().iter().skip(1)) {
         let anew = lexed_last(rt, alloc, made, step.text.as_str(), &[]);

@@ -247,68 +247,77 @@ pub fn edit_of(change: Change<'_>) -> Edit<'_> {
 
 /// A change, and the text that it makes.
 #[derive(Drop)]
-pub struct Step<'c> {
-    change: Change<'c>,
+pub struct Step {
+    from: usize,
+    to: usize,
+    put: String,
     pub text: String,
 }
 
+fn step_of(rt: &impl Abort, alloc: Global, change: Change<'_>, before: &str) -> Step {
+    let (from, to, put) = change;
+    let edit = edit_of(change);
+    if !edit.fits(before) {
+        panic!(rt; "the edit doesn't fit {before:?}");
+    }
+    let text = edit.apply(alloc, before).expect(rt, "memory");
+    Step {
+        from,
+        to,
+        put: owned(rt, alloc, put),
+        text,
+    }
+}
+
 /// The changes one after another, the first of this text, and all of them so many times.
-pub fn steps_of<'c>(
+pub fn steps_of(
     rt: &impl Abort,
     alloc: Global,
     text: &str,
-    changes: &[Change<'c>],
+    changes: &[Change<'_>],
     times: usize,
-) -> Vec<Step<'c>> {
-    let mut steps: Vec<Step<'c>> = Vec::new(alloc);
+) -> Vec<Step> {
+    let mut steps: Vec<Step> = Vec::new(alloc);
     for _ in 0..times {
         for change in changes {
             let before = match steps.last() {
                 Some(step) => step.text.as_str(),
                 None => text,
             };
-            let text = edited(rt, alloc, *change, before);
-            steps
-                .push(Step {
-                    change: *change,
-                    text,
-                })
-                .expect(rt, "memory");
+            let next = step_of(rt, alloc, *change, before);
+            steps.push(next).expect(rt, "memory");
         }
     }
     steps
 }
 
-/// The text that the change makes.
-fn edited(rt: &impl Abort, alloc: Global, change: Change<'_>, old: &str) -> String {
-    let edit = edit_of(change);
-    if !edit.fits(old) {
-        panic!(rt; "the edit doesn't fit {old:?}");
+fn edits_of<'s>(rt: &impl Abort, alloc: Global, steps: &'s [Step]) -> Vec<(Edit<'s>, &'s str)> {
+    let mut edits = Vec::new(alloc);
+    for step in steps {
+        let edit = edit_of((step.from, step.to, step.put.as_str()));
+        edits.push((edit, step.text.as_str())).expect(rt, "memory");
     }
-    edit.apply(alloc, old).expect(rt, "memory")
+    edits
 }
 
-/// Lexes a text, and again after each step.
-fn lex(
+/// Lexes a text, and again after each edit, beside which stands the text that it makes. Adds what each run holds.
+fn lex<'t>(
     rt: &impl Abort,
     alloc: Global,
     definition: &Definition,
-    text: &str,
-    steps: &[Step<'_>],
-) -> Vec<Told> {
-    let mut told = Vec::new(alloc);
+    text: &'t str,
+    steps: &[(Edit<'_>, &'t str)],
+    told: &mut Vec<Told>,
+) {
     let mut run = definition.run(alloc, text).expect(rt, "memory");
     told.push(tell(rt, alloc, &run)).expect(rt, "memory");
-    for step in steps {
-        let edit = edit_of(step.change);
-        let new = step.text.as_str();
+    for (edit, new) in steps {
         if !edit.gives(run.text(), new) {
             panic!(rt; "the edit doesn't make {new:?}");
         }
-        run = run.relex(alloc, &edit, new).expect(rt, "memory");
+        run = run.relex(alloc, edit, new).expect(rt, "memory");
         told.push(tell(rt, alloc, &run)).expect(rt, "memory");
     }
-    told
 }
 
 /// The same by a definition that is made so.
@@ -317,10 +326,13 @@ pub fn lexed(
     alloc: Global,
     made: Made<'_>,
     text: &str,
-    steps: &[Step<'_>],
+    steps: &[Step],
 ) -> Vec<Told> {
+    let edits = edits_of(rt, alloc, steps);
     let definition = defined(rt, alloc, made);
-    lex(rt, alloc, &definition, text, steps)
+    let mut told = Vec::new(alloc);
+    lex(rt, alloc, &definition, text, edits.as_slice(), &mut told);
+    told
 }
 
 /// What lexing a text, and again after each step, tells at last.
@@ -329,7 +341,7 @@ pub fn lexed_last(
     alloc: Global,
     made: Made<'_>,
     text: &str,
-    steps: &[Step<'_>],
+    steps: &[Step],
 ) -> Told {
     let mut told = lexed(rt, alloc, made, text, steps);
     told.pop().expect(rt, "a run")
