@@ -444,7 +444,8 @@ fn push_many(rt: &impl Abort, text: &mut String, many: &Many) {
         push(rt, text, many.what);
         let mut place = start;
         for _ in 0..many.places {
-            push_ends(rt, text, Span::new(place, place.saturating_add(many.len)));
+            push_number(rt, text, " ", place);
+            push_number(rt, text, "..", place.saturating_add(many.len));
             place = place.saturating_add(many.apart);
         }
         if many.numbered {
