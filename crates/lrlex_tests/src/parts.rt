@@ -2,7 +2,7 @@
 use crate::runs::{Definition, Made, Part, defined, of_parts};
 use crate::shown::{owned, push, push_number, same, separate};
 use lrlex::{DEFAULT_LEX_FLAGS, LexerDef, Rule, StartStateOperation};
-use lrlex_base::Span;
+use lrlex_base::{LexerTypes, Span};
 use std::alloc::Global;
 use std::collections::{HashMap, HashSet};
 use std::process::Abort;
@@ -145,12 +145,36 @@ fn rules_text(rt: &impl Abort, alloc: Global, rules: &[Rule<u32>]) -> String {
     text
 }
 
+/// The rule that a look-up by id finds, by both calls.
+fn by_id<L: LexerTypes, D: LexerDef<L>>(
+    definition: &D,
+    id: L::StorageT,
+) -> Option<(&Rule<L::StorageT>, &Rule<L::StorageT>)> {
+    match definition.find_rule_by_id(id) {
+        Some(found) => Some((found, definition.get_rule_by_id(id))),
+        None => None,
+    }
+}
+
+/// The pattern of the rule that a look-up by name finds.
+fn by_name<'d, L, D>(definition: &'d D, name: &str) -> Option<&'d str>
+where
+    L: LexerTypes,
+    L::StorageT: 'd,
+    D: LexerDef<L>,
+{
+    match definition.get_rule_by_name(name) {
+        Some(rule) => Some(rule.re_str()),
+        None => None,
+    }
+}
+
 /// The rule that a look-up by id finds, by both calls: `B 0, B 0`, or nothing.
 fn found_text(rt: &impl Abort, alloc: Global, definition: &Definition, id: u32) -> String {
     let mut text = String::new(alloc);
-    if let Some(found) = definition.find_rule_by_id(id) {
+    if let Some((found, first)) = by_id(definition, id) {
         push_rule(rt, &mut text, found);
-        push_rule(rt, &mut text, definition.get_rule_by_id(id));
+        push_rule(rt, &mut text, first);
     }
     text
 }
@@ -212,10 +236,7 @@ fn look_ups_by_name(rt: HostRuntime) {
     let definition = defined(&rt, rt.alloc(), Made::Read(THREE));
     for row in BY_NAME {
         let (name, want) = *row;
-        let got = match definition.get_rule_by_name(name) {
-            Some(rule) => rule.re_str(),
-            None => "none",
-        };
+        let got = by_name(&definition, name).unwrap_or("none");
         same(&rt, got, want, name);
     }
 }
