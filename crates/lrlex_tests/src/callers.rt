@@ -1,6 +1,7 @@
 //! The callers that the pages for callers show.
+use crate::documents::push_pairs;
 use crate::runs::{Definition, Made, defined, edit_of, push_item};
-use crate::shown::{equal, owned, push_pairs, same};
+use crate::shown::{owned, same};
 use lrlex::{DefaultLexerTypes, LRNonStreamingLexer};
 use lrlex_base::{Edit, Lexer};
 use lrlex_callers::lending::lexed_and_replaced;
@@ -8,12 +9,12 @@ use lrlex_callers::lexing::{lexer_after, words};
 use std::alloc::Global;
 use std::process::Abort;
 
-/// The words of an input: `ID abc, INT 123`.
+/// The words of an input: `ID abc|INT 123`.
 fn words_over(rt: &impl Abort, alloc: Global, rules: &str, input: &str) -> String {
     let definition = defined(rt, alloc, Made::Read(rules));
-    let words = words::<DefaultLexerTypes<u32>>(alloc, &definition, input).expect(rt, "memory");
+    let words = words::<DefaultLexerTypes<u32>>(alloc, &definition, input);
     let mut text = String::new(alloc);
-    push_pairs(rt, &mut text, words.as_slice(), " ", ", ");
+    push_pairs(rt, &mut text, words.expect(rt, "memory").as_slice(), " ");
     text
 }
 
@@ -22,19 +23,22 @@ const WORDS: &[(&str, &str, &str)] = &[
     (
         "%%\n[0-9]+ 'INT'\n[a-z]+ 'ID'\n[ ] ;",
         "abc 123",
-        "ID abc, INT 123",
+        "ID abc|INT 123",
     ),
-    ("%%\nif 'IF'\n[a-z]+ 'ID'\n[ ] ;", "iff if", "ID iff, IF if"),
-    ("%%\n[a❤]+ 'ID'\n[ ] ;", "a ❤ a", "ID a, ID ❤, ID a"),
+    ("%%\nif 'IF'\n[a-z]+ 'ID'\n[ ] ;", "iff if", "ID iff|IF if"),
+    ("%%\n[a❤]+ 'ID'\n[ ] ;", "a ❤ a", "ID a|ID ❤|ID a"),
     ("%%\na|ab 'X'", "ab", "X a"),
 ];
 
 #[test]
 fn names_and_texts_of_lexemes(rt: HostRuntime) {
     for row in WORDS {
-        let (rules, input, want) = *row;
-        let got = words_over(&rt, rt.alloc(), rules, input);
-        same(&rt, got.as_str(), want, rules, input);
+        same(
+            &rt,
+            words_over(&rt, rt.alloc(), row.0, row.1).as_str(),
+            row.2,
+            row.0,
+        );
     }
 }
 
@@ -69,8 +73,12 @@ fn lexemes_after(
 }
 
 fn lexes_to(rt: &impl Abort, alloc: Global, steps: &[(Edit<'_>, &str)], want: &str) {
-    let got = lexemes_after(rt, alloc, "ab cd ef", steps);
-    same(rt, got.as_str(), want, RULES, "ab cd ef");
+    same(
+        rt,
+        lexemes_after(rt, alloc, "ab cd ef", steps).as_str(),
+        want,
+        RULES,
+    );
 }
 
 #[test]
@@ -94,5 +102,5 @@ fn a_definition_is_free_again_after_its_run(rt: HostRuntime) {
         other,
         "ab cd",
     );
-    equal(&rt, &[tiles.expect(&rt, "memory")], &[3], RULES, "ab cd");
+    assert!(rt; tiles.expect(&rt, "memory") == 3);
 }

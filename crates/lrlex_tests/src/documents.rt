@@ -1,7 +1,6 @@
 //! Documents and the pieces of a text, against worked answers, and against lexing anew.
-use crate::hostile::repeated;
-use crate::runs::{Change, Made, Part, defined, lexed, push_item};
-use crate::shown::{equal, owned, push, push_number, push_pairs, same, separate};
+use crate::runs::{Change, Made, Part, defined, lexed_last, push_item};
+use crate::shown::{owned, push, push_number, repeated, same, separate};
 use crate::texts::lexer_over;
 use lrlex::{DefaultLexerTypes, Document, EditError, Piece};
 use lrlex_base::Span;
@@ -19,23 +18,19 @@ struct Shown {
     items: String,
     /// Each as the place of its rule, its name and its text: `0 ID ab|2 -  `.
     pieces: String,
-    /// The edits that didn't fit, and the tiles that the last one cut anew.
-    counts: [usize; 2],
-}
-
-fn push_piece(rt: &impl Abort, text: &mut String, piece: &Piece<'_, '_>) {
-    separate(rt, text, "|");
-    push_number(rt, text, "", piece.rule);
-    push(rt, text, " ");
-    push(rt, text, piece.name.unwrap_or("-"));
-    push(rt, text, " ");
-    push(rt, text, piece.text);
+    /// The tiles that the last edit cut anew.
+    anew: usize,
 }
 
 fn pieces_text(rt: &impl Abort, alloc: Global, pieces: &[Piece<'_, '_>]) -> String {
     let mut text = String::new(alloc);
     for piece in pieces {
-        push_piece(rt, &mut text, piece);
+        separate(rt, &mut text, "|");
+        push_number(rt, &mut text, "", piece.rule);
+        push(rt, &mut text, " ");
+        push(rt, &mut text, piece.name.unwrap_or("-"));
+        push(rt, &mut text, " ");
+        push(rt, &mut text, piece.text);
     }
     text
 }
@@ -58,40 +53,36 @@ fn make_edits(
     unfit
 }
 
-fn items_text(rt: &impl Abort, alloc: Global, document: &Edited<'_>) -> String {
-    let mut text = String::new(alloc);
+fn show(rt: &impl Abort, alloc: Global, document: &Edited<'_>) -> Shown {
+    let mut items = String::new(alloc);
     for item in document.items() {
-        push_item(rt, &mut text, document.definition(), item);
+        push_item(rt, &mut items, document.definition(), item);
     }
-    text
-}
-
-fn document_pieces(rt: &impl Abort, alloc: Global, document: &Edited<'_>) -> String {
     let pieces = document.pieces(alloc).expect(rt, "memory");
-    pieces_text(rt, alloc, pieces.as_slice())
-}
-
-fn show(rt: &impl Abort, alloc: Global, document: &Edited<'_>, unfit: usize) -> Shown {
     Shown {
         text: owned(rt, alloc, document.text()),
-        items: items_text(rt, alloc, document),
-        pieces: document_pieces(rt, alloc, document),
-        counts: [unfit, document.lexed()],
+        items,
+        pieces: pieces_text(rt, alloc, pieces.as_slice()),
+        anew: document.lexed(),
     }
 }
 
-/// What a document shows after these edits.
+/// What a document shows after these edits, so many of which don't fit.
 fn edited_by(
     rt: &impl Abort,
     alloc: Global,
     rules: &str,
     text: &str,
     changes: &[Change<'_>],
+    unfit: usize,
 ) -> Shown {
     let definition = defined(rt, alloc, Made::Read(rules));
     let mut document = Document::new(alloc, &definition, text).expect(rt, "memory");
-    let unfit = make_edits(rt, alloc, &mut document, changes);
-    show(rt, alloc, &document, unfit)
+    assert!(rt;
+        make_edits(rt, alloc, &mut document, changes) == unfit,
+        "of {text:?}"
+    );
+    show(rt, alloc, &document)
 }
 
 const WORDS: &str = "%%\n[a-z]+ 'ID'\n[ ] ;";
@@ -204,41 +195,40 @@ const DOCUMENTS: &[Row] = &[
     ),
 ];
 
-fn expects(rt: &impl Abort, row: &Row, shown: &Shown) {
-    let (name, rules, _, _, (text, items, pieces, unfit)) = *row;
-    same(rt, shown.text.as_str(), text, name, rules);
-    same(rt, shown.items.as_str(), items, name, rules);
-    same(rt, shown.pieces.as_str(), pieces, name, rules);
-    equal(rt, &shown.counts[..1], &[unfit], name, rules);
-}
-
 #[test]
 fn documents_after_their_edits(rt: HostRuntime) {
     for row in DOCUMENTS {
-        let (name, rules, text, changes, _) = *row;
-        let now = edited_by(&rt, rt.alloc(), rules, text, changes);
-        expects(&rt, row, &now);
+        let (name, rules, _, changes, (text, items, pieces, unfit)) = *row;
+        let now = edited_by(&rt, rt.alloc(), rules, row.2, changes, unfit);
+        same(&rt, now.text.as_str(), text, name);
+        same(&rt, now.items.as_str(), items, name);
+        same(&rt, now.pieces.as_str(), pieces, name);
         // It is what lexing the text anew gives.
-        let anew = lexed(&rt, rt.alloc(), Made::Read(rules), now.text.as_str());
-        same(&rt, now.items.as_str(), anew.items.as_str(), name, rules);
+        let anew = lexed_last(&rt, rt.alloc(), Made::Read(rules), text, &[]);
+        same(&rt, items, anew.items.as_str(), name);
     }
 }
+
+/// Places at which a key is typed.
+const KEYS: &[Change<'static>] = &[
+    (0, 0, "x"),
+    (450, 450, "x"),
+    (451, 451, "x"),
+    (900, 900, "x"),
+];
 
 #[test]
 fn a_key_in_a_long_document_cuts_few_tiles_anew(rt: HostRuntime) {
     let text = repeated(&rt, rt.alloc(), "", "ab ", 300, "");
-    for at in [0usize, 450, 451, 900] {
-        let changes = [(at, at, "x")];
-        let shown = edited_by(&rt, rt.alloc(), WORDS, text.as_str(), &changes);
-        let anew = shown.counts[1];
-        assert!(&rt; anew <= 3, "{anew} at {at}");
+    for key in KEYS {
+        let shown = edited_by(&rt, rt.alloc(), WORDS, text.as_str(), &[*key], 0);
+        assert!(&rt; shown.anew <= 3, "{} at {}", shown.anew, key.0);
     }
 }
 
-fn push_place(rt: &impl Abort, text: &mut String, place: (usize, usize)) {
+fn push_place(rt: &impl Abort, text: &mut String, before: &str, place: (usize, usize)) {
     let (line, column) = place;
-    separate(rt, text, " ");
-    push_number(rt, text, "", line);
+    push_number(rt, text, before, line);
     push_number(rt, text, ":", column);
 }
 
@@ -253,109 +243,133 @@ fn span_of(ends: (usize, usize)) -> Span {
     Span::new(start, end.max(start))
 }
 
-/// The places or the positions of these bytes of a document, and the texts of these spans.
-fn by_document(
-    rt: &impl Abort,
-    alloc: Global,
-    text: &str,
-    of_utf_16: bool,
-    bytes: &[usize],
-    spans: &[(usize, usize)],
-) -> String {
+/// A text, bytes of it, spans, and the place and the position of each byte, and the text of each span.
+type Places = (
+    &'static str,
+    &'static [usize],
+    &'static [(usize, usize)],
+    &'static str,
+);
+
+/// Positions count from 0, in code units of UTF-16.
+const AT_ANY_NUMBER: &[Places] = &[
+    (
+        "a\n😀b",
+        &[0, 1, 2, 3, 5, 6, 7, 99],
+        &[(2, 6), (3, 6), (0, 1), (6, 99)],
+        " 1:1 0:0 1:2 0:1 2:1 1:0 2:1 1:0 2:1 1:0 2:2 1:2 2:3 1:3 2:3 1:3 <😀> <> <a> <>",
+    ),
+    (
+        "a\n😀b�😀",
+        &[0, 1, 2, 3, 6, 7, 10, 14, 99],
+        &[],
+        " 1:1 0:0 1:2 0:1 2:1 1:0 2:1 1:0 2:2 1:2 2:3 1:3 2:4 1:4 2:5 1:6 2:5 1:6",
+    ),
+];
+
+fn by_document(rt: &impl Abort, alloc: Global, row: &Places) -> String {
     let mut told = String::new(alloc);
     let definition = defined(rt, alloc, Made::Read(FACES));
-    let document: Edited<'_> = Document::new(alloc, &definition, text).expect(rt, "memory");
-    for byte in bytes {
-        let place = if of_utf_16 {
-            document.position(*byte)
-        } else {
-            document.place(*byte)
-        };
-        push_place(rt, &mut told, place);
+    let document: Edited<'_> = Document::new(alloc, &definition, row.0).expect(rt, "memory");
+    for byte in row.1 {
+        push_place(rt, &mut told, " ", document.place(*byte));
+        push_place(rt, &mut told, " ", document.position(*byte));
     }
-    for ends in spans {
+    for ends in row.2 {
         push_text(rt, &mut told, document.text_of(span_of(*ends)));
     }
     told
 }
 
 /// The same by a lexer.
-fn by_lexer(
-    rt: &impl Abort,
-    alloc: Global,
-    text: &str,
-    of_utf_16: bool,
-    bytes: &[usize],
-    spans: &[(usize, usize)],
-) -> String {
+fn by_lexer(rt: &impl Abort, alloc: Global, row: &Places) -> String {
     let mut told = String::new(alloc);
     let definition = defined(rt, alloc, Made::Read(FACES));
-    let lexer = lexer_over(rt, alloc, &definition, text, false);
-    for byte in bytes {
-        let place = if of_utf_16 {
-            lexer.position(*byte)
-        } else {
-            lexer.place(*byte)
-        };
-        push_place(rt, &mut told, place);
+    let lexer = lexer_over(rt, alloc, &definition, row.0, false);
+    for byte in row.1 {
+        push_place(rt, &mut told, " ", lexer.place(*byte));
+        push_place(rt, &mut told, " ", lexer.position(*byte));
     }
-    for ends in spans {
+    for ends in row.2 {
         push_text(rt, &mut told, lexer.text_of(span_of(*ends)));
     }
     told
 }
 
 #[test]
-fn places_and_texts_at_any_number(rt: HostRuntime) {
-    let text = "a\n😀b";
-    let bytes = [0, 1, 2, 3, 5, 6, 7, 99];
-    let spans = [(2, 6), (3, 6), (0, 1), (6, 99)];
-    let want = "1:1 1:2 2:1 2:1 2:1 2:2 2:3 2:3 <😀> <> <a> <>";
-    let got = by_document(&rt, rt.alloc(), text, false, &bytes, &spans);
-    same(&rt, got.as_str(), want, "document", text);
-    let got = by_lexer(&rt, rt.alloc(), text, false, &bytes, &spans);
-    same(&rt, got.as_str(), want, "lexer", text);
+fn places_positions_and_texts_at_any_number(rt: HostRuntime) {
+    for row in AT_ANY_NUMBER {
+        same(
+            &rt,
+            by_document(&rt, rt.alloc(), row).as_str(),
+            row.3,
+            row.0,
+        );
+        same(&rt, by_lexer(&rt, rt.alloc(), row).as_str(), row.3, row.0);
+    }
 }
 
-#[test]
-fn positions_from_0_in_code_units_of_utf_16(rt: HostRuntime) {
-    let text = "a\n😀b�😀";
-    let bytes = [0, 1, 2, 3, 6, 7, 10, 14, 99];
-    let want = "0:0 0:1 1:0 1:0 1:2 1:3 1:4 1:6 1:6";
-    let got = by_document(&rt, rt.alloc(), text, true, &bytes, &[]);
-    same(&rt, got.as_str(), want, "document", text);
-    let got = by_lexer(&rt, rt.alloc(), text, true, &bytes, &[]);
-    same(&rt, got.as_str(), want, "lexer", text);
+/// Adds each pair as `ID:ab`, with `|` between them.
+pub fn push_pairs(rt: &impl Abort, text: &mut String, pairs: &[(&str, &str)], within: &str) {
+    for (left, right) in pairs {
+        separate(rt, text, "|");
+        push(rt, text, left);
+        push(rt, text, within);
+        push(rt, text, right);
+    }
 }
 
 fn highlights(rt: &impl Abort, alloc: Global, rules: &str, text: &str) -> String {
     let mut told = String::new(alloc);
     let definition = defined(rt, alloc, Made::Read(rules));
     let parts = highlighted(alloc, &definition, text).expect(rt, "memory");
-    push_pairs(rt, &mut told, parts.as_slice(), ":", "|");
+    push_pairs(rt, &mut told, parts.as_slice(), ":");
     told
 }
 
 /// Line and column behind the keys. Line 0 and column 1 where the edit doesn't fit.
-fn place_behind(rt: &impl Abort, alloc: Global, text: &str, at: usize, keys: &str) -> [usize; 2] {
+fn place_behind(
+    rt: &impl Abort,
+    alloc: Global,
+    text: &str,
+    at: usize,
+    keys: &str,
+) -> (usize, usize) {
     let definition = defined(rt, alloc, Made::Read(LINES));
     let mut document = Document::new(alloc, &definition, text).expect(rt, "memory");
     match typed(alloc, &mut document, at, keys) {
-        Ok((line, column)) => [line, column],
-        Err(EditError::DoesNotFit) => [0, 1],
+        Ok(place) => place,
+        Err(EditError::DoesNotFit) => (0, 1),
         Err(EditError::OutOfMemory) => panic!(rt; "memory"),
     }
 }
 
+fn seen(rt: &impl Abort, alloc: Global, text: &str, from: usize, to: usize) -> String {
+    let mut told = String::new(alloc);
+    let definition = defined(rt, alloc, Made::Read(LINES));
+    let document: Edited<'_> = Document::new(alloc, &definition, text).expect(rt, "memory");
+    let parts = visible(alloc, &document, from, to).expect(rt, "memory");
+    push_pairs(rt, &mut told, parts.as_slice(), ":");
+    told
+}
+
 #[test]
-fn callers_that_highlight_and_type(rt: HostRuntime) {
+fn callers_that_highlight_type_and_show_a_part(rt: HostRuntime) {
     let text = "ab #c\nd";
-    let got = highlights(&rt, rt.alloc(), LINES, text);
-    same(&rt, got.as_str(), "ID:ab|: |:#c|:\n|ID:d", LINES, text);
-    let place = place_behind(&rt, rt.alloc(), "ab cd", 2, "x\ny");
-    equal(&rt, &place, &[2, 2], "x\ny", "ab cd");
-    let place = place_behind(&rt, rt.alloc(), "ab cd", 9, "x");
-    equal(&rt, &place, &[0, 1], "x", "ab cd");
+    same(
+        &rt,
+        highlights(&rt, rt.alloc(), LINES, text).as_str(),
+        "ID:ab|: |:#c|:\n|ID:d",
+        text,
+    );
+    same(
+        &rt,
+        seen(&rt, rt.alloc(), text, 4, 7).as_str(),
+        ":#c|:\n|ID:d",
+        text,
+    );
+    assert!(rt; place_behind(&rt, rt.alloc(), "ab cd", 2, "x\ny") == (2, 2));
+    assert!(rt; place_behind(&rt, rt.alloc(), "ab cd", 9, "x") == (0, 1));
 }
 
 /// The pieces of a part of a run.
@@ -553,24 +567,17 @@ const PARTS: &[PartRow] = &[
 fn pieces_of_a_part(rt: HostRuntime) {
     for row in PARTS {
         let (name, made, text, from, to, want) = *row;
-        let got = run_part(&rt, rt.alloc(), made, text, from, to);
-        same(&rt, got.as_str(), want, name, text);
-        let got = document_part(&rt, rt.alloc(), made, text, from, to);
-        same(&rt, got.as_str(), want, name, text);
+        same(
+            &rt,
+            run_part(&rt, rt.alloc(), made, text, from, to).as_str(),
+            want,
+            name,
+        );
+        same(
+            &rt,
+            document_part(&rt, rt.alloc(), made, text, from, to).as_str(),
+            want,
+            name,
+        );
     }
-}
-
-fn seen(rt: &impl Abort, alloc: Global, text: &str, from: usize, to: usize) -> String {
-    let mut told = String::new(alloc);
-    let definition = defined(rt, alloc, Made::Read(LINES));
-    let document: Edited<'_> = Document::new(alloc, &definition, text).expect(rt, "memory");
-    let parts = visible(alloc, &document, from, to).expect(rt, "memory");
-    push_pairs(rt, &mut told, parts.as_slice(), ":", "|");
-    told
-}
-
-#[test]
-fn a_caller_that_shows_a_part(rt: HostRuntime) {
-    let got = seen(&rt, rt.alloc(), "ab #c\nd", 4, 7);
-    same(&rt, got.as_str(), ":#c|:\n|ID:d", LINES, "ab #c\nd");
 }

@@ -5,26 +5,18 @@
 #[cfg(test)]
 mod callers;
 #[cfg(test)]
-mod chance;
-#[cfg(test)]
 mod documents;
 #[cfg(test)]
-mod edits;
-#[cfg(test)]
 mod hostile;
-#[cfg(test)]
-mod in_vain;
-#[cfg(test)]
-mod long_inputs;
 #[cfg(test)]
 mod parts;
 #[cfg(test)]
 mod reports;
 #[cfg(test)]
+mod rows;
+#[cfg(test)]
 mod runs;
 #[cfg(test)]
 mod shown;
-#[cfg(test)]
-mod tables;
 #[cfg(test)]
 mod texts;

@@ -60,27 +60,7 @@ fn rule_of(rt: &impl Abort, alloc: Global, part: &Part<'_>, unset: bool) -> Rule
     }
 }
 
-/// State 0, inclusive, or no state.
-fn states(rt: &impl Abort, alloc: Global, initial: bool) -> Vec<StartState> {
-    let mut states = Vec::new(alloc);
-    if initial {
-        let made = StartState::new(alloc, 0, "INITIAL", false, Span::new(0, 0));
-        states.push(made.expect(rt, "memory")).expect(rt, "memory");
-    }
-    states
-}
-
-fn rules_of(rt: &impl Abort, alloc: Global, parts: &[Part<'_>], unset: bool) -> Vec<Rule<u32>> {
-    let mut rules = Vec::new(alloc);
-    for part in parts {
-        rules
-            .push(rule_of(rt, alloc, part, unset))
-            .expect(rt, "memory");
-    }
-    rules
-}
-
-/// A definition of these parts, whose rules have unset flags or the default ones.
+/// A definition of these parts, whose rules have unset flags or the default ones, with an inclusive state 0 or no state.
 pub fn of_parts(
     rt: &impl Abort,
     alloc: Global,
@@ -88,8 +68,18 @@ pub fn of_parts(
     initial: bool,
     unset: bool,
 ) -> Definition {
-    let rules = rules_of(rt, alloc, parts, unset);
-    Definition::from_rules(alloc, states(rt, alloc, initial), rules).expect(rt, "memory")
+    let mut states = Vec::new(alloc);
+    if initial {
+        let made = StartState::new(alloc, 0, "INITIAL", false, Span::new(0, 0));
+        states.push(made.expect(rt, "memory")).expect(rt, "memory");
+    }
+    let mut rules = Vec::new(alloc);
+    for part in parts {
+        rules
+            .push(rule_of(rt, alloc, part, unset))
+            .expect(rt, "memory");
+    }
+    Definition::from_rules(alloc, states, rules).expect(rt, "memory")
 }
 
 fn read(rt: &impl Abort, alloc: Global, rules: &str) -> Definition {
@@ -119,16 +109,6 @@ pub fn defined(rt: &impl Abort, alloc: Global, made: Made<'_>) -> Definition {
     }
 }
 
-/// How many tables it has, how many rows these have, and how many rules have none.
-pub fn tables_of(rt: &impl Abort, alloc: Global, made: Made<'_>) -> [usize; 3] {
-    let definition = defined(rt, alloc, made);
-    [
-        definition.tables(),
-        definition.table_rows(),
-        definition.asked_rules(),
-    ]
-}
-
 /// What a run holds.
 #[derive(Drop)]
 pub struct Told {
@@ -138,15 +118,29 @@ pub struct Told {
     pub boundaries: String,
     /// How far past each boundary the tiles before it looked: ` 0 1`.
     pub ahead: String,
-    /// Its tiles, its items, the most runs of a stack, the runs of the last one, and the tiles that were cut anew.
-    pub counts: [usize; 5],
-    pub asked: u128,
+    /// By the places below.
+    pub counts: [usize; 9],
 }
 
-/// How many searches a run needed.
-pub fn searches(told: &Told) -> usize {
-    usize::try_from(told.asked).unwrap_or(usize::MAX)
-}
+/// Where the counts of a run stand: its tiles, its items, the most runs of a stack, the runs of the last one, the tiles that
+/// were cut anew; its definition's tables, the rows that these have, and the rules that have none; the searches it needed.
+pub const TILES: usize = 0;
+
+pub const ITEMS: usize = 1;
+
+pub const PEAK: usize = 2;
+
+pub const LAST: usize = 3;
+
+pub const CUT: usize = 4;
+
+pub const TABLES: usize = 5;
+
+pub const ROWS: usize = 6;
+
+pub const ASKED_RULES: usize = 7;
+
+pub const SEARCHES: usize = 8;
 
 fn push_lexeme(rt: &impl Abort, text: &mut String, name: &str, lexeme: &DefaultLexeme<u32>) {
     push(rt, text, name);
@@ -193,15 +187,6 @@ fn push_stack(rt: &impl Abort, text: &mut String, stack: &[(usize, usize)]) {
     }
 }
 
-fn push_boundaries(rt: &impl Abort, told: &mut Told, run: &Run<'_, '_>) {
-    for k in 0..run.boundaries() {
-        separate(rt, &mut told.boundaries, " ");
-        push_number(rt, &mut told.boundaries, "", run.place(k));
-        push_stack(rt, &mut told.boundaries, run.stack(k));
-        push_number(rt, &mut told.ahead, " ", usize::from(run.ahead(k)));
-    }
-}
-
 /// How many runs the last stack has.
 fn last_of(run: &Run<'_, '_>) -> usize {
     let boundaries = run.boundaries();
@@ -213,7 +198,8 @@ fn last_of(run: &Run<'_, '_>) -> usize {
 }
 
 /// What is known of a run without looking at all of it.
-fn counted(alloc: Global, run: &Run<'_, '_>) -> Told {
+fn counted(rt: &impl Abort, alloc: Global, run: &Run<'_, '_>) -> Told {
+    let definition = run.definition();
     Told {
         items: String::new(alloc),
         boundaries: String::new(alloc),
@@ -224,24 +210,98 @@ fn counted(alloc: Global, run: &Run<'_, '_>) -> Told {
             run.entries_peak(),
             last_of(run),
             run.lexed(),
+            definition.tables(),
+            definition.table_rows(),
+            definition.asked_rules(),
+            usize::try_from(run.asked()).unwrap_or(usize::MAX),
         ],
-        asked: run.asked(),
     }
 }
 
 fn tell(rt: &impl Abort, alloc: Global, run: &Run<'_, '_>) -> Told {
-    let mut told = counted(alloc, run);
+    let mut told = counted(rt, alloc, run);
     for item in run.items() {
         push_item(rt, &mut told.items, run.definition(), item);
     }
     if run.tiles() < 1_000 {
-        push_boundaries(rt, &mut told, run);
+        for k in 0..run.boundaries() {
+            separate(rt, &mut told.boundaries, " ");
+            push_number(rt, &mut told.boundaries, "", run.place(k));
+            push_stack(rt, &mut told.boundaries, run.stack(k));
+            push_number(rt, &mut told.ahead, " ", usize::from(run.ahead(k)));
+        }
     }
     told
 }
 
+/// The bytes from the first number to the second give way to the text.
+pub type Change<'a> = (usize, usize, &'a str);
+
+pub fn edit_of(change: Change<'_>) -> Edit<'_> {
+    let (from, to, put) = change;
+    Edit {
+        removed: Span::new(from, to.max(from)),
+        put,
+    }
+}
+
+/// A change, and the text that it makes.
+#[derive(Drop)]
+pub struct Step {
+    from: usize,
+    to: usize,
+    put: String,
+    pub text: String,
+}
+
+fn step_of(rt: &impl Abort, alloc: Global, change: Change<'_>, before: &str) -> Step {
+    let (from, to, put) = change;
+    let edit = edit_of(change);
+    if !edit.fits(before) {
+        panic!(rt; "the edit doesn't fit {before:?}");
+    }
+    let text = edit.apply(alloc, before).expect(rt, "memory");
+    Step {
+        from,
+        to,
+        put: owned(rt, alloc, put),
+        text,
+    }
+}
+
+/// The changes one after another, the first of this text, and all of them so many times.
+pub fn steps_of(
+    rt: &impl Abort,
+    alloc: Global,
+    text: &str,
+    changes: &[Change<'_>],
+    times: usize,
+) -> Vec<Step> {
+    let mut steps: Vec<Step> = Vec::new(alloc);
+    for _ in 0..times {
+        for change in changes {
+            let before = match steps.last() {
+                Some(step) => step.text.as_str(),
+                None => text,
+            };
+            let next = step_of(rt, alloc, *change, before);
+            steps.push(next).expect(rt, "memory");
+        }
+    }
+    steps
+}
+
+fn edits_of<'s>(rt: &impl Abort, alloc: Global, steps: &'s [Step]) -> Vec<(Edit<'s>, &'s str)> {
+    let mut edits = Vec::new(alloc);
+    for step in steps {
+        let edit = edit_of((step.from, step.to, step.put.as_str()));
+        edits.push((edit, step.text.as_str())).expect(rt, "memory");
+    }
+    edits
+}
+
 /// Lexes a text, and again after each edit, beside which stands the text that it makes. Adds what each run holds.
-pub fn lex<'t>(
+fn lex<'t>(
     rt: &impl Abort,
     alloc: Global,
     definition: &Definition,
@@ -261,65 +321,28 @@ pub fn lex<'t>(
 }
 
 /// The same by a definition that is made so.
-fn lexed_through(
+pub fn lexed(
     rt: &impl Abort,
     alloc: Global,
     made: Made<'_>,
     text: &str,
-    steps: &[(Edit<'_>, &str)],
+    steps: &[Step],
 ) -> Vec<Told> {
+    let edits = edits_of(rt, alloc, steps);
     let definition = defined(rt, alloc, made);
     let mut told = Vec::new(alloc);
-    lex(rt, alloc, &definition, text, steps, &mut told);
+    lex(rt, alloc, &definition, text, edits.as_slice(), &mut told);
     told
 }
 
-/// What lexing a text tells.
-pub fn lexed(rt: &impl Abort, alloc: Global, made: Made<'_>, text: &str) -> Told {
-    let mut told = lexed_through(rt, alloc, made, text, &[]);
-    told.pop().expect(rt, "a run")
-}
-
-/// The bytes from the first number to the second give way to the text.
-pub type Change<'a> = (usize, usize, &'a str);
-
-pub fn edit_of(change: Change<'_>) -> Edit<'_> {
-    let (from, to, put) = change;
-    Edit {
-        removed: Span::new(from, to.max(from)),
-        put,
-    }
-}
-
-/// The text that the edit makes.
-pub fn edited(rt: &impl Abort, alloc: Global, edit: &Edit<'_>, old: &str) -> String {
-    if !edit.fits(old) {
-        panic!(rt; "the edit doesn't fit {old:?}");
-    }
-    edit.apply(alloc, old).expect(rt, "memory")
-}
-
-/// What lexing the old text tells, and what lexing again after the edit does.
-pub fn relexed(
+/// What lexing a text, and again after each step, tells at last.
+pub fn lexed_last(
     rt: &impl Abort,
     alloc: Global,
     made: Made<'_>,
-    old: &str,
-    change: Change<'_>,
-) -> Vec<Told> {
-    let edit = edit_of(change);
-    let new = edited(rt, alloc, &edit, old);
-    lexed_through(rt, alloc, made, old, &[(edit, new.as_str())])
-}
-
-/// What lexing again after the edit tells.
-pub fn relexed_once(
-    rt: &impl Abort,
-    alloc: Global,
-    made: Made<'_>,
-    old: &str,
-    change: Change<'_>,
+    text: &str,
+    steps: &[Step],
 ) -> Told {
-    let mut told = relexed(rt, alloc, made, old, change);
+    let mut told = lexed(rt, alloc, made, text, steps);
     told.pop().expect(rt, "a run")
 }

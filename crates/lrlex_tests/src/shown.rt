@@ -1,17 +1,12 @@
-//! Answers as plain data and short texts, so that a row reads as a person would write it. A test stops where memory is
-//! refused, which costs its check less than a `?` does.
+//! Answers as short texts, so that a row reads as a person would write it. A test stops where memory is refused, which costs
+//! its check less than a `?` does.
 use std::alloc::Global;
 use std::fmt::Write;
 use std::process::Abort;
 
-/// The two texts are the same, in the row of these rules and this input.
-pub fn same(rt: &impl Abort, got: &str, want: &str, rules: &str, input: &str) {
-    assert_eq!(rt; got, want, "{rules:?} on {input:?}");
-}
-
-/// The numbers are the same, in the row of these rules and this input.
-pub fn equal(rt: &impl Abort, got: &[usize], want: &[usize], rules: &str, input: &str) {
-    assert_eq!(rt; got, want, "{rules:?} on {input:?}");
+/// The two texts are the same, in the row of this name or of these rules.
+pub fn same(rt: &impl Abort, got: &str, want: &str, row: &str) {
+    assert_eq!(rt; got, want, "{row:?}");
 }
 
 /// A text of its own.
@@ -36,18 +31,19 @@ pub fn separate(rt: &impl Abort, text: &mut String, between: &str) {
     }
 }
 
-/// Adds each pair as `ID:ab`, with `|` between them.
-pub fn push_pairs(
+/// A text that repeats a part so many times between a head and a tail.
+pub fn repeated(
     rt: &impl Abort,
-    text: &mut String,
-    pairs: &[(&str, &str)],
-    within: &str,
-    between: &str,
-) {
-    for (left, right) in pairs {
-        separate(rt, text, between);
-        push(rt, text, left);
-        push(rt, text, within);
-        push(rt, text, right);
+    alloc: Global,
+    head: &str,
+    part: &str,
+    count: usize,
+    tail: &str,
+) -> String {
+    let mut text = owned(rt, alloc, head);
+    for _ in 0..count {
+        push(rt, &mut text, part);
     }
+    push(rt, &mut text, tail);
+    text
 }

@@ -3,7 +3,7 @@ ghost use Rattle.std.specs.Prelude.{◌≡◌};
 ghost use Rattle.lrlex.specs.Lexers.{lexer_text};
 
 use crate::runs::{Definition, Made, defined};
-use crate::shown::{equal, owned, push, push_number, same, separate};
+use crate::shown::{owned, push, push_number, repeated, same, separate};
 use lrlex::{DefaultLexerTypes, LRNonStreamingLexer};
 use lrlex_base::{Lexeme, Lexer, NonStreamingLexer, Span};
 use std::alloc::Global;
@@ -30,103 +30,61 @@ pub fn lexer_over<'lexer, 'input>(
     lexer.expect(rt, "memory")
 }
 
-/// What a lexer says of an item or a span. The texts outlive it.
-#[derive(Clone, Copy)]
-enum Place<'input> {
-    /// Its text, line and column of its start and of its end, and its whole lines.
-    At(&'input str, (usize, usize), (usize, usize), &'input str),
-    /// Why it has none.
-    Not(&'input str),
-}
-
-fn place_at<'input>(lexer: &LexerOver<'_, 'input>, input: &'input str, span: Span) -> Place<'input>
-    requires { lexer_text lexer.now ≡ input.now }
-{
-    if !span.fits(input) {
-        return Place::Not("past the input");
-    }
-    let (start, end) = lexer.line_col(span);
-    Place::At(lexer.span_str(span), start, end, lexer.span_lines_str(span))
-}
-
-fn push_lexemes<'input>(
+fn push_at(
     rt: &impl Abort,
-    lexer: &LexerOver<'_, 'input>,
-    input: &'input str,
-    places: &mut Vec<Place<'input>>,
-)
+    text: &mut String,
+    matched: &str,
+    start: (usize, usize),
+    end: (usize, usize),
+) {
+    separate(rt, text, ", ");
+    push(rt, text, matched);
+    push_number(rt, text, " at ", start.0);
+    push_number(rt, text, ":", start.1);
+    push_number(rt, text, "-", end.0);
+    push_number(rt, text, ":", end.1);
+}
+
+fn push_lines(rt: &impl Abort, text: &mut String, lines: &str) {
+    push(rt, text, " in [");
+    push(rt, text, lines);
+    push(rt, text, "]");
+}
+
+/// Adds what the lexer says of a span: its text, the lines and columns of its start and its end, and its whole lines.
+fn push_span(rt: &impl Abort, text: &mut String, lexer: &LexerOver<'_, '_>, input: &str, span: Span)
     requires { lexer_text lexer.now ≡ input.now }
 {
-    for item in lexer.iter() {
-        let place = match item {
-            Ok(lexeme) => place_at(lexer, input, lexeme.span()),
-            Err(_) => Place::Not("error"),
-        };
-        places.push(place).expect(rt, "memory");
+    if span.fits(input) {
+        let (start, end) = lexer.line_col(span);
+        push_at(rt, text, lexer.span_str(span), start, end);
+        push_lines(rt, text, lexer.span_lines_str(span));
+    } else {
+        push(rt, text, ", past the input");
     }
 }
 
-/// Adds the places of spans, each by its start and length.
-fn push_spans<'input>(
-    rt: &impl Abort,
-    lexer: &LexerOver<'_, 'input>,
-    input: &'input str,
-    spans: &[(usize, usize)],
-    places: &mut Vec<Place<'input>>,
-)
-    requires { lexer_text lexer.now ≡ input.now }
-{
-    for (start, len) in spans {
-        let span = Span::new(*start, start.saturating_add(*len));
-        places
-            .push(place_at(lexer, input, span))
-            .expect(rt, "memory");
-    }
-}
-
-/// The places of the lexemes of an input, and of these spans.
-fn places_over<'input>(
+/// What the lexer says of its lexemes, and of these spans by their starts and lengths: `a at 1:2-1:3 in [ a]`.
+fn places_text(
     rt: &impl Abort,
     alloc: Global,
     rules: &str,
-    input: &'input str,
+    input: &str,
     of_run: bool,
     spans: &[(usize, usize)],
-) -> Vec<Place<'input>> {
-    let mut places = Vec::new(alloc);
+) -> String {
+    let mut text = String::new(alloc);
     let definition = defined(rt, alloc, Made::Read(rules));
     let lexer = lexer_over(rt, alloc, &definition, input, of_run);
-    push_lexemes(rt, &lexer, input, &mut places);
-    push_spans(rt, &lexer, input, spans, &mut places);
-    places
-}
-
-fn push_at(rt: &impl Abort, text: &mut String, before: &str, at: (usize, usize)) {
-    let (line, column) = at;
-    push_number(rt, text, before, line);
-    push_number(rt, text, ":", column);
-}
-
-fn push_place(rt: &impl Abort, text: &mut String, place: Place<'_>) {
-    match place {
-        Place::At(matched, start, end, lines) => {
-            push(rt, text, matched);
-            push_at(rt, text, " at ", start);
-            push_at(rt, text, "-", end);
-            push(rt, text, " in [");
-            push(rt, text, lines);
-            push(rt, text, "]");
+    for item in lexer.iter() {
+        match item {
+            Ok(lexeme) => push_span(rt, &mut text, &lexer, input, lexeme.span()),
+            Err(_) => push(rt, &mut text, "error"),
         }
-        Place::Not(why) => push(rt, text, why),
     }
-}
-
-/// The places, each as `a at 1:2-1:3 in [ a]`.
-fn places_text(rt: &impl Abort, alloc: Global, places: &[Place<'_>]) -> String {
-    let mut text = String::new(alloc);
-    for place in places {
-        separate(rt, &mut text, ", ");
-        push_place(rt, &mut text, *place);
+    for (start, len) in spans {
+        let span = Span::new(*start, start.saturating_add(*len));
+        push_span(rt, &mut text, &lexer, input, span);
     }
     text
 }
@@ -169,60 +127,62 @@ const PLACES: &[(&str, &str, &str)] = &[
     ("%%", "", ""),
 ];
 
-fn way(of_run: bool) -> &'static str {
-    if of_run { "of its run" } else { "at once" }
-}
-
 #[test]
 fn lines_and_columns_of_lexemes(rt: HostRuntime) {
     for row in PLACES {
         let (rules, input, want) = *row;
-        for of_run in [false, true] {
-            let places = places_over(&rt, rt.alloc(), rules, input, of_run, &[]);
-            let got = places_text(&rt, rt.alloc(), places.as_slice());
-            same(&rt, got.as_str(), want, way(of_run), input);
-        }
+        same(
+            &rt,
+            places_text(&rt, rt.alloc(), rules, input, false, &[]).as_str(),
+            want,
+            input,
+        );
+        same(
+            &rt,
+            places_text(&rt, rt.alloc(), rules, input, true, &[]).as_str(),
+            want,
+            input,
+        );
     }
 }
 
-/// So many letters `a`, with blanks between them.
-fn letters(rt: &impl Abort, alloc: Global, count: usize) -> String {
-    let mut text = String::new(alloc);
-    for k in 0..count {
-        push(rt, &mut text, if k > 0 { " a" } else { "a" });
+/// Line number i, from 0: i letters `a`, with blanks between them.
+fn letters(rt: &impl Abort, alloc: Global, i: usize) -> String {
+    match i {
+        0 => repeated(rt, alloc, "", "", 0, ""),
+        _ => repeated(rt, alloc, "a", " a", i.saturating_sub(1), ""),
     }
-    text
 }
 
-/// So many lines, the one with number i, from 0, of i letters.
+/// So many of these lines.
 fn staircase(rt: &impl Abort, alloc: Global, count: usize) -> String {
     let mut text = String::new(alloc);
     for i in 0..count {
-        if i > 0 {
-            push(rt, &mut text, "\n");
-        }
+        push(rt, &mut text, if i > 0 { "\n" } else { "" });
         push(rt, &mut text, letters(rt, alloc, i).as_str());
     }
     text
 }
 
-/// Whether the place is one, and has the whole lines of that line of the staircase, if it begins a line.
-fn is_step(rt: &impl Abort, alloc: Global, place: &Place<'_>) -> bool {
-    match *place {
-        Place::At(_, (line, 1), _, lines) => {
-            letters(rt, alloc, line.saturating_sub(1)).as_str() == lines
+/// What must be said of their lexemes.
+fn said_of_staircase(rt: &impl Abort, alloc: Global, count: usize) -> String {
+    let mut text = String::new(alloc);
+    for i in 0..count {
+        let line = letters(rt, alloc, i);
+        let number = i.saturating_add(1);
+        for j in 0..i {
+            let column = j.saturating_mul(2).saturating_add(1);
+            push_at(
+                rt,
+                &mut text,
+                "a",
+                (number, column),
+                (number, column.saturating_add(1)),
+            );
+            push_lines(rt, &mut text, line.as_str());
         }
-        Place::At(_, _, _, _) => true,
-        Place::Not(_) => false,
     }
-}
-
-fn lines_at<'input>(place: Option<&Place<'input>>) -> &'input str {
-    match place {
-        Some(Place::At(_, _, _, lines)) => *lines,
-        Some(Place::Not(why)) => *why,
-        None => "no place",
-    }
+    text
 }
 
 const STEP_RULES: &str = "%%\n[a-z]+ 'ID'\n[ \\n] ;";
@@ -230,44 +190,48 @@ const STEP_RULES: &str = "%%\n[a-z]+ 'ID'\n[ \\n] ;";
 /// Spans by their starts and lengths.
 const SPANS: &[(usize, usize)] = &[(0, 0), (0, 2), (0, 4), (0, 7), (4, 3)];
 
-/// The whole lines of each.
-const LINES: &[&str] = &["", "\na", "\na\na a", "\na\na a\na a a", "a a\na a a"];
-
-fn lines_of_many(rt: &impl Abort, alloc: Global, input: &str, of_run: bool) {
-    let places = places_over(rt, alloc, STEP_RULES, input, of_run, SPANS);
-    // the lexemes of the staircase, and five spans
-    assert_eq!(rt; places.len(), 2_490);
-    let (steps, spans) = places.as_slice().split_at(2_485);
-    for place in steps {
-        assert!(rt; is_step(rt, alloc, place), "wrong lines {}", way(of_run));
-    }
-    for (place, lines) in spans.iter().zip(LINES) {
-        same(rt, lines_at(Some(place)), *lines, "lines", way(of_run));
-    }
-}
+/// What must be said of them.
+const SAID_OF_SPANS: &str =
+    ",  at 1:1-1:1 in [], \na at 1:1-2:2 in [\na], \na\na at 1:1-3:2 in [\na\na a], \na\na a\n at 1:1-4:1 in [\na\na a\na a a],  a\n at 3:2-4:1 in [a a\na a a]";
 
 #[test]
 fn whole_lines_of_many(rt: HostRuntime) {
     let input = staircase(&rt, rt.alloc(), 71);
-    lines_of_many(&rt, rt.alloc(), input.as_str(), false);
-    lines_of_many(&rt, rt.alloc(), input.as_str(), true);
+    let mut want = said_of_staircase(&rt, rt.alloc(), 71);
+    push(&rt, &mut want, SAID_OF_SPANS);
+    let got = places_text(&rt, rt.alloc(), STEP_RULES, input.as_str(), false, SPANS);
+    same(&rt, got.as_str(), want.as_str(), "at once");
+    let got = places_text(&rt, rt.alloc(), STEP_RULES, input.as_str(), true, SPANS);
+    same(&rt, got.as_str(), want.as_str(), "of its run");
 }
 
 #[test]
 fn a_span_past_the_text_fits_nothing(rt: HostRuntime) {
     assert!(rt; !Span::new(100, 100).fits("a b c"));
-    let places = places_over(&rt, rt.alloc(), STEP_RULES, "a b c", false, &[(100, 0)]);
-    let got = lines_at(places.as_slice().last());
-    same(&rt, got, "past the input", "100..100", "a b c");
+    let got = places_text(&rt, rt.alloc(), STEP_RULES, "a b c", false, &[(100, 0)]);
+    let want =
+        "a at 1:1-1:2 in [a b c], b at 1:3-1:4 in [a b c], c at 1:5-1:6 in [a b c], past the input";
+    same(&rt, got.as_str(), want, "100..100");
+}
+
+/// The text of a span of the input, once its lexer and its definition are gone.
+fn text_at<'input>(rt: &impl Abort, alloc: Global, input: &'input str, span: Span) -> &'input str {
+    let definition = defined(rt, alloc, Made::Read(WORDS));
+    let lexer = lexer_over(rt, alloc, &definition, input, false);
+    if span.fits(input) {
+        lexer.span_str(span)
+    } else {
+        "past the input"
+    }
 }
 
 #[test]
 fn a_text_outlives_its_lexer(rt: HostRuntime) {
     let input = owned(&rt, rt.alloc(), "❤ b");
-    // the lexer and its definition are gone
-    let places = places_over(&rt, rt.alloc(), WORDS, input.as_str(), false, &[]);
-    match places.as_slice().first() {
-        Some(Place::At(matched, _, _, _)) => same(&rt, *matched, "❤", "first", "❤ b"),
-        _ => panic!(rt; "no lexeme"),
-    }
+    same(
+        &rt,
+        text_at(&rt, rt.alloc(), input.as_str(), Span::new(0, 3)),
+        "❤",
+        "❤ b",
+    );
 }
