@@ -2,19 +2,19 @@
 
 A crate's must-fail/GATE.md has them: below a heading with the edit's name stands, in backquotes, the path of the function
 whose contract it breaks, and then the edit as rt reads one, lines file, old and new. The crate, which rt ci has proved, is
-copied with the libraries that it stands on into a folder of the edit's own, so that edits are tried side by side, and there
-rt must refuse the function. The last line is 'edits: N refused, M failed'.
+copied, and with the edit the prover must refuse that function; edits are tried side by side. The last line is
+'edits: N refused, M failed'.
 """
 
 import concurrent.futures
 import os
 import re
 import shutil
-import subprocess
 import sys
 import tempfile
 
-TOP = os.path.dirname(os.path.dirname(os.path.abspath(__file__)))
+from prover import TOP, checked, crates
+
 EDIT = re.compile(r"^## (\S+)\n\n`(\S+)`[^\n]*\n\n```\n((?:file: .*\nold: .*\nnew: .*\n)+)```$", re.M)
 PLACE = r"(?:\./)?(?:src|proofs)/\S+:\d+:\d+: "
 GOALS = [
@@ -25,16 +25,8 @@ GOALS = [
 VERDICT = re.compile(r"^only=(\d+) proved=(\d+)$", re.M)
 
 
-def crates():
-    """The crates of crates.txt, each with what it names as below it."""
-    with open(f"{TOP}/crates.txt", encoding="utf-8") as it:
-        lines = [line.split("#")[0].strip() for line in it]
-    pairs = [line.split(":") for line in lines if line]
-    return {name.strip(): below.split() for name, below in pairs}
-
-
 def edits_of(crate):
-    """The edits of the crate: name, function and changes."""
+    """The edits of the crate: its name, theirs, function and changes."""
     path = f"{TOP}/crates/{crate}/must-fail/GATE.md"
     if not os.path.isfile(path):
         return []
@@ -52,37 +44,6 @@ def changes_of(text):
     return [tuple(lines[at : at + 3]) for at in range(0, len(lines), 3)]
 
 
-def libraries_below(crate, listed):
-    """The repository's libraries that the crate stands on, all the way down."""
-    found = []
-    for name in listed[crate]:
-        if name in listed and name not in found:
-            found += [it for it in [name, *libraries_below(name, listed)] if it not in found]
-    return found
-
-
-def linked(one, other):
-    """Gives a file of a built library a second name: nothing writes into it."""
-    try:
-        os.link(one, other)
-    except OSError:
-        shutil.copy2(one, other)
-
-
-def copied(room, crate, listed):
-    """Copies the crate and the libraries below it, as they were built, into the folder."""
-    below = libraries_below(crate, listed)
-    for name in [crate, *below]:
-        for part in ("src", "specs", "proofs"):
-            if os.path.isdir(f"{TOP}/crates/{name}/{part}"):
-                shutil.copytree(f"{TOP}/crates/{name}/{part}", f"{room}/crates/{name}/{part}")
-    for name in below:
-        if os.path.isdir(f"{TOP}/crates/{name}/out/rlib"):
-            shutil.copytree(f"{TOP}/crates/{name}/out/rlib", f"{room}/crates/{name}/out/rlib", copy_function=linked)
-    with open(f"{room}/crates.txt", "w", encoding="utf-8") as it:
-        it.writelines(f"{name}: {' '.join(listed[name])}\n" for name in [*below, crate])
-
-
 def changed(folder, changes):
     """Makes the changes, and answers why they can't be made, if so."""
     for file, old, new in changes:
@@ -98,22 +59,20 @@ def changed(folder, changes):
 def goal_of(told):
     """The first line that names the goal which isn't proved."""
     found = [it for it in (goal.search(told) for goal in GOALS) if it]
-    return found[0].group(1)[:160] if found else "rt names no goal"
+    return found[0].group(1)[:160] if found else "no goal is named"
 
 
 def tried(edit, listed):
     """Whether the edit is refused, and what to say."""
     crate, name, function, changes = edit
     label = f"edit {crate}/{name}"
-    with tempfile.TemporaryDirectory(prefix="lrlex-edit-") as room:
-        copied(room, crate, listed)
-        folder = f"{room}/crates/{crate}"
+    with tempfile.TemporaryDirectory(prefix="lrlex-edit-") as folder:
+        for part in ("src", "specs", "proofs"):
+            shutil.copytree(f"{TOP}/crates/{crate}/{part}", f"{folder}/{part}")
         why = changed(folder, changes)
         if why:
             return False, f"{label}: FAILED, {why}"
-        how = {"cwd": folder, "stdin": subprocess.DEVNULL, "stdout": subprocess.PIPE, "stderr": subprocess.STDOUT}
-        words = ["rt", "check", "--jobs", "1", "--only", function]
-        told = subprocess.run(words, **how, text=True, errors="replace").stdout
+        told = checked(folder, crate, listed[crate], ["--only", function])
     verdict = VERDICT.search(told)
     if not verdict:
         return False, f"{label}: FAILED, it didn't reach the prover:\n{told[-2000:]}"
