@@ -294,6 +294,10 @@ module _ (d : Definition) (q : ℕ) (text places others : List ℕ) (are : place
         best_less here text (is_tabled t.parts.items) (looked_at t.parts.items others 0) (looked_none t.parts.items others) w.rule w.len
         (∥∥₁_elim served_here (best_prop here (is_tabled t.parts.items) text w.rule w.len) (λ s. (MatchOption-at_some (IsBestAmong here (is_tabled t.parts.items) text 0 0) (λ (w : Tile). (0 < w.len) × IsBestAmong here (is_tabled t.parts.items) text w.rule w.len) w e (answers here s)).1))
 
+    pub told_bytes : (w : Tile) → o ≡ Some w → 0 < w.len
+    told_bytes w e =
+        ∥∥₁_elim served_here (lt_prop _ _) (λ s. (MatchOption-at_some (IsBestAmong here (is_tabled t.parts.items) text 0 0) (λ (w : Tile). (0 < w.len) × IsBestAmong here (is_tabled t.parts.items) text w.rule w.len) w e (answers here s)).0)
+
   module _ (n k len : ℕ) (past : length others ≤ n) (best : IsBestAmong here (looked_at t.parts.items others n) text k len) where
     pub best_wins : 0 < len → Wins d q text (get_or places k 0) len
     best_wins some = longest_wins d q text places are k len (longest_of here text (looked_at t.parts.items others n) (looked_all n past) k len best some)

@@ -1,14 +1,16 @@
 -- The best match among the rules of several tables.
-use Rattle.std.proofs.Common.{◌≡◌, ℕ, ◌+◌, ◌<◌, ◌≤◌, ◌⊎◌, ◌||◌, Bool, true, false, List, [], ◌∷◌, length, map, take, get_or, IsUtf8, Option, Some, None, refl, sym, ap, ◌∙◌, subst, inl, inr, arith}
+use Rattle.std.proofs.Common.{◌≡◌, ℕ, ◌+◌, ◌<◌, ◌≤◌, ◌⊎◌, ◌||◌, Bool, true, false, List, All, [], ◌∷◌, length, map, take, get_or, IsUtf8, Option, Some, None, refl, sym, ap, ◌∙◌, subst, inl, inr, arith}
 use Rattle.std.proofs.lemmas.Bool.{cases_lt}
 use Rattle.std.proofs.lemmas.List.{length-map, get_or-map}
+use Rattle.std.proofs.lemmas.List.Elements.{All-get_or}
 use Rattle.std.proofs.lemmas.List.Folds.{list_any_more}
 use Rattle.std.proofs.lemmas.Str.{IsCharBoundary-start}
 use Rattle.regex.specs.Patterns.{Re, empty}
 use Rattle.lrlex_rules.specs.Patterns.{match_length}
 use Rattle.lrlex_table.specs.Merged.{pattern_at, IsLongest, NoneMatches}
 use Rattle.lrlex_table.specs.declared.tables.Part.{Part}
-use Rattle.lrlex_table.specs.Tables.{is_among, is_tabled, AreRising, ArePartsOf, IsBestAmong, IsWinnerAmong, IsDecidedAmong, IsSightOf}
+use Rattle.lrlex_table.specs.declared.tables.Tables.{Tables}
+use Rattle.lrlex_table.specs.Tables.{is_among, is_tabled, AreRising, ArePartsOf, AreTablesOf, IsPartOf, IsBestAmong, IsWinnerAmong, IsDecidedAmong, IsSightOf}
 use Rattle.lrlex_table.specs.Decided.{IsDecidedBy}
 use Rattle.lrlex_table.specs.declared.walk.Sight.{Sight}
 use Rattle.lrlex_table.specs.declared.walk.Tile.{Tile}
@@ -69,12 +71,6 @@ either_false false is = is
 pub tabled_more : (parts : List Part) (i : ℕ) (d : Part) → i < length parts → (k : ℕ) → is_tabled (take (i + 1) parts) k ≡ true →
     (is_tabled (take i parts) k || is_among (get_or parts i d).rules.items k) ≡ true
 tabled_more parts i d lt k is = sym (list_any_more (λ (p : Part). is_among p.rules.items k) parts i d lt) ∙ is
-
--- of one part alone
-pub tabled_only : (parts : List Part) (d : Part) → length parts ≡ 1 → (k : ℕ) → is_tabled parts k ≡ true → is_among (get_or parts 0 d).rules.items k ≡ true
-tabled_only [] d one k is = absurd (omega (arith, one))
-tabled_only (p ∷ []) d one k is = either_false (is_among p.rules.items k) is
-tabled_only (p ∷ q ∷ qs) d one k is = absurd (omega (arith, one))
 
 -- ---- the winner of a part
 
@@ -165,3 +161,11 @@ sight_of_fewer ps among fewer text s each is = record {
   winner = winner_of_fewer ps among fewer text s.tile each is.winner;
   decided = λ other also same k lt this. is.decided other also same k lt (each k this);
 }
+
+-- where there is one table alone, all see what it sees
+pub only_part : (ps : List Re) (t : Tables) (part : Part) (text : List ℕ) (s : Sight) → t.parts.items ≡ part ∷ [] → AreTablesOf ps t →
+    (IsPartOf ps 0 (length ps) part → IsSightOf ps (is_among part.rules.items) text s) → IsSightOf ps (is_tabled t.parts.items) text s
+only_part ps t part text s only are sees =
+    sight_of_fewer ps (is_among part.rules.items) (is_tabled t.parts.items) text s
+    (λ k some. either_false (is_among part.rules.items k) (subst (λ xs. is_tabled xs k ≡ true) only some))
+    (sees (All-get_or (IsPartOf ps 0 (length ps)) (part ∷ []) 0 part (omega arith) (subst (All (IsPartOf ps 0 (length ps))) only are.are)))

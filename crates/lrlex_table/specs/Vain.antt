@@ -1,5 +1,5 @@
 -- Where walks through a table go on in vain.
-use Rattle.std.specs.Prelude.{◌≡◌, ℕ, ◌+◌, ◌<◌, ◌≤◌, Bool, false, List, All, length, take, drop, Option, Some, option_map, option_and_then, slice_get}
+use Rattle.std.specs.Prelude.{◌≡◌, ℕ, ◌+◌, ◌<◌, ◌≤◌, Bool, false, List, length, take, drop, Option, Some, option_map, option_and_then, slice_get}
 use Rattle.lrlex_table.specs.Sound.{wins_at}
 use Rattle.lrlex_table.specs.Merged.{next_rows}
 use Rattle.lrlex_table.specs.Decided.{row_after}

@@ -311,7 +311,7 @@ impl Part {
 
     /// What the table sees of the part's rules.
     #[inline(always)]
-    fn look(&self, text: &str) -> Sight
+    pub(crate) fn look(&self, text: &str) -> Sight
         ensures sight { (ps : List Re) → IsPartOf ps 0 (length ps) self.now →
             IsSightOf ps (is_among self.now.rules.items) text.now result }
         ensures past { IsBelow result.reach result.tile }
@@ -346,6 +346,17 @@ impl Tables {
         &self.asked
     }
 
+    /// The table, where there is one alone.
+    #[inline(always)]
+    pub(crate) fn only(&self) -> Option<&Part>
+        ensures { IfSome result (λ p. self.now.parts.items ≡ p.now ∷ []) }
+    {
+        match self.parts.as_slice() {
+            [part] => Some(part),
+            _ => None,
+        }
+    }
+
     /// What all tables see. Out of line, since most lists of rules have one, and its look shall stay short.
     #[inline(never)]
     fn look_at_each(&self, text: &str) -> Sight
@@ -376,11 +387,10 @@ impl Tables {
             IsDecidedBy ps text.now result.reach }
         ensures past { IfSome result.tile (λ t. t.len < result.reach) }
     {
-        if self.parts.len() == 1 {
-            self.parts[0].look(text)
-        } else {
-            self.look_at_each(text)
+        if let Some(part) = self.only() {
+            return part.look(text);
         }
+        self.look_at_each(text)
     }
 
     /// How many tables there are.

@@ -255,17 +255,56 @@ impl<'d, 't> DeadEnds<'d, 't> {
         sight
     }
 
-    /// Looks once more, to keep the dead ends. Out of line and without an answer, so that a look that doesn't go far pays
-    /// for a comparison alone.
+    /// Looks once more, to keep the dead ends. Out of line, without an answer, and told no more than the list and the place,
+    /// so that a look that doesn't go far pays for a comparison alone.
     #[inline(never)]
-    fn look_again(&mut self, tables: &Tables, list: usize, place: usize, rest: &str)
-        requires tables { slice_get self.old.lists.now list ≡ Some tables.now }
-        requires rest { rest.now ≡ drop place self.old.text.now }
-        requires inside { place ≤ length self.old.text.now }
+    fn look_again(&mut self, list: usize, place: usize)
         ensures lists { self.new.lists ≡ self.old.lists }
         ensures text { self.new.text ≡ self.old.text }
     {
-        let _ = self.look_at_each(tables, list, place, rest);
+        let lists = self.lists;
+        let text = self.text;
+        if list < lists.len() && text.is_char_boundary(place) {
+            let _ = self.look_at_each(&lists[list], list, place, &text[place..]);
+        }
+    }
+
+    /// Where the look went far in vain, looks once more, to keep its dead ends.
+    #[inline(always)]
+    fn keep_far(&mut self, sight: Sight, list: usize, place: usize)
+        ensures lists { self.new.lists ≡ self.old.lists }
+        ensures text { self.new.text ≡ self.old.text }
+    {
+        // mostly decided by the reach alone
+        if sight.reach > FAR && sight.is_far() {
+            self.look_again(list, place);
+        }
+    }
+
+    /// `look` where a dead end may be known, or where the list has another number of tables than one. Out of line, so that
+    /// all other looks make no room for what this one answers.
+    #[inline(never)]
+    fn look_aside(&mut self, tables: &Tables, list: usize, place: usize, rest: &str) -> Sight
+        requires tables { slice_get self.old.lists.now list ≡ Some tables.now }
+        requires rest { rest.now ≡ drop place self.old.text.now }
+        requires inside { place ≤ length self.old.text.now }
+        ensures winner { (ps : List Re) → AreTablesOf ps tables.now →
+            MatchOption result.tile
+            (IsBestAmong ps (is_tabled tables.now.parts.items) rest.now 0 0)
+            (λ t. (0 < t.len) ×
+            IsBestAmong ps (is_tabled tables.now.parts.items) rest.now t.rule t.len) }
+        ensures decided { (ps : List Re) → AreTablesOf ps tables.now →
+            tables.now.asked.items ≡ [] → IsDecidedBy ps rest.now result.reach }
+        ensures past { IfSome result.tile (λ t. t.len < result.reach) }
+        ensures lists { self.new.lists ≡ self.old.lists }
+        ensures text { self.new.text ≡ self.old.text }
+    {
+        if place < self.known_to {
+            return self.look_at_each(tables, list, place, rest);
+        }
+        let sight = tables.look(rest);
+        self.keep_far(sight, list, place);
+        sight
     }
 
     /// What the tables of the list see of the text from this place on, as `Tables::look` does, so that all looks at a
@@ -287,14 +326,13 @@ impl<'d, 't> DeadEnds<'d, 't> {
         ensures lists { self.new.lists ≡ self.old.lists }
         ensures text { self.new.text ≡ self.old.text }
     {
-        if place < self.known_to {
-            return self.look_at_each(tables, list, place, rest);
+        if place >= self.known_to {
+            if let Some(part) = tables.only() {
+                let sight = part.look(rest);
+                self.keep_far(sight, list, place);
+                return sight;
+            }
         }
-        let sight = tables.look(rest);
-        // mostly decided by the reach alone
-        if sight.reach > FAR && sight.is_far() {
-            self.look_again(tables, list, place, rest);
-        }
-        sight
+        self.look_aside(tables, list, place, rest)
     }
 }

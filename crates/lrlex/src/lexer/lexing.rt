@@ -19,7 +19,7 @@ use crate::lexer::room::append;
 use crate::lexer::searching::Searcher;
 use crate::lexer::stack::{step, top_of};
 use lrlex_base::{Lexeme, LexerTypes, Span};
-use lrlex_rules::{Rule, StartStateId, StartStateOperation};
+use lrlex_rules::{Rule, StartStateId};
 use std::alloc::{AllocError, Global};
 
 /// What a run has found so far. Its last boundary is its place with its stack.
@@ -123,24 +123,25 @@ pub(crate) fn capped(over: usize) -> u8
 /// Enters the next boundary: moves the stack by the rule's target. The tiles looked `over` bytes past its place.
 #[inline(always)]
 #[tactic(auto, unfolding(crate::specs::Tiling::stack_after))]
-fn enter<X: Copy>(
+fn enter<S, X: Copy>(
     progress: &mut Progress<X>,
-    target: Option<(usize, StartStateOperation)>,
+    rule: &Rule<S>,
     place: usize,
     over: usize,
 ) -> Result<(), AllocError>
     requires entries { AreEntries progress.old.stack.items }
     requires room { length (plain progress.old.stack.items) + 1 < 2 ^ 64 }
     requires last { last_entries progress.old.boundaries ≡ progress.old.stack.items }
-    ensures { OnOk result (HasEntered progress.old progress.new target place over) }
+    ensures { OnOk result (HasEntered progress.old progress.new rule.now.target place over) }
 {
     progress.place = place;
     progress.over = over;
     append(&mut progress.ahead, capped(over))?;
-    if target.is_none() {
+    // read as a whole only where there is one, so that the tiles of other rules don't pay for it
+    if rule.target_state().is_none() {
         progress.boundaries.repeat(place)?;
     } else {
-        let kept = step(&mut progress.stack, target)?;
+        let kept = step(&mut progress.stack, rule.target_state())?;
         progress.boundaries.push(place, &progress.stack, kept)?;
     }
     Ok(())
@@ -201,6 +202,6 @@ pub(crate) fn advance<'d, L: LexerTypes>(
         return Ok(false);
     }
     let over = progress.over.max(sight.reach).saturating_sub(tile.len);
-    enter(progress, rule.target_state(), place + tile.len, over)?;
+    enter(progress, rule, place + tile.len, over)?;
     Ok(true)
 }

@@ -1,5 +1,5 @@
 //! The winner at a place: the best of what the tables tell and of what the rules without one answer, as they are asked.
-ghost use Rattle.std.specs.Prelude.{◌≡◌, ℕ, length, slice_index, ◌+◌, ◌^◌, ◌<◌, ◌≤◌, ◌⊎◌, true, false, vec_len, List, drop, IfOk, IfSome, IsCharBoundary};
+ghost use Rattle.std.specs.Prelude.{◌≡◌, ℕ, length, slice_index, [], ◌+◌, ◌^◌, ◌<◌, ◌≤◌, ◌⊎◌, true, false, vec_len, List, drop, IfOk, IfSome, IsCharBoundary};
 ghost use Rattle.lrlex_rules.specs.Matchers.{AreMatchers};
 ghost use Rattle.lrlex.specs.AtHand.{AreOf, HasAsked, IsSearcherOf, IsSightOf};
 ghost use Rattle.lrlex.specs.Views.{definition_of};
@@ -50,10 +50,48 @@ fn active_place(active: &[usize], rules: usize, number: usize) -> usize
     }
 }
 
+/// What wins at the beginning of the text, which stands at `from`, in a state whose active rules all have a table: what the
+/// tables tell.
+#[inline(always)]
+fn tabled_winner<L: LexerTypes>(
+    definition: &LRNonStreamingLexerDef<L>,
+    state: usize,
+    here: RulesIn<'_>,
+    ends: &mut DeadEnds<'_, '_>,
+    from: usize,
+    text: &str,
+) -> Sight
+    requires here { AreOf L.StorageT.number definition.now state here }
+    requires tabled { here.tables.now.asked.items ≡ [] }
+    requires ends { (ends.old.lists.now ≡ definition.now.table.tables.items)
+        × (text.now ≡ drop from ends.old.text.now) × (from ≤ length ends.old.text.now) }
+    ensures sight { IsSightOf (definition_of L.StorageT.number definition.now) state text.now
+        result }
+    ensures tile { IfSome result.tile (λ t. IsCharBoundary text.now t.len
+        × (t.rule < vec_len definition.now.table.rules)) }
+    ensures ends { (ends.new.lists ≡ ends.old.lists) × (ends.new.text ≡ ends.old.text) }
+{
+    let sight = ends.look(here.tables, here.list, from, text);
+    let Some(tile) = sight.tile else {
+        return Sight {
+            tile: None,
+            reach: sight.reach,
+        };
+    };
+    let rule = active_place(here.active, definition.table.rules.len(), tile.rule);
+    Sight {
+        tile: Some(Tile {
+            rule,
+            len: tile.len,
+        }),
+        reach: sight.reach,
+    }
+}
+
 /// The rule that wins at the beginning of the text, which stands at `from`, among those that are active in the state:
 /// the tables tell the best of the rules that have one, and the others are asked. A search doesn't tell how far it looked,
-/// so where a rule is asked the whole text decides.
-#[inline(always)]
+/// so the whole text decides. Out of line, so that a tile whose rules all have a table doesn't pay for it.
+#[inline(never)]
 fn winner_by<'d, L: LexerTypes>(
     alloc: Global,
     definition: &'d LRNonStreamingLexerDef<L>,
@@ -99,11 +137,7 @@ fn winner_by<'d, L: LexerTypes>(
             best = Tile { rule: number, len };
         }
     }
-    let reach = if tables.asked().is_empty() {
-        sight.reach
-    } else {
-        text.len() + 1
-    };
+    let reach = text.len() + 1;
     if best.len == 0 {
         return Ok(Sight { tile: None, reach });
     }
@@ -163,6 +197,10 @@ impl<'d, 't> Searcher<'d, 't> {
             IsSearcherOf definition.now input self.old →
             IsSearcherOf definition.now input self.new) }
     {
+        if here.tables.asked().is_empty() {
+            let ends = &mut self.ends;
+            return Ok(tabled_winner(definition, state, here, ends, place, rest));
+        }
         let sight = winner_by(
             alloc,
             definition,

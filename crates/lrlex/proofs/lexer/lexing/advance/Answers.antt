@@ -180,7 +180,7 @@ returns-clause-goes_on g c on =
         reached =
             subst (λ i. Reached d text i n.stack.items (items_by g.L.StorageT.Id.number g.L.LexemeT.Lexeme.seen n.items.items) n.boundaries n.asked) (sym e.place)
             (Reached-more d text p.place p.stack.items found p.boundaries p.asked r n.stack.items (items_by g.L.StorageT.Id.number g.L.LexemeT.Lexeme.seen n.items.items) n.boundaries n.asked t c.requires.inside taken few
-            e.entries (e.moved ∙ ap (stack_after (plain p.stack.items)) c.target_state.ensures ∙ sym (ap (λ (x : Rule). stack_after (plain p.stack.items) x.target) rule_is)) more
+            e.entries (e.moved ∙ sym (ap (λ (x : Rule). stack_after (plain p.stack.items) x.target) rule_is)) more
             e.kept);
         looked =
             looked_more d text r.before p.boundaries p.ahead.items p.place p.stack.items p.over r.kept c.requires.under_way.looked reach c.in-Some.tile.len decided n.stack.items n.place n.over n.boundaries n.ahead.items

@@ -1,13 +1,12 @@
-use Rattle.std.proofs.Common.{◌≡◌, ℕ, ◌+◌, ◌<◌, ◌≤◌, ◌⊎◌, true, length, slice_get, vec_len, get_or, refl, sym, ap, ◌∙◌, subst, inl, inr, arith, rules}
+use Rattle.std.proofs.Common.{◌≡◌, ℕ, ◌+◌, ◌<◌, ◌≤◌, ◌⊎◌, true, length, slice_get, vec_len, get_or, refl, sym, ap, ◌∙◌, subst, inl, inr, arith}
 use Rattle.std.proofs.lemmas.Option.{slice_get_read}
-use Rattle.std.proofs.lemmas.List.{length-map, nil_from_length}
+use Rattle.std.proofs.lemmas.List.{length-map}
 use Rattle.lrlex_rules.specs.Parts.{as_rule}
 use Rattle.lrlex_rules.specs.Patterns.{match_length}
 use Rattle.lrlex_table.specs.Tables.{IsBestAmong}
 use Rattle.lrlex_rules.specs.Matchers.{IsMatcherOf}
 use Rattle.lrlex.specs.StateTables.{patterns_on, pattern_in}
 use Rattle.lrlex.specs.Active.{is_active}
-use Rattle.lrlex.specs.Kept.{IsDecided}
 use Rattle.lrlex.specs.Tiling.{Wins}
 use Rattle.lrlex.specs.Views.{definition_of}
 use Rattle.lrlex.specs.declared.lexer.searching.Tile.{Tile}
@@ -15,10 +14,10 @@ use Rattle.lrlex.proofs.CountLemmas.{active_count-le}
 use Rattle.lrlex.proofs.PlaceLemmas.{all_places}
 use Rattle.lrlex.proofs.ScanLemmas.{length-places_of}
 use Rattle.lrlex_rules.proofs.MatcherLemmas.{matcher_at, matchers_set}
-use Rattle.lrlex.proofs.DecidedLemmas.{decided_whole, decided_look}
+use Rattle.lrlex.proofs.DecidedLemmas.{decided_whole}
 use Rattle.lrlex.proofs.TableLemmas.{active_within, looked_at, looked_more, other_within, others_few, told_none, told_some, pattern_here, best_kept, best_taken, best_wins, best_stuck, asked_is}
 use Rattle.lrlex.proofs.lexer.searching.winner_by.Goals as goal
-use Rattle.lrlex.proofs.lexer.searching.winner_by.Goals.{in-Some, in-None, then-is_better, else-is_better, then-is_empty, else-is_empty}
+use Rattle.lrlex.proofs.lexer.searching.winner_by.Goals.{in-Some, in-None, then-is_better, else-is_better}
 
 pub others-init : goal.others-init
 others-init g c =
@@ -186,15 +185,7 @@ returns-then-best-eq0-clause-sight g c =
       winner =
           best_stuck d c.args.state c.args.text.now c.args.here.active.now t.asked.items c.requires.here.active t refl c.requires.here.tables c.others.index c.others.best.rule c.others.best.len
           (omega (arith, c.others-test.false, ap length c.asked-index-end.ensures)) c.others.invariant.best c.if-best-eq0.true;
-      decided = elim c.if-is_empty.branch [
-        | then-is_empty w ↦
-            let zero : length c.asked-2.result.now ≡ 0 = search (rules, arith) in
-            subst (IsDecided d q text) (sym w.reach-is)
-            (decided_look d q text c.args.here.active.now t.asked.items c.requires.here.active t refl c.requires.here.tables c.others.index c.others.best.rule c.others.best.len
-            (omega (arith, c.others-test.false, ap length c.asked-index-end.ensures)) c.others.invariant.best c.look-sight.result.reach
-            (nil_from_length t.asked.items (omega (arith, zero, ap length c.asked-2.ensures))) c.look-sight.ensures.decided)
-        | else-is_empty w ↦ subst (IsDecided d q text) (sym w.reach-is) (decided_whole d q text)
-      ];
+      decided = decided_whole d q text;
     }
 
 pub returns-then-best-eq0-clause-asked : goal.returns-then-best-eq0-clause-asked
@@ -233,15 +224,7 @@ returns-clause-sight g c =
           subst (λ r. Wins d c.args.state text r best.len) (sym c.active_place.ensures)
           (best_wins d c.args.state text c.args.here.active.now t.asked.items c.requires.here.active t refl c.requires.here.tables c.others.index best.rule best.len
           (omega (arith, c.others-test.false, ap length c.asked-index-end.ensures)) c.others.invariant.best (omega (arith, c.if-best-eq0.false)));
-      decided = elim c.if-is_empty.branch [
-        | then-is_empty w ↦
-            let zero : length c.asked-2.result.now ≡ 0 = search (rules, arith) in
-            subst (IsDecided d q text) (sym w.reach-is)
-            (decided_look d q text c.args.here.active.now t.asked.items c.requires.here.active t refl c.requires.here.tables c.others.index c.others.best.rule c.others.best.len
-            (omega (arith, c.others-test.false, ap length c.asked-index-end.ensures)) c.others.invariant.best c.look-sight.result.reach
-            (nil_from_length t.asked.items (omega (arith, zero, ap length c.asked-2.ensures))) c.look-sight.ensures.decided)
-        | else-is_empty w ↦ subst (IsDecided d q text) (sym w.reach-is) (decided_whole d q text)
-      ];
+      decided = decided_whole d q text;
     }
 
 pub returns-clause-asked : goal.returns-clause-asked

@@ -1,9 +1,10 @@
-use Rattle.lrlex_table.proofs.BestLemmas.{decided_all}
+use Rattle.lrlex_table.proofs.BestLemmas.{decided_all, only_part}
 use Rattle.lrlex_table.proofs.vain.DeadEnds.look.Goals as goal
 
-pub returns-then-place-self-clause-winner : goal.returns-then-place-self-clause-winner
-returns-then-place-self-clause-winner c ps are = (c.look_at_each.ensures.sight ps are).winner
+pub returns-in-Some-clause-winner : goal.returns-in-Some-clause-winner
+returns-in-Some-clause-winner c ps are = (only_part ps c.args.tables.now c.in-Some.part.now c.args.rest.now c.look-sight.result c.in-Some.ensures are (c.look-sight.ensures.sight ps)).winner
 
-pub returns-then-place-self-clause-decided : goal.returns-then-place-self-clause-decided
-returns-then-place-self-clause-decided c ps are none =
-    decided_all ps c.args.tables.now.parts.items c.args.tables.now.asked.items c.args.rest.now c.look_at_each.result.reach are none (c.look_at_each.ensures.sight ps are).decided
+pub returns-in-Some-clause-decided : goal.returns-in-Some-clause-decided
+returns-in-Some-clause-decided c ps are none =
+    decided_all ps c.args.tables.now.parts.items c.args.tables.now.asked.items c.args.rest.now c.look-sight.result.reach are none
+    (only_part ps c.args.tables.now c.in-Some.part.now c.args.rest.now c.look-sight.result c.in-Some.ensures are (c.look-sight.ensures.sight ps)).decided

@@ -1,4 +1,4 @@
-use Rattle.std.proofs.Common.{◌≡◌, ◌-◌, ◌<◌, ◌≤◌, true, false, length, drop, sym, ap, ◌∙◌, subst, arith, append-nil, IsCharBoundary}
+use Rattle.std.proofs.Common.{◌≡◌, ◌-◌, ◌<◌, ◌≤◌, true, false, length, sym, ap, ◌∙◌, subst, arith, append-nil, IsCharBoundary}
 use Rattle.std.proofs.lemmas.Str.{IsCharBoundary-start}
 use Rattle.lrlex.specs.Tiling.{Done}
 use Rattle.lrlex.specs.Reach.{IsRun, searches}
