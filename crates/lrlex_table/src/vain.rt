@@ -282,7 +282,7 @@ impl<'d, 't> DeadEnds<'d, 't> {
     }
 
     /// `look` where a dead end may be known, or where the list has another number of tables than one. Out of line, so that
-    /// all other looks make no room for what this one answers.
+    /// what stands in line is the walk through one table.
     #[inline(never)]
     fn look_aside(&mut self, tables: &Tables, list: usize, place: usize, rest: &str) -> Sight
         requires tables { slice_get self.old.lists.now list ≡ Some tables.now }
