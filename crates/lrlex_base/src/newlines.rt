@@ -54,7 +54,8 @@ fn add_starts<A: Allocator>(
 fn move_starts(starts: &mut [usize], first: usize, from: usize, to: usize)
     requires within { first ≤ length starts.old }
     requires movable { All (λ s. (from ≤ s) × (s - from + to < 2 ^ 64)) (drop first starts.old) }
-    ensures { starts.new ≡ take first starts.old ++ map (λ s. s - from + to) (drop first starts.old) }
+    ensures { starts.new ≡ take first starts.old
+        ++ map (λ s. s - from + to) (drop first starts.old) }
 {
     for i in first..starts.len() {
         starts[i] = starts[i] - from + to;

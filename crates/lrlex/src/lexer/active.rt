@@ -174,7 +174,8 @@ fn note_place(lists: &mut [Vec<usize>], ids: &[usize], place: usize) -> Result<(
 /// So many lists, with nothing in them.
 fn empty_lists(alloc: Global, count: usize) -> Result<Vec<Vec<usize>>, AllocError>
     ensures each { IfOk result (λ lists. length lists.items ≡ count) }
-    ensures empty { IfOk result (λ lists. (i : ℕ) → list_in (map (λ v. v.items) lists.items) i ≡ []) }
+    ensures empty { IfOk result (λ lists. (i : ℕ)
+        → list_in (map (λ v. v.items) lists.items) i ≡ []) }
 {
     let mut lists = Vec::with_capacity(alloc, count)?;
     'lists: for _ in 0..count {

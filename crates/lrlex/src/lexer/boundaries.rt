@@ -68,7 +68,8 @@ fn range_of(entries: &[(usize, usize)], stretch: Stretch) -> &[(usize, usize)]
 fn shared(before: Stretch, here: Stretch) -> usize
     requires before { before.first ≤ before.end }
     requires here { here.first ≤ here.end }
-    ensures { (entries : List (ℕ × ℕ)) → IsRange (length entries) before → IsRange (length entries) here
+    ensures { (entries : List (ℕ × ℕ)) → IsRange (length entries) before
+        → IsRange (length entries) here
         → Stay result (entries_of entries before) (entries_of entries here) }
 {
     if here.first == before.first {
@@ -234,7 +235,8 @@ impl Boundaries {
         requires movable { All (IsMovableBoundary (boundary_at old.now index).place to)
             (drop (index + 1) old.now) }
         ensures { OnOk result (self.new ≡ self.old
-            ++ map (moved_boundary (boundary_at old.now index).place to) (drop (index + 1) old.now)) }
+            ++ map (moved_boundary (boundary_at old.now index).place to)
+            (drop (index + 1) old.now)) }
     {
         if !self.entries.starts_with(&old.entries) {
             return self.tail_one_by_one(old, index, to);
@@ -264,7 +266,8 @@ impl Boundaries {
         requires movable { All (IsMovableBoundary (boundary_at old.now index).place to)
             (drop (index + 1) old.now) }
         ensures { OnOk result (self.new ≡ self.old
-            ++ map (moved_boundary (boundary_at old.now index).place to) (drop (index + 1) old.now)) }
+            ++ map (moved_boundary (boundary_at old.now index).place to)
+            (drop (index + 1) old.now)) }
     {
         let from = old.place(index);
         let len = old.len();

@@ -112,9 +112,11 @@ fn append_moved<L: LexerTypes<LexErrorT = LRLexError>>(
 fn first_from(boundaries: &Boundaries, cursor: usize, place: usize) -> usize
     requires { cursor ≤ length boundaries.now }
     ensures within { result ≤ length boundaries.now }
-    ensures skipped { (j : ℕ) → cursor ≤ j → j < result → (boundary_at boundaries.now j).place < place }
+    ensures skipped { (j : ℕ) → cursor ≤ j → j < result
+        → (boundary_at boundaries.now j).place < place }
     ensures forward { cursor ≤ result }
-    ensures stops { result < length boundaries.now → place ≤ (boundary_at boundaries.now result).place }
+    ensures stops { result < length boundaries.now
+        → place ≤ (boundary_at boundaries.now result).place }
 {
     let mut next = cursor;
     'walk: while next < boundaries.len() {
@@ -145,7 +147,8 @@ fn is_at(boundaries: &Boundaries, index: usize, place: usize, stack: &[(usize, u
 fn behind(old: &Boundaries, edit: &Edit<'_>) -> usize
     requires { AreSorted old.now }
     ensures within { result ≤ length old.now }
-    ensures before { (j : ℕ) → j < result → (boundary_at old.now j).place < span_end edit.now.removed }
+    ensures before { (j : ℕ) → j < result
+        → (boundary_at old.now j).place < span_end edit.now.removed }
 {
     let end = edit.removed.end();
     if end == 0 { 0 } else { up_to(old, end - 1) }
@@ -167,14 +170,16 @@ fn meets(
         edit.now.put.now + 2 ^ 64 }
     requires cursor { cursor.old ≤ length old.now }
     requires behind { (j : ℕ) → j < cursor.old
-        → (boundary_at old.now j).place + (span_start edit.now.removed + length edit.now.put.now) < max
+        → (boundary_at old.now j).place
+        + (span_start edit.now.removed + length edit.now.put.now) < max
         place (span_start edit.now.removed + length edit.now.put.now) + span_end edit.now.removed }
     ensures at { TellsMeeting old.now edit.now.removed edit.now.put.now place stack.now cursor.new
         result }
     ensures none { result ≡ false → span_start edit.now.removed + length edit.now.put.now ≤ place
         → (j : ℕ) → j < length old.now
         → (boundary_at old.now j).place + (span_start edit.now.removed + length edit.now.put.now)
-        ≡ place + span_end edit.now.removed → plain (boundary_at old.now j).entries ≢ plain stack.now }
+        ≡ place + span_end edit.now.removed
+        → plain (boundary_at old.now j).entries ≢ plain stack.now }
 {
     let put_end = edit.removed.start() + edit.put.len();
     if place < put_end {
@@ -202,9 +207,11 @@ fn take_over<L: LexerTypes<LexErrorT = LRLexError>>(
     progress: &mut Progress<L::LexemeT>,
 ) -> Result<(), AllocError>
     requires within { index < length old.now.boundaries.now }
-    requires in_order { IsPartitionedBy (begins_before (boundary_at old.now.boundaries.now index).place)
+    requires in_order { IsPartitionedBy
+        (begins_before (boundary_at old.now.boundaries.now index).place)
         (map (item_of L.StorageT.number L.LexemeT.seen) old.now.items.now) }
-    requires items { All (IsMovable (boundary_at old.now.boundaries.now index).place progress.old.place)
+    requires items { All
+        (IsMovable (boundary_at old.now.boundaries.now index).place progress.old.place)
         (items_from (boundary_at old.now.boundaries.now index).place
         (map (item_of L.StorageT.number L.LexemeT.seen) old.now.items.now)) }
     requires last { last_entries progress.old.boundaries

@@ -53,7 +53,8 @@ pub fn decided_laws()
         → IsLexed d old found bounds
         → k < length bounds → far ≤ low → AreDecided d old bounds k far
         → AreDecided d new bounds k far }
-    ensures safe { (d : Definition) (text : List ℕ) (bounds : List Boundary) (ahead : List ℕ) (low k : ℕ)
+    ensures safe { (d : Definition) (text : List ℕ) (bounds : List Boundary) (ahead : List ℕ)
+        (low k : ℕ)
         → LooksAhead d text bounds ahead → k < length bounds → IsSafe bounds ahead low k
         → AreDecided d text bounds k low }
     ensures moved { (d : Definition) (old new : List ℕ) (m : Boundary) (place far to : ℕ)
@@ -68,8 +69,10 @@ pub fn ahead_laws()
         → LooksAhead d text (m ∷ []) (0 ∷ []) }
     ensures step { (d : Definition) (text : List ℕ) (bounds : List Boundary) (k far at : ℕ)
         → k < length bounds → AreDecided d text bounds k far
-        → IsDecidedAt d text at (boundary_at bounds k) → AreDecided d text bounds (k + 1) (max far at) }
-    ensures more { (d : Definition) (text : List ℕ) (bounds : List Boundary) (ahead : List ℕ) (m : Boundary)
+        → IsDecidedAt d text at (boundary_at bounds k)
+        → AreDecided d text bounds (k + 1) (max far at) }
+    ensures more { (d : Definition) (text : List ℕ) (bounds : List Boundary) (ahead : List ℕ)
+        (m : Boundary)
         (far n : ℕ) → 0 < length bounds → LooksAhead d text bounds ahead
         → AreDecided d text (bounds ++ m ∷ []) (length bounds) far → (n < 255 → far ≤ m.place + n)
         → LooksAhead d text (bounds ++ m ∷ []) (ahead ++ n ∷ []) }

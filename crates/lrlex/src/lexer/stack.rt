@@ -10,7 +10,8 @@ fn push_state(entries: &mut Vec<(usize, usize)>, id: usize) -> Result<usize, All
     requires entries { AreEntries entries.old.items }
     requires room { length (plain entries.old.items) + 1 < 2 ^ 64 }
     ensures entries { IfOk result (λ _. AreEntries entries.new.items) }
-    ensures pushed { IfOk result (λ _. plain entries.new.items ≡ plain entries.old.items ++ id ∷ []) }
+    ensures pushed { IfOk result (λ _. plain entries.new.items
+        ≡ plain entries.old.items ++ id ∷ []) }
     ensures stay { IfOk result (λ k. Stay k entries.old.items entries.new.items) }
 {
     match entries.pop() {
