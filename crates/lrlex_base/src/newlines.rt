@@ -223,3 +223,16 @@ impl<A: Allocator + Clone> NewlineCache<A> {
         Ok(())
     }
 }
+
+impl<A: Allocator + Clone> Clone for NewlineCache<A> {
+    ghost is_clone = { λ c d. d ≡ c };
+
+    fn clone(&self) -> Result<NewlineCache<A>, AllocError> {
+        let mut starts = Vec::new(self.starts.allocator().clone()?);
+        starts.extend_from_slice(&self.starts)?;
+        Ok(NewlineCache {
+            starts,
+            bytes: self.bytes,
+        })
+    }
+}

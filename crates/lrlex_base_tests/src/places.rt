@@ -192,19 +192,21 @@ fn is_same(cache: &NewlineCache, other: &NewlineCache) -> bool {
     true
 }
 
-/// Whether the cache of the old text, once edited, answers as one that was fed the new text.
+/// Whether a copy of the old text's cache, once edited, answers as one that was fed the new text, and the cache as before.
 fn follows(alloc: Global, old: &str, edit: &Edit<'_>) -> Result<bool, AllocError> {
     if !edit.fits(old) {
         return Ok(false);
     }
     let new = edit.apply(alloc, old)?;
     let fed = NewlineCache::from_str(alloc, &new)?;
-    let mut cache = NewlineCache::from_str(alloc, old)?;
+    let again = NewlineCache::from_str(alloc, old)?;
+    let kept = NewlineCache::from_str(alloc, old)?;
+    let mut cache = kept.clone()?;
     if edit.removed.end() > cache.fed() || cache.fed() >= 1_000 || edit.put.len() >= 1_000 {
         return Ok(false);
     }
     cache.edit(edit.removed, edit.put)?;
-    Ok(is_same(&cache, &fed))
+    Ok(is_same(&cache, &fed) && is_same(&kept, &again))
 }
 
 /// The old text, the two ends of what is removed, and what is put.

@@ -1,4 +1,4 @@
-use Rattle.std.proofs.Common.{ℕ, ◌+◌, ◌-◌, ◌<◌, ◌≤◌, ◌^◌, arith}
+use Rattle.std.proofs.Common.{◌+◌, ◌-◌, ◌<◌, ◌≤◌, ◌^◌, arith}
 use Rattle.lrlex_base.proofs.NewlineEditLemmas.{unmoved_all, moved_more}
 use Rattle.lrlex_base.proofs.newlines.move_starts.Goals as goal
 

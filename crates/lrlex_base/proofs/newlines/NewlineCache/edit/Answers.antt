@@ -1,9 +1,9 @@
-use Rattle.std.proofs.Common.{◌≡◌, ℕ, ◌+◌, ◌-◌, ◌<◌, ◌≤◌, ◌^◌, ◌++◌, List, length, take, drop, map, sym, ◌∙◌, ap, subst, arith}
+use Rattle.std.proofs.Common.{◌≡◌, ℕ, ◌+◌, ◌-◌, ◌<◌, ◌≤◌, ◌^◌, ◌++◌, List, length, drop, map, sym, ◌∙◌, ap, subst, arith}
 use Rattle.std.proofs.Props.{props}
 use Rattle.std.proofs.Math.Logic.{∥∥₁_elim, ∥∥₁_map}
-use Rattle.std.specs.List.{All, count_by}
+use Rattle.std.specs.List.{All}
 use Rattle.lrlex_base.specs.Edits.{edited}
-use Rattle.lrlex_base.specs.Places.{AreStartsOfSome, is_newline, newlines_from, starts_after}
+use Rattle.lrlex_base.specs.Places.{AreStartsOfSome, newlines_from, starts_after}
 use Rattle.lrlex_base.specs.Spans.{span}
 use Rattle.lrlex_base.proofs.NewlineLemmas.{newlines_back, starts_of_view, starts_positive}
 use Rattle.lrlex_base.proofs.NewlineEditLemmas.{begun_rises, behind_movable, edited_is, edited_length, found_at}

@@ -1,6 +1,4 @@
-use Rattle.std.proofs.Common.{◌≡◌, ℕ, List, [], length, refl, sym, ap, subst, arith}
-use Rattle.std.specs.List.{All}
-use Rattle.lrlex_base.specs.Places.{AreStartsOfSome}
+use Rattle.std.proofs.Common.{◌≡◌, [], length, refl, ap, arith}
 use Rattle.lrlex_base.proofs.newlines.NewlineCache.new.Goals as goal
 
 pub invariant_of-result : goal.invariant_of-result
