@@ -2,7 +2,7 @@
 use Rattle.std.proofs.Common.{◌≡◌, ℕ, zero, suc, ◌+◌, ◌-◌, ◌<◌, ◌≤◌, List, [], ◌∷◌, ◌++◌, All, length, take, drop, get_or, refl, sym, ap, ap₂, ◌∙◌, subst, arith, length-append, length-take-le, take-take, take-add, drop-drop, take-append-drop}
 use Rattle.std.specs.List.{slice_range}
 use Rattle.std.proofs.lemmas.List.{take_all, length-drop, get_or_default, take-append-le, drop-append-le}
-use Rattle.std.proofs.lemmas.List.Elements.{All-head, All-push, All-weaker}
+use Rattle.std.proofs.lemmas.List.Elements.{All-head, All-push, All-take, All-weaker}
 use Rattle.std.proofs.lemmas.List.Quantifiers.{all_pairs_push}
 use Rattle.lrlex.specs.Boundaries.{Boundary, boundary_at, last_entries, most_entries}
 use Rattle.lrlex.specs.Ranges.{no_stretch, last_stretch, longest, stretch_at, entries_of, boundaries_from, IsRange, AreRising, AreBegun, AreInOrder}
@@ -86,6 +86,9 @@ pub record Holds (entries : List (ℕ × ℕ)) (s : Stretch) (stack : List (ℕ 
   pub range : IsRange (length entries) s
   pub is : entries_of entries s ≡ stack
 
+pub range_at : {len : ℕ} (ss : List Stretch) (i : ℕ) {s : Stretch} → s ≡ stretch_at ss i → All (IsRange len) ss → IsRange len s
+range_at {len} ss i {s} is h = subst (IsRange len) (sym is) (begun_by-All (IsRange len) no_stretch ss i (record { ordered = omega arith; within = omega arith }) h)
+
 -- the stretch that the boundary is in
 pub range_is : {entries : List (ℕ × ℕ)} {ss now : List Stretch} {ps : List ℕ} {ms : List Boundary} {s : Stretch} (i : ℕ) → AreInOrder entries ss ps → boundaries_from entries ss 0 ps ≡ ms → i < length ms →
     s ≡ stretch_at now i → now ≡ ss → Holds entries s (boundary_at ms i).entries
@@ -102,11 +105,15 @@ pub entered_is : {entries : List (ℕ × ℕ)} {ss : List Stretch} {ps : List �
 entered_is {entries} {ss} {ps} {n} {ms} {s} i h e lt begun within is =
     range_is i h e lt (is ∙ sym (last_of_front no_stretch ss n s within) ∙ sym (stretch_at-begun begun)) refl
 
--- two boundaries in one stretch
-pub same_entries : {entries : List (ℕ × ℕ)} {ss : List Stretch} {ps : List ℕ} {n j k : ℕ} {ms : List Boundary} → AreInOrder entries ss ps → boundaries_from entries ss 0 ps ≡ ms → AreBegun ss n j → AreBegun ss n k →
-    j < length ms → k < length ms → (boundary_at ms j).entries ≡ (boundary_at ms k).entries
-same_entries {entries} {ss} {ps} {n} {j} {k} {ms} h e bj bk lj lk =
-    sym (range_is j h e lj refl refl).is ∙ ap (entries_of entries) (stretch_at-begun bj ∙ sym (stretch_at-begun bk)) ∙ (range_is k h e lk refl refl).is
+-- the last of the first so many stretches
+pub front_range : {entries : List (ℕ × ℕ)} {ss now : List Stretch} {ps : List ℕ} {s : Stretch} (n : ℕ) → AreInOrder entries ss ps → s ≡ last_stretch no_stretch (take n now) → now ≡ ss →
+    Holds entries s (entries_of entries (last_stretch no_stretch (take n ss)))
+front_range {entries} {ss} {now} {ps} {s} n h is e =
+    let at : s ≡ last_stretch no_stretch (take n ss) = is ∙ ap (λ xs. last_stretch no_stretch (take n xs)) e in
+    record {
+      range = subst (IsRange (length entries)) (sym at) (last_stretch-All (IsRange (length entries)) no_stretch (take n ss) (no_range entries) (All-take (IsRange (length entries)) n ss h.ranges));
+      is = ap (entries_of entries) at;
+    }
 
 -- from the last stretch on
 after_last : (ss : List Stretch) (n i : ℕ) → All (λ s. s.from < n) ss → n ≤ i + 1 → stretch_at ss i ≡ last_stretch no_stretch ss

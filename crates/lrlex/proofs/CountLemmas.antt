@@ -1,7 +1,6 @@
 -- How many searches a run makes.
-use Rattle.std.proofs.Common.{◌≡◌, ℕ, ◌+◌, ◌*◌, ◌<◌, ◌≤◌, Bool, true, false, cond, List, [], ◌∷◌, length, ap, ◌∙◌, arith, nat_lt}
+use Rattle.std.proofs.Common.{ℕ, ◌+◌, ◌*◌, ◌≤◌, Bool, true, false, cond, List, [], ◌∷◌, length, arith, nat_lt}
 use Rattle.std.specs.List.{sum_by}
-use Rattle.std.proofs.lemmas.Bool.{cond-true, lt-ltb}
 use Rattle.std.proofs.lemmas.List.Sums.{count_by-le-length, sum_by-cons}
 use Rattle.lrlex_rules.specs.Definition.{Definition}
 use Rattle.lrlex.specs.Active.{is_active, active_count}
@@ -30,17 +29,3 @@ asked_over-le d end place stack (t ∷ ts) =
       asked_at-le d end (place, stack),
       asked_over-le d end (place + t.len) (stack_past d stack t) ts,
     )
-
--- a boundary before the end
-pub asked_over-cons : (d : Definition) (end place : ℕ) (stack : List ℕ) (t : Tile) (ts : List Tile) → place < end →
-    sum_by (asked_at d end) (boundaries d place stack (t ∷ ts))
-    ≡ active_count d (top stack) + sum_by (asked_at d end) (boundaries d (place + t.len) (stack_past d stack t) ts)
-asked_over-cons d end place stack t ts lt =
-    let at : asked_at d end (place, stack) ≡ active_count d (top stack) = cond-true _ (active_count d (top stack)) 0 (lt-ltb place end lt) in
-    sum_by-cons (asked_at d end) (place, stack) (boundaries d (place + t.len) (stack_past d stack t) ts) ∙ ap (λ n. n + sum_by (asked_at d end) (boundaries d (place + t.len) (stack_past d stack t) ts)) at
-
-pub asked_over-last : (d : Definition) (end place : ℕ) (stack : List ℕ) → place < end →
-    sum_by (asked_at d end) (boundaries d place stack []) ≡ active_count d (top stack)
-asked_over-last d end place stack lt =
-    let at : asked_at d end (place, stack) ≡ active_count d (top stack) = cond-true _ (active_count d (top stack)) 0 (lt-ltb place end lt) in
-    sum_by-cons (asked_at d end) (place, stack) [] ∙ omega (arith, at)

@@ -1,5 +1,5 @@
 -- What lexing again takes, of a run whose fields are known.
-use Rattle.std.proofs.Common.{◌≡◌, ℕ, ◌+◌, ◌-◌, ◌*◌, ◌<◌, ◌≤◌, true, List, length, take, Result, Ok, Err, IfOk, sym, subst}
+use Rattle.std.proofs.Common.{◌≡◌, ℕ, ◌+◌, ◌-◌, ◌*◌, ◌<◌, ◌≤◌, true, List, length, take, sym, subst}
 use Rattle.lrlex_base.specs.Spans.{Span}
 use Rattle.lrlex.specs.Active.{is_state}
 use Rattle.lrlex.specs.Asked.{asks, WasCutAnew}
@@ -43,22 +43,3 @@ of_own number old ahead removed put r d text is_d is_text asked few met lexed ex
   lexed = lexed;
   exact = subst (λ e. Exact number old ahead removed put e r.text r.boundaries r.asked r.anew) (sym is_d) (subst (λ t. Exact number old ahead removed put d t r.boundaries r.asked r.anew) (sym is_text) exact);
 }
-
-pub of_result : {L X S E P Q F : Type 0} (number : S → ℕ) (old : List Boundary) (ahead : List ℕ) (removed : Span) (put : List ℕ) (res : Result (Ran (LRNonStreamingLexerDef L X S E P Q) X) F)
-    (d : LRNonStreamingLexerDef L X S E P Q) (text : List ℕ) → IfOk res (λ r. r.definition ≡ d) → IfOk res (λ r. r.text ≡ text) →
-    IfOk res (λ r. Asked number d text r.boundaries r.asked) → IfOk res (λ r. Few number d r.boundaries r.asked) → IfOk res (λ r. Met number old removed put d text r.boundaries r.asked) →
-    IfOk res (λ r. Lexed old ahead removed put r.boundaries r.anew) → IfOk res (λ r. Exact number old ahead removed put d text r.boundaries r.asked r.anew) → IfOk res (WasRelexed number old ahead removed put)
-of_result number old ahead removed put (Ok r) d text is_d is_text asked few met lexed exact = of_own number old ahead removed put r d text is_d is_text asked few met lexed exact
-of_result number old ahead removed put (Err e) d text is_d is_text asked few met lexed exact = tt
-
--- and of another with the same fields
-pub of_fields : {L X S E P Q : Type 0} (number : S → ℕ) (old : List Boundary) (ahead : List ℕ) (removed : Span) (put : List ℕ) (q r : Ran (LRNonStreamingLexerDef L X S E P Q) X) →
-    WasRelexed number old ahead removed put r → r.definition ≡ q.definition → r.text ≡ q.text → r.boundaries ≡ q.boundaries → r.asked ≡ q.asked → r.anew ≡ q.anew →
-    WasRelexed number old ahead removed put q
-of_fields number old ahead removed put q r w is_d is_text is_bounds is_asked is_anew =
-    subst (λ d. WasRelexed number old ahead removed put (record { definition = d; text = q.text; items = q.items; boundaries = q.boundaries; ahead = q.ahead; asked = q.asked; anew = q.anew })) is_d
-    (subst (λ text. WasRelexed number old ahead removed put (record { definition = r.definition; text = text; items = q.items; boundaries = q.boundaries; ahead = q.ahead; asked = q.asked; anew = q.anew })) is_text
-    (subst (λ bounds. WasRelexed number old ahead removed put (record { definition = r.definition; text = r.text; items = q.items; boundaries = bounds; ahead = q.ahead; asked = q.asked; anew = q.anew })) is_bounds
-    (subst (λ asked. WasRelexed number old ahead removed put (record { definition = r.definition; text = r.text; items = q.items; boundaries = r.boundaries; ahead = q.ahead; asked = asked; anew = q.anew })) is_asked
-    (subst (λ anew. WasRelexed number old ahead removed put (record { definition = r.definition; text = r.text; items = q.items; boundaries = r.boundaries; ahead = q.ahead; asked = r.asked; anew = anew })) is_anew
-    (record { asked = w.asked; few = w.few; met = w.met; lexed = w.lexed; exact = w.exact })))))

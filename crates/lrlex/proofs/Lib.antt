@@ -1,3 +1,4 @@
+pub mod AnewLemmas
 pub mod ArenaLemmas
 pub mod SliceLemmas
 pub mod BegunLemmas
@@ -5,6 +6,7 @@ pub mod BestLemmas
 pub mod CountLemmas
 pub mod EditLemmas
 pub mod IdLemmas
+pub mod InPlaceLemmas
 pub mod ItemLemmas
 pub mod KnownLemmas
 pub mod MeetLemmas
@@ -27,6 +29,8 @@ pub mod ResumeLemmas
 pub mod DecidedLemmas
 pub mod AheadLemmas
 pub mod RaisedLemmas
+pub mod FrontLemmas
+pub mod PutLemmas
 pub mod GoingLemmas
 pub mod AskedLemmas
 pub mod RestLemmas

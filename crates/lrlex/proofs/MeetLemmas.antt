@@ -1,7 +1,6 @@
 -- A run that meets the old one, in whole.
 use Rattle.std.proofs.Common.{◌≡◌, ◌≢◌, ℕ, zero, suc, ◌+◌, ◌-◌, ◌^◌, ◌<◌, ◌≤◌, List, [], ◌∷◌, ◌++◌, length, map, take, drop, get_or, Some, slice_get, refl, sym, ap, ◌∙◌, subst, inl, inr, arith, All, append_assoc, ◌*◌, length-append}
 use Rattle.std.specs.List.{sum_by}
-use Rattle.std.specs.List.Sorted.{IsPartitionedBy}
 use Rattle.std.proofs.lemmas.Bool.{cases_lt}
 use Rattle.std.proofs.lemmas.List.{length-drop, length-map, get_or-drop, get_or-map, map-append}
 use Rattle.std.proofs.lemmas.List.Sums.{sum_by-append}
@@ -11,14 +10,14 @@ use Rattle.lrlex_rules.specs.Definition.{Definition}
 use Rattle.lrlex.specs.Tiling.{Item, boundaries, rebased, asked_at}
 use Rattle.lrlex.specs.Entries.{plain}
 use Rattle.lrlex.specs.Boundaries.{Boundary, place_and_stack, no_boundary, boundary_at}
-use Rattle.lrlex.specs.Moves.{IsMovable, IsMovableBoundary, begins_before, items_from, moved_boundary, Meets}
+use Rattle.lrlex.specs.Moves.{IsMovable, IsMovableBoundary, items_from, moved_boundary, Meets}
 use Rattle.lrlex.specs.Reach.{Reached, IsLexed, searches}
 use Rattle.lrlex.specs.Kept.{IsSafe}
 use Rattle.lrlex.proofs.TailLemmas.{tail_tiling}
 use Rattle.lrlex_base.specs.Spans.{span}
 use Rattle.lrlex_base.specs.Edits.{edited}
 use Rattle.lrlex.proofs.EditLemmas.{drop-edited}
-use Rattle.lrlex.proofs.SpliceLemmas.{AtBoundary, at_bound, tail_items, in_order, spliced}
+use Rattle.lrlex.proofs.SpliceLemmas.{AtBoundary, at_bound, tail_items, spliced}
 use Rattle.lrlex.proofs.WithinLemmas.{IsWithin, items_within, all_movable, bounds_within}
 use Rattle.lrlex.proofs.KnownLemmas.{sorted}
 use Rattle.lrlex.proofs.ReachLemmas.{length_now, searches-few}
@@ -40,9 +39,6 @@ module _ (d : Definition) (old new : List ℕ) (low high : ℕ) (put : List ℕ)
 
   pub whole : IsLexed d new (found ++ map (rebased (boundary_at olds j).place q) (items_from (boundary_at olds j).place old_found)) (bounds ++ map (moved_boundary (boundary_at olds j).place q) (drop (j + 1) olds))
   whole = spliced d old new h.cut h.end found old_found bounds olds j q (boundary_at olds j) stack asked r at_old h.entries stacks rest_same
-
-  pub olds_in_order : IsPartitionedBy (begins_before (boundary_at olds j).place) old_found
-  olds_in_order = in_order d old h.cut h.end old_found olds j (boundary_at olds j) at_old
 
   bounds_len : length (boundaries d 0 (0 ∷ []) h.cut) ≡ length olds
   bounds_len = ap length (sym h.boundaries_are) ∙ length-map olds place_and_stack

@@ -1,8 +1,9 @@
 -- The numbers of the boundaries that a run takes over from the old one.
 use Rattle.std.proofs.Common.{◌≡◌, ℕ, ◌+◌, ◌-◌, ◌<◌, ◌≤◌, max, List, [], ◌∷◌, ◌++◌, length, map, take, drop, get_or, refl, sym, ap, ◌∙◌, subst, inl, inr, arith, length-append}
 use Rattle.std.proofs.lemmas.Bool.{cases_lt}
-use Rattle.std.proofs.lemmas.List.{length-take-le, length-drop, length-map, get_or-take, get_or_append_left, get_or-append_right, get_or_at, get_or-drop, get_or-map, take-append-le, drop-drop}
+use Rattle.std.proofs.lemmas.List.{length-take-le, length-drop, length-map, get_or-take, get_or_append_left, get_or-append_right, get_or-append-add, get_or_at, get_or-drop, get_or-map, take-append-le, drop-drop}
 use Rattle.std.proofs.lemmas.List.Elements.{All-from_get_or}
+use Rattle.std.proofs.Math.Seq.{take-append-add}
 use Rattle.lrlex_rules.specs.Definition.{Definition}
 use Rattle.lrlex.specs.Boundaries.{Boundary, no_boundary, boundary_at}
 use Rattle.lrlex.specs.Moves.{moved_boundary, AreSorted}
@@ -22,16 +23,6 @@ pub enough_far : (bounds : List Boundary) (ahead : List ℕ) (j over k : ℕ) �
 enough_far bounds ahead j over k far known = (omega arith, omega (arith, far))
 
 module _ (bounds : List Boundary) (ahead : List ℕ) (j over : ℕ) (front : List ℕ) where
-  pub raised_none : AreRaised bounds ahead j over (j + 1) front front
-  raised_none = record {
-    kept = take_whole front;
-    len = refl;
-    each = λ k lt below. absurd (omega arith);
-  } where
-    take_whole : (xs : List ℕ) → take (length xs) xs ≡ xs
-    take_whole [] = refl
-    take_whole (x ∷ xs) = ap (λ ys. x ∷ ys) (take_whole xs)
-
   -- numbers that are added
   pub raised_more : (end to : ℕ) (all more : List ℕ) → AreRaised bounds ahead j over end front all → j < end → end + length more ≡ to →
       ((k : ℕ) → end ≤ k → k < to → IsEnough bounds ahead j over k (get_or more (k - end) 0)) → AreRaised bounds ahead j over to front (all ++ more)
@@ -62,6 +53,20 @@ module _ (bounds : List Boundary) (ahead : List ℕ) (j over : ℕ) (front : Lis
       let at : end + (k - end) ≡ k = omega arith in
       let number : get_or ahead k 0 ≡ get_or (drop end ahead) (k - end) 0 = sym (get_or-drop end ahead (k - end) 0 ∙ ap (λ i. get_or ahead i 0) at) in
       subst (IsEnough bounds ahead j over k) number (enough_far bounds ahead j over k (far k ge lt)))
+
+  -- with numbers in front of all
+  pub raised_behind : (before : List ℕ) (end : ℕ) (all : List ℕ) → AreRaised bounds ahead j over end front all → AreRaised bounds ahead j over end (before ++ front) (before ++ all)
+  raised_behind before end all r =
+      let long = length-append before front in
+      record {
+        kept = ap (λ n. take n (before ++ all)) long ∙ take-append-add before all (length front) ∙ ap (λ xs. before ++ xs) r.kept;
+        len = omega (arith, r.len, long, length-append before all);
+        each = λ k lt below.
+            let at : length before + ((length front + k) - (j + 1)) ≡ (length (before ++ front) + k) - (j + 1) = omega arith in
+            let here : get_or all ((length front + k) - (j + 1)) 0 ≡ get_or (before ++ all) ((length (before ++ front) + k) - (j + 1)) 0 =
+            sym (get_or-append-add before all ((length front + k) - (j + 1)) 0) ∙ ap (λ i. get_or (before ++ all) i 0) at in
+            subst (IsEnough bounds ahead j over k) here (r.each k lt below);
+      }
 
 -- ---- the run that takes over
 

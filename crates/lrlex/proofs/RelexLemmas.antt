@@ -1,8 +1,8 @@
 -- Where a new run meets the old one.
-use Rattle.std.proofs.Common.{◌≡◌, ℕ, ◌+◌, ◌-◌, ◌<◌, ◌≤◌, Bool, true, false, true≢false, ◌&&◌, ◌==◌, List, [], ◌∷◌, ◌++◌, length, map, take, drop, refl, sym, ap, ap₂, ◌∙◌, subst, arith, All, eq-eqb, append_assoc, length-append}
+use Rattle.std.proofs.Common.{◌≡◌, ℕ, ◌+◌, ◌-◌, ◌<◌, ◌≤◌, Bool, true, false, true≢false, ◌&&◌, ◌==◌, List, [], ◌∷◌, ◌++◌, length, drop, refl, sym, ap, ap₂, ◌∙◌, subst, arith, All, eq-eqb, length-append}
 use Rattle.std.specs.Bool.{Decides}
 use Rattle.std.proofs.lemmas.Bool.{eqb-true}
-use Rattle.std.proofs.lemmas.List.{length-drop, get_or-drop, map_more, get_or_at}
+use Rattle.std.proofs.lemmas.List.{length-drop, get_or-drop, get_or_at}
 use Rattle.lrlex.specs.Boundaries.{Boundary, no_boundary, boundary_at, last_entries}
 use Rattle.lrlex.specs.Moves.{IsMovableBoundary}
 
@@ -31,14 +31,3 @@ pub last_entries-push : (ms : List Boundary) (m : Boundary) → last_entries (ms
 last_entries-push ms m =
     let n : length ms ≡ length (ms ++ m ∷ []) - 1 = omega (arith, length-append ms (m ∷ [])) in
     ap (λ i. (boundary_at (ms ++ m ∷ []) i).entries) (sym n) ∙ ap (λ (x : Boundary). x.entries) (get_or_at ms m [] no_boundary (length ms) refl)
-
-pub tail_more : (base self now old : List Boundary) (f : Boundary → Boundary) (i next : ℕ) → i + 1 ≤ next → next < length old →
-    self ≡ base ++ map f (take (next - (i + 1)) (drop (i + 1) old)) → now ≡ self ++ f (boundary_at old next) ∷ [] →
-    now ≡ base ++ map f (take (next + 1 - (i + 1)) (drop (i + 1) old))
-tail_more base self now old f i next le within was is =
-    let k : ℕ = next - (i + 1) in
-    let at : (i + 1) + k ≡ next = omega arith in
-    let more : k + 1 ≡ next + 1 - (i + 1) = omega arith in
-    let step = map_more f (drop (i + 1) old) k no_boundary (omega (arith, length-drop (i + 1) old)) in
-    is ∙ ap (λ xs. xs ++ f (boundary_at old next) ∷ []) was ∙ append_assoc base (map f (take k (drop (i + 1) old))) (f (boundary_at old next) ∷ [])
-    ∙ ap (λ xs. base ++ xs) (ap (λ x. map f (take k (drop (i + 1) old)) ++ f x ∷ []) (sym (get_or-drop (i + 1) old k no_boundary ∙ ap (boundary_at old) at)) ∙ sym step ∙ ap (λ n. map f (take n (drop (i + 1) old))) more)

@@ -10,7 +10,7 @@ use Rattle.lrlex_base.specs.Edits.{edited}
 use Rattle.lrlex_rules.specs.Definition.{Definition}
 use Rattle.lrlex_table.specs.Decided.{IsText}
 use Rattle.lrlex.specs.Active.{is_state}
-use Rattle.lrlex.specs.Tiling.{Tile, Item, Lexeme, Error, rebased, End, top, IsTaken, stack_past, IsTiling, tile_items, items, lexemes, boundaries}
+use Rattle.lrlex.specs.Tiling.{Tile, Item, End, top, IsTaken, stack_past, IsTiling, tile_items, items, lexemes, boundaries}
 use Rattle.lrlex.specs.Entries.{plain, AreEntries}
 use Rattle.lrlex.specs.Boundaries.{Boundary, place_and_stack, no_boundary, boundary_at}
 use Rattle.lrlex.specs.Moves.{begins_before}
@@ -67,18 +67,6 @@ before_point f p (x ∷ xs) zero le b after = cond-false (begins_before p (f x))
 before_point f p (x ∷ xs) (suc n) le b after =
     cond-true (begins_before p (f x)) (f x ∷ items_before p (map f xs)) [] (b 0 x (omega arith))
     ∙ ap (λ is. f x ∷ is) (before_point f p xs n (omega arith) (λ k d lt. b (suc k) d (omega arith)) (λ k d ge lt. after (suc k) d (omega arith) (omega arith)))
-
--- items that stay where they are
-rebased_here : (i : Item) → rebased 0 0 i ≡ i
-rebased_here (Lexeme id start len faulty) = let same : (start + 0) - 0 ≡ start = omega arith in ap (λ n. Lexeme id n len faulty) same
-rebased_here (Error start end state) =
-    let first : (start + 0) - 0 ≡ start = omega arith in
-    let last : (end + 0) - 0 ≡ end = omega arith in
-    ap₂ (λ m n. Error m n state) first last
-
-pub all_here : (xs : List Item) → map (rebased 0 0) xs ≡ xs
-all_here [] = refl
-all_here (x ∷ xs) = ap₂ ◌∷◌ (rebased_here x) (all_here xs)
 
 -- ---- boundaries
 

@@ -1,14 +1,13 @@
 -- What the tables of a state and the answers of the other rules say together: the best of them wins.
-use Rattle.std.proofs.Common.{◌≡◌, ℕ, zero, suc, ◌+◌, ◌-◌, ◌<◌, ◌≤◌, ◌⊎◌, ◌||◌, Bool, true, false, List, All, [], ◌∷◌, ◌++◌, length, map, take, drop, get_or, set, Option, None, Some, IfSome, option_map, unwrap_or, slice_get, MatchOption, IsCharBoundary, ◌==◌, refl, sym, ap, ap₂, ◌∙◌, subst, inl, inr, arith}
+use Rattle.std.proofs.Common.{◌≡◌, ℕ, zero, suc, ◌+◌, ◌-◌, ◌<◌, ◌≤◌, ◌⊎◌, ◌||◌, Bool, true, false, List, [], ◌∷◌, ◌++◌, length, map, take, drop, get_or, set, Option, None, Some, IfSome, option_map, unwrap_or, slice_get, MatchOption, IsCharBoundary, ◌==◌, refl, sym, ap, ap₂, ◌∙◌, subst, inl, inr, arith}
 use Rattle.std.proofs.Props.{props}
 use Rattle.std.proofs.Math.Logic.{∥∥₁_elim}
 use mathlib.Core.Logic.{∥∥₁_map}
 use Rattle.std.specs.List.{list_any, position}
 use Rattle.std.proofs.lemmas.Bool.{cases_lt, cases_eq, eqb-true}
-use Rattle.std.proofs.lemmas.Option.{MatchOption-at_some, MatchOption-at_none, slice_get-map, slice_get-get_or, slice_get_past, slice_get_within, get_or_from_slice_get}
+use Rattle.std.proofs.lemmas.Option.{MatchOption-at_some, MatchOption-at_none, slice_get-map, slice_get-get_or, slice_get_within, get_or_from_slice_get}
 use Rattle.std.proofs.lemmas.List.{length-map, length-set, length-take, length-drop, length-append, length_push, get_or-take, get_or-drop, get_or-append_right, get_or_append_left, get_or_push, get_or-set_same, get_or-set_other, take_all}
 use Rattle.std.proofs.lemmas.List.Folds.{list_any_more}
-use Rattle.std.proofs.lemmas.List.Elements.{All-push}
 use Rattle.regex_hir.specs.Text.{is_some_and}
 use Rattle.regex.specs.Patterns.{Re, SameCaptures, empty}
 use Rattle.lrlex_rules.specs.Definition.{Definition, Rule}
@@ -278,9 +277,6 @@ module _ (d : Definition) (q : ℕ) (text places others : List ℕ) (are : place
 
   module _ (o : Option Tile)
       (answers : (ps : List Re) → AreTablesOf ps t → MatchOption o (IsBestAmong ps (is_tabled t.parts.items) text 0 0) (λ w. (0 < w.len) × IsBestAmong ps (is_tabled t.parts.items) text w.rule w.len)) where
-    Told : Option Tile → Type 0
-    Told u = MatchOption u (IsBestAmong here (is_tabled t.parts.items) text 0 0) (λ w. (0 < w.len) × IsBestAmong here (is_tabled t.parts.items) text w.rule w.len)
-
     served_here : ∥ AreTablesOf here t ∥₁
     served_here = subst (λ xs. ∥ AreTablesOf (patterns_on d.rules xs) t ∥₁) (sym are) served
 
@@ -335,12 +331,6 @@ pub pattern_here : {S : Type 0} (f g : S → ℕ) (r : RuleParts S) → pattern_
 unfolding pattern_of
 pattern_here f g r = refl
 
-pub wins_within : (d : Definition) (q : ℕ) (text : List ℕ) (k n : ℕ) → Wins d q text k n → k < length d.rules
-wins_within d q text k n w = elim (cases_lt k (length d.rules)) [
-  | inl lt ↦ lt
-  | inr ge ↦ absurd (let none : taken d q text k ≡ 0 = ap (taken_by_any d q text) (slice_get_past d.rules k ge) in omega (arith, none, w.takes, w.some))
-]
-
 -- the list that the program keeps for the first state with the id
 pub active_at : {S : Type 0} (lists : List (List ℕ)) (at : List ℕ) (states : List start.StartState) (rules : List (RuleParts S)) (i j id : ℕ) →
     map (list_in lists) at ≡ map (λ s. active_places (map as_state states) (map (as_rule (λ _. 0)) rules) (as_state s).id) states →
@@ -373,18 +363,6 @@ alone_serves number (Some t) p r same is =
 pub pattern_in_at : {S : Type 0} (rules : List (RuleParts S)) (i : ℕ) (r : RuleParts S) → slice_get rules i ≡ Some r →
     pattern_in (map (as_rule (λ _. 0)) rules) i ≡ pattern_of (as_rule (λ _. 0) r)
 pattern_in_at rules i r at = ap (λ u. pattern_of (unwrap_or u no_rule)) (slice_get-map (as_rule (λ _. 0)) rules i ∙ ap (option_map (as_rule (λ _. 0))) at)
-
--- one more rule without a table yet
-pub single_more : (pattern : ℕ → Re) (singles : List Single) (s : Single) → AreSingle pattern singles → s.table ≡ None → AreSingle pattern (singles ++ s ∷ [])
-single_more pattern singles s old none k other is = elim (cases_lt k (length singles)) [
-  | inl low ↦
-      old k other (slice_get-get_or singles k s low ∙ ap Some (sym (get_or_append_left singles (s ∷ []) s k low))
-      ∙ sym (slice_get-get_or (singles ++ s ∷ []) k s (omega (arith, length_push singles s))) ∙ is)
-  | inr high ↦
-      let within : k < length (singles ++ s ∷ []) = slice_get_within (singles ++ s ∷ []) k other is in
-      let now : s ≡ other = sym (get_or_push singles s s k (omega (arith, length_push singles s))) ∙ get_or_from_slice_get (singles ++ s ∷ []) k other s is in
-      subst (λ (u : Single). IfSome u.table (IsTableOf (pattern k ∷ []))) now (subst (λ o. IfSome o (IsTableOf (pattern k ∷ []))) (sym none) tt)
-]
 
 -- what came of trying one
 pub single_set : (pattern : ℕ → Re) (singles : List Single) (i : ℕ) (s : Single) → AreSingle pattern singles → i < length singles →
@@ -429,10 +407,6 @@ served_more rules lists tables new s own j t is = elim (cases_lt j (length table
       subst (λ u. AreTablesOf (patterns_on (map (as_rule (λ _. 0)) rules) (list_in lists j)) u) now
       (subst (λ n. AreTablesOf (patterns_on (map (as_rule (λ _. 0)) rules) (list_in lists n)) new) last own)
 ]
-
--- places among the lists stay so
-pub below_more : (at : List ℕ) (x n m : ℕ) → All (λ j. j < n) at → n ≤ m → x < m → All (λ j. j < m) (at ++ x ∷ [])
-below_more at x n m all le lt = All-push (λ j. j < m) at x (λ i j h. omega (arith, all i j h)) lt
 
 -- where one passes, the first that does has a place
 pub first_place : {A : Type 0} (p : A → Bool) (xs : List A) (o : Option ℕ) (i : ℕ) → list_any p xs ≡ true → o ≡ position p xs → i ≡ unwrap_or o 0 → Some i ≡ position p xs

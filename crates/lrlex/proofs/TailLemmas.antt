@@ -6,7 +6,6 @@ use Rattle.lrlex_rules.specs.Definition.{Definition}
 use Rattle.lrlex.specs.Active.{rule_at, lexeme_id}
 use Rattle.lrlex.specs.Tiling.{Tile}
 use Rattle.lrlex.specs.Tiling.{Item, Error, End, Done, NoMatch, NoId, NoTarget, stack_past, IsTiling, lexeme_of, tile_items, end_items, items, boundaries, moved}
-use Rattle.lrlex.proofs.TilingLemmas.{AreSame, one_tiling}
 
 pub tail_tiling : (d : Definition) (text : List ℕ) (place : ℕ) (stack : List ℕ) (ts : List Tile) (e : End) (k : ℕ) (p : ℕ) (s : List ℕ) →
     IsTiling d (drop place text) stack ts e → slice_get (boundaries d place stack ts) k ≡ Some (p, s) →
@@ -19,16 +18,6 @@ tail_tiling d text place stack (t ∷ ts) e zero p s is at =
 tail_tiling d text place stack (t ∷ ts) e (suc k) p s is at =
     tail_tiling d text (place + t.len) (stack_past d stack t) ts e k p s
     (subst (λ rest. IsTiling d rest (stack_past d stack t) ts e) (drop-drop t.len place text) is.1) at
-
--- two tilings that meet have the same tiles from there on
-pub same_rest : (d : Definition) (old new first : List ℕ) (ts us : List Tile) (e f : End) (j k p q : ℕ) (stack : List ℕ) →
-    IsTiling d old first ts e → IsTiling d new first us f →
-    slice_get (boundaries d 0 first ts) j ≡ Some (p, stack) → slice_get (boundaries d 0 first us) k ≡ Some (q, stack) →
-    drop p old ≡ drop q new → AreSame (drop j ts) (drop k us) e f
-same_rest d old new first ts us e f j k p q stack v w at bt same =
-    one_tiling d (drop p old) stack (drop j ts) (drop k us) e f
-    (tail_tiling d old 0 first ts e j p stack v at)
-    (subst (λ rest. IsTiling d rest stack (drop k us) f) (sym same) (tail_tiling d new 0 first us f k q stack w bt))
 
 lexeme_moved : (o : Option ℕ) (n place len : ℕ) → lexeme_of o (n + place) len ≡ map (moved n) (lexeme_of o place len)
 lexeme_moved None n place len = refl

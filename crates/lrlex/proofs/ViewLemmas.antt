@@ -4,7 +4,7 @@ use Rattle.std.proofs.Math.Seq.{take-append_seam}
 use Rattle.std.proofs.lemmas.Bool.{cond-true, cond-false, ltb-true, ltb-false, eqb-true}
 use Rattle.std.proofs.lemmas.List.Sums.{passes_at_first, fails_before_first}
 use Rattle.std.proofs.lemmas.List.Folds.{Any-from_list_any, list_any_at, find_at}
-use Rattle.std.proofs.lemmas.List.{length-map, get_or_default}
+use Rattle.std.proofs.lemmas.List.{get_or_default}
 use Rattle.std.proofs.lemmas.Option.{slice_get-map, slice_get_past, slice_get_read, same_Some, none-some}
 use Rattle.std.specs.List.{list_any, find, position, position_or_len}
 use Rattle.regex_hir.specs.Text.{is_some_and}
@@ -171,16 +171,6 @@ test_of_place states q false placed e = sym (lacks_past states q _ placed (ltb-f
 
 pub placed_test : (states : List start.StartState) (q : ℕ) → ArePlaced states → nat_lt q (length states) ≡ list_any (λ s. (as_state s).id == q) states
 placed_test states q placed = test_of_place states q _ placed refl
-
--- the item at the same place of two lists
-pub at_same_place : {A B C : Type 0} (f : A → C) (g : B → C) (xs : List A) (ys : List B) (i : ℕ) (x : A) (y : B) → map f xs ≡ map g ys →
-    i < length ys → x ≡ get_or xs i x → y ≡ get_or ys i y → f x ≡ g y
-at_same_place f g xs ys i x y e within at bt =
-    let len : length xs ≡ length ys = sym (length-map xs f) ∙ ap length e ∙ length-map ys g in
-    same_Some _ _ (
-    sym (slice_get-map f xs i ∙ ap (option_map f) (slice_get_read xs (length xs) i x refl (omega arith) at))
-    ∙ ap (λ zs. slice_get zs i) e
-    ∙ slice_get-map g ys i ∙ ap (option_map g) (slice_get_read ys (length ys) i y refl within bt))
 
 -- a slice that was lent whole is back
 pub taken_back : {A : Type 0} (new rest : List A) (n : ℕ) → n ≡ length new → take n (new ++ rest) ≡ new

@@ -19,6 +19,10 @@ pub record Ran (D X : Type 0) : Type 0 where
   pub asked : ℕ
   pub anew : ℕ
 
+-- a run that has these
+abbrev pub ran : {D X : Type 0} → D → List ℕ → List (Result X LRLexError) → List Boundary → List ℕ → ℕ → ℕ → Ran D X
+ran d text items bounds ahead asked anew = record { definition = d; text = text; items = items; boundaries = bounds; ahead = ahead; asked = asked; anew = anew }
+
 -- it is the run of this definition on this text
 abbrev pub IsRunOf : {L X S E P Q : Type 0} → (S → ℕ) → (X → Seen S) → LRNonStreamingLexerDef L X S E P Q → List ℕ → Ran (LRNonStreamingLexerDef L X S E P Q) X → Type 0
 IsRunOf number seen d text r = IsRun (definition_of number d) text (items_by number seen r.items) r.boundaries

@@ -1,5 +1,5 @@
 -- Boundaries whose stacks are ranges of one list of entries.
-use Rattle.std.specs.Prelude.{ℕ, ◌+◌, ◌-◌, ◌*◌, ◌^◌, ◌<◌, ◌≤◌, max, Bool, List, All, [], ◌∷◌, nat_eq, nat_le, nat_lt, if◌then◌else◌, length, take, drop, slice_range}
+use Rattle.std.specs.Prelude.{◌≡◌, ℕ, ◌+◌, ◌-◌, ◌*◌, ◌^◌, ◌<◌, ◌≤◌, max, Bool, List, All, [], ◌∷◌, ◌++◌, nat_eq, nat_le, nat_lt, if◌then◌else◌, length, take, drop, slice_range}
 use Rattle.std.specs.List.{AllPairs}
 use Rattle.lrlex.specs.Boundaries.{Boundary}
 use Rattle.lrlex.specs.declared.lexer.stretch.Stretch.{Stretch}
@@ -75,6 +75,38 @@ pub record AreBegun (ss : List Stretch) (n k : ℕ) : Type 0 where
   pub within : n ≤ length ss
   pub begun : All (λ s. s.from ≤ k) (take n ss)
   pub later : All (λ s. k < s.from) (drop n ss)
+
+-- the first n stretches, and no others, begin before the boundary
+pub record AreBefore (ss : List Stretch) (n k : ℕ) : Type 0 where
+  pub within : n ≤ length ss
+  pub before : All (λ s. s.from < k) (take n ss)
+  pub behind : All (λ s. k ≤ s.from) (drop n ss)
+
+-- the stretch so many boundaries and entries further on
+abbrev pub placed_stretch : ℕ → ℕ → Stretch → Stretch
+placed_stretch k n s = record { from = s.from + k; first = s.first + n; end = s.end + n }
+
+-- it fits the numbers there
+pub record IsPlaceable (k n : ℕ) (s : Stretch) : Type 0 where
+  pub from : s.from + k < 2 ^ 64
+  pub first : s.first + n < 2 ^ 64
+  pub end : s.end + n < 2 ^ 64
+
+-- Stretches that stand for those of other boundaries from the one at k on, behind a stretch: with their ranges of the entries, each
+-- boundary has the stack that it has there.
+pub record StandFor (entries more : List (ℕ × ℕ)) (before : Stretch) (k : ℕ) (ss now : List Stretch) : Type 0 where
+  pub ranges : All (IsRange (length more)) now
+  pub rising : AreRising now
+  pub behind : All (λ s. k ≤ s.from) now
+  pub begun : (n : ℕ) → 0 < n → All (λ s. s.from < n) ss → All (λ s. s.from < k + n) now
+  pub stacks : (i j : ℕ) → j ≡ k + i → entries_of more (begun_by before now j) ≡ entries_of entries (stretch_at ss i)
+
+-- They stand behind the first so many stretches, up to the end that is told, in the place of those up to the passed ones.
+pub record AreJoined (entries more : List (ℕ × ℕ)) (mine passed k : ℕ) (ss old new : List Stretch) (end : ℕ) : Type 0 where
+  pub own : List Stretch
+  pub is : new ≡ take mine old ++ (own ++ drop passed old)
+  pub end_is : end ≡ mine + length own
+  pub stand : StandFor entries more (last_stretch no_stretch (take mine old)) k ss own
 
 -- the fields of the program's boundaries, once they are lists
 pub record AreInOrder (entries : List (ℕ × ℕ)) (ss : List Stretch) (ps : List ℕ) : Type 0 where

@@ -1,21 +1,25 @@
 -- How each step of a run leaves what the run has found so far.
-use Rattle.std.specs.Prelude.{◌≡◌, ℕ, ◌+◌, ◌-◌, ◌<◌, ◌≤◌, Bool, true, max, List, Option, Result, [], ◌∷◌, ◌++◌, length, map, drop, take, slice_index, IsCharBoundary}
+use Rattle.std.specs.Prelude.{◌≡◌, ℕ, ◌+◌, ◌-◌, ◌^◌, ◌<◌, ◌≤◌, Bool, true, max, List, Option, Some, None, Result, [], ◌∷◌, ◌++◌, length, map, drop, take, slice_index, IsCharBoundary}
 use Rattle.lrlex_base.specs.Seen.{Seen}
+use Rattle.lrlex_base.specs.Spans.{Fits, as_span}
+use Rattle.lrlex_base.specs.Edits.{edited}
 use Rattle.lrlex_base.specs.declared.spans.Span.{Span}
 use Rattle.lrlex_rules.specs.declared.states.StartStateOperation.{StartStateOperation}
 use Rattle.lrlex_rules.specs.Definition.{Definition}
 use Rattle.lrlex.specs.Asked.{IsLastSafe, untabled_count}
-use Rattle.lrlex.specs.Kept.{AreRaised, HasLooked, IsSafe, capped}
+use Rattle.lrlex.specs.Kept.{AreRaised, HasLooked, LooksAhead, capped, items_before}
 use Rattle.lrlex.specs.Moves.{items_from, moved_boundary}
 use Rattle.lrlex.specs.Boundaries.{Boundary, boundary_at}
 use Rattle.lrlex.specs.Ran.{Ran}
-use Rattle.lrlex.specs.Reach.{IsLexed, Reached, searches}
+use Rattle.lrlex.specs.Reach.{IsLexed, IsRun, Reached, searches}
+use Rattle.lrlex.specs.Relexed.{WasRelexed}
 use Rattle.lrlex.specs.Entries.{AreEntries, plain}
-use Rattle.lrlex.specs.Tiling.{rebased, stack_after, top}
-use Rattle.lrlex.specs.Views.{definition_of, item_of, items_by}
+use Rattle.lrlex.specs.Tiling.{Item, rebased, stack_after, top}
+use Rattle.lrlex.specs.Views.{definition_of, items_by}
 use Rattle.lrlex.specs.declared.errors.LRLexError.{LRLexError}
 use Rattle.lrlex.specs.declared.lexer.definition.LRNonStreamingLexerDef.{LRNonStreamingLexerDef}
 use Rattle.lrlex.specs.declared.lexer.lexing.Progress.{Progress}
+use Rattle.lrlex.specs.declared.lexer.relexing.Anew.{Anew}
 
 -- The next boundary was entered: it stands at this place, the rule's target moved the stack, the tiles looked so far
 -- past the place, and nothing else was found.
@@ -29,14 +33,14 @@ pub record HasEntered {X : Type 0} (old new : Progress X) (target : Option (ℕ 
   pub ahead : new.ahead.items ≡ old.ahead.items ++ capped far ∷ []
   pub kept : new.boundaries ≡ old.boundaries ++ record { place = at; entries = new.stack.items } ∷ []
 
--- what was found stands at boundary `index` of an old run: its boundaries and numbers up to there, these items, no search
-pub record StandsAt {X : Type 0} (old : List Boundary) (numbers : List ℕ) (index : ℕ) (before : List (Result X LRLexError)) (p : Progress X) : Type 0 where
+-- what was found stands at boundary `index` of an old run, and is that boundary with its number alone
+pub record StandsAt {X : Type 0} (old : List Boundary) (numbers : List ℕ) (index : ℕ) (p : Progress X) : Type 0 where
   pub place : p.place ≡ (boundary_at old index).place
   pub stack : p.stack.items ≡ (boundary_at old index).entries
-  pub items : p.items.items ≡ before
-  pub boundaries : p.boundaries ≡ take (index + 1) old
+  pub items : p.items.items ≡ []
+  pub boundaries : p.boundaries ≡ boundary_at old index ∷ []
   pub asked : p.asked ≡ 0
-  pub ahead : p.ahead.items ≡ take (index + 1) numbers
+  pub ahead : p.ahead.items ≡ slice_index numbers index ∷ []
   pub over : p.over ≡ slice_index numbers index
 
 -- the run has what was found, with so many tiles cut anew
@@ -49,16 +53,6 @@ pub record HasFinished {D X : Type 0} (d : D) (input : List ℕ) (p : Progress X
   pub ahead : r.ahead ≡ p.ahead.items
   pub anew : r.anew ≡ cut
 
--- What follows old boundary `index` was taken over, moved to the place at hand: items, boundaries, and the numbers that tell
--- how far the tiles looked, raised where that is needed. Nothing was searched.
-pub record HasTakenOver {S X : Type 0} (number : S → ℕ) (seen : X → Seen S) (found : List (Result X LRLexError)) (bounds : List Boundary) (numbers : List ℕ) (index : ℕ)
-    (old new : Progress X) : Type 0 where
-  pub items : map (item_of number seen) new.items.items ≡ map (item_of number seen) old.items.items
-      ++ map (rebased (boundary_at bounds index).place old.place) (items_from (boundary_at bounds index).place (map (item_of number seen) found))
-  pub boundaries : new.boundaries ≡ old.boundaries ++ map (moved_boundary (boundary_at bounds index).place old.place) (drop (index + 1) bounds)
-  pub asked : new.asked ≡ old.asked
-  pub ahead : AreRaised bounds numbers index old.over (length bounds) old.ahead.items new.ahead.items
-
 -- All old boundaries before the cursor stand before the place, as it was before the edit; where a meeting was found, the one at
 -- the cursor stands there, with the same stack.
 pub record TellsMeeting (old : List Boundary) (removed : Span) (put : List ℕ) (at : ℕ) (entries : List (ℕ × ℕ)) (next : ℕ) (found : Bool) : Type 0 where
@@ -70,37 +64,95 @@ pub record TellsMeeting (old : List Boundary) (removed : Span) (put : List ℕ) 
   pub place : found ≡ true → (boundary_at old next).place + (removed.start + length put) ≡ at + removed.end
   pub stack : found ≡ true → (boundary_at old next).entries ≡ entries
 
--- A run of the new text stands at the last boundary of the old one that is safe for an edit from `low` on, and all its
--- boundaries before that one stand before the edit. Nothing was searched.
-pub record HasResumed {S X : Type 0} (d : Definition) (number : S → ℕ) (seen : X → Seen S) (old : List Boundary) (numbers : List ℕ) (low : ℕ) (new : List ℕ)
-    (p : Progress X) : Type 0 where
-  pub reached : Reached d new p.place p.stack.items (items_by number seen p.items.items) p.boundaries p.asked
-  pub looked : HasLooked d new p.boundaries p.ahead.items p.place p.over
-  pub boundary : IsCharBoundary new p.place
-  pub before : (j : ℕ) → j + 1 < length p.boundaries → (boundary_at p.boundaries j).place < low
-  pub last : (j : ℕ) → j < length old → IsSafe old numbers low j → j < length p.boundaries
-  pub from : IsLastSafe old numbers low (length p.boundaries - 1)
-  pub none : p.asked ≡ 0
+-- What stands in front of what a run has found, where it began within a text: items, boundaries and their numbers.
+pub record Front : Type 0 where
+  pub items : List Item
+  pub boundaries : List Boundary
+  pub ahead : List ℕ
+
+-- nothing, where it began with the text
+abbrev pub no_front : Front
+no_front = record { items = []; boundaries = []; ahead = [] }
+
+-- what an old run has in front of its boundary k
+abbrev pub front_of : List Item → List Boundary → List ℕ → ℕ → Front
+front_of found bounds numbers k = record { items = items_before (boundary_at bounds k).place found; boundaries = take k bounds; ahead = take k numbers }
 
 -- A run stands at a place, between characters: tiles led to it, with these items and boundaries, and they looked so far.
-pub record IsUnderWay {S X : Type 0} (d : Definition) (number : S → ℕ) (seen : X → Seen S) (text : List ℕ) (p : Progress X) : Type 0 where
+pub record IsUnderWay {S X : Type 0} (d : Definition) (number : S → ℕ) (seen : X → Seen S) (text : List ℕ) (f : Front) (p : Progress X) : Type 0 where
   pub boundary : IsCharBoundary text p.place
-  pub reached : Reached d text p.place p.stack.items (items_by number seen p.items.items) p.boundaries p.asked
-  pub looked : HasLooked d text p.boundaries p.ahead.items p.place p.over
+  pub some : 0 < length p.boundaries
+  pub reached : Reached d text p.place p.stack.items (f.items ++ items_by number seen p.items.items) (f.boundaries ++ p.boundaries) p.asked
+  pub looked : HasLooked d text (f.boundaries ++ p.boundaries) (f.ahead ++ p.ahead.items) p.place p.over
 
 -- it took one more tile, and stands behind it
-pub record HasAdvanced {S X : Type 0} (d : Definition) (number : S → ℕ) (seen : X → Seen S) (text : List ℕ) (old new : Progress X) : Type 0 where
-  pub here : IsUnderWay d number seen text new
+pub record HasAdvanced {S X : Type 0} (d : Definition) (number : S → ℕ) (seen : X → Seen S) (text : List ℕ) (f : Front) (old new : Progress X) : Type 0 where
+  pub here : IsUnderWay d number seen text f new
   pub grows : old.place < new.place
   pub more : (m : Boundary) × (new.boundaries ≡ old.boundaries ++ m ∷ [])
 
 -- it found no more tile, and all that it found is what the text gives
-pub record HasEnded {S X : Type 0} (d : Definition) (number : S → ℕ) (seen : X → Seen S) (text : List ℕ) (old new : Progress X) : Type 0 where
-  pub lexed : IsLexed d text (items_by number seen new.items.items) new.boundaries
+pub record HasEnded {S X : Type 0} (d : Definition) (number : S → ℕ) (seen : X → Seen S) (text : List ℕ) (f : Front) (old new : Progress X) : Type 0 where
+  pub lexed : IsLexed d text (f.items ++ items_by number seen new.items.items) (f.boundaries ++ new.boundaries)
   pub same : new.boundaries ≡ old.boundaries
   pub ahead : new.ahead.items ≡ old.ahead.items
 
 -- the searches of one step: at most as many as the boundaries so far allow, and exactly those of the state on top
-pub record HasSearched {L X S E P Q : Type 0} (number : S → ℕ) (d : LRNonStreamingLexerDef L X S E P Q) (text : List ℕ) (old new : Progress X) : Type 0 where
-  pub few : new.asked ≤ searches (definition_of number d) text old.boundaries
+pub record HasSearched {L X S E P Q : Type 0} (number : S → ℕ) (d : LRNonStreamingLexerDef L X S E P Q) (text : List ℕ) (f : Front) (old new : Progress X) : Type 0 where
+  pub few : new.asked ≤ searches (definition_of number d) text (f.boundaries ++ old.boundaries)
   pub exact : new.asked ≡ old.asked + untabled_count d (top (plain old.stack.items))
+
+-- The lists are those of a run of some text, and this edit makes the new text of that one.
+pub record IsEditOf {L X S E P Q : Type 0} (number : S → ℕ) (seen : X → Seen S) (d : LRNonStreamingLexerDef L X S E P Q) (found : List (Result X LRLexError)) (bounds : List Boundary)
+    (numbers : List ℕ) (removed : Span) (put new : List ℕ) : Type 0 where
+  pub text : List ℕ
+  pub small : length text < 2 ^ 64
+  pub looks : ∥ LooksAhead (definition_of number d) text bounds numbers ∥₁
+  pub run : ∥ IsRun (definition_of number d) text (items_by number seen found) bounds ∥₁
+  pub fits : Fits text removed
+  pub gives : new ≡ edited text (as_span removed) put
+
+-- A run of the new text that has these items and boundaries in front of it meets old boundary j: it stands past the edit, and
+-- that one stood there before it, with the same stack.
+pub record HasMet {S X : Type 0} (d : Definition) (number : S → ℕ) (seen : X → Seen S) (bounds : List Boundary) (removed : Span) (put new : List ℕ) (f : Front) (p : Progress X) (j : ℕ) : Type 0 where
+  pub under_way : IsUnderWay d number seen new f p
+  pub within : j < length bounds
+  pub past : removed.start + length put ≤ p.place
+  pub place : (boundary_at bounds j).place + (removed.start + length put) ≡ p.place + removed.end
+  pub stack : (boundary_at bounds j).entries ≡ p.stack.items
+
+-- Tiles were cut anew from the last boundary of the old run that is safe, up to the first that meets it, or to the end of
+-- what the text gives.
+pub record HasCutAnew {L X S E P Q : Type 0} (number : S → ℕ) (seen : X → Seen S) (d : LRNonStreamingLexerDef L X S E P Q) (found : List (Result X LRLexError)) (bounds : List Boundary)
+    (numbers : List ℕ) (removed : Span) (put new : List ℕ) (a : Anew X) : Type 0 where
+  pub from : IsLastSafe bounds numbers removed.start a.index
+  pub first : a.first ≤ length found
+  pub before : items_by number seen (take a.first found) ≡ items_before (boundary_at bounds a.index).place (items_by number seen found)
+  pub some : 0 < length a.progress.boundaries
+  pub met : (j : ℕ) → a.met ≡ Some j
+      → HasMet (definition_of number d) number seen bounds removed put new (front_of (items_by number seen found) bounds numbers a.index) a.progress j
+  pub lexed : a.met ≡ None
+      → IsLexed (definition_of number d) new (items_by number seen (take a.first found) ++ items_by number seen a.progress.items.items) (take a.index bounds ++ a.progress.boundaries)
+  pub looked : a.met ≡ None
+      → LooksAhead (definition_of number d) new (take a.index bounds ++ a.progress.boundaries) (take a.index numbers ++ a.progress.ahead.items)
+  pub counts : (tail : List Boundary) → (a.met ≡ None → tail ≡ []) → (r : Ran (LRNonStreamingLexerDef L X S E P Q) X)
+      → r.definition ≡ d → r.text ≡ new → r.boundaries ≡ (take a.index bounds ++ a.progress.boundaries) ++ tail
+      → r.asked ≡ a.progress.asked → r.anew ≡ length a.progress.boundaries - 1
+      → WasRelexed number bounds numbers (as_span removed) put r
+
+-- what was cut anew stands in place of all behind its front
+pub record IsPutBehind {X : Type 0} (found : List (Result X LRLexError)) (bounds : List Boundary) (numbers : List ℕ) (a : Anew X)
+    (found' : List (Result X LRLexError)) (bounds' : List Boundary) (numbers' : List ℕ) : Type 0 where
+  pub items : found' ≡ take a.first found ++ a.progress.items.items
+  pub boundaries : bounds' ≡ take a.index bounds ++ a.progress.boundaries
+  pub ahead : numbers' ≡ take a.index numbers ++ a.progress.ahead.items
+
+-- What was cut anew stands between its front and what follows old boundary j, moved to the place at hand: items, boundaries, and the
+-- numbers that tell how far the tiles looked, raised where that is needed.
+pub record IsPutBetween {S X : Type 0} (number : S → ℕ) (seen : X → Seen S) (found : List (Result X LRLexError)) (bounds : List Boundary) (numbers : List ℕ) (a : Anew X) (j : ℕ)
+    (found' : List (Result X LRLexError)) (bounds' : List Boundary) (numbers' : List ℕ) : Type 0 where
+  pub items : items_by number seen found' ≡ (items_by number seen (take a.first found) ++ items_by number seen a.progress.items.items)
+      ++ map (rebased (boundary_at bounds j).place a.progress.place) (items_from (boundary_at bounds j).place (items_by number seen found))
+  pub boundaries : bounds' ≡ (take a.index bounds ++ a.progress.boundaries)
+      ++ map (moved_boundary (boundary_at bounds j).place a.progress.place) (drop (j + 1) bounds)
+  pub ahead : AreRaised bounds numbers j a.progress.over (length bounds) (take a.index numbers ++ a.progress.ahead.items) numbers'

@@ -1,12 +1,12 @@
-ghost use Rattle.std.specs.Prelude.{◌≡◌, ℕ, ◌+◌, ◌-◌, ◌<◌, ◌≤◌, List, All, [], ◌∷◌, ◌++◌, length, map, take, drop, nat_le, IfOk, OnErr, OnOk};
+ghost use Rattle.std.specs.Prelude.{◌≡◌, ℕ, ◌+◌, ◌-◌, ◌^◌, ◌<◌, ◌≤◌, List, All, [], ◌∷◌, ◌++◌, length, map, take, drop, nat_le, nat_lt, vec_len, vec_capacity, IfOk, OnErr, OnOk};
 ghost use Rattle.lrlex.specs.Boundaries.{boundary_at, last_entries, most_entries};
 ghost use Rattle.lrlex.specs.Moves.{moved_boundary, IsMovableBoundary};
-ghost use Rattle.lrlex.specs.Ranges.{AreBegun, AreRising, IsMovablePlace, IsRange, are_loose, entries_of, own_entries, moved_place, stretch_at};
+ghost use Rattle.lrlex.specs.Ranges.{AreBefore, AreBegun, AreJoined, AreRising, IsMovablePlace, IsRange, are_loose, entries_of, last_stretch, own_entries, moved_place, no_stretch, stretch_at};
 ghost use Rattle.lrlex.specs.Entries.{Stay};
 
-use crate::lexer::room::append;
+use crate::lexer::room::{append, copied, splice};
 use crate::lexer::stretch::{
-    NO_STRETCH, Stretch, append_moved_stretches, last_of, longest, stored,
+    NO_STRETCH, Stretch, last_of, longest, move_stretches, put_stretches, stored,
 };
 use std::alloc::{AllocError, Global};
 use std::marker::Model;
@@ -45,6 +45,18 @@ fn begun(stretches: &[Stretch], index: usize) -> usize
         |s: &Stretch| -> bool
             ensures { result ≡ nat_le s.now.from index }
         { s.from <= index },
+    )
+}
+
+/// How many stretches begin before the boundary.
+fn begun_before(stretches: &[Stretch], index: usize) -> usize
+    requires { AreRising stretches.now }
+    ensures { AreBefore stretches.now result index }
+{
+    stretches.partition_point(
+        |s: &Stretch| -> bool
+            ensures { result ≡ nat_lt s.now.from index }
+        { s.from < index },
     )
 }
 
@@ -110,32 +122,87 @@ fn is_loose(entries: &[(usize, usize)], stretches: &[Stretch]) -> bool
     spare > 0
 }
 
-/// Adds the places, once what stood at `from` stands at `to`.
-fn append_moved_places(
-    places: &mut Vec<usize>,
-    tail: &[usize],
-    from: usize,
-    to: usize,
-) -> Result<(), AllocError>
-    requires { All (IsMovablePlace from to) tail.now }
-    ensures items { OnOk result (places.new.items ≡ places.old.items
-        ++ map (moved_place from to) tail.now) }
-    ensures same { OnErr result (places.new.items ≡ places.old.items) }
-{
-    let len = places.len();
-    places.extend_from_slice(tail)?;
-    move_places(&mut places[len..], from, to);
-    Ok(())
-}
-
 /// Moves the places: what stood at `from` stands at `to`.
 fn move_places(places: &mut [usize], from: usize, to: usize)
     requires { All (IsMovablePlace from to) places.old }
     ensures { places.new ≡ map (moved_place from to) places.old }
 {
+    if from == to {
+        return;
+    }
     for place in places.iter_mut() {
         *place = *place - from + to;
     }
+}
+
+/// Puts places in the place of those from `first` up to `last`, and moves those that follow: what stood at `from` stands at `to`.
+/// There is room for them beside all that are there.
+fn put_places(
+    places: &mut Vec<usize>,
+    first: usize,
+    last: usize,
+    between: &[usize],
+    from: usize,
+    to: usize,
+)
+    requires order { first ≤ last }
+    requires within { last ≤ length places.old.items }
+    requires room { vec_len places.old + length between.now ≤ vec_capacity places.old }
+    requires movable { All (IsMovablePlace from to) (drop last places.old.items) }
+    ensures { places.new.items ≡ take first places.old.items
+        ++ (between.now ++ map (moved_place from to) (drop last places.old.items)) }
+{
+    splice(places, first, last, between);
+    move_places(&mut places[first + between.len()..], from, to);
+}
+
+/// Puts the stretches of boundaries that are to stand from the one at `keep` on in the place of those from `mine` up to `passed`,
+/// and their stacks behind the entries. Tells where they end. None is put for the first boundary where its stack is the one before.
+fn join(
+    stretches: &mut Vec<Stretch>,
+    entries: &mut Vec<(usize, usize)>,
+    mine: usize,
+    passed: usize,
+    between: &[Stretch],
+    stacks: &[(usize, usize)],
+    keep: usize,
+) -> Result<usize, AllocError>
+    requires order { mine ≤ passed }
+    requires within { passed ≤ length stretches.old.items }
+    requires before { IsRange (length entries.old.items)
+        (last_stretch no_stretch (take mine stretches.old.items)) }
+    requires rising { AreRising between.now }
+    requires ranges { All (IsRange (length stacks.now)) between.now }
+    requires fits { All (λ s. s.from + keep < 2 ^ 64) between.now }
+    ensures longer { entries.new.items ≡ entries.old.items
+        ++ drop (length entries.old.items) entries.new.items }
+    ensures joined { IfOk result (AreJoined stacks.now entries.new.items mine passed keep
+        between.now stretches.old.items stretches.new.items) }
+    ensures same { OnErr result (stretches.new.items ≡ stretches.old.items) }
+{
+    let before = last_of(&stretches[..mine]);
+    let first = stretch_of(between, 0);
+    let later = &between[begun(between, 0)..];
+    let shift = entries.len();
+    let same = range_of(entries, before) == range_of(stacks, first);
+    stretches.reserve(later.len() + 1)?;
+    if same && later.is_empty() {
+        splice(stretches, mine, passed, later);
+        return Ok(mine);
+    }
+    entries.extend_from_slice(stacks)?;
+    if same {
+        put_stretches(stretches, mine, passed, later, keep, shift);
+        return Ok(mine + later.len());
+    }
+    let opening = Stretch {
+        from: keep,
+        first: first.first + shift,
+        end: first.end + shift,
+    };
+    stretches.insert(mine, opening)?;
+    put_stretches(stretches, mine + 1, passed + 1, later, keep, shift);
+    Ok(mine + 1 + later.len())
 }
 
 impl Boundaries {
@@ -221,128 +288,110 @@ impl Boundaries {
         Ok(())
     }
 
-    /// Adds the boundaries that follow the one at `index`, moved, of a list that ends with this one's stack there.
-    /// What stood at its place stands at `to`. Where this one has that list's entries at their places, the stretches serve
-    /// again as they are, and all goes by slices.
-    pub(crate) fn append_moved(
-        &mut self,
-        old: &Boundaries,
-        index: usize,
-        to: usize,
-    ) -> Result<(), AllocError>
-        requires within { index < length old.now }
-        requires last { last_entries self.old ≡ (boundary_at old.now index).entries }
-        requires movable { All (IsMovableBoundary (boundary_at old.now index).place to)
-            (drop (index + 1) old.now) }
-        ensures { OnOk result (self.new ≡ self.old
-            ++ map (moved_boundary (boundary_at old.now index).place to)
-            (drop (index + 1) old.now)) }
+    /// A copy with all entries, and with room for some more.
+    pub(crate) fn copied(&self, alloc: Global) -> Result<Self, AllocError>
+        ensures { IfOk result (λ made. made ≡ self.now) }
     {
-        if !self.entries.starts_with(&old.entries) {
-            return self.tail_one_by_one(old, index, to);
+        Ok(Boundaries {
+            places: copied(alloc, &self.places)?,
+            stretches: copied(alloc, &self.stretches)?,
+            entries: copied(alloc, &self.entries)?,
+        })
+    }
+
+    /// Leaves out the entries that no stack has any more, where these are more than half.
+    pub(crate) fn tidy(&mut self, alloc: Global) -> Result<(), AllocError>
+        ensures { self.new ≡ self.old }
+    {
+        if is_loose(&self.entries, &self.stretches) {
+            *self = self.compacted(alloc)?;
         }
-        let from = old.place(index);
-        let len = self.places.len();
-        let entered = begun(&old.stretches, index);
-        append_moved_places(&mut self.places, &old.places[index + 1..], from, to)?;
-        append_moved_stretches(
+        Ok(())
+    }
+
+    /// The same boundaries, with those entries alone that a stack has.
+    fn compacted(&self, alloc: Global) -> Result<Self, AllocError>
+        ensures { IfOk result (λ made. made ≡ self.now) }
+    {
+        let mut made = Boundaries::with_capacity(alloc, self.len().saturating_add(SLACK))?;
+        let mut entered = 0usize;
+        'all: for next in 0..self.len() {
+            let place = self.place(next);
+            if entered < self.stretches.len() && self.stretches[entered].from == next {
+                let before = last_of(&self.stretches[..entered]);
+                let here = self.stretches[entered];
+                entered += 1;
+                made.push(place, range_of(&self.entries, here), shared(before, here))?;
+            } else {
+                made.repeat(place)?;
+            }
+        }
+        Ok(made)
+    }
+
+    /// Puts boundaries in the place of all from the one at `keep` on. After a refusal they are what they were.
+    pub(crate) fn replace_from(
+        &mut self,
+        keep: usize,
+        between: &Boundaries,
+    ) -> Result<(), AllocError>
+        requires within { keep ≤ length self.old }
+        requires some { 0 < length between.now }
+        ensures put { OnOk result (self.new ≡ take keep self.old ++ between.now) }
+        ensures same { OnErr result (self.new ≡ self.old) }
+    {
+        let mine = begun_before(&self.stretches, keep);
+        let passed = self.stretches.len();
+        let end = self.places.len();
+        self.places.reserve(between.len())?;
+        join(
             &mut self.stretches,
-            &old.stretches[entered..],
-            index + 1,
-            len,
+            &mut self.entries,
+            mine,
+            passed,
+            &between.stretches,
+            &between.entries,
+            keep,
         )?;
+        splice(&mut self.places, keep, end, &between.places);
         Ok(())
     }
 
-    /// Adds those boundaries with entries of their own.
-    fn tail_one_by_one(
+    /// Puts boundaries in the place of those from the one at `keep` up to the one at `index`, and moves those that follow it: what stood
+    /// at its place stands at `to`. The last of them has its stack. After a refusal they are what they were.
+    pub(crate) fn splice(
         &mut self,
-        old: &Boundaries,
+        keep: usize,
         index: usize,
+        between: &Boundaries,
         to: usize,
     ) -> Result<(), AllocError>
-        requires within { index < length old.now }
-        requires last { last_entries self.old ≡ (boundary_at old.now index).entries }
-        requires movable { All (IsMovableBoundary (boundary_at old.now index).place to)
-            (drop (index + 1) old.now) }
-        ensures { OnOk result (self.new ≡ self.old
-            ++ map (moved_boundary (boundary_at old.now index).place to)
-            (drop (index + 1) old.now)) }
+        requires order { keep ≤ index }
+        requires within { index < length self.old }
+        requires some { 0 < length between.now }
+        requires last { last_entries between.now ≡ (boundary_at self.old index).entries }
+        requires movable { All (IsMovableBoundary (boundary_at self.old index).place to)
+            (drop (index + 1) self.old) }
+        ensures put { OnOk result (self.new ≡ (take keep self.old ++ between.now)
+            ++ map (moved_boundary (boundary_at self.old index).place to)
+            (drop (index + 1) self.old)) }
+        ensures same { OnErr result (self.new ≡ self.old) }
     {
-        let from = old.place(index);
-        let len = old.len();
-        let mut entered = begun(&old.stretches, index);
-        self.places.reserve(len - index)?;
-        self.stretches.reserve(old.stretches.len() - entered)?;
-        self.entries.reserve(old.entries.len())?;
-        'tail: for next in index + 1..len {
-            let place = old.place(next) - from + to;
-            if entered < old.stretches.len() && old.stretches[entered].from == next {
-                let before = last_of(&old.stretches[..entered]);
-                let here = old.stretches[entered];
-                entered += 1;
-                self.push(place, range_of(&old.entries, here), shared(before, here))?;
-            } else {
-                self.repeat(place)?;
-            }
-        }
-        Ok(())
-    }
-
-    /// Adds the boundaries before `end` of a list, where this one has its first boundary alone.
-    pub(crate) fn copy_front(&mut self, old: &Boundaries, end: usize) -> Result<(), AllocError>
-        requires some { 0 < end }
-        requires within { end ≤ length old.now }
-        requires first { self.old ≡ take 1 old.now }
-        ensures { OnOk result (self.new ≡ take end old.now) }
-    {
-        if is_loose(&old.entries, &old.stretches) {
-            self.front_one_by_one(old, end)
-        } else {
-            self.front_by_slices(old, end)
-        }
-    }
-
-    /// Takes over the boundaries before `end` of a list, in place of its own, with all entries of that list.
-    fn front_by_slices(&mut self, old: &Boundaries, end: usize) -> Result<(), AllocError>
-        requires some { 0 < end }
-        requires within { end ≤ length old.now }
-        ensures { OnOk result (self.new ≡ take end old.now) }
-    {
-        let entered = begun(&old.stretches, end - 1);
-        self.stretches.clear();
-        self.places.clear();
-        self.entries.clear();
-        self.stretches
-            .reserve(old.stretches.len().saturating_add(SLACK))?;
-        self.entries
-            .reserve(old.entries.len().saturating_add(SLACK))?;
-        self.places.extend_from_slice(&old.places[..end])?;
-        self.entries.extend_from_slice(&old.entries)?;
-        self.stretches.extend_from_slice(&old.stretches[..entered])?;
-        Ok(())
-    }
-
-    /// Adds those boundaries with entries of their own, and none that no stack has.
-    fn front_one_by_one(&mut self, old: &Boundaries, end: usize) -> Result<(), AllocError>
-        requires some { 0 < end }
-        requires within { end ≤ length old.now }
-        requires first { self.old ≡ take 1 old.now }
-        ensures { OnOk result (self.new ≡ take end old.now) }
-    {
-        let mut entered = begun(&old.stretches, 0);
-        self.places.reserve(end)?;
-        'front: for next in 1..end {
-            let place = old.place(next);
-            if entered < old.stretches.len() && old.stretches[entered].from == next {
-                let before = last_of(&old.stretches[..entered]);
-                let here = old.stretches[entered];
-                entered += 1;
-                self.push(place, range_of(&old.entries, here), shared(before, here))?;
-            } else {
-                self.repeat(place)?;
-            }
-        }
+        let from = self.places[index];
+        let mine = begun_before(&self.stretches, keep);
+        let passed = begun(&self.stretches, index);
+        self.places.reserve(between.len())?;
+        let joined = join(
+            &mut self.stretches,
+            &mut self.entries,
+            mine,
+            passed,
+            &between.stretches,
+            &between.entries,
+            keep,
+        )?;
+        put_places(&mut self.places, keep, index + 1, &between.places, from, to);
+        move_stretches(&mut self.stretches, joined, index + 1, keep + between.len());
         Ok(())
     }
 }

@@ -1,5 +1,6 @@
 //! A text that is edited, with what lexing it gives.
-ghost use Rattle.std.specs.Prelude.{◌≡◌, ◌↔◌, ℕ, ◌-◌, [], length, IfOk, IfErr, OnOk, OnErr, IsCharBoundary, slice_range};
+ghost use Rattle.std.specs.Prelude.{◌≡◌, ◌↔◌, ℕ, ◌+◌, ◌-◌, ◌≤◌, [], length, IfOk, IfErr, OnOk, OnErr, IsCharBoundary, slice_range};
+ghost use Rattle.std.specs.String.{string_bytes, string_len, string_capacity};
 ghost use Rattle.lrlex_base.specs.Edits.{edited};
 ghost use Rattle.lrlex_base.specs.Places.{place_of};
 ghost use Rattle.lrlex_base.specs.Spans.{Fits, span, span_start, span_end};
@@ -15,7 +16,7 @@ use crate::errors::LRLexError;
 use crate::lexer::boundaries::Boundaries;
 use crate::lexer::definition::LRNonStreamingLexerDef;
 use crate::lexer::pieces::{Piece, pieces_in, pieces_of};
-use crate::lexer::relexing::{Old, relexed};
+use crate::lexer::relexing::relex_in_place;
 use crate::lexer::run::LexRun;
 use crate::lexer::telling::{place_of, text_of, utf16_position};
 use lrlex_base::{Edit, LexerTypes, NewlineCache, Span};
@@ -39,6 +40,17 @@ impl From<AllocError> for EditError {
     fn from(_: AllocError) -> EditError {
         EditError::OutOfMemory
     }
+}
+
+/// Puts a text in the place of the bytes from `from` up to `to`. There is room for it beside all that is there.
+fn put_text(text: &mut String, from: usize, to: usize, put: &str)
+    requires fits { FitsAt (string_bytes text.old) from to }
+    requires room { string_len text.old + length put.now ≤ string_capacity text.old }
+    ensures text { string_bytes text.new ≡ edited (string_bytes text.old) (span from to) put.now }
+    ensures capacity { string_capacity text.old ≤ string_capacity text.new }
+{
+    // it fails only where there is no room
+    let _ = text.replace_range(from..to, put);
 }
 
 /// A text that it owns, with its lexemes, its boundaries and the places of its newlines. An edit lexes again what it has to.
@@ -152,32 +164,33 @@ impl<'lexer, L: LexerTypes<LexErrorT = LRLexError>> Document<'lexer, L> {
         if !edit.fits(&self.text) {
             return Err(EditError::DoesNotFit);
         }
-        let text = edit.apply(alloc, &self.text)?;
-        let old = Old {
-            definition: self.definition,
-            text: &self.text,
-            items: &self.items,
-            boundaries: &self.boundaries,
-            ahead: &self.ahead,
-        };
-        let run = relexed(alloc, &old, &edit, &text)?;
-        self.newlines.edit(edit.removed, put)?;
-        let LexRun {
-            items,
-            boundaries,
-            asked,
-            ahead,
-            anew,
-            ..
-        } = run;
-        self.items = items;
-        self.boundaries = boundaries;
-        self.asked = asked;
-        self.ahead = ahead;
-        self.anew = anew;
-        self.text = text;
-        Ok(())
+        let mut newlines = self.newlines.clone()?;
+        newlines.edit(edit.removed, put)?;
+        let gone = String::from_str(alloc, &self.text[from..to])?;
+        self.text.reserve(put.len())?;
+        put_text(&mut self.text, from, to, put);
+        match relex_in_place(
+            alloc,
+            self.definition,
+            &mut self.items,
+            &mut self.boundaries,
+            &mut self.ahead,
+            &edit,
+            &self.text,
+        ) {
+            Ok((asked, anew)) => {
+                self.newlines = newlines;
+                self.asked = asked;
+                self.anew = anew;
+                Ok(())
+            }
+            Err(refused) => {
+                put_text(&mut self.text, from, from + put.len(), &gone);
+                Err(EditError::from(refused))
+            }
+        }
     }
+
     /// The text as it is now.
     pub fn text(&self) -> &str
         ensures { result.now ≡ self.now.text }

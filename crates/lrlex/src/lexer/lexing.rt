@@ -9,7 +9,7 @@ ghost use Rattle.lrlex.specs.Reach.{Reached, IsLexed, searches};
 ghost use Rattle.lrlex.specs.Kept.{HasLooked, capped};
 ghost use Rattle.lrlex.specs.AtHand.{AreOf, IsSearcherOf};
 ghost use Rattle.lrlex.specs.Views.{definition_of, item_of, items_by};
-ghost use Rattle.lrlex.specs.UnderWay.{HasAdvanced, HasEnded, HasEntered, HasSearched, IsUnderWay};
+ghost use Rattle.lrlex.specs.UnderWay.{Front, HasAdvanced, HasEnded, HasEntered, HasSearched, IsUnderWay};
 
 use crate::errors::LRLexError;
 use crate::lexer::active::{lacks_id, lexeme_id};
@@ -161,18 +161,24 @@ pub(crate) fn advance<'d, L: LexerTypes>(
     requires here { AreOf L.StorageT.number definition.now here.old.state here.old }
     requires inside { progress.old.place < length text.now }
     requires searcher { IsSearcherOf definition.now text.now searcher.old }
-    requires under_way { IsUnderWay (definition_of L.StorageT.number definition.now)
-        L.StorageT.number L.LexemeT.seen text.now progress.old }
+    requires under_way { (f : Front) × IsUnderWay (definition_of L.StorageT.number definition.now)
+        L.StorageT.number L.LexemeT.seen text.now f progress.old }
     ensures held { IfOk result (λ _. AreOf L.StorageT.number definition.now here.new.state here.new
         × IsSearcherOf definition.now text.now searcher.new) }
-    ensures goes_on { IfOk result (λ on. on ≡ true
+    ensures goes_on { IfOk result (λ on. on ≡ true → (f : Front)
+        → IsUnderWay (definition_of L.StorageT.number definition.now) L.StorageT.number
+        L.LexemeT.seen text.now f progress.old
         → HasAdvanced (definition_of L.StorageT.number definition.now) L.StorageT.number
-        L.LexemeT.seen text.now progress.old progress.new) }
-    ensures ends { IfOk result (λ on. on ≡ false
+        L.LexemeT.seen text.now f progress.old progress.new) }
+    ensures ends { IfOk result (λ on. on ≡ false → (f : Front)
+        → IsUnderWay (definition_of L.StorageT.number definition.now) L.StorageT.number
+        L.LexemeT.seen text.now f progress.old
         → HasEnded (definition_of L.StorageT.number definition.now) L.StorageT.number
-        L.LexemeT.seen text.now progress.old progress.new) }
-    ensures asked { IfOk result (λ _. HasSearched L.StorageT.number definition.now text.now
-        progress.old progress.new) }
+        L.LexemeT.seen text.now f progress.old progress.new) }
+    ensures asked { IfOk result (λ _. (f : Front)
+        → IsUnderWay (definition_of L.StorageT.number definition.now) L.StorageT.number
+        L.LexemeT.seen text.now f progress.old
+        → HasSearched L.StorageT.number definition.now text.now f progress.old progress.new) }
 {
     let place = progress.place;
     let state = top_of(&progress.stack);

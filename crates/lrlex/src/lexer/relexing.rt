@@ -1,26 +1,26 @@
-ghost use Rattle.std.specs.Prelude.{◌≡◌, ◌≢◌, ℕ, ◌+◌, ◌-◌, ◌*◌, ◌<◌, ◌≤◌, ◌^◌, true, false, max, All, ◌++◌, length, map, drop, take, IfOk, OnOk};
+ghost use Rattle.std.specs.Prelude.{◌≡◌, ◌≢◌, ℕ, ◌+◌, ◌-◌, ◌<◌, ◌≤◌, ◌^◌, true, false, max, All, ◌++◌, length, map, drop, take, IfOk, OnOk, OnErr};
 ghost use Rattle.lrlex.specs.Active.{is_state};
 ghost use Rattle.lrlex_base.specs.Spans.{span_start, span_end, as_span, Fits};
 ghost use Rattle.lrlex_base.specs.Edits.{edited};
 ghost use Rattle.lrlex.specs.Tiling.{rebased};
 ghost use Rattle.lrlex.specs.Boundaries.{boundary_at, last_entries};
 ghost use Rattle.std.specs.List.Sorted.{IsPartitionedBy};
-ghost use Rattle.lrlex.specs.Moves.{IsMovable, IsMovableBoundary, begins_before, items_from, moved_boundary, Meets, AreSorted};
+ghost use Rattle.lrlex.specs.Moves.{IsMovable, IsMovableBoundary, begins_before, items_from, AreSorted};
 ghost use Rattle.lrlex.specs.Entries.{plain, AreEntries};
-ghost use Rattle.lrlex.specs.Reach.{IsRun, searches};
-ghost use Rattle.lrlex.specs.Asked.{asks, WasCutAnew};
-ghost use Rattle.lrlex.specs.Kept.{AreRaised, IsSafe, LooksAhead};
-ghost use Rattle.lrlex.specs.Ran.{IsRunOf, HasItemLaws};
+ghost use Rattle.lrlex.specs.Reach.{IsRun};
+ghost use Rattle.lrlex.specs.Kept.{LooksAhead, items_before};
+ghost use Rattle.lrlex.specs.Ran.{IsRunOf, HasItemLaws, ran};
 ghost use Rattle.lrlex.specs.Relexed.{WasRelexed};
 ghost use Rattle.lrlex.specs.Views.{definition_of, items_by, item_of};
-ghost use Rattle.lrlex.specs.UnderWay.{HasTakenOver, TellsMeeting};
+ghost use Rattle.lrlex.specs.UnderWay.{HasCutAnew, IsEditOf, IsPutBehind, IsPutBetween, TellsMeeting};
 
 use crate::errors::LRLexError;
 use crate::lexer::boundaries::Boundaries;
 use crate::lexer::definition::LRNonStreamingLexerDef;
 use crate::lexer::lexing::{Progress, advance};
-use crate::lexer::resuming::{append_raised, resume, up_to};
-use crate::lexer::run::{LexRun, finished, stateless};
+use crate::lexer::resuming::{append_raised, last_safe, resume, up_to};
+use crate::lexer::room::{copied, splice};
+use crate::lexer::run::LexRun;
 use crate::lexer::searching::Searcher;
 use lrlex_base::{Edit, LexError, Lexeme, LexerTypes, Span};
 use std::alloc::{AllocError, Global};
@@ -70,42 +70,48 @@ pub(crate) fn begins_before<L: LexerTypes<LexErrorT = LRLexError>>(
     }
 }
 
-/// The items that don't begin before the place, of items in order.
-fn items_from<'a, L: LexerTypes<LexErrorT = LRLexError>>(
-    items: &'a [Result<L::LexemeT, LRLexError>],
+/// How many items begin before the place, of items in order.
+fn many_before<L: LexerTypes<LexErrorT = LRLexError>>(
+    items: &[Result<L::LexemeT, LRLexError>],
     place: usize,
-) -> &'a [Result<L::LexemeT, LRLexError>]
+) -> usize
     requires { IsPartitionedBy (begins_before place)
         (map (item_of L.StorageT.number L.LexemeT.seen) items.now) }
-    ensures { map (item_of L.StorageT.number L.LexemeT.seen) result.now
+    ensures within { result ≤ length items.now }
+    ensures before { map (item_of L.StorageT.number L.LexemeT.seen) (take result items.now)
+        ≡ items_before place (map (item_of L.StorageT.number L.LexemeT.seen) items.now) }
+    ensures from { map (item_of L.StorageT.number L.LexemeT.seen) (drop result items.now)
         ≡ items_from place (map (item_of L.StorageT.number L.LexemeT.seen) items.now) }
 {
-    let before = items.partition_point(
+    items.partition_point(
         |item: &Result<L::LexemeT, LRLexError>| -> bool
             ensures { result ≡ begins_before place
                 (item_of L.StorageT.number L.LexemeT.seen item.now) }
         { begins_before::<L>(item, place) },
-    );
-    &items[before..]
+    )
 }
 
-/// Adds the items once what stood at `from` stands at `to`.
-fn append_moved<L: LexerTypes<LexErrorT = LRLexError>>(
-    items: &mut Vec<Result<L::LexemeT, LRLexError>>,
-    tail: &[Result<L::LexemeT, LRLexError>],
+/// Moves the items from the one at `first` on: what stood at `from` stands at `to`.
+fn move_items<L: LexerTypes<LexErrorT = LRLexError>>(
+    items: &mut [Result<L::LexemeT, LRLexError>],
+    first: usize,
     from: usize,
     to: usize,
-) -> Result<(), AllocError>
-    requires { All (IsMovable from to) (map (item_of L.StorageT.number L.LexemeT.seen) tail.now) }
-    ensures { OnOk result (map (item_of L.StorageT.number L.LexemeT.seen) items.new.items
-        ≡ map (item_of L.StorageT.number L.LexemeT.seen) items.old.items
-        ++ map (rebased from to) (map (item_of L.StorageT.number L.LexemeT.seen) tail.now)) }
+)
+    requires within { first ≤ length items.old }
+    requires movable { All (IsMovable from to)
+        (map (item_of L.StorageT.number L.LexemeT.seen) (drop first items.old)) }
+    ensures { map (item_of L.StorageT.number L.LexemeT.seen) items.new
+        ≡ map (item_of L.StorageT.number L.LexemeT.seen) (take first items.old)
+        ++ map (rebased from to)
+        (map (item_of L.StorageT.number L.LexemeT.seen) (drop first items.old)) }
 {
-    items.reserve(tail.len())?;
-    'tail: for index in 0..tail.len() {
-        items.push(moved::<L>(&tail[index], from, to))?;
+    if from == to {
+        return;
     }
-    Ok(())
+    'items: for index in first..items.len() {
+        items[index] = moved::<L>(&items[index], from, to);
+    }
 }
 
 /// The first boundary from `cursor` on that doesn't stand before the place.
@@ -192,95 +198,44 @@ fn meets(
 
 /// What lexing again reads of an old run.
 #[derive(Drop)]
-pub(crate) struct Old<'a, 'lexer, L: LexerTypes<LexErrorT = LRLexError>> {
-    pub(crate) definition: &'lexer LRNonStreamingLexerDef<L>,
-    pub(crate) text: &'a str,
+pub(crate) struct Old<'a, L: LexerTypes<LexErrorT = LRLexError>> {
     pub(crate) items: &'a [Result<L::LexemeT, LRLexError>],
     pub(crate) boundaries: &'a Boundaries,
     pub(crate) ahead: &'a [u8],
 }
 
-/// Takes over what follows the old boundary, moved to the place of the new one.
-fn take_over<L: LexerTypes<LexErrorT = LRLexError>>(
-    old: &Old<'_, '_, L>,
-    index: usize,
-    progress: &mut Progress<L::LexemeT>,
-) -> Result<(), AllocError>
-    requires within { index < length old.now.boundaries.now }
-    requires in_order { IsPartitionedBy
-        (begins_before (boundary_at old.now.boundaries.now index).place)
-        (map (item_of L.StorageT.number L.LexemeT.seen) old.now.items.now) }
-    requires items { All
-        (IsMovable (boundary_at old.now.boundaries.now index).place progress.old.place)
-        (items_from (boundary_at old.now.boundaries.now index).place
-        (map (item_of L.StorageT.number L.LexemeT.seen) old.now.items.now)) }
-    requires last { last_entries progress.old.boundaries
-        ≡ (boundary_at old.now.boundaries.now index).entries }
-    requires boundaries { All (IsMovableBoundary (boundary_at old.now.boundaries.now index).place
-        progress.old.place)
-        (drop (index + 1) old.now.boundaries.now) }
-    requires sorted { AreSorted old.now.boundaries.now }
-    requires numbers { length old.now.ahead.now ≡ length old.now.boundaries.now }
-    ensures { OnOk result (HasTakenOver L.StorageT.number L.LexemeT.seen old.now.items.now
-        old.now.boundaries.now old.now.ahead.now index progress.old progress.new) }
-{
-    let to = progress.place;
-    let from = old.boundaries.place(index);
-    let tail = items_from::<L>(old.items, from);
-    append_moved::<L>(&mut progress.items, tail, from, to)?;
-    progress.boundaries.append_moved(old.boundaries, index, to)?;
-    append_raised(
-        &mut progress.ahead,
-        old.boundaries,
-        old.ahead,
-        index,
-        progress.over,
-    )?;
-    Ok(())
+/// The tiles that were cut anew.
+#[derive(Drop)]
+pub(crate) struct Anew<X> {
+    /// The old boundary from which on, and how many old items stand before it.
+    pub(crate) index: usize,
+    pub(crate) first: usize,
+    /// What was found from there on.
+    pub(crate) progress: Progress<X>,
+    /// The old boundary that was met, unless lexing came to an end before.
+    pub(crate) met: Option<usize>,
 }
 
-/// Lexes the text after an edit of the old run's.
-pub(crate) fn relexed<'lexer, 'new, L: LexerTypes<LexErrorT = LRLexError>>(
+/// Lexes the text after an edit of the old run's, from the last boundary before which no tile looked at what the edit changes,
+/// as far as the old run knows, up to the first that meets an old one.
+fn cut_anew<L: LexerTypes<LexErrorT = LRLexError>>(
     alloc: Global,
-    old: &Old<'_, 'lexer, L>,
+    definition: &LRNonStreamingLexerDef<L>,
+    old: &Old<'_, L>,
     edit: &Edit<'_>,
-    new: &'new str,
-) -> Result<LexRun<'lexer, 'new, L>, AllocError>
-    requires known { ∥ LooksAhead (definition_of L.StorageT.number old.now.definition.now)
-        old.now.text.now old.now.boundaries.now old.now.ahead.now ∥₁
-        × ∥ IsRun (definition_of L.StorageT.number old.now.definition.now) old.now.text.now
-        (items_by L.StorageT.number L.LexemeT.seen old.now.items.now) old.now.boundaries.now ∥₁ }
-    requires applies { Fits old.now.text.now edit.now.removed
-        × (new.now ≡ edited old.now.text.now (as_span edit.now.removed) edit.now.put.now) }
-    ensures run { IfOk result (IsRunOf L.StorageT.number L.LexemeT.seen old.now.definition.now
-        new.now) }
-    ensures of { IfOk result (λ r. (r.definition ≡ old.now.definition.now) × (r.text ≡ new.now)) }
-    ensures asked { IfOk result (λ r. r.asked ≤ searches
-        (definition_of L.StorageT.number old.now.definition.now) new.now r.boundaries) }
-    ensures few { IfOk result (λ r. (r.asked ≤ length r.boundaries * length
-        (definition_of L.StorageT.number old.now.definition.now).rules)
-        × ((k : ℕ) → Meets old.now.boundaries.now r.boundaries
-        (span_start edit.now.removed) (span_end edit.now.removed) (length edit.now.put.now) k
-        → r.asked ≤ searches (definition_of L.StorageT.number old.now.definition.now) new.now
-        (take k r.boundaries))) }
-    ensures lexed { IfOk result (λ r. (k : ℕ) → k < length old.now.boundaries.now
-        → IsSafe old.now.boundaries.now old.now.ahead.now (span_start edit.now.removed) k
-        → (r.anew + k ≤ length r.boundaries - 1)
-        × ((j : ℕ) → Meets old.now.boundaries.now r.boundaries (span_start edit.now.removed)
-        (span_end edit.now.removed) (length edit.now.put.now) j → r.anew + k ≤ j)) }
-    ensures exact { IfOk result (λ r. is_state
-        (definition_of L.StorageT.number old.now.definition.now) 0 ≡ true
-        → WasCutAnew (asks old.now.definition.now new.now) old.now.boundaries.now r.boundaries
-        old.now.ahead.now (span_start edit.now.removed) (span_end edit.now.removed)
-        (length edit.now.put.now) r.asked r.anew) }
+    new: &str,
+) -> Result<Anew<L::LexemeT>, AllocError>
+    requires initial { is_state (definition_of L.StorageT.number definition.now) 0 ≡ true }
+    requires known { IsEditOf L.StorageT.number L.LexemeT.seen definition.now old.now.items.now
+        old.now.boundaries.now old.now.ahead.now edit.now.removed edit.now.put.now new.now }
+    ensures { IfOk result (HasCutAnew L.StorageT.number L.LexemeT.seen definition.now
+        old.now.items.now old.now.boundaries.now old.now.ahead.now edit.now.removed
+        edit.now.put.now new.now) }
 {
-    let definition = old.definition;
-    if !definition.is_state(0) {
-        return stateless(alloc, definition, new);
-    }
+    let index = last_safe(old.boundaries, old.ahead, edit.removed.start());
+    let first = many_before::<L>(old.items, old.boundaries.place(index));
+    let mut progress = resume(alloc, old.boundaries, old.ahead, index)?;
     let mut searcher = Searcher::new(alloc, definition, new)?;
-    let mut progress = resume(alloc, old, edit, new)?;
-    let kept = progress.boundaries.len();
     let mut cursor = behind(old.boundaries, edit);
     let mut here = definition.rules_in(0);
     'tiles: while progress.place < new.len() {
@@ -291,9 +246,12 @@ pub(crate) fn relexed<'lexer, 'new, L: LexerTypes<LexErrorT = LRLexError>>(
             progress.place,
             &progress.stack,
         ) {
-            let anew = progress.boundaries.len() - kept;
-            take_over(old, cursor, &mut progress)?;
-            return Ok(finished(definition, new, progress, anew));
+            return Ok(Anew {
+                index,
+                first,
+                progress,
+                met: Some(cursor),
+            });
         }
         if !advance(
             alloc,
@@ -303,12 +261,146 @@ pub(crate) fn relexed<'lexer, 'new, L: LexerTypes<LexErrorT = LRLexError>>(
             &mut searcher,
             &mut progress,
         )? {
-            let anew = progress.boundaries.len() - kept;
-            return Ok(finished(definition, new, progress, anew));
+            return Ok(Anew {
+                index,
+                first,
+                progress,
+                met: None,
+            });
         }
     }
-    let anew = progress.boundaries.len() - kept;
-    Ok(finished(definition, new, progress, anew))
+    Ok(Anew {
+        index,
+        first,
+        progress,
+        met: None,
+    })
+}
+
+/// Puts what was cut anew in the place of all old ones behind its front. After a refusal all is what it was.
+fn put_behind<X: Copy>(
+    items: &mut Vec<Result<X, LRLexError>>,
+    boundaries: &mut Boundaries,
+    ahead: &mut Vec<u8>,
+    anew: &Anew<X>,
+) -> Result<(), AllocError>
+    requires first { anew.now.first ≤ length items.old.items }
+    requires within { anew.now.index ≤ length boundaries.old }
+    requires numbers { length ahead.old.items ≡ length boundaries.old }
+    requires some { 0 < length anew.now.progress.boundaries }
+    ensures put { OnOk result (IsPutBehind items.old.items boundaries.old ahead.old.items anew.now
+        items.new.items boundaries.new ahead.new.items) }
+    ensures kept { OnErr result ((items.new.items ≡ items.old.items)
+        × (boundaries.new ≡ boundaries.old) × (ahead.new.items ≡ ahead.old.items)) }
+{
+    let found = &anew.progress;
+    items.reserve(found.items.len())?;
+    ahead.reserve(found.ahead.len())?;
+    boundaries.replace_from(anew.index, &found.boundaries)?;
+    let many = items.len();
+    splice(items, anew.first, many, &found.items);
+    let many = ahead.len();
+    splice(ahead, anew.index, many, &found.ahead);
+    Ok(())
+}
+
+/// Puts what was cut anew in the place of the old ones between its front and the old boundary that it met, and moves what follows that
+/// one. After a refusal all is what it was.
+fn put_between<L: LexerTypes<LexErrorT = LRLexError>>(
+    items: &mut Vec<Result<L::LexemeT, LRLexError>>,
+    boundaries: &mut Boundaries,
+    ahead: &mut Vec<u8>,
+    anew: Anew<L::LexemeT>,
+    met: usize,
+) -> Result<(), AllocError>
+    requires first { (anew.first ≤ length items.old.items)
+        × (items_by L.StorageT.number L.LexemeT.seen (take anew.first items.old.items)
+        ≡ items_before (boundary_at boundaries.old anew.index).place
+        (items_by L.StorageT.number L.LexemeT.seen items.old.items)) }
+    requires within { (anew.index ≤ met) × (met < length boundaries.old) }
+    requires some { 0 < length anew.progress.boundaries }
+    requires sorted { AreSorted boundaries.old }
+    requires numbers { length ahead.old.items ≡ length boundaries.old }
+    requires last { last_entries anew.progress.boundaries ≡ (boundary_at boundaries.old met).entries }
+    requires movable { IsPartitionedBy (begins_before (boundary_at boundaries.old met).place)
+        (items_by L.StorageT.number L.LexemeT.seen items.old.items)
+        × All (IsMovable (boundary_at boundaries.old met).place anew.progress.place)
+        (items_from (boundary_at boundaries.old met).place
+        (items_by L.StorageT.number L.LexemeT.seen items.old.items))
+        × All (IsMovableBoundary (boundary_at boundaries.old met).place anew.progress.place)
+        (drop (met + 1) boundaries.old) }
+    ensures put { OnOk result (IsPutBetween L.StorageT.number L.LexemeT.seen items.old.items
+        boundaries.old ahead.old.items anew met items.new.items boundaries.new ahead.new.items) }
+    ensures kept { OnErr result ((items.new.items ≡ items.old.items)
+        × (boundaries.new ≡ boundaries.old) × (ahead.new.items ≡ ahead.old.items)) }
+{
+    let Anew {
+        index,
+        first,
+        progress,
+        met: _,
+    } = anew;
+    let Progress {
+        place: to,
+        stack: _,
+        items: found,
+        boundaries: between,
+        asked: _,
+        ahead: mut numbers,
+        over,
+    } = progress;
+    let from = boundaries.place(met);
+    let last = many_before::<L>(items, from);
+    let far = append_raised(&mut numbers, boundaries, ahead, met, over)?;
+    items.reserve(found.len())?;
+    ahead.reserve(numbers.len())?;
+    boundaries.splice(index, met, &between, to)?;
+    splice(items, first, last, &found);
+    move_items::<L>(items, first + found.len(), from, to);
+    splice(ahead, index, far, &numbers);
+    Ok(())
+}
+
+/// Lexes the text after an edit in place, and answers how many searches that needed and how many tiles it cut anew. What
+/// stands before these stays, and what follows is moved. After a refusal all is what it was.
+pub(crate) fn relex_in_place<L: LexerTypes<LexErrorT = LRLexError>>(
+    alloc: Global,
+    definition: &LRNonStreamingLexerDef<L>,
+    items: &mut Vec<Result<L::LexemeT, LRLexError>>,
+    boundaries: &mut Boundaries,
+    ahead: &mut Vec<u8>,
+    edit: &Edit<'_>,
+    new: &str,
+) -> Result<(u128, usize), AllocError>
+    requires known { IsEditOf L.StorageT.number L.LexemeT.seen definition.now items.old.items
+        boundaries.old ahead.old.items edit.now.removed edit.now.put.now new.now }
+    ensures run { OnOk result (IsRun (definition_of L.StorageT.number definition.now) new.now
+        (items_by L.StorageT.number L.LexemeT.seen items.new.items) boundaries.new) }
+    ensures looks { OnOk result (LooksAhead (definition_of L.StorageT.number definition.now)
+        new.now boundaries.new ahead.new.items) }
+    ensures counts { IfOk result (λ n. WasRelexed L.StorageT.number boundaries.old ahead.old.items
+        (as_span edit.now.removed) edit.now.put.now (ran definition.now new.now items.new.items
+        boundaries.new ahead.new.items n.0 n.1)) }
+    ensures kept { OnErr result ((items.new.items ≡ items.old.items)
+        × (boundaries.new ≡ boundaries.old) × (ahead.new.items ≡ ahead.old.items)) }
+{
+    if !definition.is_state(0) {
+        return Ok((0, 0));
+    }
+    boundaries.tidy(alloc)?;
+    let old = Old {
+        items: items.as_slice(),
+        boundaries: &*boundaries,
+        ahead: ahead.as_slice(),
+    };
+    let anew = cut_anew(alloc, definition, &old, edit, new)?;
+    let asked = anew.progress.asked;
+    let lexed = anew.progress.boundaries.len() - 1;
+    match anew.met {
+        Some(met) => put_between::<L>(items, boundaries, ahead, anew, met)?,
+        None => put_behind(items, boundaries, ahead, &anew)?,
+    }
+    Ok((asked, lexed))
 }
 
 impl<'lexer, L: LexerTypes<LexErrorT = LRLexError>> LexRun<'lexer, '_, L> {
@@ -332,13 +424,26 @@ impl<'lexer, L: LexerTypes<LexErrorT = LRLexError>> LexRun<'lexer, '_, L> {
         ensures counts { IfOk result (WasRelexed L.StorageT.number self.now.boundaries
             self.now.ahead (as_span edit.now.removed) edit.now.put.now) }
     {
-        let old = Old {
+        let mut items = copied(alloc, &self.items)?;
+        let mut boundaries = self.boundaries.copied(alloc)?;
+        let mut ahead = copied(alloc, &self.ahead)?;
+        let (asked, anew) = relex_in_place(
+            alloc,
+            self.definition,
+            &mut items,
+            &mut boundaries,
+            &mut ahead,
+            edit,
+            new,
+        )?;
+        Ok(LexRun {
             definition: self.definition,
-            text: self.text,
-            items: &self.items,
-            boundaries: &self.boundaries,
-            ahead: &self.ahead,
-        };
-        relexed(alloc, &old, edit, new)
+            text: new,
+            items,
+            boundaries,
+            asked,
+            ahead,
+            anew,
+        })
     }
 }

@@ -10,17 +10,10 @@ ghost use Rattle.lrlex.specs.Reach.{IsLexed, IsRun, Reached};
 ghost use Rattle.lrlex.specs.Asked.{IsLastSafe};
 ghost use Rattle.lrlex.specs.Kept.{IsDecided, IsDecidedAt, AreDecided, LooksAhead, IsSafe, GoesOn, BeginAlike, HasLooked, AreRaised};
 ghost use Rattle.lrlex.specs.Moves.{AreSorted};
-ghost use Rattle.std.specs.List.Sorted.{IsPartitionedBy};
-ghost use Rattle.lrlex.specs.Moves.{begins_before};
-ghost use Rattle.lrlex.specs.Kept.{items_before};
-ghost use Rattle.lrlex.specs.Views.{definition_of, item_of, items_by};
-ghost use Rattle.lrlex.specs.UnderWay.{HasResumed, StandsAt};
+ghost use Rattle.lrlex.specs.UnderWay.{StandsAt};
 
-use crate::errors::LRLexError;
 use crate::lexer::boundaries::Boundaries;
 use crate::lexer::lexing::{Progress, capped};
-use crate::lexer::relexing::{Old, begins_before};
-use lrlex_base::{Edit, LexerTypes};
 use std::alloc::{AllocError, Global};
 
 /// What an edit leaves of a run. Where what wins at each of the first k boundaries is decided by bytes that stand before the
@@ -139,102 +132,50 @@ pub(crate) fn last_safe(boundaries: &Boundaries, ahead: &[u8], place: usize) -> 
     0
 }
 
-/// The items that begin before the place, of items in order.
-pub(crate) fn items_before<'a, L: LexerTypes<LexErrorT = LRLexError>>(
-    items: &'a [Result<L::LexemeT, LRLexError>],
-    place: usize,
-) -> &'a [Result<L::LexemeT, LRLexError>]
-    requires { IsPartitionedBy (begins_before place)
-        (map (item_of L.StorageT.number L.LexemeT.seen) items.now) }
-    ensures { map (item_of L.StorageT.number L.LexemeT.seen) result.now
-        ≡ items_before place (map (item_of L.StorageT.number L.LexemeT.seen) items.now) }
-{
-    let before = items.partition_point(
-        |item: &Result<L::LexemeT, LRLexError>| -> bool
-            ensures { result ≡ begins_before place
-                (item_of L.StorageT.number L.LexemeT.seen item.now) }
-        { begins_before::<L>(item, place) },
-    );
-    &items[..before]
-}
-
-/// For how many tiles more than the old run had room is made.
-const SLACK: usize = 64;
-
-/// What stands at an old boundary: the old boundaries up to it, and these old items, which stand before it, with room for
-/// so many.
-fn resumed<X: Copy>(
+/// What stands at an old boundary, with that boundary alone.
+pub(crate) fn resume<X: Copy>(
     alloc: Global,
-    before: &[Result<X, LRLexError>],
-    many: usize,
     old: &Boundaries,
     ahead: &[u8],
     index: usize,
 ) -> Result<Progress<X>, AllocError>
     requires within { index < length old.now }
     requires numbers { length ahead.now ≡ length old.now }
-    ensures { IfOk result (StandsAt old.now ahead.now index before.now) }
+    ensures { IfOk result (StandsAt old.now ahead.now index) }
 {
-    let room = old.len().saturating_add(SLACK);
     let mut progress = Progress {
         place: old.place(index),
         stack: Vec::new(alloc),
         items: Vec::new(alloc),
-        boundaries: Boundaries::with_capacity(alloc, room)?,
+        boundaries: Boundaries::new(alloc),
         asked: 0,
         ahead: Vec::new(alloc),
         over: ahead[index] as usize,
     };
     progress.stack.extend_from_slice(old.stack(index))?;
-    progress.boundaries.push(old.place(0), old.stack(0), 0)?;
-    progress.boundaries.copy_front(old, index + 1)?;
-    progress.items.reserve(many.saturating_add(SLACK))?;
-    progress.items.extend_from_slice(before)?;
-    progress.ahead.reserve(room)?;
-    progress.ahead.extend_from_slice(&ahead[..index + 1])?;
+    progress
+        .boundaries
+        .push(progress.place, &progress.stack, 0)?;
+    progress.ahead.push(ahead[index])?;
     Ok(progress)
 }
 
-/// A run of the new text that stands at the last boundary before which no tile looked at what the edit changes, as far as
-/// the old run knows.
-pub(crate) fn resume<L: LexerTypes<LexErrorT = LRLexError>>(
-    alloc: Global,
-    old: &Old<'_, '_, L>,
-    edit: &Edit<'_>,
-    new: &str,
-) -> Result<Progress<L::LexemeT>, AllocError>
-    requires initial { is_state (definition_of L.StorageT.number old.now.definition.now) 0 ≡ true }
-    requires looks { ∥ LooksAhead (definition_of L.StorageT.number old.now.definition.now)
-        old.now.text.now old.now.boundaries.now old.now.ahead.now ∥₁ }
-    requires run { ∥ IsRun (definition_of L.StorageT.number old.now.definition.now) old.now.text.now
-        (items_by L.StorageT.number L.LexemeT.seen old.now.items.now) old.now.boundaries.now ∥₁ }
-    requires fits { Fits old.now.text.now edit.now.removed }
-    requires gives { new.now ≡ edited old.now.text.now (as_span edit.now.removed) edit.now.put.now }
-    ensures { IfOk result (HasResumed (definition_of L.StorageT.number old.now.definition.now)
-        L.StorageT.number L.LexemeT.seen old.now.boundaries.now old.now.ahead.now
-        (span_start edit.now.removed) new.now) }
-{
-    let index = last_safe(old.boundaries, old.ahead, edit.removed.start());
-    let before = items_before::<L>(old.items, old.boundaries.place(index));
-    let many = old.items.len();
-    let progress = resumed(alloc, before, many, old.boundaries, old.ahead, index)?;
-    Ok(progress)
-}
-
-/// Adds the numbers of the boundaries behind the one at `index`, where the tiles before that one looked at most `over` bytes
-/// past its place.
+/// Adds the numbers of the boundaries behind the one at `index` that stand no farther than the tiles before that one looked,
+/// which is at most `over` bytes past its place, and answers the first boundary behind these. From there on the numbers stay.
 pub(crate) fn append_raised(
     ahead: &mut Vec<u8>,
     old: &Boundaries,
     numbers: &[u8],
     index: usize,
     over: usize,
-) -> Result<(), AllocError>
+) -> Result<usize, AllocError>
     requires within { index < length old.now }
     requires numbers { length numbers.now ≡ length old.now }
     requires sorted { AreSorted old.now }
-    ensures { OnOk result (AreRaised old.now numbers.now index over
-        (length old.now) ahead.old.items ahead.new.items) }
+    ensures behind { IfOk result (λ far. index < far) }
+    ensures within { IfOk result (λ far. far ≤ length old.now) }
+    ensures raised { IfOk result (λ far. AreRaised old.now numbers.now index over (length old.now)
+        ahead.old.items (ahead.new.items ++ drop far numbers.now)) }
 {
     let from = old.place(index);
     let far = match from.checked_add(over) {
@@ -245,6 +186,5 @@ pub(crate) fn append_raised(
         let rest = over.saturating_sub(old.place(next) - from);
         ahead.push(numbers[next].max(capped(rest)))?;
     }
-    ahead.extend_from_slice(&numbers[far..])?;
-    Ok(())
+    Ok(far)
 }

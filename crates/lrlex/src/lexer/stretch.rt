@@ -1,6 +1,7 @@
-ghost use Rattle.std.specs.Prelude.{◌≡◌, ◌+◌, ◌≤◌, ◌++◌, All, length, map, slice_range, take, drop, IfOk, OnErr, OnOk};
-ghost use Rattle.lrlex.specs.Ranges.{IsMovablePlace, last_stretch, longest, moved_stretch, no_stretch};
+ghost use Rattle.std.specs.Prelude.{◌≡◌, ◌+◌, ◌≤◌, ◌++◌, All, length, map, slice_range, take, drop, vec_len, vec_capacity, IfOk};
+ghost use Rattle.lrlex.specs.Ranges.{IsMovablePlace, IsPlaceable, last_stretch, longest, moved_stretch, no_stretch, placed_stretch};
 
+use crate::lexer::room::splice;
 use std::alloc::AllocError;
 
 /// Boundaries in a row with one stack: the first of them, and where the stack stands in a list of entries.
@@ -71,25 +72,64 @@ pub(crate) fn stored(
     Ok((own, entries.len()))
 }
 
-/// Adds the stretches, once the boundary at `from` is the one at `to`.
-pub(crate) fn append_moved_stretches(
-    stretches: &mut Vec<Stretch>,
-    later: &[Stretch],
-    from: usize,
-    to: usize,
-) -> Result<(), AllocError>
-    requires { All (λ s. IsMovablePlace from to s.from) later.now }
-    ensures items { OnOk result (stretches.new.items ≡ stretches.old.items
-        ++ map (moved_stretch from to) later.now) }
-    ensures same { OnErr result (stretches.new.items ≡ stretches.old.items) }
+/// Moves the stretches so many boundaries and entries further on.
+fn place_stretches(stretches: &mut [Stretch], boundaries: usize, entries: usize)
+    requires { All (IsPlaceable boundaries entries) stretches.old }
+    ensures { stretches.new ≡ map (placed_stretch boundaries entries) stretches.old }
 {
-    stretches.reserve(later.len())?;
-    for stretch in later {
-        stretches.push_reserved(Stretch {
+    for stretch in stretches.iter_mut() {
+        *stretch = Stretch {
+            from: stretch.from + boundaries,
+            first: stretch.first + entries,
+            end: stretch.end + entries,
+        };
+    }
+}
+
+/// Puts stretches in the place of those from `first` up to `last`, so many boundaries and entries further on. There is room for them
+/// beside all that are there.
+pub(crate) fn put_stretches(
+    list: &mut Vec<Stretch>,
+    first: usize,
+    last: usize,
+    between: &[Stretch],
+    boundaries: usize,
+    entries: usize,
+)
+    requires order { first ≤ last }
+    requires within { last ≤ length list.old.items }
+    requires room { vec_len list.old + length between.now ≤ vec_capacity list.old }
+    requires placeable { All (IsPlaceable boundaries entries) between.now }
+    ensures { list.new.items ≡ take first list.old.items
+        ++ (map (placed_stretch boundaries entries) between.now ++ drop last list.old.items) }
+{
+    splice(list, first, last, between);
+    place_stretches(&mut list[first..first + between.len()], boundaries, entries);
+}
+
+/// Moves the stretches: the boundary at `from` is the one at `to`.
+fn move_each(stretches: &mut [Stretch], from: usize, to: usize)
+    requires { All (λ s. IsMovablePlace from to s.from) stretches.old }
+    ensures { stretches.new ≡ map (moved_stretch from to) stretches.old }
+{
+    if from == to {
+        return;
+    }
+    for stretch in stretches.iter_mut() {
+        *stretch = Stretch {
             from: stretch.from - from + to,
             first: stretch.first,
             end: stretch.end,
-        });
+        };
     }
-    Ok(())
+}
+
+/// Moves the stretches from the one at `first` on: the boundary at `from` is the one at `to`.
+pub(crate) fn move_stretches(list: &mut Vec<Stretch>, first: usize, from: usize, to: usize)
+    requires within { first ≤ length list.old.items }
+    requires movable { All (λ s. IsMovablePlace from to s.from) (drop first list.old.items) }
+    ensures { list.new.items ≡ take first list.old.items
+        ++ map (moved_stretch from to) (drop first list.old.items) }
+{
+    move_each(&mut list[first..], from, to);
 }

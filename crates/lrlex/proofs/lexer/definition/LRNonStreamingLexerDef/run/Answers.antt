@@ -1,9 +1,12 @@
 use Rattle.std.proofs.Common.{◌≡◌, ◌-◌, ◌<◌, ◌≤◌, true, false, length, sym, ap, ◌∙◌, subst, arith, append-nil, IsCharBoundary}
 use Rattle.std.proofs.lemmas.Str.{IsCharBoundary-start}
 use Rattle.lrlex.specs.Tiling.{Done}
+use Rattle.lrlex.specs.Kept.{LooksAhead}
 use Rattle.lrlex.specs.Reach.{IsRun, searches}
 use Rattle.lrlex.specs.AtHand.{AreOf}
+use Rattle.lrlex.specs.UnderWay.{IsUnderWay, no_front}
 use Rattle.lrlex.specs.Views.{definition_of, items_by}
+use Rattle.lrlex.proofs.FrontLemmas.{some_now}
 use Rattle.lrlex.proofs.BegunLemmas.{begun, begun_looking}
 use Rattle.lrlex.proofs.ItemLemmas.{have_laws}
 use Rattle.lrlex.proofs.ReachLemmas.{ended, nothing_left, asked_now, few_searches, run_of, length_now}
@@ -26,21 +29,27 @@ tiles-init g c =
 
 pub tiles-preserved : goal.tiles-preserved
 tiles-preserved g c =
+    let u : IsUnderWay (definition_of g.L.StorageT.Id.number c.args.self.now) g.L.StorageT.Id.number g.L.LexemeT.Lexeme.seen c.args.text.now no_front c.tiles.progress = record {
+      boundary = c.tiles.invariant.boundary;
+      some = some_now (definition_of g.L.StorageT.Id.number c.args.self.now) c.args.text.now c.tiles.progress.place c.tiles.progress.stack.items (items_by g.L.StorageT.Id.number g.L.LexemeT.Lexeme.seen c.tiles.progress.items.items) c.tiles.progress.boundaries c.tiles.progress.asked c.tiles.invariant.reached;
+      reached = c.tiles.invariant.reached;
+      looked = c.tiles.invariant.looked;
+    } in
     let on : c.in_ok-advance.field-0 ≡ true = c.if-not-branch.false in
     let p = c.tiles.progress in
     let d = definition_of g.L.StorageT.Id.number c.args.self.now in
     let found = items_by g.L.StorageT.Id.number g.L.LexemeT.Lexeme.seen p.items.items in
     let r = c.tiles.invariant.reached in
     let some : 0 < length p.boundaries = omega (arith, length_now d c.args.text.now p.place p.stack.items found p.boundaries p.asked r) in
-    let more = (c.in_ok-advance.ensures.goes_on on).more in
+    let more = (c.in_ok-advance.ensures.goes_on on no_front u).more in
     record {
       here = c.in_ok-advance.ensures.held.0;
       searcher = c.in_ok-advance.ensures.held.1;
-      boundary = (c.in_ok-advance.ensures.goes_on on).here.boundary;
-      reached = (c.in_ok-advance.ensures.goes_on on).here.reached;
-      looked = (c.in_ok-advance.ensures.goes_on on).here.looked;
+      boundary = (c.in_ok-advance.ensures.goes_on on no_front u).here.boundary;
+      reached = (c.in_ok-advance.ensures.goes_on on no_front u).here.reached;
+      looked = (c.in_ok-advance.ensures.goes_on on no_front u).here.looked;
       exact = next_asked c.args.self.now c.args.text.now d p.place p.stack.items found p.boundaries p.asked r 0 some c.tiles.invariant.exact c.advance.new.progress.asked more.0 c.advance.new.progress.boundaries
-          c.tiles-test.true c.in_ok-advance.ensures.asked.exact more.1;
+          c.tiles-test.true (c.in_ok-advance.ensures.asked no_front u).exact more.1;
     }
 
 pub finished-requires-2-clause-run : goal.finished-requires-2-clause-run
@@ -78,25 +87,43 @@ returns-clause-asked g c =
 
 pub returns-then-not-branch-clause-run : goal.returns-then-not-branch-clause-run
 returns-then-not-branch-clause-run g c =
+    let u : IsUnderWay (definition_of g.L.StorageT.Id.number c.args.self.now) g.L.StorageT.Id.number g.L.LexemeT.Lexeme.seen c.args.text.now no_front c.tiles.progress = record {
+      boundary = c.tiles.invariant.boundary;
+      some = some_now (definition_of g.L.StorageT.Id.number c.args.self.now) c.args.text.now c.tiles.progress.place c.tiles.progress.stack.items (items_by g.L.StorageT.Id.number g.L.LexemeT.Lexeme.seen c.tiles.progress.items.items) c.tiles.progress.boundaries c.tiles.progress.asked c.tiles.invariant.reached;
+      reached = c.tiles.invariant.reached;
+      looked = c.tiles.invariant.looked;
+    } in
     let d = definition_of g.L.StorageT.Id.number c.args.self.now in
     let p = c.advance.new.progress in
     let off : c.in_ok-advance.field-0 ≡ false = c.if-not-branch.true in
     subst (λ xs. IsRun d c.args.text.now (items_by g.L.StorageT.Id.number g.L.LexemeT.Lexeme.seen xs) c.finished.result.boundaries) (sym c.finished.ensures.items)
     (subst (IsRun d c.args.text.now (items_by g.L.StorageT.Id.number g.L.LexemeT.Lexeme.seen p.items.items)) (sym c.finished.ensures.boundaries)
-    (run_of d c.args.text.now (items_by g.L.StorageT.Id.number g.L.LexemeT.Lexeme.seen p.items.items) p.boundaries c.tiles.invariant.reached.initial (c.in_ok-advance.ensures.ends off).lexed))
+    (run_of d c.args.text.now (items_by g.L.StorageT.Id.number g.L.LexemeT.Lexeme.seen p.items.items) p.boundaries c.tiles.invariant.reached.initial (c.in_ok-advance.ensures.ends off no_front u).lexed))
 
 pub returns-then-not-branch-clause-few : goal.returns-then-not-branch-clause-few
 returns-then-not-branch-clause-few g c =
+    let u : IsUnderWay (definition_of g.L.StorageT.Id.number c.args.self.now) g.L.StorageT.Id.number g.L.LexemeT.Lexeme.seen c.args.text.now no_front c.tiles.progress = record {
+      boundary = c.tiles.invariant.boundary;
+      some = some_now (definition_of g.L.StorageT.Id.number c.args.self.now) c.args.text.now c.tiles.progress.place c.tiles.progress.stack.items (items_by g.L.StorageT.Id.number g.L.LexemeT.Lexeme.seen c.tiles.progress.items.items) c.tiles.progress.boundaries c.tiles.progress.asked c.tiles.invariant.reached;
+      reached = c.tiles.invariant.reached;
+      looked = c.tiles.invariant.looked;
+    } in
     let d = definition_of g.L.StorageT.Id.number c.args.self.now in
     let off : c.in_ok-advance.field-0 ≡ false = c.if-not-branch.true in
     few_searches d c.args.text.now c.tiles.progress.boundaries c.finished.result.boundaries c.advance.new.progress.asked c.finished.result.asked
-    c.in_ok-advance.ensures.asked.few c.finished.ensures.asked (c.finished.ensures.boundaries ∙ (c.in_ok-advance.ensures.ends off).same)
+    (c.in_ok-advance.ensures.asked no_front u).few c.finished.ensures.asked (c.finished.ensures.boundaries ∙ (c.in_ok-advance.ensures.ends off no_front u).same)
 
 pub finished-requires-clause-run : goal.finished-requires-clause-run
 finished-requires-clause-run g c =
+    let u : IsUnderWay (definition_of g.L.StorageT.Id.number c.args.self.now) g.L.StorageT.Id.number g.L.LexemeT.Lexeme.seen c.args.text.now no_front c.tiles.progress = record {
+      boundary = c.tiles.invariant.boundary;
+      some = some_now (definition_of g.L.StorageT.Id.number c.args.self.now) c.args.text.now c.tiles.progress.place c.tiles.progress.stack.items (items_by g.L.StorageT.Id.number g.L.LexemeT.Lexeme.seen c.tiles.progress.items.items) c.tiles.progress.boundaries c.tiles.progress.asked c.tiles.invariant.reached;
+      reached = c.tiles.invariant.reached;
+      looked = c.tiles.invariant.looked;
+    } in
     let d = definition_of g.L.StorageT.Id.number c.args.self.now in
     let p = c.advance.new.progress in
-    run_of d c.args.text.now (items_by g.L.StorageT.Id.number g.L.LexemeT.Lexeme.seen p.items.items) p.boundaries c.tiles.invariant.reached.initial (c.in_ok-advance.ensures.ends c.if-not-branch.true).lexed
+    run_of d c.args.text.now (items_by g.L.StorageT.Id.number g.L.LexemeT.Lexeme.seen p.items.items) p.boundaries c.tiles.invariant.reached.initial (c.in_ok-advance.ensures.ends c.if-not-branch.true no_front u).lexed
 
 pub advance-requires-clause-here : goal.advance-requires-clause-here
 advance-requires-clause-here g c = c.tiles.invariant.here
@@ -116,14 +143,20 @@ returns-clause-exact g c =
 
 pub returns-then-not-branch-clause-exact : goal.returns-then-not-branch-clause-exact
 returns-then-not-branch-clause-exact g c =
+    let u : IsUnderWay (definition_of g.L.StorageT.Id.number c.args.self.now) g.L.StorageT.Id.number g.L.LexemeT.Lexeme.seen c.args.text.now no_front c.tiles.progress = record {
+      boundary = c.tiles.invariant.boundary;
+      some = some_now (definition_of g.L.StorageT.Id.number c.args.self.now) c.args.text.now c.tiles.progress.place c.tiles.progress.stack.items (items_by g.L.StorageT.Id.number g.L.LexemeT.Lexeme.seen c.tiles.progress.items.items) c.tiles.progress.boundaries c.tiles.progress.asked c.tiles.invariant.reached;
+      reached = c.tiles.invariant.reached;
+      looked = c.tiles.invariant.looked;
+    } in
     let p = c.tiles.progress in
     let d = definition_of g.L.StorageT.Id.number c.args.self.now in
     let found = items_by g.L.StorageT.Id.number g.L.LexemeT.Lexeme.seen p.items.items in
     let r = c.tiles.invariant.reached in
     let some : 0 < length p.boundaries = omega (arith, length_now d c.args.text.now p.place p.stack.items found p.boundaries p.asked r) in
     c.finished.ensures.asked
-    ∙ more_asked c.args.self.now c.args.text.now d p.place p.stack.items found p.boundaries p.asked r 0 some c.tiles.invariant.exact c.advance.new.progress.asked c.tiles-test.true c.in_ok-advance.ensures.asked.exact
-    ∙ ap (asks c.args.self.now c.args.text.now) (sym (c.finished.ensures.boundaries ∙ (c.in_ok-advance.ensures.ends c.if-not-branch.true).same))
+    ∙ more_asked c.args.self.now c.args.text.now d p.place p.stack.items found p.boundaries p.asked r 0 some c.tiles.invariant.exact c.advance.new.progress.asked c.tiles-test.true (c.in_ok-advance.ensures.asked no_front u).exact
+    ∙ ap (asks c.args.self.now c.args.text.now) (sym (c.finished.ensures.boundaries ∙ (c.in_ok-advance.ensures.ends c.if-not-branch.true no_front u).same))
 
 pub returns-clause-laws : goal.returns-clause-laws
 returns-clause-laws g c = have_laws _ _ _ _ (returns-clause-run g c)
@@ -132,14 +165,46 @@ pub returns-then-not-branch-clause-laws : goal.returns-then-not-branch-clause-la
 returns-then-not-branch-clause-laws g c = have_laws _ _ _ _ (returns-then-not-branch-clause-run g c)
 
 pub advance-requires-clause-under_way : goal.advance-requires-clause-under_way
-advance-requires-clause-under_way g c = record {
-  boundary = c.tiles.invariant.boundary;
-  reached = c.tiles.invariant.reached;
-  looked = c.tiles.invariant.looked;
-}
+advance-requires-clause-under_way g c =
+    let u : IsUnderWay (definition_of g.L.StorageT.Id.number c.args.self.now) g.L.StorageT.Id.number g.L.LexemeT.Lexeme.seen c.args.text.now no_front c.tiles.progress = record {
+      boundary = c.tiles.invariant.boundary;
+      some = some_now (definition_of g.L.StorageT.Id.number c.args.self.now) c.args.text.now c.tiles.progress.place c.tiles.progress.stack.items (items_by g.L.StorageT.Id.number g.L.LexemeT.Lexeme.seen c.tiles.progress.items.items) c.tiles.progress.boundaries c.tiles.progress.asked c.tiles.invariant.reached;
+      reached = c.tiles.invariant.reached;
+      looked = c.tiles.invariant.looked;
+    } in
+    (no_front, u)
 
 pub returns-then-not-branch-clause-asked : goal.returns-then-not-branch-clause-asked
 returns-then-not-branch-clause-asked g c =
+    let u : IsUnderWay (definition_of g.L.StorageT.Id.number c.args.self.now) g.L.StorageT.Id.number g.L.LexemeT.Lexeme.seen c.args.text.now no_front c.tiles.progress = record {
+      boundary = c.tiles.invariant.boundary;
+      some = some_now (definition_of g.L.StorageT.Id.number c.args.self.now) c.args.text.now c.tiles.progress.place c.tiles.progress.stack.items (items_by g.L.StorageT.Id.number g.L.LexemeT.Lexeme.seen c.tiles.progress.items.items) c.tiles.progress.boundaries c.tiles.progress.asked c.tiles.invariant.reached;
+      reached = c.tiles.invariant.reached;
+      looked = c.tiles.invariant.looked;
+    } in
     let d = definition_of g.L.StorageT.Id.number c.args.self.now in
-    subst (λ ms. c.finished.result.asked ≤ searches d c.args.text.now ms) (sym (c.finished.ensures.boundaries ∙ (c.in_ok-advance.ensures.ends c.if-not-branch.true).same))
-    (omega (arith, c.finished.ensures.asked, c.in_ok-advance.ensures.asked.few))
+    subst (λ ms. c.finished.result.asked ≤ searches d c.args.text.now ms) (sym (c.finished.ensures.boundaries ∙ (c.in_ok-advance.ensures.ends c.if-not-branch.true no_front u).same))
+    (omega (arith, c.finished.ensures.asked, (c.in_ok-advance.ensures.asked no_front u).few))
+
+pub tiles-smaller : goal.tiles-smaller
+tiles-smaller g c =
+    let u : IsUnderWay (definition_of g.L.StorageT.Id.number c.args.self.now) g.L.StorageT.Id.number g.L.LexemeT.Lexeme.seen c.args.text.now no_front c.tiles.progress = record {
+      boundary = c.tiles.invariant.boundary;
+      some = some_now (definition_of g.L.StorageT.Id.number c.args.self.now) c.args.text.now c.tiles.progress.place c.tiles.progress.stack.items (items_by g.L.StorageT.Id.number g.L.LexemeT.Lexeme.seen c.tiles.progress.items.items) c.tiles.progress.boundaries c.tiles.progress.asked c.tiles.invariant.reached;
+      reached = c.tiles.invariant.reached;
+      looked = c.tiles.invariant.looked;
+    } in
+    omega (arith, (c.in_ok-advance.ensures.goes_on c.if-not-branch.false no_front u).grows, c.tiles-test.true)
+
+pub finished-requires-clause-looks : goal.finished-requires-clause-looks
+finished-requires-clause-looks g c =
+    let u : IsUnderWay (definition_of g.L.StorageT.Id.number c.args.self.now) g.L.StorageT.Id.number g.L.LexemeT.Lexeme.seen c.args.text.now no_front c.tiles.progress = record {
+      boundary = c.tiles.invariant.boundary;
+      some = some_now (definition_of g.L.StorageT.Id.number c.args.self.now) c.args.text.now c.tiles.progress.place c.tiles.progress.stack.items (items_by g.L.StorageT.Id.number g.L.LexemeT.Lexeme.seen c.tiles.progress.items.items) c.tiles.progress.boundaries c.tiles.progress.asked c.tiles.invariant.reached;
+      reached = c.tiles.invariant.reached;
+      looked = c.tiles.invariant.looked;
+    } in
+    let d = definition_of g.L.StorageT.Id.number c.args.self.now in
+    let e = c.in_ok-advance.ensures.ends c.if-not-branch.true no_front u in
+    let n = c.advance.new.progress in
+    subst (λ ms. LooksAhead d c.args.text.now ms n.ahead.items) (sym e.same) (subst (LooksAhead d c.args.text.now c.tiles.progress.boundaries) (sym e.ahead) c.tiles.invariant.looked.looks)

@@ -1,47 +1,16 @@
-use Rattle.std.proofs.Common.{◌≡◌, ℕ, List, sym, ap, ◌∙◌, subst, arith, IsCharBoundary}
+use Rattle.std.proofs.Common.{◌≡◌, ◌+◌, ◌∙◌, ap, ap₂, arith, length, slice_range, subst, sym, IsUtf8}
 use Rattle.std.specs.String.{string_bytes}
 use Rattle.lrlex_base.specs.Edits.{edited}
 use Rattle.lrlex_base.specs.Places.{AreBreaksOf}
-use Rattle.lrlex_base.specs.Spans.{Fits, span, as_span}
-use Rattle.lrlex.specs.Boundaries.{Boundary}
+use Rattle.lrlex_base.specs.Spans.{Fits, as_span, span}
 use Rattle.lrlex.specs.Kept.{LooksAhead}
-use Rattle.lrlex.specs.Ran.{Ran, IsRunOf}
+use Rattle.lrlex.specs.Nearest.{FitsAt}
+use Rattle.lrlex.specs.Ran.{Ran}
 use Rattle.lrlex.specs.Reach.{IsRun}
-use Rattle.lrlex.specs.Relexed.{WasRelexed}
 use Rattle.lrlex.specs.Views.{definition_of, items_by}
-use Rattle.lrlex.proofs.CountedLemmas.{of_own, of_fields}
-use Rattle.lrlex.proofs.DocumentLemmas.{refused_by_memory}
+use Rattle.lrlex.proofs.DocumentLemmas.{edited_back, edited_fits, fits_at, refused_by_memory, refused_fitting, still_known, still_same}
 use Rattle.lrlex.proofs.ItemLemmas.{have_laws}
 use Rattle.lrlex.proofs.lexer.document.Document.edit.Goals as goal
-
-pub returns-clause-fits : goal.returns-clause-fits
-returns-clause-fits g c =
-    let text : c.deref.result.now ≡ c.args.self.now.text = c.deref.ensures ∙ ap (λ (v : Ran _ _). v.text) c.self.view_is in
-    let fits : Fits c.args.self.now.text c.new.result = subst (λ t. Fits t c.new.result) text (c.fits.ensures.0 c.if-not-fits.false) in
-    record {
-      in_order = omega (arith, c.if-from-to.false);
-      begins = subst (IsCharBoundary c.args.self.now.text) c.new.ensures.start fits.0;
-      ends = subst (IsCharBoundary c.args.self.now.text) c.new.ensures.end fits.1;
-    }
-
-pub returns-clause-counts : goal.returns-clause-counts
-returns-clause-counts g c =
-    let number = g.L.StorageT.Id.number in
-    let s = c.self.inside in
-    let r = c.in_ok-run.run' in
-    let e = c.in_ok-run.ensures in
-    let removed = as_span c.new.result in
-    let put = c.args.put.now in
-    let own : WasRelexed number s.boundaries c.deref-5.result.now removed put r =
-    of_own number s.boundaries c.deref-5.result.now removed put r s.definition.now c.deref-6.result.now e.of.0 e.of.1 e.asked e.few.0 e.few.1 e.lexed e.exact in
-    let here : WasRelexed number s.boundaries c.deref-5.result.now (span c.args.from c.args.to) put r =
-    subst (λ b. WasRelexed number s.boundaries c.deref-5.result.now (span c.args.from b) put r) c.new.ensures.end
-    (subst (λ a. WasRelexed number s.boundaries c.deref-5.result.now (span a c.new.result.end) put r) c.new.ensures.start own) in
-    let P : List Boundary → List ℕ → Type 0 = λ olds ahead. WasRelexed number olds ahead (span c.args.from c.args.to) put r in
-    let olds : P c.args.self.now.boundaries c.args.self.now.ahead =
-    subst (λ (v : Ran _ _). P v.boundaries v.ahead) c.self.view_is (subst (P s.boundaries) c.deref-5.ensures.value here) in
-    of_fields number c.args.self.now.boundaries c.args.self.now.ahead (span c.args.from c.args.to) put _ r olds e.of.0 (e.of.1 ∙ c.deref-6.ensures)
-    (sym (ap (λ (v : Ran _ _). v.boundaries) c.run.view_is)) (sym (ap (λ (v : Ran _ _). v.asked) c.run.view_is)) (sym (ap (λ (v : Ran _ _). v.anew) c.run.view_is))
 
 pub returns-in_err-edit-clause-refused : goal.returns-in_err-edit-clause-refused
 returns-in_err-edit-clause-refused g c =
@@ -49,39 +18,95 @@ returns-in_err-edit-clause-refused g c =
     refused_by_memory _ _ _ _ c.from_residual-in_err-edit.ensures.1 (omega (arith, c.if-from-to.false)) c.new.result c.new.ensures.start c.new.ensures.end
     (subst (λ t. Fits t c.new.result) text (c.fits.ensures.0 c.if-not-fits.false))
 
-pub returns-in_err-run-clause-refused : goal.returns-in_err-run-clause-refused
-returns-in_err-run-clause-refused g c =
+pub returns-in_err-gone-clause-refused : goal.returns-in_err-gone-clause-refused
+returns-in_err-gone-clause-refused g c =
     let text : c.deref.result.now ≡ c.args.self.now.text = c.deref.ensures ∙ ap (λ (v : Ran _ _). v.text) c.self.view_is in
-    refused_by_memory _ _ _ _ c.from_residual-in_err-run.ensures.1 (omega (arith, c.if-from-to.false)) c.new.result c.new.ensures.start c.new.ensures.end
+    refused_by_memory _ _ _ _ c.from_residual-in_err-gone.ensures.1 (omega (arith, c.if-from-to.false)) c.new.result c.new.ensures.start c.new.ensures.end
     (subst (λ t. Fits t c.new.result) text (c.fits.ensures.0 c.if-not-fits.false))
 
-pub returns-clause-laws : goal.returns-clause-laws
-returns-clause-laws g c =
-    let number = g.L.StorageT.Id.number in
-    let seen = g.L.LexemeT.Lexeme.seen in
-    let d = c.self.inside.definition.now in
-    let text = c.deref-6.result.now in
-    let is : IsRun (definition_of number d) text (items_by number seen c.run.inside.items.items) c.run.inside.boundaries =
-    subst (λ (v : Ran _ _). IsRunOf number seen d text v) (sym c.run.view_is) c.in_ok-run.ensures.run in
-    have_laws _ _ _ _ (subst (λ t. IsRun (definition_of number d) t (items_by number seen c.run.inside.items.items) c.run.inside.boundaries) c.deref-6.ensures is)
+pub returns-in_err-reserve-clause-refused : goal.returns-in_err-reserve-clause-refused
+returns-in_err-reserve-clause-refused g c =
+    let text : c.deref.result.now ≡ c.args.self.now.text = c.deref.ensures ∙ ap (λ (v : Ran _ _). v.text) c.self.view_is in
+    refused_by_memory _ _ _ _ c.from_residual-in_err-reserve.ensures.1 (omega (arith, c.if-from-to.false)) c.new.result c.new.ensures.start c.new.ensures.end
+    (subst (λ t. Fits t c.new.result) text (c.fits.ensures.0 c.if-not-fits.false))
 
-pub invariant_of-self-2 : goal.invariant_of-self-2
-invariant_of-self-2 g c =
-    let number = g.L.StorageT.Id.number in
-    let seen = g.L.LexemeT.Lexeme.seen in
-    let d = c.self.inside.definition.now in
-    let e = c.in_ok-run.ensures in
-    let put = c.args.put.now in
+pub put_text-requires-clause-fits : goal.put_text-requires-clause-fits
+put_text-requires-clause-fits g c =
     let was = string_bytes c.self.inside.text in
-    let is = string_bytes c.in_ok-text.text in
-    let bounds = c.run.inside.boundaries in
-    let ahead = c.run.inside.ahead.items in
-    let found = items_by number seen c.run.inside.items.items in
-    let made : is ≡ edited was (as_span c.new.result) put = c.in_ok-text.ensures ∙ ap (λ t. edited t (as_span c.new.result) put) c.deref-2.ensures in
-    let definition : c.run.inside.definition.now ≡ d = ap (λ (v : Ran _ _). v.definition) c.run.view_is ∙ e.of.0 in
-    let text : c.run.inside.text.now ≡ is = ap (λ (v : Ran _ _). v.text) c.run.view_is ∙ e.of.1 ∙ c.deref-6.ensures in
-    let lexed : IsRun (definition_of number d) c.deref-6.result.now found bounds = subst (λ (v : Ran _ _). IsRunOf number seen d c.deref-6.result.now v) (sym c.run.view_is) e.run in (
-      subst (λ t. AreBreaksOf t c.edit.new.self) (sym made) (c.in_ok-edit.ensures.edited was c.self.invariant.0),
-      subst (λ t. ∥ LooksAhead (definition_of number d) t bounds ahead ∥₁) text (subst (λ x. ∥ LooksAhead (definition_of number x) c.run.inside.text.now bounds ahead ∥₁) definition c.run.invariant.0),
-      ∣ subst (λ t. IsRun (definition_of number d) t found bounds) c.deref-6.ensures lexed ∣₁,
+    let here : FitsAt was c.args.from c.args.to =
+    fits_at was c.args.from c.args.to (omega (arith, c.if-from-to.false)) c.new.result c.new.ensures.start c.new.ensures.end (subst (λ t. Fits t c.new.result) c.deref.ensures (c.fits.ensures.0 c.if-not-fits.false)) in
+    subst (λ t. FitsAt t c.args.from c.args.to) (sym c.in_ok-reserve.ensures.bytes) here
+
+pub invariant_of-self-in-Ok-1 : goal.invariant_of-self-in-Ok-1
+invariant_of-self-in-Ok-1 g c =
+    let was = string_bytes c.self.inside.text in
+    let here : FitsAt was c.args.from c.args.to =
+    fits_at was c.args.from c.args.to (omega (arith, c.if-from-to.false)) c.new.result c.new.ensures.start c.new.ensures.end (subst (λ t. Fits t c.new.result) c.deref.ensures (c.fits.ensures.0 c.if-not-fits.false)) in
+    let put = c.args.put.now in
+    let made : string_bytes c.put_text.new.text ≡ edited was (span c.args.from c.args.to) put = c.put_text.ensures.text ∙ ap (λ t. edited t (span c.args.from c.args.to) put) c.in_ok-reserve.ensures.bytes in
+    let D = definition_of g.L.StorageT.Id.number c.self.inside.definition.now in
+    let found = items_by g.L.StorageT.Id.number g.L.LexemeT.Lexeme.seen c.relex_in_place.new.items.items in
+    let spans : as_span c.new.result ≡ span c.args.from c.args.to = ap₂ span c.new.ensures.start c.new.ensures.end in
+    let breaks : AreBreaksOf was c.in_ok-newlines.newlines = subst (AreBreaksOf was) (sym c.in_ok-newlines.ensures.cases) c.self.invariant.0 in (
+      subst (λ t. AreBreaksOf t c.edit.new.self) (ap (λ s. edited was s put) spans ∙ sym made) (c.in_ok-edit.ensures.edited was breaks),
+      ∣ subst (λ t. LooksAhead D t c.relex_in_place.new.boundaries c.relex_in_place.new.ahead.items) c.deref-3.ensures c.in-Ok.ensures.looks ∣₁,
+      ∣ subst (λ t. IsRun D t found c.relex_in_place.new.boundaries) c.deref-3.ensures c.in-Ok.ensures.run ∣₁,
     )
+
+pub put_text-requires-in-Err-clause-fits : goal.put_text-requires-in-Err-clause-fits
+put_text-requires-in-Err-clause-fits g c =
+    let was = string_bytes c.self.inside.text in
+    let here : FitsAt was c.args.from c.args.to =
+    fits_at was c.args.from c.args.to (omega (arith, c.if-from-to.false)) c.new.result c.new.ensures.start c.new.ensures.end (subst (λ t. Fits t c.new.result) c.deref.ensures (c.fits.ensures.0 c.if-not-fits.false)) in
+    let put = c.args.put.now in
+    let made : string_bytes c.put_text.new.text ≡ edited was (span c.args.from c.args.to) put = c.put_text.ensures.text ∙ ap (λ t. edited t (span c.args.from c.args.to) put) c.in_ok-reserve.ensures.bytes in
+    let utf8 : IsUtf8 was = subst IsUtf8 c.deref.ensures c.deref.utf8 in
+    subst (λ t. FitsAt t c.args.from (c.args.from + length put)) (sym made) (edited_fits was put c.args.from c.args.to here utf8 c.utf8.put)
+
+pub invariant_of-self-in-Err-1 : goal.invariant_of-self-in-Err-1
+invariant_of-self-in-Err-1 g c =
+    let was = string_bytes c.self.inside.text in
+    let here : FitsAt was c.args.from c.args.to =
+    fits_at was c.args.from c.args.to (omega (arith, c.if-from-to.false)) c.new.result c.new.ensures.start c.new.ensures.end (subst (λ t. Fits t c.new.result) c.deref.ensures (c.fits.ensures.0 c.if-not-fits.false)) in
+    let put = c.args.put.now in
+    let made : string_bytes c.put_text.new.text ≡ edited was (span c.args.from c.args.to) put = c.put_text.ensures.text ∙ ap (λ t. edited t (span c.args.from c.args.to) put) c.in_ok-reserve.ensures.bytes in
+    let gone : c.deref-in-Err.result.now ≡ slice_range was c.args.from c.args.to =
+    c.deref-in-Err.ensures ∙ c.in_ok-gone.ensures.ok ∙ c.range.ensures.value ∙ ap (λ t. slice_range t c.args.from c.args.to) c.deref-2.ensures in
+    let back : string_bytes c.put_text-in-Err.new.text ≡ was =
+    c.put_text-in-Err.ensures.text ∙ ap (λ t. edited t (span c.args.from (c.args.from + length put)) c.deref-in-Err.result.now) made ∙ edited_back was put c.args.from c.args.to here c.deref-in-Err.result.now gone in
+    let kept : (c.relex_in_place.new.items.items ≡ c.self.inside.items.items) × (c.relex_in_place.new.boundaries ≡ c.self.inside.boundaries) × (c.relex_in_place.new.ahead.items ≡ c.self.inside.ahead.items) =
+    c.in-Err.ensures.kept in
+    still_known g.L.StorageT.Id.number g.L.LexemeT.Lexeme.seen c.self.inside.definition.now c.self.inside.newlines was (string_bytes c.put_text-in-Err.new.text) c.self.inside.items.items c.relex_in_place.new.items.items c.self.inside.boundaries c.relex_in_place.new.boundaries c.self.inside.ahead.items c.relex_in_place.new.ahead.items back kept.0 kept.1 kept.2 c.self.invariant
+
+pub returns-in-Ok-clause-fits : goal.returns-in-Ok-clause-fits
+returns-in-Ok-clause-fits g c =
+    let text : c.deref.result.now ≡ c.args.self.now.text = c.deref.ensures ∙ ap (λ (v : Ran _ _). v.text) c.self.view_is in
+    let fits : FitsAt c.args.self.now.text c.args.from c.args.to =
+    fits_at c.args.self.now.text c.args.from c.args.to (omega (arith, c.if-from-to.false)) c.new.result c.new.ensures.start c.new.ensures.end (subst (λ t. Fits t c.new.result) text (c.fits.ensures.0 c.if-not-fits.false)) in
+    fits
+
+pub returns-in-Ok-clause-laws : goal.returns-in-Ok-clause-laws
+returns-in-Ok-clause-laws g c =
+    have_laws _ _ _ _ (subst (λ t. IsRun (definition_of g.L.StorageT.Id.number c.self.inside.definition.now) t (items_by g.L.StorageT.Id.number g.L.LexemeT.Lexeme.seen c.relex_in_place.new.items.items) c.relex_in_place.new.boundaries) c.deref-3.ensures c.in-Ok.ensures.run)
+
+pub returns-in-Err-clause-refused : goal.returns-in-Err-clause-refused
+returns-in-Err-clause-refused g c =
+    let text : c.deref.result.now ≡ c.args.self.now.text = c.deref.ensures ∙ ap (λ (v : Ran _ _). v.text) c.self.view_is in
+    let fits : FitsAt c.args.self.now.text c.args.from c.args.to =
+    fits_at c.args.self.now.text c.args.from c.args.to (omega (arith, c.if-from-to.false)) c.new.result c.new.ensures.start c.new.ensures.end (subst (λ t. Fits t c.new.result) text (c.fits.ensures.0 c.if-not-fits.false)) in
+    refused_fitting c.from.result c.args.self.now.text c.args.from c.args.to c.from.ensures fits
+
+pub returns-in-Err-clause-kept : goal.returns-in-Err-clause-kept
+returns-in-Err-clause-kept g c =
+    let was = string_bytes c.self.inside.text in
+    let here : FitsAt was c.args.from c.args.to =
+    fits_at was c.args.from c.args.to (omega (arith, c.if-from-to.false)) c.new.result c.new.ensures.start c.new.ensures.end (subst (λ t. Fits t c.new.result) c.deref.ensures (c.fits.ensures.0 c.if-not-fits.false)) in
+    let put = c.args.put.now in
+    let made : string_bytes c.put_text.new.text ≡ edited was (span c.args.from c.args.to) put = c.put_text.ensures.text ∙ ap (λ t. edited t (span c.args.from c.args.to) put) c.in_ok-reserve.ensures.bytes in
+    let gone : c.deref-in-Err.result.now ≡ slice_range was c.args.from c.args.to =
+    c.deref-in-Err.ensures ∙ c.in_ok-gone.ensures.ok ∙ c.range.ensures.value ∙ ap (λ t. slice_range t c.args.from c.args.to) c.deref-2.ensures in
+    let back : string_bytes c.put_text-in-Err.new.text ≡ was =
+    c.put_text-in-Err.ensures.text ∙ ap (λ t. edited t (span c.args.from (c.args.from + length put)) c.deref-in-Err.result.now) made ∙ edited_back was put c.args.from c.args.to here c.deref-in-Err.result.now gone in
+    let kept : (c.relex_in_place.new.items.items ≡ c.self.inside.items.items) × (c.relex_in_place.new.boundaries ≡ c.self.inside.boundaries) × (c.relex_in_place.new.ahead.items ≡ c.self.inside.ahead.items) =
+    c.in-Err.ensures.kept in
+    still_same c.self.inside.definition.now was (string_bytes c.put_text-in-Err.new.text) c.self.inside.items.items c.relex_in_place.new.items.items c.self.inside.boundaries c.relex_in_place.new.boundaries c.self.inside.ahead.items c.relex_in_place.new.ahead.items c.self.inside.asked c.self.inside.anew c.args.self.now back kept.0 kept.1 kept.2 c.self.view_is
