@@ -167,8 +167,7 @@ fn join(
     stacks: &[(usize, usize)],
     keep: usize,
 ) -> Result<usize, AllocError>
-    requires order { mine ≤ passed }
-    requires within { passed ≤ length stretches.old.items }
+    requires within { (mine ≤ passed) × (passed ≤ length stretches.old.items) }
     requires before { IsRange (length entries.old.items)
         (last_stretch no_stretch (take mine stretches.old.items)) }
     requires rising { AreRising between.now }

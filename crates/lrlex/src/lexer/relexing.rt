@@ -318,10 +318,10 @@ fn put_between<L: LexerTypes<LexErrorT = LRLexError>>(
         ≡ items_before (boundary_at boundaries.old anew.index).place
         (items_by L.StorageT.number L.LexemeT.seen items.old.items)) }
     requires within { (anew.index ≤ met) × (met < length boundaries.old) }
-    requires some { 0 < length anew.progress.boundaries }
     requires sorted { AreSorted boundaries.old }
     requires numbers { length ahead.old.items ≡ length boundaries.old }
-    requires last { last_entries anew.progress.boundaries ≡ (boundary_at boundaries.old met).entries }
+    requires last { (0 < length anew.progress.boundaries)
+        × (last_entries anew.progress.boundaries ≡ (boundary_at boundaries.old met).entries) }
     requires movable { IsPartitionedBy (begins_before (boundary_at boundaries.old met).place)
         (items_by L.StorageT.number L.LexemeT.seen items.old.items)
         × All (IsMovable (boundary_at boundaries.old met).place anew.progress.place)

@@ -80,7 +80,7 @@ returns-clause-joined c =
     let more : c.extend_from_slice.new.self.items ≡ entries ++ stacks = c.in_ok-extend_from_slice.ensures.items in
     let range : IsRange (length stacks) first = range_at between 0 c.stretch_of-first.ensures c.requires.ranges in
     let there = placed_behind stacks entries keep n first more shift range in
-    joined_opened n opening c.requires.order c.requires.within
+    joined_opened n opening c.requires.within.0 c.requires.within.1
     (c.in_ok-insert.ensures.items ∙ ap (λ xs. take mine xs ++ opening ∷ drop mine xs) c.reserve.ensures.items) c.put_stretches-2.ensures (take_rest between b) refl c.requires.rising c.begun.ensures
     (λ i d lt. placed_behind stacks entries keep n (get_or (drop b between) i d) more shift (All-drop (IsRange (length stacks)) b between c.requires.ranges i d lt))
     refl (record { ordered = there.0.ordered; within = there.0.within }) (there.1 ∙ ap (entries_of stacks) c.stretch_of-first.ensures)

@@ -53,7 +53,7 @@ put_between-requires-clause-last g c =
     let h : HasCutAnew g.L.StorageT.Id.number g.L.LexemeT.Lexeme.seen c.args.definition.now c.args.items.now.items c.args.boundaries.now c.args.ahead.now.items c.args.edit.now.removed c.args.edit.now.put.now c.args.new.now a = rw (sym c.as_slice.ensures.value, sym c.tidy.ensures, sym c.as_slice-2.ensures.value) c.in_ok-anew.ensures in
     let j = c.in-Some.met in
     let m = h.met j c.in-Some.is in
-    rw c.tidy.ensures (met_last g.L.StorageT.Id.number g.L.LexemeT.Lexeme.seen c.args.definition.now c.args.items.now.items c.args.boundaries.now c.args.ahead.now.items c.args.edit.now.removed c.args.edit.now.put.now c.args.new.now c.requires.known initial a h j m)
+    (h.some, rw c.tidy.ensures (met_last g.L.StorageT.Id.number g.L.LexemeT.Lexeme.seen c.args.definition.now c.args.items.now.items c.args.boundaries.now c.args.ahead.now.items c.args.edit.now.removed c.args.edit.now.put.now c.args.new.now c.requires.known initial a h j m))
 
 pub put_between-requires-clause-movable : goal.put_between-requires-clause-movable
 put_between-requires-clause-movable g c =

@@ -9,12 +9,12 @@ use Rattle.lrlex.proofs.lexer.boundaries.Boundaries.splice.Goals as goal
 pub index-from-requires : goal.index-from-requires
 index-from-requires c = omega (arith, within_places c.self.inside.entries.items c.self.inside.stretches.items _ _ _ c.self.view_is c.requires.within)
 
-pub join-requires-clause-order : goal.join-requires-clause-order
-join-requires-clause-order c =
+pub join-requires-clause-within : goal.join-requires-clause-within
+join-requires-clause-within c =
     let ss = c.self.inside.stretches.items in
     let before : AreBefore ss c.begun_before-mine.result c.args.keep = rw c.deref.ensures.value at c.begun_before-mine.ensures in
     let begun : AreBegun ss c.begun-passed.result c.args.index = rw c.deref-2.ensures.value at c.begun-passed.ensures in
-    before_begun before begun c.requires.order
+    (before_begun before begun c.requires.order, begun.within)
 
 pub join-requires-clause-before : goal.join-requires-clause-before
 join-requires-clause-before c = (front_range c.begun_before-mine.result c.self.invariant refl refl).range
