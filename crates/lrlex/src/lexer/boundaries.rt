@@ -11,7 +11,7 @@ use crate::lexer::stretch::{
 use std::alloc::{AllocError, Global};
 use std::marker::Model;
 
-/// For how many entries and stretches more than it takes over a list makes room.
+/// How many entries may serve no stretch before a list is looked through for them, and for how many more a new one has room.
 const SLACK: usize = 64;
 
 /// Boundaries with their stacks. A stack that stays is kept once for all boundaries in a row that have it, and entries that
@@ -103,8 +103,7 @@ fn own_entries(before: Stretch, here: Stretch) -> usize
     }
 }
 
-/// Whether more than half of the entries serve no stretch. A list that takes over all entries of another, as an edit's does, has
-/// also those that no stretch needs any more, and each edit may leave some behind.
+/// Whether more than half of the entries serve no stretch, and more than some: each edit may leave some behind.
 fn is_loose(entries: &[(usize, usize)], stretches: &[Stretch]) -> bool
     requires { All (λ s. s.first ≤ s.end) stretches.now }
     ensures { result ≡ are_loose entries.now stretches.now }
