@@ -1,9 +1,13 @@
-"""Tries must-fail edits, each over the function that it changes: edits.py [CRATE..], of all crates without words.
+"""Tries must-fail edits, each over the function that it changes: edits.py [--beside LOG] [CRATE..], of all crates without words.
 
 A crate's must-fail/GATE.md has them: below a heading with the edit's name stands, in backquotes, the path of the function
 whose contract it breaks, and then the edit as rt reads one, lines file, old and new. The crate, which rt ci has proved, is
 copied, and with the edit the prover must refuse that function; edits are tried side by side. The last line is
 'edits: N refused, M failed'.
+
+With --beside, rt ci is still at work and writes what it says to LOG: the edits of a crate are tried once the libraries below
+it are proved, or rt ci has come to its end, and only with what processor time rt ci leaves. What isn't refused then is tried
+once more when rt ci has ended.
 """
 
 import concurrent.futures
@@ -12,8 +16,9 @@ import re
 import shutil
 import sys
 import tempfile
+import time
 
-from prover import TOP, checked, crates
+from prover import TOP, checked, crates, libraries_below
 
 EDIT = re.compile(r"^## (\S+)\n\n`(\S+)`[^\n]*\n\n```\n((?:file: .*\nold: .*\nnew: .*\n)+)```$", re.M)
 PLACE = r"(?:\./)?(?:src|proofs)/\S+:\d+:\d+: "
@@ -23,6 +28,7 @@ GOALS = [
     re.compile(rf"^(?:note: )?({PLACE}.*)$", re.M),
 ]
 VERDICT = re.compile(r"^only=(\d+) proved=(\d+)$", re.M)
+ENDED = re.compile(r"\d+ passed, \d+ failed$")
 
 
 def edits_of(crate):
@@ -82,12 +88,52 @@ def tried(edit, listed):
     return False, f"{label}: FAILED, {function} is still proved with it"
 
 
-def main(names):
+def lines_of(log):
+    """What rt ci has said so far."""
+    with open(log, encoding="utf-8", errors="replace") as it:
+        return it.read().splitlines()
+
+
+def has_ended(said):
+    """Whether rt ci has come to its end."""
+    return any(ENDED.match(line) for line in said)
+
+
+def tried_beside(edit, listed, log):
+    """The same while rt ci is at work."""
+    below = libraries_below(listed[edit[0]], listed)
+    while not has_ended(said := lines_of(log)) and any(f"rt: {name} proved" not in said for name in below):
+        time.sleep(2)
+    answer = tried(edit, listed)
+    if answer[0] or has_ended(said):
+        return answer
+    while not has_ended(lines_of(log)):
+        time.sleep(2)
+    return tried(edit, listed)
+
+
+def give_way():
+    """Takes what processor time others leave, also where the kernel weighs sessions."""
+    os.setsid()
+    os.nice(19)
+    try:
+        with open("/proc/self/autogroup", "w", encoding="utf-8") as it:
+            it.write("19")
+    except OSError:
+        pass
+
+
+def main(words):
+    log = words[1] if words[:1] == ["--beside"] else ""
+    names = words[2:] if log else words
     listed = crates()
     edits = [edit for crate in listed if not names or crate in names for edit in edits_of(crate)]
+    work = (lambda edit: tried_beside(edit, listed, log)) if log else (lambda edit: tried(edit, listed))
+    if log:
+        give_way()
     refused = failed = 0
     with concurrent.futures.ThreadPoolExecutor(len(os.sched_getaffinity(0))) as pool:
-        for is_refused, said in pool.map(lambda edit: tried(edit, listed), edits):
+        for is_refused, said in pool.map(work, edits):
             print(said, flush=True)
             refused, failed = refused + is_refused, failed + (not is_refused)
     print(f"edits: {refused} refused, {failed} failed")
