@@ -14,7 +14,9 @@ use Rattle.regex.specs.Patterns.{Re, find_str, span}
 use Rattle.regex_hir.specs.Text.{is_boundary}
 use Rattle.regex.proofs.Utf8Lemmas.{IsCharBoundary-of_test}
 use Rattle.lrlex_rules.specs.Definition.{Definition, Rule}
-use Rattle.lrlex_rules.specs.Patterns.{end_from_zero, match_length, pattern_of}
+use Rattle.lrlex_matching.specs.Matching.{match_length}
+use Rattle.lrlex_matching.proofs.ForCallers.{length_cuts}
+use Rattle.lrlex_rules.specs.Patterns.{pattern_of}
 use Rattle.lrlex.specs.Active.{is_active, is_state, taken_by, taken_by_any, no_rule, rule_at, lexeme_id, lacks_id}
 use Rattle.lrlex.specs.Tiling.{Tile, Item, Item-set, Lexeme, Error, Wins, IsWinner, top, End, Done, NoMatch, NoId, NoTarget, IsEnd, stack_past, IsTiling, lexeme_of, tile_items, end_items, items}
 use Rattle.lrlex.specs.Boundaries.{Boundary}
@@ -28,21 +30,10 @@ use Rattle.lrlex.proofs.TilingLemmas.{Wins-le}
 EndsCleanly : List ℕ → ℕ → Type 0
 EndsCleanly text n = n ≤ length text → 0 < n → IsCharBoundary text n
 
-end_from_zero-cut : (text : List ℕ) (o : Option (ℕ × ℕ)) → EndsCleanly text (end_from_zero text o)
-unfolding EndsCleanly
-end_from_zero-cut text None = λ le some. absurd (omega (arith, some))
-end_from_zero-cut text (Some s) =
-    cond_both (s.0 == 0 && is_boundary text s.1) s.1 0 (EndsCleanly text) (λ e le some. IsCharBoundary-of_test text s.1 le (and_parts _ _ e).1)
-    (λ e le some. absurd (omega (arith, some)))
-
-match_length-cut : (re : Re) (text : List ℕ) → EndsCleanly text (match_length re text)
-unfolding match_length
-match_length-cut re text = end_from_zero-cut text (option_map span (find_str re text 0))
-
 taken_by-cut : (d : Definition) (q : ℕ) (text : List ℕ) (r : Rule) → EndsCleanly text (taken_by d q text r)
 unfolding taken_by EndsCleanly
 taken_by-cut d q text r =
-    cond_both (is_active d.states q r) (match_length (pattern_of r) text) 0 (EndsCleanly text) (λ e. match_length-cut (pattern_of r) text)
+    cond_both (is_active d.states q r) (match_length (pattern_of r) text) 0 (EndsCleanly text) (λ e le some. length_cuts (pattern_of r) text _ refl some le)
     (λ e le some. absurd (omega (arith, some)))
 
 taken_by_any-cut : (d : Definition) (q : ℕ) (text : List ℕ) (o : Option Rule) → EndsCleanly text (taken_by_any d q text o)
