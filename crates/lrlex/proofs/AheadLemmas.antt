@@ -9,8 +9,8 @@ use Rattle.lrlex_rules.specs.Definition.{Definition}
 use Rattle.lrlex_table.specs.Decided.{IsText}
 use Rattle.lrlex.specs.Active.{is_state}
 use Rattle.lrlex.specs.Tiling.{Item, top}
-use Rattle.lrlex.specs.Entries.{plain}
-use Rattle.lrlex.specs.Boundaries.{Boundary, no_boundary, boundary_at}
+use Rattle.lrlex_boundaries.specs.Entries.{plain}
+use Rattle.lrlex_boundaries.specs.Boundaries.{Boundary, no_boundary, boundary_at}
 use Rattle.lrlex.specs.Reach.{IsLexed}
 use Rattle.lrlex.specs.Kept.{IsDecided, IsDecidedAt, AreDecided, LooksAhead, IsSafe, HasLooked, capped}
 use Rattle.lrlex.proofs.DecidedLemmas.{decided_more, decided_kept}

@@ -13,10 +13,11 @@ use Rattle.lrlex_base.specs.declared.spans.Span.{Span}
 use Rattle.lrlex_table.specs.Decided.{IsText}
 use Rattle.lrlex.specs.Active.{is_state}
 use Rattle.lrlex.specs.Asked.{IsLastSafe, asks, untabled_count}
-use Rattle.lrlex.specs.Boundaries.{Boundary, place_and_stack, no_boundary, boundary_at}
-use Rattle.lrlex.specs.Entries.{plain}
+use Rattle.lrlex_boundaries.specs.Boundaries.{Boundary, place_and_stack, no_boundary, boundary_at}
+use Rattle.lrlex_boundaries.specs.Entries.{plain}
 use Rattle.lrlex.specs.Kept.{HasLooked, IsSafe, LooksAhead, items_before}
-use Rattle.lrlex.specs.Moves.{AreSorted, Meets, begins_before}
+use Rattle.lrlex_boundaries.specs.Moves.{AreSorted, Meets}
+use Rattle.lrlex.specs.Moves.{begins_before}
 use Rattle.lrlex.specs.Ran.{Ran}
 use Rattle.lrlex.specs.Reach.{IsLexed, Reached, searches}
 use Rattle.lrlex.specs.Relexed.{WasRelexed}

@@ -10,9 +10,9 @@ use Rattle.lrlex_rules.specs.Definition.{Definition}
 use Rattle.lrlex_rules.specs.Parts.{as_state}
 use Rattle.lrlex_table.specs.declared.tables.Tables.{Tables}
 use Rattle.lrlex.specs.Tiling.{Item, top}
-use Rattle.lrlex.specs.Entries.{plain}
-use Rattle.lrlex.specs.Boundaries.{Boundary, place_and_stack, no_boundary, boundary_at}
-use Rattle.lrlex.specs.Moves.{Meets}
+use Rattle.lrlex_boundaries.specs.Entries.{plain}
+use Rattle.lrlex_boundaries.specs.Boundaries.{Boundary, place_and_stack, no_boundary, boundary_at}
+use Rattle.lrlex_boundaries.specs.Moves.{Meets}
 use Rattle.lrlex.specs.Reach.{Reached}
 use Rattle.lrlex.specs.Asked.{tables_in, untabled_count, asks_at, asks, IsLastSafe, IsFirstMeeting, WasCutAnew}
 use Rattle.lrlex.specs.declared.lexer.definition.LRNonStreamingLexerDef.{LRNonStreamingLexerDef}

@@ -3,7 +3,7 @@ use Rattle.std.proofs.Common.{◌≡◌, ℕ, true, List, [], ◌∷◌, Result,
 use Rattle.lrlex_base.specs.Seen.{Seen}
 use Rattle.lrlex_rules.specs.Definition.{Definition}
 use Rattle.lrlex.specs.Active.{is_state}
-use Rattle.lrlex.specs.Boundaries.{Boundary}
+use Rattle.lrlex_boundaries.specs.Boundaries.{Boundary}
 use Rattle.lrlex.specs.Reach.{Reached}
 use Rattle.lrlex.specs.Kept.{HasLooked}
 use Rattle.lrlex.specs.Views.{items_by}

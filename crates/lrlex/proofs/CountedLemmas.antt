@@ -4,8 +4,8 @@ use Rattle.lrlex_base.specs.Spans.{Span}
 use Rattle.lrlex.specs.Active.{is_state}
 use Rattle.lrlex.specs.Asked.{asks, WasCutAnew}
 use Rattle.lrlex.specs.Kept.{IsSafe}
-use Rattle.lrlex.specs.Moves.{Meets}
-use Rattle.lrlex.specs.Boundaries.{Boundary}
+use Rattle.lrlex_boundaries.specs.Moves.{Meets}
+use Rattle.lrlex_boundaries.specs.Boundaries.{Boundary}
 use Rattle.lrlex.specs.Ran.{Ran}
 use Rattle.lrlex.specs.Reach.{searches}
 use Rattle.lrlex.specs.Relexed.{WasRelexed}

@@ -15,8 +15,8 @@ use Rattle.lrlex_table.specs.Decided.{IsText, BeginsAlike, IsDecidedBy}
 use Rattle.lrlex_table.proofs.PrefixLemmas.{alike_less, alike_len}
 use Rattle.lrlex.specs.Active.{is_state, active_places}
 use Rattle.lrlex.specs.Tiling.{Item, Wins, top}
-use Rattle.lrlex.specs.Entries.{plain}
-use Rattle.lrlex.specs.Boundaries.{Boundary, no_boundary, boundary_at}
+use Rattle.lrlex_boundaries.specs.Entries.{plain}
+use Rattle.lrlex_boundaries.specs.Boundaries.{Boundary, no_boundary, boundary_at}
 use Rattle.lrlex.specs.Reach.{IsLexed}
 use Rattle.lrlex.specs.Kept.{IsDecided, IsDecidedAt, AreDecided, LooksAhead, IsSafe}
 use Rattle.lrlex.proofs.TilingLemmas.{one_len, one_rule, stuck_or_wins}

@@ -8,7 +8,7 @@ use Rattle.lrlex_base.specs.Spans.{Fits, span}
 use Rattle.lrlex_base.specs.declared.spans.Span.{Span as TheSpan}
 use Rattle.lrlex_base.specs.Places.{AreBreaksOf, Breaks}
 use Rattle.lrlex_base.specs.Seen.{Seen}
-use Rattle.lrlex.specs.Boundaries.{Boundary}
+use Rattle.lrlex_boundaries.specs.Boundaries.{Boundary}
 use Rattle.lrlex.specs.Kept.{LooksAhead}
 use Rattle.lrlex.specs.Nearest.{FitsAt}
 use Rattle.lrlex.specs.Ran.{Ran, ran}

@@ -7,7 +7,7 @@ use Rattle.std.proofs.lemmas.List.{get_or_at}
 use Rattle.std.proofs.lemmas.List.Elements.{All-pop, All-push, All-nil, All-head, All-tail}
 use Rattle.std.proofs.Common.{◌≢◌, cond, eq-eqb, subst, Some, slice_get, slice_index, ◌-◌, take, false, true≢false, ◌==◌, ◌≡◌, ℕ, zero, suc, ◌+◌, ◌<◌, List, [], ◌∷◌, ◌++◌, length, replicate, refl, sym, ap, ◌∙◌, arith, append_assoc, append-nil, length-append}
 use Rattle.std.proofs.lemmas.List.{length-replicate}
-use Rattle.lrlex.specs.Entries.{plain, Differ, AreEntries, begins_with_state, entry_count}
+use Rattle.lrlex_boundaries.specs.Entries.{plain, Differ, AreEntries, begins_with_state, entry_count}
 
 pub plain-append : (xs ys : List (ℕ × ℕ)) → plain (xs ++ ys) ≡ plain xs ++ plain ys
 plain-append [] ys = refl

@@ -3,7 +3,7 @@ use Rattle.std.proofs.Common.{◌≡◌, ℕ, suc, ◌-◌, ◌<◌, List, [], �
 use Rattle.lrlex_rules.specs.Definition.{Definition}
 use Rattle.lrlex.specs.Tiling.{Item}
 use Rattle.lrlex.specs.Reach.{Reached}
-use Rattle.lrlex.specs.Boundaries.{Boundary, boundary_at, last_entries}
+use Rattle.lrlex_boundaries.specs.Boundaries.{Boundary, boundary_at, last_entries}
 use Rattle.lrlex.proofs.ReachLemmas.{length_now}
 
 -- the last of two lists is that of the second

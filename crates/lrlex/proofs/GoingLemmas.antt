@@ -9,7 +9,7 @@ use Rattle.lrlex_rules.specs.Definition.{Definition}
 use Rattle.lrlex_table.specs.Decided.{IsText}
 use Rattle.lrlex.specs.Active.{is_state}
 use Rattle.lrlex.specs.Tiling.{Item}
-use Rattle.lrlex.specs.Boundaries.{Boundary, no_boundary, boundary_at}
+use Rattle.lrlex_boundaries.specs.Boundaries.{Boundary, no_boundary, boundary_at}
 use Rattle.lrlex.specs.Moves.{begins_before}
 use Rattle.lrlex.specs.Reach.{IsLexed}
 use Rattle.lrlex.specs.Kept.{IsDecidedAt, AreDecided, LooksAhead, IsSafe, HasLooked, GoesOn}

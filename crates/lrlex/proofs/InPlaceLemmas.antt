@@ -8,9 +8,10 @@ use Rattle.lrlex_base.specs.Seen.{Seen}
 use Rattle.lrlex_base.specs.Spans.{as_span}
 use Rattle.lrlex_base.specs.declared.spans.Span.{Span}
 use Rattle.lrlex.specs.Active.{is_state}
-use Rattle.lrlex.specs.Boundaries.{Boundary, boundary_at, last_entries}
+use Rattle.lrlex_boundaries.specs.Boundaries.{Boundary, boundary_at, last_entries}
 use Rattle.lrlex.specs.Kept.{LooksAhead, items_before}
-use Rattle.lrlex.specs.Moves.{IsMovable, IsMovableBoundary, items_from, moved_boundary}
+use Rattle.lrlex_boundaries.specs.Moves.{IsMovableBoundary, moved_boundary}
+use Rattle.lrlex.specs.Moves.{IsMovable, items_from}
 use Rattle.lrlex.specs.Ran.{ran}
 use Rattle.lrlex.specs.Reach.{IsLexed, IsRun}
 use Rattle.lrlex.specs.Relexed.{WasRelexed}

@@ -7,9 +7,9 @@ use Rattle.std.proofs.lemmas.List.{drop-drop, length-drop, get_or-map, length-ma
 use Rattle.lrlex_rules.specs.Definition.{Definition}
 use Rattle.lrlex.specs.Active.{is_state}
 use Rattle.lrlex.specs.Tiling.{Item, Item-set, End, IsTiling, stack_past, items, boundaries}
-use Rattle.lrlex.specs.Entries.{Differ, AreEntries}
-use Rattle.lrlex.specs.Boundaries.{Boundary, place_and_stack, no_boundary, boundary_at}
-use Rattle.lrlex.specs.Moves.{AreSorted}
+use Rattle.lrlex_boundaries.specs.Entries.{Differ, AreEntries}
+use Rattle.lrlex_boundaries.specs.Boundaries.{Boundary, place_and_stack, no_boundary, boundary_at}
+use Rattle.lrlex_boundaries.specs.Moves.{AreSorted}
 use Rattle.lrlex.specs.Reach.{IsLexed, IsRun}
 use Rattle.lrlex.specs.Tiling.{Tile}
 use Rattle.lrlex.proofs.BestLemmas.{HasTiling, a_tiling}

@@ -1,6 +1,4 @@
 pub mod AnewLemmas
-pub mod ArenaLemmas
-pub mod SliceLemmas
 pub mod BegunLemmas
 pub mod BestLemmas
 pub mod CountLemmas
@@ -15,11 +13,9 @@ pub mod Parted
 pub mod PeakLemmas
 pub mod PlaceLemmas
 pub mod ReachLemmas
-pub mod RelexLemmas
 pub mod EntryLemmas
 pub mod ScanLemmas
 pub mod SpliceLemmas
-pub mod StretchLemmas
 pub mod TailLemmas
 pub mod TilingLemmas
 pub mod ViewLemmas

@@ -8,9 +8,10 @@ use Rattle.std.proofs.lemmas.Option.{slice_get-get_or, get_or_from_slice_get, sl
 use Rattle.std.proofs.Math.Nat.{mul-le-mul_right}
 use Rattle.lrlex_rules.specs.Definition.{Definition}
 use Rattle.lrlex.specs.Tiling.{Item, boundaries, rebased, asked_at}
-use Rattle.lrlex.specs.Entries.{plain}
-use Rattle.lrlex.specs.Boundaries.{Boundary, place_and_stack, no_boundary, boundary_at}
-use Rattle.lrlex.specs.Moves.{IsMovable, IsMovableBoundary, items_from, moved_boundary, Meets}
+use Rattle.lrlex_boundaries.specs.Entries.{plain}
+use Rattle.lrlex_boundaries.specs.Boundaries.{Boundary, place_and_stack, no_boundary, boundary_at}
+use Rattle.lrlex_boundaries.specs.Moves.{IsMovableBoundary, moved_boundary, Meets}
+use Rattle.lrlex.specs.Moves.{IsMovable, items_from}
 use Rattle.lrlex.specs.Reach.{Reached, IsLexed, searches}
 use Rattle.lrlex.specs.Kept.{IsSafe}
 use Rattle.lrlex.proofs.TailLemmas.{tail_tiling}

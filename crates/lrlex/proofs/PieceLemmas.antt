@@ -7,11 +7,11 @@ use Rattle.std.proofs.lemmas.Str.{IsCharBoundary-start, IsCharBoundary-from_rest
 use Rattle.lrlex_rules.specs.Definition.{Definition}
 use Rattle.lrlex_table.specs.Decided.{IsText}
 use Rattle.lrlex.specs.Active.{is_state, rule_at}
-use Rattle.lrlex.specs.Boundaries.{Boundary, boundary_at}
+use Rattle.lrlex_boundaries.specs.Boundaries.{Boundary, boundary_at}
 use Rattle.lrlex.specs.Pieces.{IsPiece, HasByteIn}
-use Rattle.lrlex.specs.Moves.{AreSorted}
+use Rattle.lrlex_boundaries.specs.Moves.{AreSorted}
 use Rattle.lrlex.specs.Reach.{IsLexed}
-use Rattle.lrlex.specs.Entries.{plain}
+use Rattle.lrlex_boundaries.specs.Entries.{plain}
 use Rattle.lrlex.specs.Tiling.{Item, Tile, Wins, top, stack_past}
 use Rattle.lrlex.specs.declared.lexer.pieces.Piece.{Piece}
 use Rattle.lrlex.proofs.ItemLemmas.{Wins-cut}

@@ -4,8 +4,9 @@ use Rattle.std.proofs.lemmas.Bool.{cases_lt, ltb-true, lt-ltb}
 use Rattle.std.proofs.lemmas.List.{append-nil, append_assoc, length-append, length-map, length-take-le, length-drop, map-append, map-set, take_all, drop_all, take_at, drop_at, take-append-drop, get_or-map, get_or-append_right, get_or-drop, set-append_right}
 use Rattle.std.proofs.lemmas.List.Edits.{map_over_more}
 use Rattle.lrlex.specs.Tiling.{Item, Lexeme, Error, rebased}
-use Rattle.lrlex.specs.Boundaries.{Boundary, boundary_at}
-use Rattle.lrlex.specs.Moves.{AreSorted, begins_before}
+use Rattle.lrlex_boundaries.specs.Boundaries.{Boundary, boundary_at}
+use Rattle.lrlex_boundaries.specs.Moves.{AreSorted}
+use Rattle.lrlex.specs.Moves.{begins_before}
 use Rattle.lrlex.specs.Kept.{items_before}
 
 -- ---- items that are moved where they are

@@ -5,8 +5,8 @@ use Rattle.std.proofs.lemmas.List.{length-take-le, length-drop, length-map, get_
 use Rattle.std.proofs.lemmas.List.Elements.{All-from_get_or}
 use Rattle.std.proofs.Math.Seq.{take-append-add}
 use Rattle.lrlex_rules.specs.Definition.{Definition}
-use Rattle.lrlex.specs.Boundaries.{Boundary, no_boundary, boundary_at}
-use Rattle.lrlex.specs.Moves.{moved_boundary, AreSorted}
+use Rattle.lrlex_boundaries.specs.Boundaries.{Boundary, no_boundary, boundary_at}
+use Rattle.lrlex_boundaries.specs.Moves.{moved_boundary, AreSorted}
 use Rattle.lrlex.specs.Kept.{IsDecidedAt, AreDecided, LooksAhead, HasLooked, IsEnough, AreRaised, capped}
 use Rattle.lrlex.proofs.DecidedLemmas.{decided_moved}
 use Rattle.lrlex.proofs.AheadLemmas.{at_more, all_more, all_longer}

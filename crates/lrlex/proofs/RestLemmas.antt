@@ -2,8 +2,8 @@
 use Rattle.std.proofs.Common.{◌≡◌, ℕ, ◌+◌, List, [], ◌∷◌, map, drop, Some, slice_get, sym, ap, ◌∙◌, arith}
 use Rattle.lrlex_rules.specs.Definition.{Definition}
 use Rattle.lrlex.specs.Tiling.{Item, IsTiling, HasOneTiling, items, moved}
-use Rattle.lrlex.specs.Entries.{plain}
-use Rattle.lrlex.specs.Boundaries.{Boundary}
+use Rattle.lrlex_boundaries.specs.Entries.{plain}
+use Rattle.lrlex_boundaries.specs.Boundaries.{Boundary}
 use Rattle.lrlex.specs.Moves.{items_from}
 use Rattle.lrlex.specs.Reach.{IsLexed}
 use Rattle.lrlex.proofs.TilingLemmas.{one_tiling}

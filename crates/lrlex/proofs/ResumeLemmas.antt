@@ -11,8 +11,8 @@ use Rattle.lrlex_rules.specs.Definition.{Definition}
 use Rattle.lrlex_table.specs.Decided.{IsText}
 use Rattle.lrlex.specs.Active.{is_state}
 use Rattle.lrlex.specs.Tiling.{Tile, Item, End, top, IsTaken, stack_past, IsTiling, tile_items, items, lexemes, boundaries}
-use Rattle.lrlex.specs.Entries.{plain, AreEntries}
-use Rattle.lrlex.specs.Boundaries.{Boundary, place_and_stack, no_boundary, boundary_at}
+use Rattle.lrlex_boundaries.specs.Entries.{plain, AreEntries}
+use Rattle.lrlex_boundaries.specs.Boundaries.{Boundary, place_and_stack, no_boundary, boundary_at}
 use Rattle.lrlex.specs.Moves.{begins_before}
 use Rattle.lrlex.specs.Reach.{Reached, IsLexed}
 use Rattle.lrlex.specs.Kept.{IsDecidedAt, AreDecided, items_before, GoesOn, BeginAlike}

@@ -6,9 +6,10 @@ use Rattle.std.proofs.lemmas.List.{map-append, drop-map}
 use Rattle.std.proofs.lemmas.List.Elements.{All-append, All-map, All-drop}
 use Rattle.lrlex_rules.specs.Definition.{Definition}
 use Rattle.lrlex.specs.Tiling.{Item, End, stack_past, IsTiling, items, boundaries, rebased, lexemes}
-use Rattle.lrlex.specs.Entries.{plain, AreEntries}
-use Rattle.lrlex.specs.Boundaries.{Boundary, place_and_stack}
-use Rattle.lrlex.specs.Moves.{begins_before, items_from, moved_boundary}
+use Rattle.lrlex_boundaries.specs.Entries.{plain, AreEntries}
+use Rattle.lrlex_boundaries.specs.Boundaries.{Boundary, place_and_stack}
+use Rattle.lrlex_boundaries.specs.Moves.{moved_boundary}
+use Rattle.lrlex.specs.Moves.{begins_before, items_from}
 use Rattle.lrlex.specs.Reach.{Reached, IsLexed}
 use Rattle.lrlex.specs.Tiling.{Tile}
 use Rattle.lrlex.proofs.TilingLemmas.{only_one}

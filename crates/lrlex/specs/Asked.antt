@@ -4,8 +4,8 @@ use Rattle.std.specs.List.{position, sum_by}
 use Rattle.lrlex_rules.specs.Parts.{as_state}
 use Rattle.lrlex_table.specs.declared.tables.Tables.{Tables}
 use Rattle.lrlex.specs.Tiling.{top}
-use Rattle.lrlex.specs.Boundaries.{Boundary, place_and_stack}
-use Rattle.lrlex.specs.Moves.{Meets}
+use Rattle.lrlex_boundaries.specs.Boundaries.{Boundary, place_and_stack}
+use Rattle.lrlex_boundaries.specs.Moves.{Meets}
 use Rattle.lrlex.specs.Kept.{IsSafe}
 use Rattle.lrlex.specs.declared.lexer.definition.LRNonStreamingLexerDef.{LRNonStreamingLexerDef}
 

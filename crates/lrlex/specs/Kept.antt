@@ -3,8 +3,8 @@ use Rattle.std.specs.Prelude.{◌≡◌, ℕ, ◌+◌, ◌-◌, ◌<◌, ◌≤�
 use Rattle.lrlex_rules.specs.Definition.{Definition}
 use Rattle.lrlex_table.specs.Decided.{IsText, BeginsAlike}
 use Rattle.lrlex.specs.Tiling.{Item, Tile, Wins, top}
-use Rattle.lrlex.specs.Entries.{plain}
-use Rattle.lrlex.specs.Boundaries.{Boundary, place_and_stack, boundary_at}
+use Rattle.lrlex_boundaries.specs.Entries.{plain}
+use Rattle.lrlex_boundaries.specs.Boundaries.{Boundary, place_and_stack, boundary_at}
 use Rattle.lrlex.specs.Moves.{begins_before}
 use Rattle.lrlex.specs.Reach.{Reached}
 

@@ -3,7 +3,7 @@ use Rattle.std.specs.Prelude.{◌≡◌, ◌↔◌, ℕ, ◌+◌, ◌-◌, ◌<�
 use Rattle.lrlex_base.specs.Spans.{span, as_span}
 use Rattle.lrlex_rules.specs.Definition.{Definition}
 use Rattle.lrlex.specs.Active.{is_state, rule_at}
-use Rattle.lrlex.specs.Boundaries.{Boundary, boundary_at}
+use Rattle.lrlex_boundaries.specs.Boundaries.{Boundary, boundary_at}
 use Rattle.lrlex.specs.Reach.{IsLexed}
 use Rattle.lrlex.specs.Tiling.{Item, Tile}
 use Rattle.lrlex.specs.declared.lexer.pieces.Piece.{Piece}

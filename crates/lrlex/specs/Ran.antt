@@ -1,7 +1,7 @@
 -- What a run has found, as plain data.
 use Rattle.std.specs.Prelude.{ℕ, List, Result}
 use Rattle.lrlex_base.specs.Seen.{Seen}
-use Rattle.lrlex.specs.Boundaries.{Boundary}
+use Rattle.lrlex_boundaries.specs.Boundaries.{Boundary}
 use Rattle.lrlex.specs.ItemLaws.{HaveLaws}
 use Rattle.lrlex.specs.Reach.{IsRun}
 use Rattle.lrlex.specs.Views.{definition_of, items_by}

@@ -4,8 +4,8 @@ use Rattle.std.specs.List.{sum_by}
 use Rattle.lrlex_rules.specs.Definition.{Definition}
 use Rattle.lrlex.specs.Active.{is_state}
 use Rattle.lrlex.specs.Tiling.{Item, Error, End, IsTiling, items, boundaries, asked_at}
-use Rattle.lrlex.specs.Entries.{plain, AreEntries}
-use Rattle.lrlex.specs.Boundaries.{Boundary, place_and_stack}
+use Rattle.lrlex_boundaries.specs.Entries.{plain, AreEntries}
+use Rattle.lrlex_boundaries.specs.Boundaries.{Boundary, place_and_stack}
 use Rattle.lrlex.specs.Tiling.{Tile}
 
 -- From the beginning, the tiles in `cut` lead to this place and stack, and give these items and boundaries.

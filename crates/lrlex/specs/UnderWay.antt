@@ -8,12 +8,13 @@ use Rattle.lrlex_rules.specs.declared.states.StartStateOperation.{StartStateOper
 use Rattle.lrlex_rules.specs.Definition.{Definition}
 use Rattle.lrlex.specs.Asked.{IsLastSafe, untabled_count}
 use Rattle.lrlex.specs.Kept.{AreRaised, HasLooked, LooksAhead, capped, items_before}
-use Rattle.lrlex.specs.Moves.{items_from, moved_boundary}
-use Rattle.lrlex.specs.Boundaries.{Boundary, boundary_at}
+use Rattle.lrlex_boundaries.specs.Moves.{moved_boundary}
+use Rattle.lrlex.specs.Moves.{items_from}
+use Rattle.lrlex_boundaries.specs.Boundaries.{Boundary, boundary_at}
 use Rattle.lrlex.specs.Ran.{Ran}
 use Rattle.lrlex.specs.Reach.{IsLexed, IsRun, Reached, searches}
 use Rattle.lrlex.specs.Relexed.{WasRelexed}
-use Rattle.lrlex.specs.Entries.{AreEntries, plain}
+use Rattle.lrlex_boundaries.specs.Entries.{AreEntries, plain}
 use Rattle.lrlex.specs.Tiling.{Item, rebased, stack_after, top}
 use Rattle.lrlex.specs.Views.{definition_of, items_by}
 use Rattle.lrlex.specs.declared.errors.LRLexError.{LRLexError}

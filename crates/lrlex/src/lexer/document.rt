@@ -13,13 +13,13 @@ ghost use Rattle.lrlex.specs.Views.{definition_of};
 ghost use Rattle.lrlex.specs.declared.lexer.document.EditError.TheVariants.{DoesNotFit};
 
 use crate::errors::LRLexError;
-use crate::lexer::boundaries::Boundaries;
 use crate::lexer::definition::LRNonStreamingLexerDef;
 use crate::lexer::pieces::{Piece, pieces_in, pieces_of};
 use crate::lexer::relexing::relex_in_place;
 use crate::lexer::run::LexRun;
 use crate::lexer::telling::{place_of, text_of, utf16_position};
 use lrlex_base::{Edit, LexerTypes, NewlineCache, Span};
+use lrlex_boundaries::Boundaries;
 use std::alloc::{AllocError, Global};
 use std::marker::Model;
 

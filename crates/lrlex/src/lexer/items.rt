@@ -1,7 +1,7 @@
 ghost use Rattle.std.specs.Prelude.{ℕ, List};
 ghost use Rattle.lrlex_rules.specs.Definition.{Definition};
 ghost use Rattle.lrlex.specs.Tiling.{Item};
-ghost use Rattle.lrlex.specs.Boundaries.{Boundary};
+ghost use Rattle.lrlex_boundaries.specs.Boundaries.{Boundary};
 ghost use Rattle.lrlex.specs.Reach.{IsRun};
 ghost use Rattle.lrlex.specs.ItemLaws.{HaveLaws};
 

@@ -3,8 +3,8 @@ ghost use Rattle.lrlex.specs.Active.{is_state, lexeme_id};
 ghost use Rattle.lrlex_rules.specs.Parts.{as_rule};
 ghost use Rattle.lrlex.specs.Asked.{untabled_count};
 ghost use Rattle.lrlex.specs.Tiling.{Error, top, stack_after, lexeme_of};
-ghost use Rattle.lrlex.specs.Entries.{plain, AreEntries};
-ghost use Rattle.lrlex.specs.Boundaries.{Boundary, last_entries};
+ghost use Rattle.lrlex_boundaries.specs.Entries.{plain, AreEntries};
+ghost use Rattle.lrlex_boundaries.specs.Boundaries.{Boundary, last_entries};
 ghost use Rattle.lrlex.specs.Reach.{Reached, IsLexed, searches};
 ghost use Rattle.lrlex.specs.Kept.{HasLooked, capped};
 ghost use Rattle.lrlex.specs.AtHand.{AreOf, IsSearcherOf};
@@ -13,12 +13,12 @@ ghost use Rattle.lrlex.specs.UnderWay.{Front, HasAdvanced, HasEnded, HasEntered,
 
 use crate::errors::LRLexError;
 use crate::lexer::active::{lacks_id, lexeme_id};
-use crate::lexer::boundaries::Boundaries;
 use crate::lexer::definition::{LRNonStreamingLexerDef, RulesIn};
-use crate::lexer::room::append;
 use crate::lexer::searching::Searcher;
 use crate::lexer::stack::{step, top_of};
 use lrlex_base::{Lexeme, LexerTypes, Span};
+use lrlex_boundaries::Boundaries;
+use lrlex_boundaries::room::append;
 use lrlex_rules::{Rule, StartStateId};
 use std::alloc::{AllocError, Global};
 

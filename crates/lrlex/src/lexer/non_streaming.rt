@@ -2,7 +2,7 @@ ghost use Rattle.std.specs.Prelude.{◌≡◌, ℕ, List, [], All, IfOk, IsCharB
 ghost use Rattle.lrlex_base.specs.Spans.{Fits, span_start, span_end};
 ghost use Rattle.lrlex_base.specs.Places.{AreBreaksOf, place_of};
 ghost use Rattle.lrlex.specs.ItemLaws.{FitsText, AreItemsOf};
-ghost use Rattle.lrlex.specs.Boundaries.{Boundary};
+ghost use Rattle.lrlex_boundaries.specs.Boundaries.{Boundary};
 ghost use Rattle.lrlex.specs.Nearest.{IsNearest};
 ghost use Rattle.lrlex.specs.Reach.{IsRun};
 ghost use Rattle.lrlex.specs.Utf16.{utf16_position};

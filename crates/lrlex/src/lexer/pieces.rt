@@ -8,13 +8,13 @@ ghost use Rattle.lrlex.specs.Tiling.{Item, Wins};
 ghost use Rattle.lrlex.specs.Views.{definition_of};
 
 use crate::errors::LRLexError;
-use crate::lexer::boundaries::Boundaries;
 use crate::lexer::definition::{LRNonStreamingLexerDef, RulesIn};
 use crate::lexer::resuming::up_to;
 use crate::lexer::run::LexRun;
 use crate::lexer::searching::{Searcher, Tile};
 use crate::lexer::stack::top_of;
 use lrlex_base::{LexerTypes, Span};
+use lrlex_boundaries::Boundaries;
 use std::alloc::{AllocError, Global};
 
 /// A tile of a text.

@@ -3,10 +3,11 @@ ghost use Rattle.lrlex.specs.Active.{is_state};
 ghost use Rattle.lrlex_base.specs.Spans.{span_start, span_end, as_span, Fits};
 ghost use Rattle.lrlex_base.specs.Edits.{edited};
 ghost use Rattle.lrlex.specs.Tiling.{rebased};
-ghost use Rattle.lrlex.specs.Boundaries.{boundary_at, last_entries};
+ghost use Rattle.lrlex_boundaries.specs.Boundaries.{boundary_at, last_entries};
 ghost use Rattle.std.specs.List.Sorted.{IsPartitionedBy};
-ghost use Rattle.lrlex.specs.Moves.{IsMovable, IsMovableBoundary, begins_before, items_from, AreSorted};
-ghost use Rattle.lrlex.specs.Entries.{plain, AreEntries};
+ghost use Rattle.lrlex_boundaries.specs.Moves.{IsMovableBoundary, AreSorted};
+ghost use Rattle.lrlex.specs.Moves.{IsMovable, begins_before, items_from};
+ghost use Rattle.lrlex_boundaries.specs.Entries.{plain, AreEntries};
 ghost use Rattle.lrlex.specs.Reach.{IsRun};
 ghost use Rattle.lrlex.specs.Kept.{LooksAhead, items_before};
 ghost use Rattle.lrlex.specs.Ran.{IsRunOf, HasItemLaws, ran};
@@ -15,14 +16,14 @@ ghost use Rattle.lrlex.specs.Views.{definition_of, items_by, item_of};
 ghost use Rattle.lrlex.specs.UnderWay.{HasCutAnew, IsEditOf, IsPutBehind, IsPutBetween, TellsMeeting};
 
 use crate::errors::LRLexError;
-use crate::lexer::boundaries::Boundaries;
 use crate::lexer::definition::LRNonStreamingLexerDef;
 use crate::lexer::lexing::{Progress, advance};
 use crate::lexer::resuming::{append_raised, last_safe, resume, up_to};
-use crate::lexer::room::{copied, splice};
 use crate::lexer::run::LexRun;
 use crate::lexer::searching::Searcher;
 use lrlex_base::{Edit, LexError, Lexeme, LexerTypes, Span};
+use lrlex_boundaries::Boundaries;
+use lrlex_boundaries::room::{copied, splice};
 use std::alloc::{AllocError, Global};
 
 /// The item once what stood at `from` stands at `to`.

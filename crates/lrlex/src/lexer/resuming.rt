@@ -5,15 +5,15 @@ ghost use Rattle.lrlex_rules.specs.Definition.{Definition};
 ghost use Rattle.lrlex_table.specs.Decided.{IsText};
 ghost use Rattle.lrlex.specs.Active.{is_state};
 ghost use Rattle.lrlex.specs.Tiling.{Item};
-ghost use Rattle.lrlex.specs.Boundaries.{Boundary, boundary_at};
+ghost use Rattle.lrlex_boundaries.specs.Boundaries.{Boundary, boundary_at};
 ghost use Rattle.lrlex.specs.Reach.{IsLexed, IsRun, Reached};
 ghost use Rattle.lrlex.specs.Asked.{IsLastSafe};
 ghost use Rattle.lrlex.specs.Kept.{IsDecided, IsDecidedAt, AreDecided, LooksAhead, IsSafe, GoesOn, BeginAlike, HasLooked, AreRaised};
-ghost use Rattle.lrlex.specs.Moves.{AreSorted};
+ghost use Rattle.lrlex_boundaries.specs.Moves.{AreSorted};
 ghost use Rattle.lrlex.specs.UnderWay.{StandsAt};
 
-use crate::lexer::boundaries::Boundaries;
 use crate::lexer::lexing::{Progress, capped};
+use lrlex_boundaries::Boundaries;
 use std::alloc::{AllocError, Global};
 
 /// What an edit leaves of a run. Where what wins at each of the first k boundaries is decided by bytes that stand before the

@@ -1,7 +1,7 @@
 ghost use Rattle.std.specs.Prelude.{◌≡◌, ◌+◌, ◌-◌, ◌*◌, ◌<◌, ◌≤◌, true, false, [], length, vec_len, IfOk, slice_index};
 ghost use Rattle.lrlex.specs.Active.{is_state};
-ghost use Rattle.lrlex.specs.Boundaries.{boundary_at, most_entries};
-ghost use Rattle.lrlex.specs.Entries.{AreEntries};
+ghost use Rattle.lrlex_boundaries.specs.Boundaries.{boundary_at, most_entries};
+ghost use Rattle.lrlex_boundaries.specs.Entries.{AreEntries};
 ghost use Rattle.lrlex.specs.Reach.{Reached, IsLexed, IsRun, searches};
 ghost use Rattle.lrlex.specs.Asked.{asks};
 ghost use Rattle.lrlex.specs.Kept.{LooksAhead};
@@ -10,11 +10,11 @@ ghost use Rattle.lrlex.specs.Ran.{IsRunOf, HasItemLaws};
 ghost use Rattle.lrlex.specs.UnderWay.{HasFinished};
 
 use crate::errors::LRLexError;
-use crate::lexer::boundaries::Boundaries;
 use crate::lexer::definition::LRNonStreamingLexerDef;
 use crate::lexer::lexing::{Progress, advance, begin, give_error};
 use crate::lexer::searching::Searcher;
 use lrlex_base::LexerTypes;
+use lrlex_boundaries::Boundaries;
 use std::alloc::{AllocError, Global};
 use std::marker::Model;
 

@@ -1,6 +1,6 @@
 ghost use Rattle.std.specs.Prelude.{◌≡◌, ◌+◌, ◌-◌, ◌^◌, ◌<◌, [], ◌∷◌, ◌++◌, length, take, IfOk};
 ghost use Rattle.lrlex.specs.Tiling.{top, or_initial, stack_after};
-ghost use Rattle.lrlex.specs.Entries.{plain, AreEntries, Stay};
+ghost use Rattle.lrlex_boundaries.specs.Entries.{plain, AreEntries, Stay};
 
 use lrlex_rules::StartStateOperation;
 use std::alloc::AllocError;

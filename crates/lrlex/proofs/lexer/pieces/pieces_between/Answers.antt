@@ -6,9 +6,9 @@ use Rattle.lrlex_table.specs.Decided.{IsText}
 use Rattle.lrlex_table.proofs.ByteLemmas.{are_bytes}
 use Rattle.lrlex.specs.Active.{is_state}
 use Rattle.lrlex.specs.AtHand.{AreOf}
-use Rattle.lrlex.specs.Boundaries.{no_boundary, boundary_at}
+use Rattle.lrlex_boundaries.specs.Boundaries.{no_boundary, boundary_at}
 use Rattle.lrlex.specs.Pieces.{IsPiece}
-use Rattle.lrlex.specs.Entries.{plain, AreEntries}
+use Rattle.lrlex_boundaries.specs.Entries.{plain, AreEntries}
 use Rattle.lrlex.specs.Tiling.{Tile, Wins, top}
 use Rattle.lrlex.specs.Views.{definition_of}
 use Rattle.lrlex.proofs.PieceLemmas.{tile_at, between_characters, next_place, top_at, won_at, wins_there, row_and_next}

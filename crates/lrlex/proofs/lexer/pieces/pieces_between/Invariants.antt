@@ -1,6 +1,6 @@
 use Rattle.std.proofs.Common.{◌≡◌, ℕ, ◌+◌, List, Some, length, slice_get, IsCharBoundary}
 use Rattle.lrlex.specs.AtHand.{AreOf, IsSearcherOf}
-use Rattle.lrlex.specs.Boundaries.{boundary_at}
+use Rattle.lrlex_boundaries.specs.Boundaries.{boundary_at}
 use Rattle.lrlex.specs.Pieces.{IsPiece}
 use Rattle.lrlex.specs.Reach.{IsLexed}
 use Rattle.lrlex.specs.Tiling.{Item, Tile}

@@ -1,6 +1,6 @@
 use Rattle.std.proofs.Common.{◌≡◌, true, true≢false, length, slice_get, zero-add, sym, ap, ◌∙◌, subst, arith}
 use Rattle.lrlex.specs.Active.{is_state}
-use Rattle.lrlex.specs.Boundaries.{boundary_at}
+use Rattle.lrlex_boundaries.specs.Boundaries.{boundary_at}
 use Rattle.lrlex.specs.Pieces.{IsPiece, ArePieces}
 use Rattle.lrlex.specs.Views.{definition_of}
 use Rattle.lrlex.proofs.PeakLemmas.{tiles_are}

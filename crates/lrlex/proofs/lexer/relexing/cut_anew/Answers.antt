@@ -4,8 +4,8 @@ use Rattle.lrlex_table.specs.Decided.{IsText}
 use Rattle.lrlex_table.proofs.ByteLemmas.{are_bytes}
 use Rattle.lrlex.specs.Asked.{IsLastSafe}
 use Rattle.lrlex.specs.AtHand.{AreOf}
-use Rattle.lrlex.specs.Boundaries.{boundary_at}
-use Rattle.lrlex.specs.Entries.{plain, AreEntries}
+use Rattle.lrlex_boundaries.specs.Boundaries.{boundary_at}
+use Rattle.lrlex_boundaries.specs.Entries.{plain, AreEntries}
 use Rattle.lrlex.specs.Kept.{IsSafe, items_before}
 use Rattle.lrlex.specs.Moves.{begins_before}
 use Rattle.lrlex.specs.Views.{definition_of, items_by}

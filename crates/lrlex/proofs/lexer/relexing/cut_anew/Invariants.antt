@@ -1,5 +1,5 @@
 use Rattle.std.proofs.Common.{ℕ, ◌+◌, ◌-◌, ◌<◌, ◌≤◌, max, length}
-use Rattle.lrlex.specs.Boundaries.{boundary_at}
+use Rattle.lrlex_boundaries.specs.Boundaries.{boundary_at}
 use Rattle.lrlex.specs.AtHand.{AreOf, IsSearcherOf}
 use Rattle.lrlex.proofs.AnewLemmas.{AreCut}
 use Rattle.lrlex.proofs.lexer.relexing.cut_anew.Given as goal

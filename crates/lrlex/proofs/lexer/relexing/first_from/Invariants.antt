@@ -1,5 +1,5 @@
 use Rattle.std.proofs.Common.{ℕ, ◌-◌, ◌<◌, ◌≤◌, length}
-use Rattle.lrlex.specs.Boundaries.{boundary_at}
+use Rattle.lrlex_boundaries.specs.Boundaries.{boundary_at}
 use Rattle.lrlex.proofs.lexer.relexing.first_from.Given as goal
 
 abbrev pub invariant-walk : goal.invariant-walk

@@ -1,6 +1,6 @@
 use Rattle.std.proofs.Common.{true≢false, sym, ◌∙◌}
 use Rattle.std.proofs.lemmas.Slice.Eq.{slice_eq-Decides}
-use Rattle.lrlex.proofs.RelexLemmas.{pair_decides}
+use Rattle.lrlex_boundaries.proofs.PairLemmas.{pair_decides}
 use Rattle.lrlex.proofs.lexer.relexing.is_at.Goals as goal
 
 pub returns-clause-stack : goal.returns-clause-stack

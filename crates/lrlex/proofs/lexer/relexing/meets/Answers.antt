@@ -1,7 +1,7 @@
 use Rattle.std.proofs.Common.{◌≡◌, inl, inr, ap, ◌∙◌, arith}
 use Rattle.std.proofs.lemmas.Bool.{cases_lt}
-use Rattle.lrlex.specs.Boundaries.{no_boundary, boundary_at}
-use Rattle.lrlex.specs.Entries.{plain}
+use Rattle.lrlex_boundaries.specs.Boundaries.{no_boundary, boundary_at}
+use Rattle.lrlex_boundaries.specs.Entries.{plain}
 use Rattle.lrlex.proofs.EntryLemmas.{same_entries}
 use Rattle.lrlex.proofs.lexer.relexing.meets.Goals as goal
 

@@ -1,6 +1,6 @@
 use Rattle.std.proofs.Common.{◌≡◌, ◌+◌, All, ◌++◌, length, map, take, drop, sym, ap, ap₂, ◌∙◌, subst, arith}
 use Rattle.lrlex.specs.Tiling.{rebased}
-use Rattle.lrlex.specs.Boundaries.{boundary_at}
+use Rattle.lrlex_boundaries.specs.Boundaries.{boundary_at}
 use Rattle.lrlex.specs.Moves.{IsMovable, items_from}
 use Rattle.lrlex.specs.Kept.{AreRaised, items_before}
 use Rattle.lrlex.specs.Views.{item_of}

@@ -1,6 +1,6 @@
 use Rattle.std.proofs.Common.{◌≡◌, ℕ, ◌+◌, ◌-◌, ◌<◌, ◌≤◌, ◌++◌, max, length, drop, get_or, sym, subst, inl, inr, arith, rules}
 use Rattle.std.proofs.lemmas.Bool.{cases_lt}
-use Rattle.lrlex.specs.Boundaries.{boundary_at}
+use Rattle.lrlex_boundaries.specs.Boundaries.{boundary_at}
 use Rattle.lrlex.specs.Kept.{AreRaised, capped}
 use Rattle.lrlex.proofs.RaisedLemmas.{enough_raised, raised_push, raised_rest}
 use Rattle.lrlex.proofs.lexer.resuming.append_raised.Goals.{At-near, in-Some, in-None}

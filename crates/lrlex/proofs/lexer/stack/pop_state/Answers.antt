@@ -1,5 +1,5 @@
 use Rattle.std.proofs.Common.{◌≡◌, ◌-◌, ◌<◌, [], ◌∷◌, ◌++◌, length, vec_len, append-nil, true≢false, sym, ap, subst, ◌∙◌, arith}
-use Rattle.lrlex.specs.Entries.{plain, AreEntries}
+use Rattle.lrlex_boundaries.specs.Entries.{plain, AreEntries}
 use Rattle.lrlex.proofs.EntryLemmas.{entries-front, entries-last, entries-raised, plain-more, plain-one, popped, some_plain, some_of_entries, not_none}
 use Rattle.lrlex.proofs.lexer.stack.pop_state.Goals as goal
 use Rattle.lrlex.proofs.lexer.stack.pop_state.Goals.{in-Some+then-count-gt1+in_ok-push, in-Some+else-count-gt1, in_default}

@@ -1,5 +1,5 @@
 use Rattle.std.proofs.Common.{◌+◌, ◌∷◌, [], ◌++◌, length, refl, sym, ap, ◌∙◌, subst, arith}
-use Rattle.lrlex.specs.Entries.{plain, AreEntries}
+use Rattle.lrlex_boundaries.specs.Entries.{plain, AreEntries}
 use Rattle.lrlex.proofs.EntryLemmas.{plain-more, plain-one, length-plain-last, entries-raised, entries-more}
 use Rattle.lrlex.proofs.lexer.stack.push_state.Goals as goal
 

@@ -1,5 +1,5 @@
 use Rattle.std.proofs.Common.{◌<◌, length, sym, subst}
-use Rattle.lrlex.specs.Entries.{AreEntries}
+use Rattle.lrlex_boundaries.specs.Entries.{AreEntries}
 use Rattle.lrlex.specs.Ran.{Ran}
 use Rattle.lrlex.specs.Views.{definition_of, items_by}
 use Rattle.lrlex.proofs.KnownLemmas.{stack_entries}

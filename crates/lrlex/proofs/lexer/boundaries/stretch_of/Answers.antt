@@ -1,6 +1,0 @@
-use Rattle.std.proofs.Common.{◌∙◌, sym}
-use Rattle.lrlex.proofs.StretchLemmas.{stretch_at-begun}
-use Rattle.lrlex.proofs.lexer.boundaries.stretch_of.Goals as goal
-
-pub returns : goal.returns
-returns c = c.last_of.ensures ∙ sym (stretch_at-begun c.begun.ensures)

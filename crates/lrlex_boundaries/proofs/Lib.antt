@@ -1,0 +1,4 @@
+pub mod StretchLemmas
+pub mod ArenaLemmas
+pub mod SliceLemmas
+pub mod PairLemmas

@@ -1,0 +1,86 @@
+use Rattle.std.proofs.Common.{◌≡◌, ◌+◌, ◌-◌, ◌++◌, length, take, drop, get_or, refl, sym, ap, ap₂, ◌∙◌, arith, [], ◌∷◌, map}
+use Rattle.std.proofs.lemmas.Bool.{eqb-true}
+use Rattle.std.proofs.lemmas.List.{nil_from_length, take_rest}
+use Rattle.std.proofs.lemmas.List.Elements.{All-drop}
+use Rattle.std.proofs.lemmas.Slice.Eq.{slice_eq-Decides}
+use Rattle.lrlex_boundaries.specs.Ranges.{IsRange, entries_of, last_stretch, no_stretch, placed_stretch, stretch_at}
+use Rattle.lrlex_boundaries.specs.declared.stretch.Stretch.{Stretch}
+use Rattle.lrlex_boundaries.proofs.ArenaLemmas.{range_at, slice_range-append}
+use Rattle.lrlex_boundaries.proofs.PairLemmas.{pair_decides}
+use Rattle.lrlex_boundaries.proofs.SliceLemmas.{ArePlaced, joined, joined_opened, placed_behind}
+use Rattle.lrlex_boundaries.proofs.boundaries.join.Goals as goal
+
+pub range_of-requires-2 : goal.range_of-requires-2
+range_of-requires-2 c = range_at c.args.between.now 0 c.stretch_of-first.ensures c.requires.ranges
+
+pub returns-then-is_empty-clause-joined : goal.returns-then-is_empty-clause-joined
+returns-then-is_empty-clause-joined c =
+    let between = c.args.between.now in
+    let stacks = c.args.stacks.now in
+    let entries = c.args.entries.now.items in
+    let old = c.args.stretches.now.items in
+    let b = c.begun.result in
+    let mine = c.args.mine in
+    let later = take (length between - b) (drop b between) in
+    let later_is : later ≡ drop b between = take_rest between b in
+    let none : length later ≡ 0 = eqb-true (length later) 0 (sym c.is_empty.ensures ∙ c.if-is_empty.true) in
+    let empty : later ≡ [] = nil_from_length later none in
+    let before_is : c.last_of-before.result ≡ last_stretch no_stretch (take mine old) = c.last_of-before.ensures ∙ ap (λ xs. last_stretch no_stretch (take mine xs)) c.deref.ensures.value in
+    let equal = (slice_eq-Decides pair_decides c.range_of.result.now c.range_of-2.result.now c.eq-same.result c.eq-same.ensures).0 c.if-same.true in
+    let same : entries_of entries (last_stretch no_stretch (take mine old)) ≡ entries_of stacks (stretch_at between 0) =
+    ap₂ entries_of (sym c.deref-2.ensures.value) (sym before_is) ∙ sym c.range_of.ensures ∙ equal ∙ c.range_of-2.ensures ∙ ap (entries_of stacks) c.stretch_of-first.ensures in
+    let placed : ArePlaced stacks entries c.args.keep c.len-shift.result (drop b between) = λ i d lt. absurd (omega (arith, ap length later_is)) in
+    joined c.len-shift.result (c.splice.ensures ∙ ap₂ (λ xs ys. take mine xs ++ (ys ++ drop c.args.passed xs)) c.reserve.ensures.items (empty ∙ sym (ap (map (placed_stretch c.args.keep c.len-shift.result)) empty)))
+    later_is (omega arith) c.requires.rising c.begun.ensures placed same
+
+pub returns-then-same-2-clause-joined : goal.returns-then-same-2-clause-joined
+returns-then-same-2-clause-joined c =
+    let between = c.args.between.now in
+    let stacks = c.args.stacks.now in
+    let entries = c.args.entries.now.items in
+    let old = c.args.stretches.now.items in
+    let b = c.begun.result in
+    let mine = c.args.mine in
+    let later = take (length between - b) (drop b between) in
+    let before = last_stretch no_stretch (take mine old) in
+    let before_is : c.last_of-before.result ≡ before = c.last_of-before.ensures ∙ ap (λ xs. last_stretch no_stretch (take mine xs)) c.deref.ensures.value in
+    let equal = (slice_eq-Decides pair_decides c.range_of.result.now c.range_of-2.result.now c.eq-same.result c.eq-same.ensures).0 c.if-same-2.true in
+    let shift : c.len-shift.result ≡ length entries = omega arith in
+    let more : c.extend_from_slice.new.self.items ≡ entries ++ stacks = c.in_ok-extend_from_slice.ensures.items in
+    let same : entries_of c.extend_from_slice.new.self.items before ≡ entries_of stacks (stretch_at between 0) =
+    ap (λ xs. entries_of xs before) more ∙ slice_range-append entries stacks before.first before.end c.requires.before.ordered c.requires.before.within
+    ∙ ap₂ entries_of (sym c.deref-2.ensures.value) (sym before_is) ∙ sym c.range_of.ensures ∙ equal ∙ c.range_of-2.ensures ∙ ap (entries_of stacks) c.stretch_of-first.ensures in
+    joined c.len-shift.result (c.put_stretches.ensures ∙ ap (λ xs. take mine xs ++ (map (placed_stretch c.args.keep c.len-shift.result) later ++ drop c.args.passed xs)) c.reserve.ensures.items)
+    (take_rest between b) refl c.requires.rising c.begun.ensures
+    (λ i d lt. placed_behind stacks entries c.args.keep c.len-shift.result (get_or (drop b between) i d) more shift (All-drop (IsRange (length stacks)) b between c.requires.ranges i d lt)) same
+
+pub overflow_add-opening : goal.overflow_add-opening
+overflow_add-opening c =
+    let range : IsRange (length c.args.stacks.now) c.stretch_of-first.result = range_at c.args.between.now 0 c.stretch_of-first.ensures c.requires.ranges in
+    omega (arith, range.ordered, range.within)
+
+pub overflow_add-opening-2 : goal.overflow_add-opening-2
+overflow_add-opening-2 c =
+    let range : IsRange (length c.args.stacks.now) c.stretch_of-first.result = range_at c.args.between.now 0 c.stretch_of-first.ensures c.requires.ranges in
+    omega (arith, range.within)
+
+pub returns-clause-joined : goal.returns-clause-joined
+returns-clause-joined c =
+    let between = c.args.between.now in
+    let stacks = c.args.stacks.now in
+    let entries = c.args.entries.now.items in
+    let old = c.args.stretches.now.items in
+    let b = c.begun.result in
+    let mine = c.args.mine in
+    let keep = c.args.keep in
+    let n = c.len-shift.result in
+    let first = c.stretch_of-first.result in
+    let opening : Stretch = record { from = keep; first = first.first + n; end = first.end + n } in
+    let shift : n ≡ length entries = omega arith in
+    let more : c.extend_from_slice.new.self.items ≡ entries ++ stacks = c.in_ok-extend_from_slice.ensures.items in
+    let range : IsRange (length stacks) first = range_at between 0 c.stretch_of-first.ensures c.requires.ranges in
+    let there = placed_behind stacks entries keep n first more shift range in
+    joined_opened n opening c.requires.within.0 c.requires.within.1
+    (c.in_ok-insert.ensures.items ∙ ap (λ xs. take mine xs ++ opening ∷ drop mine xs) c.reserve.ensures.items) c.put_stretches-2.ensures (take_rest between b) refl c.requires.rising c.begun.ensures
+    (λ i d lt. placed_behind stacks entries keep n (get_or (drop b between) i d) more shift (All-drop (IsRange (length stacks)) b between c.requires.ranges i d lt))
+    refl (record { ordered = there.0.ordered; within = there.0.within }) (there.1 ∙ ap (entries_of stacks) c.stretch_of-first.ensures)

@@ -1,0 +1,8 @@
+//! The boundaries of a run with their stacks, and lists that have room: what lexing keeps, without rules and tables.
+#![tactic(auto)]
+
+mod boundaries;
+pub mod room;
+mod stretch;
+
+pub use crate::boundaries::Boundaries;
