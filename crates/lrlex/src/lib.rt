@@ -15,14 +15,15 @@ pub use crate::lexer::{
     decided_laws, item_laws, resume_laws, run_laws, tiling_laws, utf16_laws,
 };
 pub use lrlex_base::{
-    CTTokenMapBuilder, DefaultLexeme, Edit, Id, Items, LexError, Lexeme, Lexer, LexerTypes,
-    NewlineCache, NonStreamingLexer, Span, Spanned, SpansKind, TokenMapFault, ct_token_map,
+    DefaultLexeme, Edit, Id, Items, LexError, Lexeme, Lexer, LexerTypes, NewlineCache,
+    NonStreamingLexer, Span, Spanned, SpansKind,
 };
 pub use lrlex_rules::{
     DEFAULT_LEX_FLAGS, LexBuildError, LexBuildResult, LexErrorKind, LexFlags, Rule, StartState,
     StartStateId, StartStateOperation, UNSPECIFIED_LEX_FLAGS, flag_laws, line_laws, operation_laws,
 };
 pub use lrlex_table::Budget;
+pub use lrlex_tokens::{CTTokenMapBuilder, TokenMapFault, ct_token_map};
 
 /// The usual types of a lexer, with this crate's error.
 pub type DefaultLexerTypes<T = u32> = lrlex_base::DefaultLexerTypes<T, LRLexError>;

@@ -1,3 +1,2 @@
 pub mod NewlineEditLemmas
 pub mod NewlineLemmas
-pub mod TokenLemmas

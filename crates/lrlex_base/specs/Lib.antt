@@ -5,5 +5,3 @@ pub mod Edits
 pub mod Seen
 pub mod Lexemes
 pub mod Items
-pub mod TokenModule
-pub mod TokenMap

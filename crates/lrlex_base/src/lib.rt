@@ -10,10 +10,6 @@ mod lexemes;
 mod lexers;
 mod newlines;
 mod spans;
-mod token_map;
-mod token_map_fault;
-mod token_text;
-mod tokens;
 
 pub use crate::classes::{is_blank, is_line_sep, is_white_space};
 pub use crate::defaults::{DefaultLexeme, DefaultLexerTypes};
@@ -23,5 +19,3 @@ pub use crate::lexemes::{LexError, Lexeme};
 pub use crate::lexers::{Items, Lexer, LexerTypes, NonStreamingLexer};
 pub use crate::newlines::NewlineCache;
 pub use crate::spans::{Span, Spanned, SpansKind};
-pub use crate::token_map::{CTTokenMapBuilder, ct_token_map};
-pub use crate::token_map_fault::TokenMapFault;

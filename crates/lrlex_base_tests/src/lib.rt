@@ -1,5 +1,5 @@
-//! Rows on `lrlex_base`, through its public calls: classes, ids, places, lexemes, edits, the text of a token module, and
-//! running out of memory. Nothing here but tests.
+//! Rows on `lrlex_base` and `lrlex_tokens`, through their public calls: classes, ids, places, lexemes, edits, the text of a
+//! token module, and running out of memory. Nothing here but tests.
 #![tactic(auto)]
 
 #[cfg(test)]

@@ -2,7 +2,8 @@
 //! the calls over the usual heap, `lrlex_refusals` shows.
 use crate::tokens::{renamed, tokens_of};
 use linked_list_allocator::LocalHeap;
-use lrlex_base::{CTTokenMapBuilder, Edit, NewlineCache, Span, ct_token_map};
+use lrlex_base::{Edit, NewlineCache, Span};
+use lrlex_tokens::{CTTokenMapBuilder, ct_token_map};
 use std::collections::HashMap;
 
 #[test]

@@ -1,5 +1,5 @@
 //! The text of a token module, and its faults.
-use lrlex_base::{CTTokenMapBuilder, TokenMapFault, ct_token_map};
+use lrlex_tokens::{CTTokenMapBuilder, TokenMapFault, ct_token_map};
 use std::alloc::Global;
 use std::collections::HashMap;
 use std::process::Abort;

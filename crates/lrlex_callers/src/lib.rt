@@ -6,3 +6,4 @@ pub mod editing;
 pub mod lending;
 pub mod lexing;
 pub mod serving;
+pub mod tokens;

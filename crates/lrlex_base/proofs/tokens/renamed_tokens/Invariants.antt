@@ -1,7 +1,0 @@
-use Rattle.std.proofs.Common.{◌≡◌, map, take}
-use Rattle.lrlex_base.specs.TokenModule.{renamed}
-use Rattle.lrlex_base.specs.TokenMap.{look_up, token_view}
-use Rattle.lrlex_base.proofs.tokens.renamed_tokens.Given as goal
-
-abbrev pub invariant-loop-token : goal.invariant-loop-token
-invariant-loop-token g l = map token_view l.all.items ≡ map (renamed (look_up l.renames)) (map token_view (take l.token-index l.tokens))

@@ -1,0 +1,2 @@
+pub mod TokenModule
+pub mod TokenMap
