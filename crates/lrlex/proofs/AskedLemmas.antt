@@ -14,22 +14,22 @@ use Rattle.lrlex_boundaries.specs.Entries.{plain}
 use Rattle.lrlex_boundaries.specs.Boundaries.{Boundary, place_and_stack, no_boundary, boundary_at}
 use Rattle.lrlex_boundaries.specs.Moves.{Meets}
 use Rattle.lrlex.specs.Reach.{Reached}
-use Rattle.lrlex.specs.Asked.{tables_in, untabled_count, asks_at, asks, IsLastSafe, IsFirstMeeting, WasCutAnew}
-use Rattle.lrlex.specs.declared.lexer.definition.LRNonStreamingLexerDef.{LRNonStreamingLexerDef}
+use Rattle.lrlex.specs.Asked.{tables_in, untabled_count, asks_at, asks_by, IsLastSafe, IsFirstMeeting, WasCutAnew}
+use Rattle.lrlex.specs.declared.lexer.definition.RuleTable.{RuleTable}
 use Rattle.lrlex.proofs.ReachLemmas.{length_now}
 use Rattle.lrlex.proofs.MeetLemmas.{meets_front, front_at, last_at}
 
 -- ---- the tables of a state
 
 -- the first state with the id has the tables that stand at its place
-pub untabled_here : {L X S E P Q : Type 0} (def : LRNonStreamingLexerDef L X S E P Q) (q i j : ℕ) (t : Tables) →
-    Some i ≡ position (λ s. (as_state s).id == q) def.table.start_states.items → slice_get def.table.list_at.items i ≡ Some j → slice_get def.table.tables.items j ≡ Some t →
+pub untabled_here : {S : Type 0} (def : RuleTable S) (q i j : ℕ) (t : Tables) →
+    Some i ≡ position (λ s. (as_state s).id == q) def.start_states.items → slice_get def.list_at.items i ≡ Some j → slice_get def.tables.items j ≡ Some t →
     length t.asked.items ≡ untabled_count def q
 unfolding untabled_count
 untabled_here def q i j t found is has =
     let there : tables_in def q ≡ Some t =
-    ap (λ o. option_and_then (λ k. option_and_then (slice_get def.table.tables.items) (slice_get def.table.list_at.items k)) o) (sym found)
-    ∙ ap (λ o. option_and_then (slice_get def.table.tables.items) o) is ∙ has in
+    ap (λ o. option_and_then (λ k. option_and_then (slice_get def.tables.items) (slice_get def.list_at.items k)) o) (sym found)
+    ∙ ap (λ o. option_and_then (slice_get def.tables.items) o) is ∙ has in
     sym (ap (λ o. unwrap_or (option_map (λ (u : Tables). length u.asked.items) o) 0) there)
 
 -- ---- the front of a list, from a place on
@@ -44,27 +44,27 @@ to_the_end xs from = take_all (length xs - from) (drop from xs) (omega (arith, l
 
 -- ---- sums
 
-module _ {L X S E P Q : Type 0} (def : LRNonStreamingLexerDef L X S E P Q) (text : List ℕ) where
-  asks_append : (xs ys : List Boundary) → asks def text (xs ++ ys) ≡ asks def text xs + asks def text ys
+module _ {S : Type 0} (def : RuleTable S) (text : List ℕ) where
+  asks_append : (xs ys : List Boundary) → asks_by def text (xs ++ ys) ≡ asks_by def text xs + asks_by def text ys
   asks_append xs ys = ap (sum_by (asks_at def (length text))) (map-append place_and_stack xs ys) ∙ sum_by-append (asks_at def (length text)) (map place_and_stack xs) (map place_and_stack ys)
 
-  asks_one : (m : Boundary) → m.place < length text → asks def text (m ∷ []) ≡ untabled_count def (top (plain m.entries))
+  asks_one : (m : Boundary) → m.place < length text → asks_by def text (m ∷ []) ≡ untabled_count def (top (plain m.entries))
   asks_one m lt =
       let at : asks_at def (length text) (place_and_stack m) ≡ untabled_count def (top (plain m.entries)) = cond-true _ (untabled_count def (top (plain m.entries))) 0 (lt-ltb m.place (length text) lt) in
       omega (arith, sum_by-cons (asks_at def (length text)) (place_and_stack m) [], at)
 
-  asks_last : (m : Boundary) → length text ≤ m.place → asks def text (m ∷ []) ≡ 0
+  asks_last : (m : Boundary) → length text ≤ m.place → asks_by def text (m ∷ []) ≡ 0
   asks_last m le =
       let at : asks_at def (length text) (place_and_stack m) ≡ 0 = cond-false _ (untabled_count def (top (plain m.entries))) 0 (le-ltb m.place (length text) le) in
       omega (arith, sum_by-cons (asks_at def (length text)) (place_and_stack m) [], at)
 
-  pub asks_nowhere : (xs : List Boundary) (from n : ℕ) → n ≤ from → asks def text (slice_range xs from n) ≡ 0
-  asks_nowhere xs from n le = let none : n - from ≡ 0 = omega arith in ap (λ k. asks def text (take k (drop from xs))) none
+  pub asks_nowhere : (xs : List Boundary) (from n : ℕ) → n ≤ from → asks_by def text (slice_range xs from n) ≡ 0
+  asks_nowhere xs from n le = let none : n - from ≡ 0 = omega arith in ap (λ k. asks_by def text (take k (drop from xs))) none
 
   -- ---- as a run goes on
 
   module _ (d : Definition) (place : ℕ) (stack : List (ℕ × ℕ)) (found : List Item) (bounds : List Boundary) (asked : ℕ) (r : Reached d text place stack found bounds asked)
-      (from : ℕ) (le : from < length bounds) (count : asked ≡ asks def text (slice_range bounds from (length bounds - 1))) where
+      (from : ℕ) (le : from < length bounds) (count : asked ≡ asks_by def text (slice_range bounds from (length bounds - 1))) where
     abbrev here : Boundary
     here = record { place = place; entries = stack }
 
@@ -74,27 +74,27 @@ module _ {L X S E P Q : Type 0} (def : LRNonStreamingLexerDef L X S E P Q) (text
         ap (λ ms. slice_range ms from (length bounds - 1)) (e ∙ ap (λ ms. ms ++ tail) r.kept ∙ append_assoc r.before (here ∷ []) tail)
         ∙ upto r.before (here ∷ tail) from (length bounds - 1) (omega arith) (omega arith)
 
-    total : asks def text (drop from bounds) ≡ asked + asks def text (here ∷ [])
+    total : asks_by def text (drop from bounds) ≡ asked + asks_by def text (here ∷ [])
     total =
         let n = length_now d text place stack found bounds asked r in
         let split : drop from bounds ≡ drop from r.before ++ here ∷ [] = ap (drop from) r.kept ∙ drop-append-le from r.before (here ∷ []) (omega arith) in
-        let front = ap (asks def text) (before_here [] bounds (sym (append-nil bounds))) in
-        omega (arith, ap (asks def text) split, asks_append (drop from r.before) (here ∷ []), front, count)
+        let front = ap (asks_by def text) (before_here [] bounds (sym (append-nil bounds))) in
+        omega (arith, ap (asks_by def text) split, asks_append (drop from r.before) (here ∷ []), front, count)
 
     -- by one more tile, or a try at one
-    pub more_asked : (now : ℕ) → place < length text → now ≡ asked + untabled_count def (top (plain stack)) → now ≡ asks def text (drop from bounds)
+    pub more_asked : (now : ℕ) → place < length text → now ≡ asked + untabled_count def (top (plain stack)) → now ≡ asks_by def text (drop from bounds)
     more_asked now lt is = omega (arith, total, asks_one here lt, is)
 
     -- at the text's end nothing is asked
-    pub all_asked : length text ≤ place → asked ≡ asks def text (drop from bounds)
+    pub all_asked : length text ≤ place → asked ≡ asks_by def text (drop from bounds)
     all_asked end = omega (arith, total, asks_last here end)
 
     pub next_asked : (now : ℕ) (m : Boundary) (after : List Boundary) → place < length text → now ≡ asked + untabled_count def (top (plain stack)) → after ≡ bounds ++ m ∷ [] →
-        now ≡ asks def text (slice_range after from (length after - 1))
+        now ≡ asks_by def text (slice_range after from (length after - 1))
     next_asked now m after lt is e =
         let len = length-append bounds (m ∷ []) in
         more_asked now lt is
-        ∙ ap (asks def text) (sym (ap (λ ms. slice_range ms from (length after - 1)) e ∙ upto bounds (m ∷ []) from (length after - 1) (omega (arith, ap length e, len)) (omega (arith, ap length e, len))))
+        ∙ ap (asks_by def text) (sym (ap (λ ms. slice_range ms from (length after - 1)) e ∙ upto bounds (m ∷ []) from (length after - 1) (omega (arith, ap length e, len)) (omega (arith, ap length e, len))))
 
 -- ---- whether a boundary meets the old run
 
@@ -174,13 +174,13 @@ none_first olds all low high len none = record { meets = inr refl; first = λ j 
 
 -- ---- what was cut anew
 
-module _ {L X S E P Q : Type 0} (def : LRNonStreamingLexerDef L X S E P Q) (d : Definition) (text : List ℕ) (olds : List Boundary) (numbers : List ℕ) (low high len : ℕ)
+module _ {S : Type 0} (def : RuleTable S) (d : Definition) (text : List ℕ) (olds : List Boundary) (numbers : List ℕ) (low high len : ℕ)
     (place : ℕ) (stack : List (ℕ × ℕ)) (found : List Item) (bounds : List Boundary) (asked : ℕ) (r : Reached d text place stack found bounds asked)
-    (from : ℕ) (resumed : IsLastSafe olds numbers low from) (le : from < length bounds) (count : asked ≡ asks def text (slice_range bounds from (length bounds - 1)))
+    (from : ℕ) (resumed : IsLastSafe olds numbers low from) (le : from < length bounds) (count : asked ≡ asks_by def text (slice_range bounds from (length bounds - 1)))
     (unmet : (k : ℕ) → k + 1 < length bounds → Meets olds bounds low high len k → ⊥) (all : List Boundary) (now anew : ℕ) (tiles : from + anew ≡ length bounds - 1) where
   -- where the tail was taken over
   pub cut_to_meeting : (tail : List Boundary) → all ≡ bounds ++ tail → now ≡ asked → low + len ≤ place → (j : ℕ) → j < length olds → (boundary_at olds j).place + (low + len) ≡ place + high →
-      (boundary_at olds j).entries ≡ stack → WasCutAnew (asks def text) olds all numbers low high len now anew
+      (boundary_at olds j).entries ≡ stack → WasCutAnew (asks_by def text) olds all numbers low high len now anew
   cut_to_meeting tail e is past j within back same =
       let n = length_now d text place stack found bounds asked r in
       let t : IsThere olds (low + len) (place + high) (plain stack) = record { j = j; m = boundary_at olds j; there = slice_get-get_or olds j no_boundary within; back = back; same = ap (λ xs. plain xs) same } in
@@ -190,24 +190,24 @@ module _ {L X S E P Q : Type 0} (def : LRNonStreamingLexerDef L X S E P Q) (d : 
         resumed = resumed;
         met = first_here d text olds bounds tail all numbers low high len place stack found asked r e unmet (meets_here d text olds bounds tail all numbers low high len place stack found asked r e unmet past t);
         searches = is ∙ count
-            ∙ ap (asks def text) (before_here def text d place stack found bounds asked r from le count [] bounds (sym (append-nil bounds)) ∙ sym (before_here def text d place stack found bounds asked r from le count tail all e));
+            ∙ ap (asks_by def text) (before_here def text d place stack found bounds asked r from le count [] bounds (sym (append-nil bounds)) ∙ sym (before_here def text d place stack found bounds asked r from le count tail all e));
         tiles = omega (arith, tiles, n, ap length e, length-append bounds tail);
       }
 
   -- where lexing stopped before the text's end
   pub cut_to_stop : all ≡ bounds → ((k : ℕ) → Meets olds bounds low high len k → ⊥) → place < length text → now ≡ asked + untabled_count def (top (plain stack)) →
-      WasCutAnew (asks def text) olds all numbers low high len now anew
+      WasCutAnew (asks_by def text) olds all numbers low high len now anew
   cut_to_stop e none lt is = record {
     from = from;
     to = length all;
     resumed = resumed;
     met = none_first olds all low high len (λ k m. none k (subst (λ ms. Meets olds ms low high len k) e m));
-    searches = more_asked def text d place stack found bounds asked r from le count now lt is ∙ ap (asks def text) (ap (drop from) (sym e) ∙ sym (to_the_end all from));
+    searches = more_asked def text d place stack found bounds asked r from le count now lt is ∙ ap (asks_by def text) (ap (drop from) (sym e) ∙ sym (to_the_end all from));
     tiles = omega (arith, tiles, ap length e);
   }
 
   -- where it came to the text's end
-  pub cut_to_end : all ≡ bounds → length text ≤ place → now ≡ asked → WasCutAnew (asks def text) olds all numbers low high len now anew
+  pub cut_to_end : all ≡ bounds → length text ≤ place → now ≡ asked → WasCutAnew (asks_by def text) olds all numbers low high len now anew
   cut_to_end e end is =
       let n = length_now d text place stack found bounds asked r in
       let whole : all ≡ bounds ++ [] = e ∙ sym (append-nil bounds) in
@@ -217,7 +217,7 @@ module _ {L X S E P Q : Type 0} (def : LRNonStreamingLexerDef L X S E P Q) (d : 
           to = length bounds - 1;
           resumed = resumed;
           met = first_here d text olds bounds [] all numbers low high len place stack found asked r whole unmet m;
-          searches = is ∙ count ∙ ap (λ ms. asks def text (slice_range ms from (length bounds - 1))) (sym e);
+          searches = is ∙ count ∙ ap (λ ms. asks_by def text (slice_range ms from (length bounds - 1))) (sym e);
           tiles = omega (arith, tiles, n, ap length e);
         }
         | inr never ↦ record {
@@ -233,7 +233,7 @@ module _ {L X S E P Q : Type 0} (def : LRNonStreamingLexerDef L X S E P Q) (d : 
                   never (subst (Meets olds all low high len) at m)
             ];
           };
-          searches = is ∙ all_asked def text d place stack found bounds asked r from le count end ∙ ap (asks def text) (ap (drop from) (sym e) ∙ sym (to_the_end all from));
+          searches = is ∙ all_asked def text d place stack found bounds asked r from le count end ∙ ap (asks_by def text) (ap (drop from) (sym e) ∙ sym (to_the_end all from));
           tiles = omega (arith, tiles, ap length e);
         }
       ]

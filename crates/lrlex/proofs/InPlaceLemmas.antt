@@ -8,55 +8,58 @@ use Rattle.lrlex_base.specs.Seen.{Seen}
 use Rattle.lrlex_base.specs.Spans.{as_span}
 use Rattle.lrlex_base.specs.declared.spans.Span.{Span}
 use Rattle.lrlex.specs.Active.{is_state}
+use Rattle.lrlex.specs.Asked.{asks_by}
 use Rattle.lrlex_boundaries.specs.Boundaries.{Boundary, boundary_at, last_entries}
 use Rattle.lrlex.specs.Kept.{LooksAhead, items_before}
 use Rattle.lrlex_boundaries.specs.Moves.{IsMovableBoundary, moved_boundary}
 use Rattle.lrlex.specs.Moves.{IsMovable, items_from}
-use Rattle.lrlex.specs.Ran.{ran}
 use Rattle.lrlex.specs.Reach.{IsLexed, IsRun}
-use Rattle.lrlex.specs.Relexed.{WasRelexed}
+use Rattle.lrlex.specs.Relexed.{AreCountsOf}
 use Rattle.lrlex.specs.Tiling.{Item, Item-set, rebased}
 use Rattle.lrlex.specs.UnderWay.{HasCutAnew, HasMet, IsEditOf, IsPutBehind, IsPutBetween, front_of}
-use Rattle.lrlex.specs.Views.{definition_of, item_of, items_by}
+use Rattle.lrlex.specs.Views.{definition_by, item_of, items_by}
 use Rattle.lrlex.specs.declared.errors.LRLexError.{LRLexError}
-use Rattle.lrlex.specs.declared.lexer.definition.LRNonStreamingLexerDef.{LRNonStreamingLexerDef}
+use Rattle.lrlex.specs.declared.lexer.definition.RuleTable.{RuleTable}
 use Rattle.lrlex.specs.declared.lexer.relexing.Anew.{Anew}
 use Rattle.lrlex.proofs.AheadLemmas.{looks_known}
 use Rattle.lrlex.proofs.AnewLemmas.{old_lexed, old_looks, old_sorted}
-use Rattle.lrlex.proofs.CountedLemmas.{of_own}
 use Rattle.lrlex.proofs.FrontLemmas.{last_behind}
 use Rattle.lrlex.proofs.MeetLemmas.{items_movable, bounds_movable, rest_same, whole}
 use Rattle.lrlex.proofs.RaisedLemmas.{looks_taken_over}
 use Rattle.lrlex.proofs.ReachLemmas.{last_now, run_of}
 
-module _ {L X S E P Q : Type 0} (number : S → ℕ) (seen : X → Seen S) (def : LRNonStreamingLexerDef L X S E P Q) (found : List (Result X LRLexError)) (olds : List Boundary) (numbers : List ℕ)
+module _ {S X : Type 0} (number : S → ℕ) (seen : X → Seen S) (def : RuleTable S) (found : List (Result X LRLexError)) (olds : List Boundary) (numbers : List ℕ)
     (removed : Span) (put new : List ℕ) (e : IsEditOf number seen def found olds numbers removed put new) where
   -- ---- without a state 0 nothing changes
 
-  module _ (none : is_state (definition_of number def) 0 ≡ false) where
+  module _ (none : is_state (definition_by number def) 0 ≡ false) where
     no_boundary_then : length olds ≡ 0
     no_boundary_then = ∥∥₁_elim e.run (Prim.hlevel props) (λ r. ap length (r.stateless none).boundaries_are)
 
-    pub stateless_run : IsRun (definition_of number def) new (items_by number seen found) olds
+    pub stateless_run : IsRun (definition_by number def) new (items_by number seen found) olds
     stateless_run = record {
       lexed = λ z. absurd (true≢false (sym z ∙ none));
       stateless = λ z. record { items_are = ∥∥₁_elim e.run (Prim.hlevel (props, Item-set)) (λ r. (r.stateless none).items_are); boundaries_are = nil_from_length olds no_boundary_then };
     }
 
-    pub stateless_looks : LooksAhead (definition_of number def) new olds numbers
+    pub stateless_looks : LooksAhead (definition_by number def) new olds numbers
     stateless_looks =
-        let looks = looks_known (definition_of number def) e.text olds numbers e.looks in
+        let looks = looks_known (definition_by number def) e.text olds numbers e.looks in
         record { len = looks.len; first = looks.first; decided = λ k within far. absurd (omega (arith, within, no_boundary_then)) }
 
-    pub stateless_counts : WasRelexed number olds numbers (as_span removed) put (ran def new found olds numbers 0 0)
-    stateless_counts =
-        of_own number olds numbers (as_span removed) put (ran def new found olds numbers 0 0) def new refl refl (omega arith) (omega arith) (λ k m. omega arith)
-        (λ k within safe. absurd (omega (arith, within, no_boundary_then))) (λ z. absurd (true≢false (sym z ∙ none)))
+    pub stateless_counts : AreCountsOf (definition_by number def) (asks_by def new) olds numbers (as_span removed) put new olds 0 0
+    stateless_counts = record {
+      asked = omega arith;
+      few = omega arith;
+      met = λ k m. omega arith;
+      lexed = λ k within safe. absurd (omega (arith, within, no_boundary_then));
+      exact = λ z. absurd (true≢false (sym z ∙ none));
+    }
 
-  module _ (initial : is_state (definition_of number def) 0 ≡ true) (a : Anew X) (h : HasCutAnew number seen def found olds numbers removed put new a) where
+  module _ (initial : is_state (definition_by number def) 0 ≡ true) (a : Anew X) (h : HasCutAnew number seen def found olds numbers removed put new a) where
     -- ---- at a meeting
 
-    module _ (j : ℕ) (m : HasMet (definition_of number def) number seen olds removed put new (front_of (items_by number seen found) olds numbers a.index) a.progress j) where
+    module _ (j : ℕ) (m : HasMet (definition_by number def) number seen olds removed put new (front_of (items_by number seen found) olds numbers a.index) a.progress j) where
       abbrev found_now : List Item
       found_now = items_before (boundary_at olds a.index).place (items_by number seen found) ++ items_by number seen a.progress.items.items
 
@@ -75,22 +78,22 @@ module _ {L X S E P Q : Type 0} (number : S → ℕ) (seen : X → Seen S) (def 
       pub met_last : last_entries a.progress.boundaries ≡ (boundary_at olds j).entries
       met_last =
           sym (last_behind (take a.index olds) a.progress.boundaries m.under_way.some)
-          ∙ last_now (definition_of number def) new a.progress.place a.progress.stack.items found_now bounds_now a.progress.asked m.under_way.reached ∙ sym m.stack
+          ∙ last_now (definition_by number def) new a.progress.place a.progress.stack.items found_now bounds_now a.progress.asked m.under_way.reached ∙ sym m.stack
 
       pub met_items : length new < 2 ^ 64 → All (IsMovable (boundary_at olds j).place a.progress.place) (items_from (boundary_at olds j).place (items_by number seen found))
       met_items small =
-          items_movable (definition_of number def) e.text new removed.start removed.end put (items_by number seen found) olds (old_lexed number seen def found olds numbers removed put new e initial)
+          items_movable (definition_by number def) e.text new removed.start removed.end put (items_by number seen found) olds (old_lexed number seen def found olds numbers removed put new e initial)
           a.progress.place a.progress.stack.items found_now bounds_now a.progress.asked m.under_way.reached j m.within removed.in_order e.fits.1.0 e.gives m.past m.place m.stack m.under_way.boundary.0 small
 
       pub met_bounds : length new < 2 ^ 64 → All (IsMovableBoundary (boundary_at olds j).place a.progress.place) (drop (j + 1) olds)
       met_bounds small =
-          bounds_movable (definition_of number def) e.text new removed.start removed.end put (items_by number seen found) olds (old_lexed number seen def found olds numbers removed put new e initial)
+          bounds_movable (definition_by number def) e.text new removed.start removed.end put (items_by number seen found) olds (old_lexed number seen def found olds numbers removed put new e initial)
           a.progress.place a.progress.stack.items found_now bounds_now a.progress.asked m.under_way.reached j m.within removed.in_order e.fits.1.0 e.gives m.past m.place m.stack m.under_way.boundary.0 small
 
       module _ (found' : List (Result X LRLexError)) (bounds' : List Boundary) (numbers' : List ℕ) (is : IsPutBetween number seen found olds numbers a j found' bounds' numbers') where
-        pub between_run : IsRun (definition_of number def) new (items_by number seen found') bounds'
+        pub between_run : IsRun (definition_by number def) new (items_by number seen found') bounds'
         between_run =
-            let D = definition_of number def in
+            let D = definition_by number def in
             let tail = map (rebased (boundary_at olds j).place a.progress.place) (items_from (boundary_at olds j).place (items_by number seen found)) in
             let lexed : IsLexed D new (found_now ++ tail) (bounds_now ++ map (moved_boundary (boundary_at olds j).place a.progress.place) (drop (j + 1) olds)) =
             whole D e.text new removed.start removed.end put (items_by number seen found) olds (old_lexed number seen def found olds numbers removed put new e initial)
@@ -98,9 +101,9 @@ module _ {L X S E P Q : Type 0} (number : S → ℕ) (seen : X → Seen S) (def 
             run_of D new (items_by number seen found') bounds' initial
             (subst (λ xs. IsLexed D new xs bounds') (sym (is.items ∙ ap (λ xs. (xs ++ items_by number seen a.progress.items.items) ++ tail) h.before)) (subst (IsLexed D new (found_now ++ tail)) (sym is.boundaries) lexed))
 
-        pub between_looks : LooksAhead (definition_of number def) new bounds' numbers'
+        pub between_looks : LooksAhead (definition_by number def) new bounds' numbers'
         between_looks =
-            let D = definition_of number def in
+            let D = definition_by number def in
             let p = a.progress in
             let same = rest_same D e.text new removed.start removed.end put (items_by number seen found) olds (old_lexed number seen def found olds numbers removed put new e initial)
             p.place p.stack.items found_now bounds_now p.asked m.under_way.reached j m.within removed.in_order e.fits.1.0 e.gives m.past m.place m.stack in
@@ -108,26 +111,23 @@ module _ {L X S E P Q : Type 0} (number : S → ℕ) (seen : X → Seen S) (def 
             (looks_taken_over D e.text new olds numbers (old_looks number seen def found olds numbers removed put new e initial) (old_sorted number seen def found olds numbers removed put new e initial)
             m.under_way.reached.before bounds_now (take a.index numbers ++ p.ahead.items) p.place p.stack.items p.over m.under_way.reached.kept m.under_way.looked j m.within same m.stack numbers' is.ahead)
 
-        pub between_counts : a.met ≢ None → WasRelexed number olds numbers (as_span removed) put (ran def new found' bounds' numbers' a.progress.asked (length a.progress.boundaries - 1))
-        between_counts met =
-            h.counts (map (moved_boundary (boundary_at olds j).place a.progress.place) (drop (j + 1) olds)) (λ none. absurd (met none)) (ran def new found' bounds' numbers' a.progress.asked (length a.progress.boundaries - 1))
-            refl refl is.boundaries refl refl
+        pub between_counts : a.met ≢ None → AreCountsOf (definition_by number def) (asks_by def new) olds numbers (as_span removed) put new bounds' a.progress.asked (length a.progress.boundaries - 1)
+        between_counts met = h.counts (map (moved_boundary (boundary_at olds j).place a.progress.place) (drop (j + 1) olds)) bounds' (λ none. absurd (met none)) is.boundaries
 
     -- ---- at an end
 
     module _ (none : a.met ≡ None) (found' : List (Result X LRLexError)) (bounds' : List Boundary) (numbers' : List ℕ) (is : IsPutBehind found olds numbers a found' bounds' numbers') where
-      pub behind_run : IsRun (definition_of number def) new (items_by number seen found') bounds'
+      pub behind_run : IsRun (definition_by number def) new (items_by number seen found') bounds'
       behind_run =
-          let D = definition_of number def in
+          let D = definition_by number def in
           let items_are : items_by number seen found' ≡ items_by number seen (take a.first found) ++ items_by number seen a.progress.items.items =
           ap (items_by number seen) is.items ∙ map-append (item_of number seen) (take a.first found) a.progress.items.items in
           run_of D new (items_by number seen found') bounds' initial (subst (λ xs. IsLexed D new xs bounds') (sym items_are) (subst (IsLexed D new _) (sym is.boundaries) (h.lexed none)))
 
-      pub behind_looks : LooksAhead (definition_of number def) new bounds' numbers'
+      pub behind_looks : LooksAhead (definition_by number def) new bounds' numbers'
       behind_looks =
-          let D = definition_of number def in
+          let D = definition_by number def in
           subst (LooksAhead D new bounds') (sym is.ahead) (subst (λ ms. LooksAhead D new ms (take a.index numbers ++ a.progress.ahead.items)) (sym is.boundaries) (h.looked none))
 
-      pub behind_counts : WasRelexed number olds numbers (as_span removed) put (ran def new found' bounds' numbers' a.progress.asked (length a.progress.boundaries - 1))
-      behind_counts =
-          h.counts [] (λ _. refl) (ran def new found' bounds' numbers' a.progress.asked (length a.progress.boundaries - 1)) refl refl (is.boundaries ∙ sym (append-nil (take a.index olds ++ a.progress.boundaries))) refl refl
+      pub behind_counts : AreCountsOf (definition_by number def) (asks_by def new) olds numbers (as_span removed) put new bounds' a.progress.asked (length a.progress.boundaries - 1)
+      behind_counts = h.counts [] bounds' (λ _. refl) (is.boundaries ∙ sym (append-nil (take a.index olds ++ a.progress.boundaries)))

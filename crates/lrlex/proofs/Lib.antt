@@ -31,7 +31,6 @@ pub mod GoingLemmas
 pub mod AskedLemmas
 pub mod RestLemmas
 pub mod PieceLemmas
-pub mod CountedLemmas
 pub mod DocumentLemmas
 pub mod Utf16Lemmas
 pub mod ListLemmas

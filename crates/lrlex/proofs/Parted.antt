@@ -11,7 +11,7 @@ use Rattle.lrlex.specs.Views.{definition_of}
 use Rattle.lrlex.specs.declared.lexer.definition.LRNonStreamingLexerDef.{LRNonStreamingLexerDef}
 
 pub definition_of-parts : {L X S E P Q : Type 0} (number : S → ℕ) (d : LRNonStreamingLexerDef L X S E P Q) (file : RuleFile S) →
-    d.table.rules ≡ file.rules → d.table.start_states ≡ file.states → d.flags ≡ file.flags → definition_of number d ≡ as_definition number file
+    d.table.rules ≡ file.rules → d.table.start_states ≡ file.states → d.table.flags ≡ file.flags → definition_of number d ≡ as_definition number file
 definition_of-parts number d file rules states flags = rw (rules, states, flags) refl
 
 -- where the state that each rule file begins with stands first, a state has the id 0
@@ -20,6 +20,6 @@ has_initial [] h = cc
 has_initial (s ∷ more) h = subst (λ (x : StartState). list_any (λ y. y.id == 0) (x ∷ more) ≡ true) (sym (same_Some _ _ h)) refl
 
 -- the same parts make the same definition
-pub same_definition : {L X S E P Q : Type 0} (number : S → ℕ) (a b : LRNonStreamingLexerDef L X S E P Q) → a.table.rules ≡ b.table.rules → a.table.start_states ≡ b.table.start_states → a.flags ≡ b.flags →
+pub same_definition : {L X S E P Q : Type 0} (number : S → ℕ) (a b : LRNonStreamingLexerDef L X S E P Q) → a.table.rules ≡ b.table.rules → a.table.start_states ≡ b.table.start_states → a.table.flags ≡ b.table.flags →
     definition_of number a ≡ definition_of number b
 same_definition number a b rules states flags = simp (rules, states, flags)

@@ -13,9 +13,9 @@ use Rattle.lrlex_matching.specs.Matching.{match_length}
 use Rattle.lrlex_rules.specs.Patterns.{pattern_of}
 use Rattle.lrlex.specs.Active.{is_active, is_inclusive, taken_by, taken_by_any, no_rule, rule_at}
 use Rattle.lrlex_rules.specs.Parts.{RuleParts, as_rule, as_state}
-use Rattle.lrlex.specs.Views.{definition_of}
+use Rattle.lrlex.specs.Views.{definition_by}
 use Rattle.lrlex.specs.StateTables.{ArePlaced}
-use Rattle.lrlex.specs.declared.lexer.definition.LRNonStreamingLexerDef.{LRNonStreamingLexerDef}
+use Rattle.lrlex.specs.declared.lexer.definition.RuleTable.{RuleTable}
 use Rattle.lrlex_rules.specs.declared.states.StartState as start
 
 pub list_any-map : {A B : Type 0} (f : A → B) (p : B → Bool) (xs : List A) → list_any p (map f xs) ≡ list_any (λ x. p (f x)) xs
@@ -50,9 +50,9 @@ pub rule_at_place : {S : Type 0} (number : S → ℕ) (rules : List (RuleParts S
     slice_get (map (as_rule number) rules) i ≡ Some (as_rule number r)
 rule_at_place number rules i r within read = view_at rules i r within read (as_rule number)
 
-pub rule_read : {L X S E P Q : Type 0} (number : S → ℕ) (d : LRNonStreamingLexerDef L X S E P Q) (i : ℕ) (r : RuleParts S) →
-    i < length d.table.rules.items → r ≡ get_or d.table.rules.items i r → rule_at (definition_of number d) i ≡ as_rule number r
-rule_read number d i r within read = ap (λ (o : Option Rule). unwrap_or o no_rule) (view_at d.table.rules.items i r within read (as_rule number))
+pub rule_read : {S : Type 0} (number : S → ℕ) (d : RuleTable S) (i : ℕ) (r : RuleParts S) →
+    i < length d.rules.items → r ≡ get_or d.rules.items i r → rule_at (definition_by number d) i ≡ as_rule number r
+rule_read number d i r within read = ap (λ (o : Option Rule). unwrap_or o no_rule) (view_at d.rules.items i r within read (as_rule number))
 
 -- ---- what an active rule takes
 

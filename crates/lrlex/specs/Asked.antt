@@ -8,23 +8,28 @@ use Rattle.lrlex_boundaries.specs.Boundaries.{Boundary, place_and_stack}
 use Rattle.lrlex_boundaries.specs.Moves.{Meets}
 use Rattle.lrlex.specs.Kept.{IsSafe}
 use Rattle.lrlex.specs.declared.lexer.definition.LRNonStreamingLexerDef.{LRNonStreamingLexerDef}
+use Rattle.lrlex.specs.declared.lexer.definition.RuleTable.{RuleTable}
 
 -- the tables of the first state with the id
-abbrev pub tables_in : {L X S E P Q : Type 0} → LRNonStreamingLexerDef L X S E P Q → ℕ → Option Tables
+abbrev pub tables_in : {S : Type 0} → RuleTable S → ℕ → Option Tables
 tables_in d q =
-    option_and_then (λ i. option_and_then (slice_get d.table.tables.items) (slice_get d.table.list_at.items i)) (position (λ s. (as_state s).id == q) d.table.start_states.items)
+    option_and_then (λ i. option_and_then (slice_get d.tables.items) (slice_get d.list_at.items i)) (position (λ s. (as_state s).id == q) d.start_states.items)
 
 -- how many of the rules that are active in the state these leave out: each is asked by itself
-unfoldable pub untabled_count : {L X S E P Q : Type 0} → LRNonStreamingLexerDef L X S E P Q → ℕ → ℕ
+unfoldable pub untabled_count : {S : Type 0} → RuleTable S → ℕ → ℕ
 untabled_count d q = unwrap_or (option_map (λ t. length t.asked.items) (tables_in d q)) 0
 
 -- the searches at a boundary in a text of this length: one for each rule that is left out, and none at the text's end
-abbrev pub asks_at : {L X S E P Q : Type 0} → LRNonStreamingLexerDef L X S E P Q → ℕ → ℕ × List ℕ → ℕ
+abbrev pub asks_at : {S : Type 0} → RuleTable S → ℕ → ℕ × List ℕ → ℕ
 asks_at d end b = if nat_lt b.0 end then untabled_count d (top b.1) else 0
 
 -- the searches at all of these boundaries
+abbrev pub asks_by : {S : Type 0} → RuleTable S → List ℕ → List Boundary → ℕ
+asks_by d text bounds = sum_by (asks_at d (length text)) (map place_and_stack bounds)
+
+-- those of a definition
 abbrev pub asks : {L X S E P Q : Type 0} → LRNonStreamingLexerDef L X S E P Q → List ℕ → List Boundary → ℕ
-asks d text bounds = sum_by (asks_at d (length text)) (map place_and_stack bounds)
+asks d text bounds = asks_by d.table text bounds
 
 -- the last boundary that is safe for an edit from `low` on
 pub record IsLastSafe (bounds : List Boundary) (ahead : List ℕ) (low k : ℕ) : Type 0 where

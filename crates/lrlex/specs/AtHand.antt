@@ -8,24 +8,24 @@ use Rattle.lrlex.specs.Tiling.{IsStuck, Wins}
 use Rattle.lrlex_rules.specs.Matchers.{AreMatchers}
 use Rattle.lrlex.specs.StateTables.{patterns_on}
 use Rattle.lrlex.specs.Asked.{untabled_count}
-use Rattle.lrlex.specs.Views.{definition_of}
-use Rattle.lrlex.specs.declared.lexer.definition.LRNonStreamingLexerDef.{LRNonStreamingLexerDef}
+use Rattle.lrlex.specs.Views.{definition_by}
+use Rattle.lrlex.specs.declared.lexer.definition.RuleTable.{RuleTable}
 use Rattle.lrlex.specs.declared.lexer.definition.RulesIn.{RulesIn}
 use Rattle.lrlex.specs.declared.lexer.searching.Searcher.{Searcher}
 use Rattle.lrlex.specs.declared.lexer.searching.Sight.{Sight}
 
 -- these are the rules that are active in state q of the definition, and their tables
-pub record AreOf {L X S E P Q : Type 0} (number : S → ℕ) (d : LRNonStreamingLexerDef L X S E P Q) (q : ℕ) (here : RulesIn) : Type 0 where
-  pub active : here.active.now ≡ active_places (definition_of number d).states (definition_of number d).rules q
-  pub tables : ∥ AreTablesOf (patterns_on (definition_of number d).rules (active_places (definition_of number d).states (definition_of number d).rules q)) here.tables.now ∥₁
-  pub list : slice_get d.table.tables.items here.list ≡ Some here.tables.now
+pub record AreOf {S : Type 0} (number : S → ℕ) (d : RuleTable S) (q : ℕ) (here : RulesIn) : Type 0 where
+  pub active : here.active.now ≡ active_places (definition_by number d).states (definition_by number d).rules q
+  pub tables : ∥ AreTablesOf (patterns_on (definition_by number d).rules (active_places (definition_by number d).states (definition_by number d).rules q)) here.tables.now ∥₁
+  pub list : slice_get d.tables.items here.list ≡ Some here.tables.now
   pub untabled : length here.tables.now.asked.items ≡ untabled_count d q
 
 -- this looks for winners in the text by the definition: its matchers are those of the rules, and its dead ends are of the
 -- definition's tables and of the text
-pub record IsSearcherOf {L X S E P Q : Type 0} (d : LRNonStreamingLexerDef L X S E P Q) (input : List ℕ) (s : Searcher) : Type 0 where
-  pub matchers : AreMatchers d.table.rules.items s.matchers.items
-  pub lists : s.ends.lists.now ≡ d.table.tables.items
+pub record IsSearcherOf {S : Type 0} (d : RuleTable S) (input : List ℕ) (s : Searcher) : Type 0 where
+  pub matchers : AreMatchers d.rules.items s.matchers.items
+  pub lists : s.ends.lists.now ≡ d.tables.items
   pub text : s.ends.text.now ≡ input
 
 -- what wins in state q at the text's beginning, and that the first bytes, so many of them, decide it
@@ -34,6 +34,6 @@ pub record IsSightOf (d : Definition) (q : ℕ) (text : List ℕ) (s : Sight) : 
   pub decided : IsDecided d q text s.reach
 
 -- the searches of one look in state q: one for each active rule that the state's tables leave out
-pub record HasAsked {L X S E P Q : Type 0} (number : S → ℕ) (d : LRNonStreamingLexerDef L X S E P Q) (q before after : ℕ) : Type 0 where
-  pub counted : after ≤ before + active_count (definition_of number d) q
+pub record HasAsked {S : Type 0} (number : S → ℕ) (d : RuleTable S) (q before after : ℕ) : Type 0 where
+  pub counted : after ≤ before + active_count (definition_by number d) q
   pub exact : after ≡ before + untabled_count d q

@@ -6,21 +6,21 @@ use Rattle.lrlex_base.specs.Edits.{edited}
 use Rattle.lrlex_base.specs.declared.spans.Span.{Span}
 use Rattle.lrlex_rules.specs.declared.states.StartStateOperation.{StartStateOperation}
 use Rattle.lrlex_rules.specs.Definition.{Definition}
-use Rattle.lrlex.specs.Asked.{IsLastSafe, untabled_count}
+use Rattle.lrlex.specs.Asked.{IsLastSafe, asks_by, untabled_count}
 use Rattle.lrlex.specs.Kept.{AreRaised, HasLooked, LooksAhead, capped, items_before}
 use Rattle.lrlex_boundaries.specs.Moves.{moved_boundary}
 use Rattle.lrlex.specs.Moves.{items_from}
 use Rattle.lrlex_boundaries.specs.Boundaries.{Boundary, boundary_at}
-use Rattle.lrlex.specs.Ran.{Ran}
 use Rattle.lrlex.specs.Reach.{IsLexed, IsRun, Reached, searches}
-use Rattle.lrlex.specs.Relexed.{WasRelexed}
+use Rattle.lrlex.specs.Relexed.{AreCountsOf}
 use Rattle.lrlex_boundaries.specs.Entries.{AreEntries, plain}
 use Rattle.lrlex.specs.Tiling.{Item, rebased, stack_after, top}
-use Rattle.lrlex.specs.Views.{definition_of, items_by}
+use Rattle.lrlex.specs.Views.{definition_by, items_by}
 use Rattle.lrlex.specs.declared.errors.LRLexError.{LRLexError}
-use Rattle.lrlex.specs.declared.lexer.definition.LRNonStreamingLexerDef.{LRNonStreamingLexerDef}
+use Rattle.lrlex.specs.declared.lexer.definition.RuleTable.{RuleTable}
 use Rattle.lrlex.specs.declared.lexer.lexing.Progress.{Progress}
 use Rattle.lrlex.specs.declared.lexer.relexing.Anew.{Anew}
+use Rattle.lrlex.specs.declared.lexer.run.Lexed.{Lexed}
 
 -- The next boundary was entered: it stands at this place, the rule's target moved the stack, the tiles looked so far
 -- past the place, and nothing else was found.
@@ -44,14 +44,12 @@ pub record StandsAt {X : Type 0} (old : List Boundary) (numbers : List ℕ) (ind
   pub ahead : p.ahead.items ≡ slice_index numbers index ∷ []
   pub over : p.over ≡ slice_index numbers index
 
--- the run has what was found, with so many tiles cut anew
-pub record HasFinished {D X : Type 0} (d : D) (input : List ℕ) (p : Progress X) (cut : ℕ) (r : Ran D X) : Type 0 where
-  pub definition : r.definition ≡ d
-  pub text : r.text ≡ input
-  pub items : r.items ≡ p.items.items
+-- what was found, with so many tiles cut anew
+pub record HasFinished {X : Type 0} (p : Progress X) (cut : ℕ) (r : Lexed X) : Type 0 where
+  pub items : r.items.items ≡ p.items.items
   pub boundaries : r.boundaries ≡ p.boundaries
   pub asked : r.asked ≡ p.asked
-  pub ahead : r.ahead ≡ p.ahead.items
+  pub ahead : r.ahead.items ≡ p.ahead.items
   pub anew : r.anew ≡ cut
 
 -- All old boundaries before the cursor stand before the place, as it was before the edit; where a meeting was found, the one at
@@ -99,17 +97,17 @@ pub record HasEnded {S X : Type 0} (d : Definition) (number : S → ℕ) (seen :
   pub ahead : new.ahead.items ≡ old.ahead.items
 
 -- the searches of one step: at most as many as the boundaries so far allow, and exactly those of the state on top
-pub record HasSearched {L X S E P Q : Type 0} (number : S → ℕ) (d : LRNonStreamingLexerDef L X S E P Q) (text : List ℕ) (f : Front) (old new : Progress X) : Type 0 where
-  pub few : new.asked ≤ searches (definition_of number d) text (f.boundaries ++ old.boundaries)
+pub record HasSearched {S X : Type 0} (number : S → ℕ) (d : RuleTable S) (text : List ℕ) (f : Front) (old new : Progress X) : Type 0 where
+  pub few : new.asked ≤ searches (definition_by number d) text (f.boundaries ++ old.boundaries)
   pub exact : new.asked ≡ old.asked + untabled_count d (top (plain old.stack.items))
 
 -- The lists are those of a run of some text, and this edit makes the new text of that one.
-pub record IsEditOf {L X S E P Q : Type 0} (number : S → ℕ) (seen : X → Seen S) (d : LRNonStreamingLexerDef L X S E P Q) (found : List (Result X LRLexError)) (bounds : List Boundary)
+pub record IsEditOf {S X : Type 0} (number : S → ℕ) (seen : X → Seen S) (d : RuleTable S) (found : List (Result X LRLexError)) (bounds : List Boundary)
     (numbers : List ℕ) (removed : Span) (put new : List ℕ) : Type 0 where
   pub text : List ℕ
   pub small : length text < 2 ^ 64
-  pub looks : ∥ LooksAhead (definition_of number d) text bounds numbers ∥₁
-  pub run : ∥ IsRun (definition_of number d) text (items_by number seen found) bounds ∥₁
+  pub looks : ∥ LooksAhead (definition_by number d) text bounds numbers ∥₁
+  pub run : ∥ IsRun (definition_by number d) text (items_by number seen found) bounds ∥₁
   pub fits : Fits text removed
   pub gives : new ≡ edited text (as_span removed) put
 
@@ -124,22 +122,20 @@ pub record HasMet {S X : Type 0} (d : Definition) (number : S → ℕ) (seen : X
 
 -- Tiles were cut anew from the last boundary of the old run that is safe, up to the first that meets it, or to the end of
 -- what the text gives.
-pub record HasCutAnew {L X S E P Q : Type 0} (number : S → ℕ) (seen : X → Seen S) (d : LRNonStreamingLexerDef L X S E P Q) (found : List (Result X LRLexError)) (bounds : List Boundary)
+pub record HasCutAnew {S X : Type 0} (number : S → ℕ) (seen : X → Seen S) (d : RuleTable S) (found : List (Result X LRLexError)) (bounds : List Boundary)
     (numbers : List ℕ) (removed : Span) (put new : List ℕ) (a : Anew X) : Type 0 where
   pub from : IsLastSafe bounds numbers removed.start a.index
   pub first : a.first ≤ length found
   pub before : items_by number seen (take a.first found) ≡ items_before (boundary_at bounds a.index).place (items_by number seen found)
   pub some : 0 < length a.progress.boundaries
   pub met : (j : ℕ) → a.met ≡ Some j
-      → HasMet (definition_of number d) number seen bounds removed put new (front_of (items_by number seen found) bounds numbers a.index) a.progress j
+      → HasMet (definition_by number d) number seen bounds removed put new (front_of (items_by number seen found) bounds numbers a.index) a.progress j
   pub lexed : a.met ≡ None
-      → IsLexed (definition_of number d) new (items_by number seen (take a.first found) ++ items_by number seen a.progress.items.items) (take a.index bounds ++ a.progress.boundaries)
+      → IsLexed (definition_by number d) new (items_by number seen (take a.first found) ++ items_by number seen a.progress.items.items) (take a.index bounds ++ a.progress.boundaries)
   pub looked : a.met ≡ None
-      → LooksAhead (definition_of number d) new (take a.index bounds ++ a.progress.boundaries) (take a.index numbers ++ a.progress.ahead.items)
-  pub counts : (tail : List Boundary) → (a.met ≡ None → tail ≡ []) → (r : Ran (LRNonStreamingLexerDef L X S E P Q) X)
-      → r.definition ≡ d → r.text ≡ new → r.boundaries ≡ (take a.index bounds ++ a.progress.boundaries) ++ tail
-      → r.asked ≡ a.progress.asked → r.anew ≡ length a.progress.boundaries - 1
-      → WasRelexed number bounds numbers (as_span removed) put r
+      → LooksAhead (definition_by number d) new (take a.index bounds ++ a.progress.boundaries) (take a.index numbers ++ a.progress.ahead.items)
+  pub counts : (tail all : List Boundary) → (a.met ≡ None → tail ≡ []) → all ≡ (take a.index bounds ++ a.progress.boundaries) ++ tail
+      → AreCountsOf (definition_by number d) (asks_by d new) bounds numbers (as_span removed) put new all a.progress.asked (length a.progress.boundaries - 1)
 
 -- what was cut anew stands in place of all behind its front
 pub record IsPutBehind {X : Type 0} (found : List (Result X LRLexError)) (bounds : List Boundary) (numbers : List ℕ) (a : Anew X)

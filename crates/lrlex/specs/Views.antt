@@ -10,14 +10,19 @@ use Rattle.lrlex.specs.Tiling.{Item, Lexeme, Error}
 use Rattle.lrlex.specs.declared.errors.LRLexError.{LRLexError}
 use Rattle.lrlex_rules.specs.declared.states.StartState as start
 use Rattle.lrlex.specs.declared.lexer.definition.LRNonStreamingLexerDef.{LRNonStreamingLexerDef}
+use Rattle.lrlex.specs.declared.lexer.definition.RuleTable.{RuleTable}
 
--- a definition, where `number` gives the number that an id stands for
-abbrev pub definition_of : {L X S E P Q : Type 0} → (S → ℕ) → LRNonStreamingLexerDef L X S E P Q → Definition
-definition_of number d = record {
-  states = map as_state d.table.start_states.items;
-  rules = map (as_rule number) d.table.rules.items;
-  flags = d.flags;
+-- what a table of rules says, where `number` gives the number that an id stands for
+abbrev pub definition_by : {S : Type 0} → (S → ℕ) → RuleTable S → Definition
+definition_by number t = record {
+  states = map as_state t.start_states.items;
+  rules = map (as_rule number) t.rules.items;
+  flags = t.flags;
 }
+
+-- a definition: what its table says
+abbrev pub definition_of : {L X S E P Q : Type 0} → (S → ℕ) → LRNonStreamingLexerDef L X S E P Q → Definition
+definition_of number d = definition_by number d.table
 
 -- its rules and its start states, as the program has them
 abbrev pub definition_rules : {L X S E P Q : Type 0} → LRNonStreamingLexerDef L X S E P Q → List (RuleParts S)

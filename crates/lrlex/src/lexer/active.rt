@@ -5,13 +5,13 @@ ghost use Rattle.lrlex.specs.Active.{is_inclusive, is_active_where, active_place
 ghost use Rattle.lrlex_rules.specs.Parts.{as_rule, as_state};
 ghost use Rattle.lrlex.specs.StateTables.{AreBelow, ArePlaced, list_in};
 
-use lrlex_base::Id;
+use crate::numbered::Numbered;
 use lrlex_rules::{Rule, StartState};
 use std::alloc::{AllocError, Global};
 
 /// Whether the rule has a name and no id.
 #[inline(always)]
-pub(crate) fn lacks_id<S: Id>(rule: &Rule<S>) -> bool
+pub(crate) fn lacks_id<S: Numbered>(rule: &Rule<S>) -> bool
     ensures { result ≡ lacks_id (as_rule S.number rule.now) }
 {
     rule.name().is_some() && rule.tok_id().is_none()
@@ -19,7 +19,7 @@ pub(crate) fn lacks_id<S: Id>(rule: &Rule<S>) -> bool
 
 /// The id of the rule's lexemes. An unnamed rule gives none.
 #[inline(always)]
-pub(crate) fn lexeme_id<S: Id>(rule: &Rule<S>) -> Option<S>
+pub(crate) fn lexeme_id<S: Numbered>(rule: &Rule<S>) -> Option<S>
     ensures { option_map S.number result ≡ lexeme_id (as_rule S.number rule.now) }
 {
     if rule.name().is_some() {

@@ -8,6 +8,7 @@ use crate::lexer::active::{are_placed, has_state, position_of};
 use crate::lexer::lists::lists_for;
 use crate::lexer::tables::tables_for;
 use crate::names::{have_own_ids, name_of};
+use crate::numbered::Numbered;
 use lrlex_base::LexerTypes;
 use lrlex_rules::{LexFlags, Rule, StartState};
 use lrlex_table::{Budget, Tables};
@@ -23,11 +24,12 @@ pub(crate) fn usual_budget() -> Budget {
     Budget::new(MOST_ROWS, MOST_WORK)
 }
 
-/// Rules and start states, with the places of the rules that are active in each state, and their tables.
+/// Rules, start states and flags, with the places of the rules that are active in each state, and their tables.
 #[derive(Drop)]
 pub(crate) struct RuleTable<S> {
     pub(crate) rules: Vec<Rule<S>>,
     pub(crate) start_states: Vec<StartState>,
+    pub(crate) flags: LexFlags,
     /// Whether the id of each rule that has one is its place, as in every definition that was read.
     pub(crate) own_ids: bool,
     /// Whether the id of each state is its place, as in every definition that was read.
@@ -54,12 +56,14 @@ impl<S: Copy> RuleTable<S> {
         alloc: Global,
         start_states: Vec<StartState>,
         rules: Vec<Rule<S>>,
+        flags: LexFlags,
         own_ids: bool,
         budget: Budget,
     ) -> Result<Self, AllocError>
         requires { IsTrue own_ids → HaveDistinctIds rules.items }
         ensures rules { IfOk result (λ t. t.rules ≡ rules) }
         ensures states { IfOk result (λ t. t.start_states ≡ start_states) }
+        ensures flags { IfOk result (λ t. t.flags ≡ flags) }
     {
         let placed = are_placed(&start_states);
         let (lists, list_at) = lists_for(alloc, &start_states, placed, &rules)?;
@@ -67,6 +71,7 @@ impl<S: Copy> RuleTable<S> {
         Ok(RuleTable {
             rules,
             start_states,
+            flags,
             own_ids,
             placed,
             lists,
@@ -90,16 +95,12 @@ pub(crate) struct RulesIn<'d> {
 #[derive(Drop)]
 pub struct LRNonStreamingLexerDef<L: LexerTypes> {
     pub(crate) table: RuleTable<L::StorageT>,
-    pub(crate) flags: LexFlags,
 }
 
 impl<L: LexerTypes> LRNonStreamingLexerDef<L> {
     ghost use Rattle.lrlex.specs.Views.{definition_of, definition_tables};
-    ghost use Rattle.std.specs.Prelude.{Some, option_map, slice_get, IfOk, ◌^◌};
-    ghost use Rattle.lrlex_table.specs.Tables.{AreTablesOf};
-    ghost use Rattle.lrlex.specs.StateTables.{patterns_on, count_of_tables, count_of_rows, count_of_asked};
-    ghost use Rattle.lrlex.specs.AtHand.{AreOf};
-    ghost use Rattle.lrlex.specs.Asked.{untabled_count};
+    ghost use Rattle.std.specs.Prelude.{Some, option_map, IfOk, ◌^◌};
+    ghost use Rattle.lrlex.specs.StateTables.{count_of_tables, count_of_rows, count_of_asked};
     ghost use Rattle.lrlex.specs.Ids.{name_of};
 
     /// Just these start states, rules and flags, in order.
@@ -111,7 +112,7 @@ impl<L: LexerTypes> LRNonStreamingLexerDef<L> {
     ) -> Result<Self, AllocError>
         ensures rules { IfOk result (λ d. d.table.rules ≡ rules) }
         ensures states { IfOk result (λ d. d.table.start_states ≡ start_states) }
-        ensures flags { IfOk result (λ d. d.flags ≡ flags) }
+        ensures flags { IfOk result (λ d. d.table.flags ≡ flags) }
     {
         Self::within_budget(alloc, start_states, rules, flags, usual_budget())
     }
@@ -126,11 +127,11 @@ impl<L: LexerTypes> LRNonStreamingLexerDef<L> {
     ) -> Result<Self, AllocError>
         ensures rules { IfOk result (λ d. d.table.rules ≡ rules) }
         ensures states { IfOk result (λ d. d.table.start_states ≡ start_states) }
-        ensures flags { IfOk result (λ d. d.flags ≡ flags) }
+        ensures flags { IfOk result (λ d. d.table.flags ≡ flags) }
     {
         let own_ids = have_own_ids(&rules);
-        let table = RuleTable::of_parts(alloc, start_states, rules, own_ids, budget)?;
-        Ok(LRNonStreamingLexerDef { table, flags })
+        let table = RuleTable::of_parts(alloc, start_states, rules, flags, own_ids, budget)?;
+        Ok(LRNonStreamingLexerDef { table })
     }
 
     /// The same definition, with tables that cost no more than this. Under a budget of nothing each rule is asked by
@@ -139,10 +140,11 @@ impl<L: LexerTypes> LRNonStreamingLexerDef<L> {
         ensures { IfOk result (λ d. definition_of L.StorageT.number d
             ≡ definition_of L.StorageT.number self) }
     {
-        let LRNonStreamingLexerDef { table, flags } = self;
+        let LRNonStreamingLexerDef { table } = self;
         let RuleTable {
             rules,
             start_states,
+            flags,
             own_ids: _,
             placed: _,
             lists: _,
@@ -203,49 +205,58 @@ impl<L: LexerTypes> LRNonStreamingLexerDef<L> {
         ensures { option_map (λ f. f.now) result
             ≡ Some (definition_of L.StorageT.number self.now).flags }
     {
-        Some(&self.flags)
+        Some(&self.table.flags)
     }
+}
+
+impl<S: Numbered> RuleTable<S> {
+    ghost use Rattle.lrlex.specs.Views.{definition_by};
+    ghost use Rattle.std.specs.Prelude.{Some, slice_get};
+    ghost use Rattle.lrlex_table.specs.Tables.{AreTablesOf};
+    ghost use Rattle.lrlex.specs.StateTables.{patterns_on};
+    ghost use Rattle.lrlex.specs.AtHand.{AreOf};
+    ghost use Rattle.lrlex.specs.Asked.{untabled_count};
 
     /// Whether a state has the id.
     #[inline(always)]
     pub(crate) fn is_state(&self, id: usize) -> bool
-        ensures { result ≡ is_state (definition_of L.StorageT.number self.now) id }
+        ensures { result ≡ is_state (definition_by S.number self.now) id }
     {
-        has_state(&self.table.start_states, self.table.placed, id)
+        has_state(&self.start_states, self.placed, id)
     }
 
     /// The places of the rules that are active in the first state with the id, in order.
     #[inline(always)]
     pub(crate) fn active_in(&self, id: usize) -> &[usize]
-        requires { is_state (definition_of L.StorageT.number self.now) id ≡ true }
-        ensures { result.now ≡ active_places (definition_of L.StorageT.number self.now).states
-            (definition_of L.StorageT.number self.now).rules id }
+        requires { is_state (definition_by S.number self.now) id ≡ true }
+        ensures { result.now ≡ active_places (definition_by S.number self.now).states
+            (definition_by S.number self.now).rules id }
     {
-        let index = position_of(&self.table.start_states, self.table.placed, id).unwrap_or(0);
-        &self.table.lists[self.table.list_at[index]]
+        let index = position_of(&self.start_states, self.placed, id).unwrap_or(0);
+        &self.lists[self.list_at[index]]
     }
 
     /// The tables of the rules that are active in the first state with the id, with their place among all.
     #[inline(always)]
     pub(crate) fn tables_in(&self, id: usize) -> (usize, &Tables)
-        requires { is_state (definition_of L.StorageT.number self.now) id ≡ true }
-        ensures list { slice_get self.now.table.tables.items result.0 ≡ Some result.1.now }
-        ensures served { ∥ AreTablesOf (patterns_on (definition_of L.StorageT.number self.now).rules
-            (active_places (definition_of L.StorageT.number self.now).states
-            (definition_of L.StorageT.number self.now).rules id)) result.1.now ∥₁ }
+        requires { is_state (definition_by S.number self.now) id ≡ true }
+        ensures list { slice_get self.now.tables.items result.0 ≡ Some result.1.now }
+        ensures served { ∥ AreTablesOf (patterns_on (definition_by S.number self.now).rules
+            (active_places (definition_by S.number self.now).states
+            (definition_by S.number self.now).rules id)) result.1.now ∥₁ }
         ensures untabled { length result.1.now.asked.items ≡ untabled_count self.now id }
     {
-        let index = position_of(&self.table.start_states, self.table.placed, id).unwrap_or(0);
-        let list = self.table.list_at[index];
-        (list, &self.table.tables[list])
+        let index = position_of(&self.start_states, self.placed, id).unwrap_or(0);
+        let list = self.list_at[index];
+        (list, &self.tables[list])
     }
 
     /// The rules that are active in the first state with the id.
     #[inline(always)]
     pub(crate) fn rules_in(&self, id: usize) -> RulesIn<'_>
-        requires { is_state (definition_of L.StorageT.number self.now) id ≡ true }
+        requires { is_state (definition_by S.number self.now) id ≡ true }
         ensures state { result.state ≡ id }
-        ensures rules { AreOf L.StorageT.number self.now id result }
+        ensures rules { AreOf S.number self.now id result }
     {
         let (list, tables) = self.tables_in(id);
         RulesIn {
@@ -260,10 +271,10 @@ impl<L: LexerTypes> LRNonStreamingLexerDef<L> {
     /// lexing mostly stays in a state.
     #[inline(always)]
     pub(crate) fn rules_at<'d>(&'d self, here: RulesIn<'d>, id: usize) -> RulesIn<'d>
-        requires id { is_state (definition_of L.StorageT.number self.now) id ≡ true }
-        requires here { AreOf L.StorageT.number self.now here.state here }
+        requires id { is_state (definition_by S.number self.now) id ≡ true }
+        requires here { AreOf S.number self.now here.state here }
         ensures state { result.state ≡ id }
-        ensures rules { AreOf L.StorageT.number self.now id result }
+        ensures rules { AreOf S.number self.now id result }
     {
         if here.state == id {
             here
@@ -274,9 +285,9 @@ impl<L: LexerTypes> LRNonStreamingLexerDef<L> {
 
     /// Whether the rule's target is no state.
     #[inline(always)]
-    pub(crate) fn lacks_target(&self, rule: &Rule<L::StorageT>) -> bool
-        ensures { result ≡ lacks_target (definition_of L.StorageT.number self.now)
-            (as_rule L.StorageT.number rule.now) }
+    pub(crate) fn lacks_target(&self, rule: &Rule<S>) -> bool
+        ensures { result ≡ lacks_target (definition_by S.number self.now)
+            (as_rule S.number rule.now) }
     {
         match rule.target_state() {
             Some((id, _)) => !self.is_state(id),

@@ -16,7 +16,7 @@ use crate::errors::LRLexError;
 use crate::lexer::definition::LRNonStreamingLexerDef;
 use crate::lexer::pieces::{Piece, pieces_in, pieces_of};
 use crate::lexer::relexing::relex_in_place;
-use crate::lexer::run::LexRun;
+use crate::lexer::run::{Lexed, lex};
 use crate::lexer::telling::{place_of, text_of, utf16_position};
 use lrlex_base::{Edit, LexerTypes, NewlineCache, Span};
 use lrlex_boundaries::Boundaries;
@@ -112,15 +112,13 @@ impl<'lexer, L: LexerTypes<LexErrorT = LRLexError>> Document<'lexer, L> {
         ensures text { IfOk result (λ d. d.text ≡ text.now) }
     {
         let newlines = NewlineCache::from_str(alloc, text)?;
-        let run = definition.run(alloc, text)?;
-        let LexRun {
+        let Lexed {
             items,
             boundaries,
             asked,
             ahead,
             anew,
-            ..
-        } = run;
+        } = lex(alloc, &definition.table, text)?;
         Ok(Document {
             definition,
             text: String::from_str(alloc, text)?,
@@ -171,7 +169,7 @@ impl<'lexer, L: LexerTypes<LexErrorT = LRLexError>> Document<'lexer, L> {
         put_text(&mut self.text, from, to, put);
         match relex_in_place(
             alloc,
-            self.definition,
+            &self.definition.table,
             &mut self.items,
             &mut self.boundaries,
             &mut self.ahead,
@@ -218,7 +216,7 @@ impl<'lexer, L: LexerTypes<LexErrorT = LRLexError>> Document<'lexer, L> {
             (definition_of L.StorageT.number self.now.definition) self.now.text
             self.now.boundaries pieces.items) }
     {
-        pieces_of(alloc, self.definition, &self.text, &self.boundaries)
+        pieces_of(alloc, &self.definition.table, &self.text, &self.boundaries)
     }
 
     /// The pieces that have a byte in `from..to` (`LexRun::pieces_in`).
@@ -234,7 +232,7 @@ impl<'lexer, L: LexerTypes<LexErrorT = LRLexError>> Document<'lexer, L> {
     {
         pieces_in(
             alloc,
-            self.definition,
+            &self.definition.table,
             &self.text,
             &self.boundaries,
             from,

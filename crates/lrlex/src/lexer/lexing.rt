@@ -8,15 +8,16 @@ ghost use Rattle.lrlex_boundaries.specs.Boundaries.{Boundary, last_entries};
 ghost use Rattle.lrlex.specs.Reach.{Reached, IsLexed, searches};
 ghost use Rattle.lrlex.specs.Kept.{HasLooked, capped};
 ghost use Rattle.lrlex.specs.AtHand.{AreOf, IsSearcherOf};
-ghost use Rattle.lrlex.specs.Views.{definition_of, item_of, items_by};
+ghost use Rattle.lrlex.specs.Views.{definition_by, item_of, items_by};
 ghost use Rattle.lrlex.specs.UnderWay.{Front, HasAdvanced, HasEnded, HasEntered, HasSearched, IsUnderWay};
 
 use crate::errors::LRLexError;
 use crate::lexer::active::{lacks_id, lexeme_id};
-use crate::lexer::definition::{LRNonStreamingLexerDef, RulesIn};
+use crate::lexer::definition::{RuleTable, RulesIn};
 use crate::lexer::searching::Searcher;
 use crate::lexer::stack::{step, top_of};
-use lrlex_base::{Lexeme, LexerTypes, Span};
+use crate::numbered::Numbered;
+use lrlex_base::{Lexeme, Span};
 use lrlex_boundaries::Boundaries;
 use lrlex_boundaries::room::append;
 use lrlex_rules::{Rule, StartStateId};
@@ -75,16 +76,16 @@ pub(crate) fn begin<X: Copy>(alloc: Global, text: &str) -> Result<Progress<X>, A
 
 /// Gives the tile's lexeme, if its rule gives one.
 #[inline(always)]
-fn give<L: LexerTypes>(
-    items: &mut Vec<Result<L::LexemeT, LRLexError>>,
-    rule: &Rule<L::StorageT>,
+fn give<S: Numbered, X: Lexeme<S>>(
+    items: &mut Vec<Result<X, LRLexError>>,
+    rule: &Rule<S>,
     place: usize,
     len: usize,
 ) -> Result<(), AllocError>
     requires { place + len < 2 ^ 64 }
-    ensures { OnOk result (map (item_of L.StorageT.number L.LexemeT.seen) items.new.items
-        ≡ map (item_of L.StorageT.number L.LexemeT.seen) items.old.items
-        ++ lexeme_of (lexeme_id (as_rule L.StorageT.number rule.now)) place len) }
+    ensures { OnOk result (map (item_of S.number X.seen) items.new.items
+        ≡ map (item_of S.number X.seen) items.old.items
+        ++ lexeme_of (lexeme_id (as_rule S.number rule.now)) place len) }
 {
     if let Some(id) = lexeme_id(rule) {
         append(items, Ok(Lexeme::new(id, place, len)))?;
@@ -94,13 +95,13 @@ fn give<L: LexerTypes>(
 
 /// Gives an error at the place, with the state in which no rule matches there, if that is why.
 #[inline(never)]
-pub(crate) fn give_error<L: LexerTypes>(
-    items: &mut Vec<Result<L::LexemeT, LRLexError>>,
+pub(crate) fn give_error<S: Numbered, X: Lexeme<S>>(
+    items: &mut Vec<Result<X, LRLexError>>,
     place: usize,
     state: Option<usize>,
 ) -> Result<(), AllocError>
-    ensures { OnOk result (items_by L.StorageT.number L.LexemeT.seen items.new.items
-        ≡ items_by L.StorageT.number L.LexemeT.seen items.old.items
+    ensures { OnOk result (items_by S.number X.seen items.new.items
+        ≡ items_by S.number X.seen items.old.items
         ++ Error place place state ∷ []) }
 {
     let span = Span::new(place, place);
@@ -150,43 +151,43 @@ fn enter<S, X: Copy>(
 /// Takes the tile at the place, and answers whether lexing goes on after it. `here` are the rules of some state, and then
 /// those of the state that the tile was looked for in.
 #[inline(always)]
-pub(crate) fn advance<'d, L: LexerTypes>(
+pub(crate) fn advance<'d, S: Numbered, X: Lexeme<S>>(
     alloc: Global,
-    definition: &'d LRNonStreamingLexerDef<L>,
+    table: &'d RuleTable<S>,
     text: &str,
     here: &mut RulesIn<'d>,
     searcher: &mut Searcher<'d, '_>,
-    progress: &mut Progress<L::LexemeT>,
+    progress: &mut Progress<X>,
 ) -> Result<bool, AllocError>
-    requires here { AreOf L.StorageT.number definition.now here.old.state here.old }
+    requires here { AreOf S.number table.now here.old.state here.old }
     requires inside { progress.old.place < length text.now }
-    requires searcher { IsSearcherOf definition.now text.now searcher.old }
-    requires under_way { (f : Front) × IsUnderWay (definition_of L.StorageT.number definition.now)
-        L.StorageT.number L.LexemeT.seen text.now f progress.old }
-    ensures held { IfOk result (λ _. AreOf L.StorageT.number definition.now here.new.state here.new
-        × IsSearcherOf definition.now text.now searcher.new) }
+    requires searcher { IsSearcherOf table.now text.now searcher.old }
+    requires under_way { (f : Front) × IsUnderWay (definition_by S.number table.now)
+        S.number X.seen text.now f progress.old }
+    ensures held { IfOk result (λ _. AreOf S.number table.now here.new.state here.new
+        × IsSearcherOf table.now text.now searcher.new) }
     ensures goes_on { IfOk result (λ on. on ≡ true → (f : Front)
-        → IsUnderWay (definition_of L.StorageT.number definition.now) L.StorageT.number
-        L.LexemeT.seen text.now f progress.old
-        → HasAdvanced (definition_of L.StorageT.number definition.now) L.StorageT.number
-        L.LexemeT.seen text.now f progress.old progress.new) }
+        → IsUnderWay (definition_by S.number table.now) S.number
+        X.seen text.now f progress.old
+        → HasAdvanced (definition_by S.number table.now) S.number
+        X.seen text.now f progress.old progress.new) }
     ensures ends { IfOk result (λ on. on ≡ false → (f : Front)
-        → IsUnderWay (definition_of L.StorageT.number definition.now) L.StorageT.number
-        L.LexemeT.seen text.now f progress.old
-        → HasEnded (definition_of L.StorageT.number definition.now) L.StorageT.number
-        L.LexemeT.seen text.now f progress.old progress.new) }
+        → IsUnderWay (definition_by S.number table.now) S.number
+        X.seen text.now f progress.old
+        → HasEnded (definition_by S.number table.now) S.number
+        X.seen text.now f progress.old progress.new) }
     ensures asked { IfOk result (λ _. (f : Front)
-        → IsUnderWay (definition_of L.StorageT.number definition.now) L.StorageT.number
-        L.LexemeT.seen text.now f progress.old
-        → HasSearched L.StorageT.number definition.now text.now f progress.old progress.new) }
+        → IsUnderWay (definition_by S.number table.now) S.number
+        X.seen text.now f progress.old
+        → HasSearched S.number table.now text.now f progress.old progress.new) }
 {
     let place = progress.place;
     let state = top_of(&progress.stack);
-    *here = definition.rules_at(*here, state);
+    *here = table.rules_at(*here, state);
     let rest = &text[place..];
     let sight = searcher.winner(
         alloc,
-        definition,
+        table,
         state,
         *here,
         place,
@@ -194,17 +195,17 @@ pub(crate) fn advance<'d, L: LexerTypes>(
         &mut progress.asked,
     )?;
     let Some(tile) = sight.tile else {
-        give_error::<L>(&mut progress.items, place, Some(state))?;
+        give_error::<S, X>(&mut progress.items, place, Some(state))?;
         return Ok(false);
     };
-    let rule = &definition.table.rules[tile.rule];
+    let rule = &table.rules[tile.rule];
     if lacks_id(rule) {
-        give_error::<L>(&mut progress.items, place, None)?;
+        give_error::<S, X>(&mut progress.items, place, None)?;
         return Ok(false);
     }
-    give::<L>(&mut progress.items, rule, place, tile.len)?;
-    if definition.lacks_target(rule) {
-        give_error::<L>(&mut progress.items, place, None)?;
+    give::<S, X>(&mut progress.items, rule, place, tile.len)?;
+    if table.lacks_target(rule) {
+        give_error::<S, X>(&mut progress.items, place, None)?;
         return Ok(false);
     }
     let over = progress.over.max(sight.reach).saturating_sub(tile.len);

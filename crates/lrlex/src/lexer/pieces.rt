@@ -5,14 +5,15 @@ ghost use Rattle.lrlex.specs.AtHand.{AreOf, IsSearcherOf};
 ghost use Rattle.lrlex.specs.Pieces.{IsPiece, AreTilesOfRun, ArePieces, ArePiecesIn};
 ghost use Rattle.lrlex.specs.Reach.{IsLexed, IsRun};
 ghost use Rattle.lrlex.specs.Tiling.{Item, Wins};
-ghost use Rattle.lrlex.specs.Views.{definition_of};
+ghost use Rattle.lrlex.specs.Views.{definition_by, definition_of};
 
 use crate::errors::LRLexError;
-use crate::lexer::definition::{LRNonStreamingLexerDef, RulesIn};
+use crate::lexer::definition::{RuleTable, RulesIn};
 use crate::lexer::resuming::up_to;
 use crate::lexer::run::LexRun;
 use crate::lexer::searching::{Searcher, Tile};
 use crate::lexer::stack::top_of;
+use crate::numbered::Numbered;
 use lrlex_base::{LexerTypes, Span};
 use lrlex_boundaries::Boundaries;
 use std::alloc::{AllocError, Global};
@@ -29,129 +30,129 @@ pub struct Piece<'d, 't> {
 }
 
 /// The winner of the text, which has one.
-fn tile_of<'d, L: LexerTypes<LexErrorT = LRLexError>>(
+fn tile_of<'d, S: Numbered>(
     alloc: Global,
-    definition: &'d LRNonStreamingLexerDef<L>,
+    table: &'d RuleTable<S>,
     state: usize,
     here: RulesIn<'d>,
     searcher: &mut Searcher<'d, '_>,
     place: usize,
     text: &str,
 ) -> Result<Tile, AllocError>
-    requires here { AreOf L.StorageT.number definition.now state here }
-    requires searcher { (input : List ℕ) × IsSearcherOf definition.now input searcher.old
+    requires here { AreOf S.number table.now state here }
+    requires searcher { (input : List ℕ) × IsSearcherOf table.now input searcher.old
         × (text.now ≡ drop place input) × (place ≤ length input) }
-    requires some { (t : ℕ × ℕ) × Wins (definition_of L.StorageT.number definition.now) state
+    requires some { (t : ℕ × ℕ) × Wins (definition_by S.number table.now) state
         text.now t.0 t.1 }
-    ensures wins { IfOk result (λ t. Wins (definition_of L.StorageT.number definition.now) state
+    ensures wins { IfOk result (λ t. Wins (definition_by S.number table.now) state
         text.now t.rule t.len) }
     ensures boundary { IfOk result (λ t. IsCharBoundary text.now t.len) }
-    ensures rule { IfOk result (λ t. t.rule < vec_len definition.now.table.rules) }
+    ensures rule { IfOk result (λ t. t.rule < vec_len table.now.rules) }
     ensures searcher { IfOk result (λ _. (input : List ℕ) →
-        IsSearcherOf definition.now input searcher.old →
-        IsSearcherOf definition.now input searcher.new) }
+        IsSearcherOf table.now input searcher.old →
+        IsSearcherOf table.now input searcher.new) }
 {
     let mut asked = 0;
-    let sight = searcher.winner(alloc, definition, state, here, place, text, &mut asked)?;
+    let sight = searcher.winner(alloc, table, state, here, place, text, &mut asked)?;
     Ok(sight.tile.unwrap())
 }
 
 /// The tile from this place on.
-fn piece_of<'d, 't, L: LexerTypes<LexErrorT = LRLexError>>(
-    definition: &'d LRNonStreamingLexerDef<L>,
+fn piece_of<'d, 't, S: Numbered>(
+    table: &'d RuleTable<S>,
     text: &'t str,
     place: usize,
     tile: Tile,
 ) -> Piece<'d, 't>
-    requires rule { tile.rule < vec_len definition.now.table.rules }
+    requires rule { tile.rule < vec_len table.now.rules }
     requires begins { IsCharBoundary text.now place }
     requires ends { IsCharBoundary text.now (place + tile.len) }
-    ensures { IsPiece (definition_of L.StorageT.number definition.now) text.now place
+    ensures { IsPiece (definition_by S.number table.now) text.now place
         (record { rule = tile.rule; len = tile.len }) result }
 {
     let end = place + tile.len;
     Piece {
         rule: tile.rule,
-        name: definition.table.rules[tile.rule].name(),
+        name: table.rules[tile.rule].name(),
         span: Span::new(place, end),
         text: &text[place..end],
     }
 }
 
 /// The tiles between two boundaries, in order.
-fn pieces_between<'d, 't, L: LexerTypes<LexErrorT = LRLexError>>(
+fn pieces_between<'d, 't, S: Numbered>(
     alloc: Global,
-    definition: &'d LRNonStreamingLexerDef<L>,
+    table: &'d RuleTable<S>,
     text: &'t str,
     boundaries: &Boundaries,
     first: usize,
     last: usize,
 ) -> Result<Vec<Piece<'d, 't>>, AllocError>
-    requires initial { is_state (definition_of L.StorageT.number definition.now) 0 ≡ true }
-    requires lexed { (found : List Item) × IsLexed (definition_of L.StorageT.number definition.now)
+    requires initial { is_state (definition_by S.number table.now) 0 ≡ true }
+    requires lexed { (found : List Item) × IsLexed (definition_by S.number table.now)
         text.now found boundaries.now }
     requires order { first ≤ last }
     requires within { last < length boundaries.now }
     ensures tiles { IfOk result (λ pieces. AreTilesOfRun
-        (definition_of L.StorageT.number definition.now) text.now boundaries.now first
+        (definition_by S.number table.now) text.now boundaries.now first
         pieces.items) }
     ensures many { IfOk result (λ pieces. first + vec_len pieces ≡ last) }
 {
     let mut pieces = Vec::with_capacity(alloc, last - first)?;
-    let mut searcher = Searcher::new(alloc, definition, text)?;
-    let mut here = definition.rules_in(0);
+    let mut searcher = Searcher::new(alloc, table, text)?;
+    let mut here = table.rules_in(0);
     let mut place = boundaries.place(first);
     'tiles: for index in first..last {
         let state = top_of(boundaries.stack(index));
-        here = definition.rules_at(here, state);
+        here = table.rules_at(here, state);
         let rest = &text[place..];
-        let tile = tile_of(alloc, definition, state, here, &mut searcher, place, rest)?;
-        pieces.push(piece_of(definition, text, place, tile))?;
+        let tile = tile_of(alloc, table, state, here, &mut searcher, place, rest)?;
+        pieces.push(piece_of(table, text, place, tile))?;
         place += tile.len;
     }
     Ok(pieces)
 }
 
 /// The tiles of the text, in order.
-pub(crate) fn pieces_of<'d, 't, L: LexerTypes<LexErrorT = LRLexError>>(
+pub(crate) fn pieces_of<'d, 't, S: Numbered>(
     alloc: Global,
-    definition: &'d LRNonStreamingLexerDef<L>,
+    table: &'d RuleTable<S>,
     text: &'t str,
     boundaries: &Boundaries,
 ) -> Result<Vec<Piece<'d, 't>>, AllocError>
-    requires { (found : List Item) × IsRun (definition_of L.StorageT.number definition.now) text.now
+    requires { (found : List Item) × IsRun (definition_by S.number table.now) text.now
         found boundaries.now }
     ensures { IfOk result (λ pieces. ArePieces
-        (definition_of L.StorageT.number definition.now) text.now boundaries.now pieces.items) }
+        (definition_by S.number table.now) text.now boundaries.now pieces.items) }
 {
-    if !definition.is_state(0) {
+    if !table.is_state(0) {
         return Ok(Vec::new(alloc));
     }
     let last = boundaries.len() - 1;
-    pieces_between(alloc, definition, text, boundaries, 0, last)
+    pieces_between(alloc, table, text, boundaries, 0, last)
 }
 
 /// The tiles that have a byte in `from..to`, in order.
-pub(crate) fn pieces_in<'d, 't, L: LexerTypes<LexErrorT = LRLexError>>(
+pub(crate) fn pieces_in<'d, 't, S: Numbered>(
     alloc: Global,
-    definition: &'d LRNonStreamingLexerDef<L>,
+    table: &'d RuleTable<S>,
     text: &'t str,
     boundaries: &Boundaries,
     from: usize,
     to: usize,
 ) -> Result<Vec<Piece<'d, 't>>, AllocError>
-    requires { (found : List Item) × IsRun (definition_of L.StorageT.number definition.now) text.now
+    requires { (found : List Item) × IsRun (definition_by S.number table.now) text.now
         found boundaries.now }
     ensures { IfOk result (λ pieces. ArePiecesIn
-        (definition_of L.StorageT.number definition.now) text.now boundaries.now from to
+        (definition_by S.number table.now) text.now boundaries.now from to
         pieces.items) }
 {
-    if from >= to || !definition.is_state(0) {
+    if from >= to || !table.is_state(0) {
         return Ok(Vec::new(alloc));
     }
     let first = up_to(boundaries, from) - 1;
     let last = up_to(boundaries, to - 1).min(boundaries.len() - 1);
-    pieces_between(alloc, definition, text, boundaries, first, last)
+    pieces_between(alloc, table, text, boundaries, first, last)
 }
 
 impl<'lexer, 'input, L: LexerTypes<LexErrorT = LRLexError>> LexRun<'lexer, 'input, L> {
@@ -162,7 +163,7 @@ impl<'lexer, 'input, L: LexerTypes<LexErrorT = LRLexError>> LexRun<'lexer, 'inpu
             (definition_of L.StorageT.number self.now.definition) self.now.text
             self.now.boundaries pieces.items) }
     {
-        pieces_of(alloc, self.definition, self.text, &self.boundaries)
+        pieces_of(alloc, &self.definition.table, self.text, &self.boundaries)
     }
 
     /// The pieces that have a byte in `from..to`, in order, such as those of the lines that an editor shows. Each is whole: the
@@ -181,7 +182,7 @@ impl<'lexer, 'input, L: LexerTypes<LexErrorT = LRLexError>> LexRun<'lexer, 'inpu
     {
         pieces_in(
             alloc,
-            self.definition,
+            &self.definition.table,
             self.text,
             &self.boundaries,
             from,

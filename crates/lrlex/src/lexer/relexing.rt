@@ -10,31 +10,33 @@ ghost use Rattle.lrlex.specs.Moves.{IsMovable, begins_before, items_from};
 ghost use Rattle.lrlex_boundaries.specs.Entries.{plain, AreEntries};
 ghost use Rattle.lrlex.specs.Reach.{IsRun};
 ghost use Rattle.lrlex.specs.Kept.{LooksAhead, items_before};
-ghost use Rattle.lrlex.specs.Ran.{IsRunOf, HasItemLaws, ran};
-ghost use Rattle.lrlex.specs.Relexed.{WasRelexed};
-ghost use Rattle.lrlex.specs.Views.{definition_of, items_by, item_of};
+ghost use Rattle.lrlex.specs.Asked.{asks_by};
+ghost use Rattle.lrlex.specs.Ran.{IsRunOf, HasItemLaws};
+ghost use Rattle.lrlex.specs.Relexed.{AreCountsOf, WasRelexed};
+ghost use Rattle.lrlex.specs.Views.{definition_by, items_by, item_of};
 ghost use Rattle.lrlex.specs.UnderWay.{HasCutAnew, IsEditOf, IsPutBehind, IsPutBetween, TellsMeeting};
 
 use crate::errors::LRLexError;
-use crate::lexer::definition::LRNonStreamingLexerDef;
+use crate::lexer::definition::RuleTable;
 use crate::lexer::lexing::{Progress, advance};
 use crate::lexer::resuming::{append_raised, last_safe, resume, up_to};
 use crate::lexer::run::LexRun;
 use crate::lexer::searching::Searcher;
+use crate::numbered::Numbered;
 use lrlex_base::{Edit, LexError, Lexeme, LexerTypes, Span};
 use lrlex_boundaries::Boundaries;
 use lrlex_boundaries::room::{copied, splice};
 use std::alloc::{AllocError, Global};
 
 /// The item once what stood at `from` stands at `to`.
-fn moved<L: LexerTypes<LexErrorT = LRLexError>>(
-    item: &Result<L::LexemeT, LRLexError>,
+fn moved<S: Numbered, X: Lexeme<S>>(
+    item: &Result<X, LRLexError>,
     from: usize,
     to: usize,
-) -> Result<L::LexemeT, LRLexError>
-    requires { IsMovable from to (item_of L.StorageT.number L.LexemeT.seen item.now) }
-    ensures { item_of L.StorageT.number L.LexemeT.seen result
-        ≡ rebased from to (item_of L.StorageT.number L.LexemeT.seen item.now) }
+) -> Result<X, LRLexError>
+    requires { IsMovable from to (item_of S.number X.seen item.now) }
+    ensures { item_of S.number X.seen result
+        ≡ rebased from to (item_of S.number X.seen item.now) }
 {
     match item {
         Ok(lexeme) => {
@@ -59,11 +61,11 @@ fn moved<L: LexerTypes<LexErrorT = LRLexError>>(
 }
 
 /// Whether the item begins before the place.
-pub(crate) fn begins_before<L: LexerTypes<LexErrorT = LRLexError>>(
-    item: &Result<L::LexemeT, LRLexError>,
+pub(crate) fn begins_before<S: Numbered, X: Lexeme<S>>(
+    item: &Result<X, LRLexError>,
     place: usize,
 ) -> bool
-    ensures { result ≡ begins_before place (item_of L.StorageT.number L.LexemeT.seen item.now) }
+    ensures { result ≡ begins_before place (item_of S.number X.seen item.now) }
 {
     match item {
         Ok(lexeme) => lexeme.span().start() < place,
@@ -72,46 +74,46 @@ pub(crate) fn begins_before<L: LexerTypes<LexErrorT = LRLexError>>(
 }
 
 /// How many items begin before the place, of items in order.
-fn many_before<L: LexerTypes<LexErrorT = LRLexError>>(
-    items: &[Result<L::LexemeT, LRLexError>],
+fn many_before<S: Numbered, X: Lexeme<S>>(
+    items: &[Result<X, LRLexError>],
     place: usize,
 ) -> usize
     requires { IsPartitionedBy (begins_before place)
-        (map (item_of L.StorageT.number L.LexemeT.seen) items.now) }
+        (map (item_of S.number X.seen) items.now) }
     ensures within { result ≤ length items.now }
-    ensures before { map (item_of L.StorageT.number L.LexemeT.seen) (take result items.now)
-        ≡ items_before place (map (item_of L.StorageT.number L.LexemeT.seen) items.now) }
-    ensures from { map (item_of L.StorageT.number L.LexemeT.seen) (drop result items.now)
-        ≡ items_from place (map (item_of L.StorageT.number L.LexemeT.seen) items.now) }
+    ensures before { map (item_of S.number X.seen) (take result items.now)
+        ≡ items_before place (map (item_of S.number X.seen) items.now) }
+    ensures from { map (item_of S.number X.seen) (drop result items.now)
+        ≡ items_from place (map (item_of S.number X.seen) items.now) }
 {
     items.partition_point(
-        |item: &Result<L::LexemeT, LRLexError>| -> bool
+        |item: &Result<X, LRLexError>| -> bool
             ensures { result ≡ begins_before place
-                (item_of L.StorageT.number L.LexemeT.seen item.now) }
-        { begins_before::<L>(item, place) },
+                (item_of S.number X.seen item.now) }
+        { begins_before::<S, X>(item, place) },
     )
 }
 
 /// Moves the items from the one at `first` on: what stood at `from` stands at `to`.
-fn move_items<L: LexerTypes<LexErrorT = LRLexError>>(
-    items: &mut [Result<L::LexemeT, LRLexError>],
+fn move_items<S: Numbered, X: Lexeme<S>>(
+    items: &mut [Result<X, LRLexError>],
     first: usize,
     from: usize,
     to: usize,
 )
     requires within { first ≤ length items.old }
     requires movable { All (IsMovable from to)
-        (map (item_of L.StorageT.number L.LexemeT.seen) (drop first items.old)) }
-    ensures { map (item_of L.StorageT.number L.LexemeT.seen) items.new
-        ≡ map (item_of L.StorageT.number L.LexemeT.seen) (take first items.old)
+        (map (item_of S.number X.seen) (drop first items.old)) }
+    ensures { map (item_of S.number X.seen) items.new
+        ≡ map (item_of S.number X.seen) (take first items.old)
         ++ map (rebased from to)
-        (map (item_of L.StorageT.number L.LexemeT.seen) (drop first items.old)) }
+        (map (item_of S.number X.seen) (drop first items.old)) }
 {
     if from == to {
         return;
     }
     'items: for index in first..items.len() {
-        items[index] = moved::<L>(&items[index], from, to);
+        items[index] = moved::<S, X>(&items[index], from, to);
     }
 }
 
@@ -199,8 +201,8 @@ fn meets(
 
 /// What lexing again reads of an old run.
 #[derive(Drop)]
-pub(crate) struct Old<'a, L: LexerTypes<LexErrorT = LRLexError>> {
-    pub(crate) items: &'a [Result<L::LexemeT, LRLexError>],
+pub(crate) struct Old<'a, X> {
+    pub(crate) items: &'a [Result<X, LRLexError>],
     pub(crate) boundaries: &'a Boundaries,
     pub(crate) ahead: &'a [u8],
 }
@@ -219,26 +221,26 @@ pub(crate) struct Anew<X> {
 
 /// Lexes the text after an edit of the old run's, from the last boundary before which no tile looked at what the edit changes,
 /// as far as the old run knows, up to the first that meets an old one.
-fn cut_anew<L: LexerTypes<LexErrorT = LRLexError>>(
+fn cut_anew<S: Numbered, X: Lexeme<S>>(
     alloc: Global,
-    definition: &LRNonStreamingLexerDef<L>,
-    old: &Old<'_, L>,
+    table: &RuleTable<S>,
+    old: &Old<'_, X>,
     edit: &Edit<'_>,
     new: &str,
-) -> Result<Anew<L::LexemeT>, AllocError>
-    requires initial { is_state (definition_of L.StorageT.number definition.now) 0 ≡ true }
-    requires known { IsEditOf L.StorageT.number L.LexemeT.seen definition.now old.now.items.now
+) -> Result<Anew<X>, AllocError>
+    requires initial { is_state (definition_by S.number table.now) 0 ≡ true }
+    requires known { IsEditOf S.number X.seen table.now old.now.items.now
         old.now.boundaries.now old.now.ahead.now edit.now.removed edit.now.put.now new.now }
-    ensures { IfOk result (HasCutAnew L.StorageT.number L.LexemeT.seen definition.now
+    ensures { IfOk result (HasCutAnew S.number X.seen table.now
         old.now.items.now old.now.boundaries.now old.now.ahead.now edit.now.removed
         edit.now.put.now new.now) }
 {
     let index = last_safe(old.boundaries, old.ahead, edit.removed.start());
-    let first = many_before::<L>(old.items, old.boundaries.place(index));
+    let first = many_before::<S, X>(old.items, old.boundaries.place(index));
     let mut progress = resume(alloc, old.boundaries, old.ahead, index)?;
-    let mut searcher = Searcher::new(alloc, definition, new)?;
+    let mut searcher = Searcher::new(alloc, table, new)?;
     let mut cursor = behind(old.boundaries, edit);
-    let mut here = definition.rules_in(0);
+    let mut here = table.rules_in(0);
     'tiles: while progress.place < new.len() {
         if meets(
             old.boundaries,
@@ -256,7 +258,7 @@ fn cut_anew<L: LexerTypes<LexErrorT = LRLexError>>(
         }
         if !advance(
             alloc,
-            definition,
+            table,
             new,
             &mut here,
             &mut searcher,
@@ -307,30 +309,30 @@ fn put_behind<X: Copy>(
 
 /// Puts what was cut anew in the place of the old ones between its front and the old boundary that it met, and moves what follows that
 /// one. After a refusal all is what it was.
-fn put_between<L: LexerTypes<LexErrorT = LRLexError>>(
-    items: &mut Vec<Result<L::LexemeT, LRLexError>>,
+fn put_between<S: Numbered, X: Lexeme<S>>(
+    items: &mut Vec<Result<X, LRLexError>>,
     boundaries: &mut Boundaries,
     ahead: &mut Vec<u8>,
-    anew: Anew<L::LexemeT>,
+    anew: Anew<X>,
     met: usize,
 ) -> Result<(), AllocError>
     requires first { (anew.first ≤ length items.old.items)
-        × (items_by L.StorageT.number L.LexemeT.seen (take anew.first items.old.items)
+        × (items_by S.number X.seen (take anew.first items.old.items)
         ≡ items_before (boundary_at boundaries.old anew.index).place
-        (items_by L.StorageT.number L.LexemeT.seen items.old.items)) }
+        (items_by S.number X.seen items.old.items)) }
     requires within { (anew.index ≤ met) × (met < length boundaries.old) }
     requires sorted { AreSorted boundaries.old }
     requires numbers { length ahead.old.items ≡ length boundaries.old }
     requires last { (0 < length anew.progress.boundaries)
         × (last_entries anew.progress.boundaries ≡ (boundary_at boundaries.old met).entries) }
     requires movable { IsPartitionedBy (begins_before (boundary_at boundaries.old met).place)
-        (items_by L.StorageT.number L.LexemeT.seen items.old.items)
+        (items_by S.number X.seen items.old.items)
         × All (IsMovable (boundary_at boundaries.old met).place anew.progress.place)
         (items_from (boundary_at boundaries.old met).place
-        (items_by L.StorageT.number L.LexemeT.seen items.old.items))
+        (items_by S.number X.seen items.old.items))
         × All (IsMovableBoundary (boundary_at boundaries.old met).place anew.progress.place)
         (drop (met + 1) boundaries.old) }
-    ensures put { OnOk result (IsPutBetween L.StorageT.number L.LexemeT.seen items.old.items
+    ensures put { OnOk result (IsPutBetween S.number X.seen items.old.items
         boundaries.old ahead.old.items anew met items.new.items boundaries.new ahead.new.items) }
     ensures kept { OnErr result ((items.new.items ≡ items.old.items)
         × (boundaries.new ≡ boundaries.old) × (ahead.new.items ≡ ahead.old.items)) }
@@ -351,41 +353,41 @@ fn put_between<L: LexerTypes<LexErrorT = LRLexError>>(
         over,
     } = progress;
     let from = boundaries.place(met);
-    let last = many_before::<L>(items, from);
+    let last = many_before::<S, X>(items, from);
     let far = append_raised(&mut numbers, boundaries, ahead, met, over)?;
     items.reserve(found.len())?;
     ahead.reserve(numbers.len())?;
     boundaries.splice(index, met, &between, to)?;
     splice(items, first, last, &found);
-    move_items::<L>(items, first + found.len(), from, to);
+    move_items::<S, X>(items, first + found.len(), from, to);
     splice(ahead, index, far, &numbers);
     Ok(())
 }
 
 /// Lexes the text after an edit in place, and answers how many searches that needed and how many tiles it cut anew. What
 /// stands before these stays, and what follows is moved. After a refusal all is what it was.
-pub(crate) fn relex_in_place<L: LexerTypes<LexErrorT = LRLexError>>(
+pub(crate) fn relex_in_place<S: Numbered, X: Lexeme<S>>(
     alloc: Global,
-    definition: &LRNonStreamingLexerDef<L>,
-    items: &mut Vec<Result<L::LexemeT, LRLexError>>,
+    table: &RuleTable<S>,
+    items: &mut Vec<Result<X, LRLexError>>,
     boundaries: &mut Boundaries,
     ahead: &mut Vec<u8>,
     edit: &Edit<'_>,
     new: &str,
 ) -> Result<(u128, usize), AllocError>
-    requires known { IsEditOf L.StorageT.number L.LexemeT.seen definition.now items.old.items
+    requires known { IsEditOf S.number X.seen table.now items.old.items
         boundaries.old ahead.old.items edit.now.removed edit.now.put.now new.now }
-    ensures run { OnOk result (IsRun (definition_of L.StorageT.number definition.now) new.now
-        (items_by L.StorageT.number L.LexemeT.seen items.new.items) boundaries.new) }
-    ensures looks { OnOk result (LooksAhead (definition_of L.StorageT.number definition.now)
+    ensures run { OnOk result (IsRun (definition_by S.number table.now) new.now
+        (items_by S.number X.seen items.new.items) boundaries.new) }
+    ensures looks { OnOk result (LooksAhead (definition_by S.number table.now)
         new.now boundaries.new ahead.new.items) }
-    ensures counts { IfOk result (λ n. WasRelexed L.StorageT.number boundaries.old ahead.old.items
-        (as_span edit.now.removed) edit.now.put.now (ran definition.now new.now items.new.items
-        boundaries.new ahead.new.items n.0 n.1)) }
+    ensures counts { IfOk result (λ n. AreCountsOf (definition_by S.number table.now)
+        (asks_by table.now new.now) boundaries.old ahead.old.items (as_span edit.now.removed)
+        edit.now.put.now new.now boundaries.new n.0 n.1) }
     ensures kept { OnErr result ((items.new.items ≡ items.old.items)
         × (boundaries.new ≡ boundaries.old) × (ahead.new.items ≡ ahead.old.items)) }
 {
-    if !definition.is_state(0) {
+    if !table.is_state(0) {
         return Ok((0, 0));
     }
     boundaries.tidy(alloc)?;
@@ -394,11 +396,11 @@ pub(crate) fn relex_in_place<L: LexerTypes<LexErrorT = LRLexError>>(
         boundaries: &*boundaries,
         ahead: ahead.as_slice(),
     };
-    let anew = cut_anew(alloc, definition, &old, edit, new)?;
+    let anew = cut_anew(alloc, table, &old, edit, new)?;
     let asked = anew.progress.asked;
     let lexed = anew.progress.boundaries.len() - 1;
     match anew.met {
-        Some(met) => put_between::<L>(items, boundaries, ahead, anew, met)?,
+        Some(met) => put_between::<S, X>(items, boundaries, ahead, anew, met)?,
         None => put_behind(items, boundaries, ahead, &anew)?,
     }
     Ok((asked, lexed))
@@ -430,7 +432,7 @@ impl<'lexer, L: LexerTypes<LexErrorT = LRLexError>> LexRun<'lexer, '_, L> {
         let mut ahead = copied(alloc, &self.ahead)?;
         let (asked, anew) = relex_in_place(
             alloc,
-            self.definition,
+            &self.definition.table,
             &mut items,
             &mut boundaries,
             &mut ahead,

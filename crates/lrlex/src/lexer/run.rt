@@ -1,19 +1,20 @@
-ghost use Rattle.std.specs.Prelude.{◌≡◌, ◌+◌, ◌-◌, ◌*◌, ◌<◌, ◌≤◌, true, false, [], length, vec_len, IfOk, slice_index};
-ghost use Rattle.lrlex.specs.Active.{is_state};
+ghost use Rattle.std.specs.Prelude.{◌≡◌, ◌+◌, ◌-◌, ◌*◌, ◌<◌, ◌≤◌, None, [], ◌∷◌, length, vec_len, IfOk, slice_index};
+ghost use Rattle.lrlex.specs.Tiling.{Error};
 ghost use Rattle.lrlex_boundaries.specs.Boundaries.{boundary_at, most_entries};
 ghost use Rattle.lrlex_boundaries.specs.Entries.{AreEntries};
 ghost use Rattle.lrlex.specs.Reach.{Reached, IsLexed, IsRun, searches};
-ghost use Rattle.lrlex.specs.Asked.{asks};
+ghost use Rattle.lrlex.specs.Asked.{asks, asks_by};
 ghost use Rattle.lrlex.specs.Kept.{LooksAhead};
-ghost use Rattle.lrlex.specs.Views.{definition_of, items_by};
+ghost use Rattle.lrlex.specs.Views.{definition_by, definition_of, items_by};
 ghost use Rattle.lrlex.specs.Ran.{IsRunOf, HasItemLaws};
 ghost use Rattle.lrlex.specs.UnderWay.{HasFinished};
 
 use crate::errors::LRLexError;
-use crate::lexer::definition::LRNonStreamingLexerDef;
+use crate::lexer::definition::{LRNonStreamingLexerDef, RuleTable};
 use crate::lexer::lexing::{Progress, advance, begin, give_error};
 use crate::lexer::searching::Searcher;
-use lrlex_base::LexerTypes;
+use crate::numbered::Numbered;
+use lrlex_base::{Lexeme, LexerTypes};
 use lrlex_boundaries::Boundaries;
 use std::alloc::{AllocError, Global};
 use std::marker::Model;
@@ -143,27 +144,27 @@ impl<'lexer, 'input, L: LexerTypes<LexErrorT = LRLexError>> LexRun<'lexer, 'inpu
     }
 }
 
-/// The run of a definition without a state 0.
-pub(crate) fn stateless<'lexer, 'input, L: LexerTypes<LexErrorT = LRLexError>>(
-    alloc: Global,
-    definition: &'lexer LRNonStreamingLexerDef<L>,
-    text: &'input str,
-) -> Result<LexRun<'lexer, 'input, L>, AllocError>
-    requires { is_state (definition_of L.StorageT.number definition.now) 0 ≡ false }
-    ensures run { IfOk result (IsRunOf L.StorageT.number L.LexemeT.seen definition.now text.now) }
-    ensures laws { IfOk result (HasItemLaws L.StorageT.number L.LexemeT.seen definition.now
-        text.now) }
-    ensures definition { IfOk result (λ r. r.definition ≡ definition.now) }
-    ensures text { IfOk result (λ r. r.text ≡ text.now) }
-    ensures asked { IfOk result (λ r. r.asked ≡ 0) }
-    ensures none { IfOk result (λ r. r.boundaries ≡ []) }
-    ensures lexed { IfOk result (λ r. r.anew ≡ 0) }
+/// What lexing a text gave, by a table of rules.
+#[derive(Drop)]
+pub(crate) struct Lexed<X> {
+    pub(crate) items: Vec<Result<X, LRLexError>>,
+    pub(crate) boundaries: Boundaries,
+    pub(crate) asked: u128,
+    pub(crate) ahead: Vec<u8>,
+    pub(crate) anew: usize,
+}
+
+/// Without a state 0: an error alone.
+fn stateless<S: Numbered, X: Lexeme<S>>(alloc: Global) -> Result<Lexed<X>, AllocError>
+    ensures items { IfOk result (λ r. items_by S.number X.seen r.items.items
+        ≡ Error 0 0 None ∷ []) }
+    ensures boundaries { IfOk result (λ r. r.boundaries ≡ []) }
+    ensures ahead { IfOk result (λ r. r.ahead.items ≡ []) }
+    ensures counts { IfOk result (λ r. (r.asked ≡ 0) × (r.anew ≡ 0)) }
 {
     let mut items = Vec::new(alloc);
-    give_error::<L>(&mut items, 0, None)?;
-    Ok(LexRun {
-        definition,
-        text,
+    give_error::<S, X>(&mut items, 0, None)?;
+    Ok(Lexed {
         items,
         boundaries: Boundaries::new(alloc),
         asked: 0,
@@ -172,18 +173,9 @@ pub(crate) fn stateless<'lexer, 'input, L: LexerTypes<LexErrorT = LRLexError>>(
     })
 }
 
-/// The run that has come to its end, with so many tiles cut anew.
-pub(crate) fn finished<'lexer, 'input, L: LexerTypes<LexErrorT = LRLexError>>(
-    definition: &'lexer LRNonStreamingLexerDef<L>,
-    text: &'input str,
-    progress: Progress<L::LexemeT>,
-    anew: usize,
-) -> LexRun<'lexer, 'input, L>
-    requires looks { LooksAhead (definition_of L.StorageT.number definition.now) text.now
-        progress.boundaries progress.ahead.items }
-    requires run { IsRun (definition_of L.StorageT.number definition.now) text.now
-        (items_by L.StorageT.number L.LexemeT.seen progress.items.items) progress.boundaries }
-    ensures { HasFinished definition.now text.now progress anew result }
+/// What was found, once lexing has come to its end.
+fn finished<X>(progress: Progress<X>) -> Lexed<X>
+    ensures { HasFinished progress (length progress.boundaries - 1) result }
 {
     let Progress {
         place: _,
@@ -194,15 +186,45 @@ pub(crate) fn finished<'lexer, 'input, L: LexerTypes<LexErrorT = LRLexError>>(
         ahead,
         over: _,
     } = progress;
-    LexRun {
-        definition,
-        text,
+    let anew = boundaries.len().saturating_sub(1);
+    Lexed {
         items,
         boundaries,
         asked,
         ahead,
         anew,
     }
+}
+
+/// Cuts the text into tiles, from state 0 on.
+pub(crate) fn lex<S: Numbered, X: Lexeme<S>>(
+    alloc: Global,
+    table: &RuleTable<S>,
+    text: &str,
+) -> Result<Lexed<X>, AllocError>
+    ensures run { IfOk result (λ r. IsRun (definition_by S.number table.now) text.now
+        (items_by S.number X.seen r.items.items) r.boundaries) }
+    ensures looks { IfOk result (λ r. LooksAhead (definition_by S.number table.now) text.now
+        r.boundaries r.ahead.items) }
+    ensures asked { IfOk result (λ r. r.asked ≤ searches
+        (definition_by S.number table.now) text.now r.boundaries) }
+    ensures few { IfOk result (λ r. r.asked ≤ length r.boundaries * length
+        (definition_by S.number table.now).rules) }
+    ensures exact { IfOk result (λ r. r.asked ≡ asks_by table.now text.now r.boundaries) }
+    ensures lexed { IfOk result (λ r. r.anew ≡ length r.boundaries - 1) }
+{
+    if !table.is_state(0) {
+        return stateless::<S, X>(alloc);
+    }
+    let mut searcher = Searcher::new(alloc, table, text)?;
+    let mut progress = begin(alloc, text)?;
+    let mut here = table.rules_in(0);
+    'tiles: while progress.place < text.len() {
+        if !advance(alloc, table, text, &mut here, &mut searcher, &mut progress)? {
+            return Ok(finished(progress));
+        }
+    }
+    Ok(finished(progress))
 }
 
 impl<L: LexerTypes<LexErrorT = LRLexError>> LRNonStreamingLexerDef<L> {
@@ -226,19 +248,21 @@ impl<L: LexerTypes<LexErrorT = LRLexError>> LRNonStreamingLexerDef<L> {
         ensures exact { IfOk result (λ r. r.asked ≡ asks self.now text.now r.boundaries) }
         ensures lexed { IfOk result (λ r. r.anew ≡ length r.boundaries - 1) }
     {
-        if !self.is_state(0) {
-            return stateless(alloc, self, text);
-        }
-        let mut searcher = Searcher::new(alloc, self, text)?;
-        let mut progress = begin(alloc, text)?;
-        let mut here = self.rules_in(0);
-        'tiles: while progress.place < text.len() {
-            if !advance(alloc, self, text, &mut here, &mut searcher, &mut progress)? {
-                let anew = progress.boundaries.len().saturating_sub(1);
-                return Ok(finished(self, text, progress, anew));
-            }
-        }
-        let anew = progress.boundaries.len().saturating_sub(1);
-        Ok(finished(self, text, progress, anew))
+        let Lexed {
+            items,
+            boundaries,
+            asked,
+            ahead,
+            anew,
+        } = lex(alloc, &self.table, text)?;
+        Ok(LexRun {
+            definition: self,
+            text,
+            items,
+            boundaries,
+            asked,
+            ahead,
+            anew,
+        })
     }
 }

@@ -2,10 +2,10 @@
 ghost use Rattle.std.specs.Prelude.{◌≡◌, ℕ, length, slice_index, [], ◌+◌, ◌^◌, ◌<◌, ◌≤◌, ◌⊎◌, true, false, vec_len, List, drop, IfOk, IfSome, IsCharBoundary};
 ghost use Rattle.lrlex_rules.specs.Matchers.{AreMatchers};
 ghost use Rattle.lrlex.specs.AtHand.{AreOf, HasAsked, IsSearcherOf, IsSightOf};
-ghost use Rattle.lrlex.specs.Views.{definition_of};
+ghost use Rattle.lrlex.specs.Views.{definition_by};
 
-use crate::lexer::definition::{LRNonStreamingLexerDef, RulesIn};
-use lrlex_base::LexerTypes;
+use crate::lexer::definition::{RuleTable, RulesIn};
+use crate::numbered::Numbered;
 use lrlex_rules::{ask_by, no_matchers};
 use lrlex_table::DeadEnds;
 use regex::Matcher;
@@ -53,22 +53,22 @@ fn active_place(active: &[usize], rules: usize, number: usize) -> usize
 /// What wins at the beginning of the text, which stands at `from`, in a state whose active rules all have a table: what the
 /// tables tell.
 #[inline(always)]
-fn tabled_winner<L: LexerTypes>(
-    definition: &LRNonStreamingLexerDef<L>,
+fn tabled_winner<S: Numbered>(
+    table: &RuleTable<S>,
     state: usize,
     here: RulesIn<'_>,
     ends: &mut DeadEnds<'_, '_>,
     from: usize,
     text: &str,
 ) -> Sight
-    requires here { AreOf L.StorageT.number definition.now state here }
+    requires here { AreOf S.number table.now state here }
     requires tabled { here.tables.now.asked.items ≡ [] }
-    requires ends { (ends.old.lists.now ≡ definition.now.table.tables.items)
+    requires ends { (ends.old.lists.now ≡ table.now.tables.items)
         × (text.now ≡ drop from ends.old.text.now) × (from ≤ length ends.old.text.now) }
-    ensures sight { IsSightOf (definition_of L.StorageT.number definition.now) state text.now
+    ensures sight { IsSightOf (definition_by S.number table.now) state text.now
         result }
     ensures tile { IfSome result.tile (λ t. IsCharBoundary text.now t.len
-        × (t.rule < vec_len definition.now.table.rules)) }
+        × (t.rule < vec_len table.now.rules)) }
     ensures ends { (ends.new.lists ≡ ends.old.lists) × (ends.new.text ≡ ends.old.text) }
 {
     let sight = ends.look(here.tables, here.list, from, text);
@@ -78,7 +78,7 @@ fn tabled_winner<L: LexerTypes>(
             reach: sight.reach,
         };
     };
-    let rule = active_place(here.active, definition.table.rules.len(), tile.rule);
+    let rule = active_place(here.active, table.rules.len(), tile.rule);
     Sight {
         tile: Some(Tile {
             rule,
@@ -92,9 +92,9 @@ fn tabled_winner<L: LexerTypes>(
 /// the tables tell the best of the rules that have one, and the others are asked. A search doesn't tell how far it looked,
 /// so the whole text decides. Out of line, so that a tile whose rules all have a table doesn't pay for it.
 #[inline(never)]
-fn winner_by<'d, L: LexerTypes>(
+fn winner_by<'d, S: Numbered>(
     alloc: Global,
-    definition: &'d LRNonStreamingLexerDef<L>,
+    table: &'d RuleTable<S>,
     state: usize,
     here: RulesIn<'d>,
     matchers: &mut [Option<Box<Matcher<'d>>>],
@@ -103,18 +103,18 @@ fn winner_by<'d, L: LexerTypes>(
     text: &str,
     asked: &mut u128,
 ) -> Result<Sight, AllocError>
-    requires here { AreOf L.StorageT.number definition.now state here }
-    requires held { AreMatchers definition.now.table.rules.items matchers.old
-        × (ends.old.lists.now ≡ definition.now.table.tables.items)
+    requires here { AreOf S.number table.now state here }
+    requires held { AreMatchers table.now.rules.items matchers.old
+        × (ends.old.lists.now ≡ table.now.tables.items)
         × (text.now ≡ drop from ends.old.text.now) × (from ≤ length ends.old.text.now) }
-    requires room { asked.old + vec_len definition.now.table.rules < 2 ^ 128 }
-    ensures sight { IfOk result (IsSightOf (definition_of L.StorageT.number definition.now)
+    requires room { asked.old + vec_len table.now.rules < 2 ^ 128 }
+    ensures sight { IfOk result (IsSightOf (definition_by S.number table.now)
         state text.now) }
     ensures tile { IfOk result (λ s. IfSome s.tile (λ t. IsCharBoundary text.now t.len
-        × (t.rule < vec_len definition.now.table.rules))) }
-    ensures asked { IfOk result (λ _. HasAsked L.StorageT.number definition.now state
+        × (t.rule < vec_len table.now.rules))) }
+    ensures asked { IfOk result (λ _. HasAsked S.number table.now state
         asked.old asked.new) }
-    ensures matchers { IfOk result (λ _. AreMatchers definition.now.table.rules.items
+    ensures matchers { IfOk result (λ _. AreMatchers table.now.rules.items
         matchers.new) }
     ensures ends { (ends.new.lists ≡ ends.old.lists) × (ends.new.text ≡ ends.old.text) }
 {
@@ -131,7 +131,7 @@ fn winner_by<'d, L: LexerTypes>(
     'others: for index in 0..tables.asked().len() {
         let number = tables.asked()[index];
         let place = active[number];
-        let rule = &definition.table.rules[place];
+        let rule = &table.rules[place];
         let len = ask_by(alloc, &mut matchers[place], rule, text, asked)?;
         if is_better(number, len, best) {
             best = Tile { rule: number, len };
@@ -142,7 +142,7 @@ fn winner_by<'d, L: LexerTypes>(
         return Ok(Sight { tile: None, reach });
     }
     let tile = Some(Tile {
-        rule: active_place(active, definition.table.rules.len(), best.rule),
+        rule: active_place(active, table.rules.len(), best.rule),
         len: best.len,
     });
     Ok(Sight { tile, reach })
@@ -158,52 +158,52 @@ pub(crate) struct Searcher<'d, 't> {
 
 impl<'d, 't> Searcher<'d, 't> {
     /// Of the text, with no matcher and no dead end yet.
-    pub(crate) fn new<L: LexerTypes>(
+    pub(crate) fn new<S: Numbered>(
         alloc: Global,
-        definition: &'d LRNonStreamingLexerDef<L>,
+        table: &'d RuleTable<S>,
         text: &'t str,
     ) -> Result<Self, AllocError>
-        ensures { IfOk result (IsSearcherOf definition.now text.now) }
+        ensures { IfOk result (IsSearcherOf table.now text.now) }
     {
-        let matchers = no_matchers(alloc, &definition.table.rules)?;
-        let ends = DeadEnds::new(alloc, &definition.table.tables, text);
+        let matchers = no_matchers(alloc, &table.rules)?;
+        let ends = DeadEnds::new(alloc, &table.tables, text);
         Ok(Searcher { matchers, ends })
     }
 
     /// The rule that wins at the place, from which on the rest of the text stands, among those that are active in the
     /// state.
     #[inline(always)]
-    pub(crate) fn winner<L: LexerTypes>(
+    pub(crate) fn winner<S: Numbered>(
         &mut self,
         alloc: Global,
-        definition: &'d LRNonStreamingLexerDef<L>,
+        table: &'d RuleTable<S>,
         state: usize,
         here: RulesIn<'d>,
         place: usize,
         rest: &str,
         asked: &mut u128,
     ) -> Result<Sight, AllocError>
-        requires here { AreOf L.StorageT.number definition.now state here }
-        requires searcher { (input : List ℕ) × IsSearcherOf definition.now input self.old
+        requires here { AreOf S.number table.now state here }
+        requires searcher { (input : List ℕ) × IsSearcherOf table.now input self.old
             × (rest.now ≡ drop place input) × (place ≤ length input) }
-        requires room { asked.old + vec_len definition.now.table.rules < 2 ^ 128 }
-        ensures sight { IfOk result (IsSightOf (definition_of L.StorageT.number definition.now)
+        requires room { asked.old + vec_len table.now.rules < 2 ^ 128 }
+        ensures sight { IfOk result (IsSightOf (definition_by S.number table.now)
             state rest.now) }
         ensures tile { IfOk result (λ s. IfSome s.tile (λ t. IsCharBoundary rest.now t.len
-            × (t.rule < vec_len definition.now.table.rules))) }
-        ensures asked { IfOk result (λ _. HasAsked L.StorageT.number definition.now state
+            × (t.rule < vec_len table.now.rules))) }
+        ensures asked { IfOk result (λ _. HasAsked S.number table.now state
             asked.old asked.new) }
         ensures searcher { IfOk result (λ _. (input : List ℕ) →
-            IsSearcherOf definition.now input self.old →
-            IsSearcherOf definition.now input self.new) }
+            IsSearcherOf table.now input self.old →
+            IsSearcherOf table.now input self.new) }
     {
         if here.tables.asked().is_empty() {
             let ends = &mut self.ends;
-            return Ok(tabled_winner(definition, state, here, ends, place, rest));
+            return Ok(tabled_winner(table, state, here, ends, place, rest));
         }
         let sight = winner_by(
             alloc,
-            definition,
+            table,
             state,
             here,
             &mut self.matchers,

@@ -10,21 +10,21 @@ use Rattle.lrlex_boundaries.specs.Boundaries.{no_boundary, boundary_at}
 use Rattle.lrlex.specs.Pieces.{IsPiece}
 use Rattle.lrlex_boundaries.specs.Entries.{plain, AreEntries}
 use Rattle.lrlex.specs.Tiling.{Tile, Wins, top}
-use Rattle.lrlex.specs.Views.{definition_of}
+use Rattle.lrlex.specs.Views.{definition_by}
 use Rattle.lrlex.proofs.PieceLemmas.{tile_at, between_characters, next_place, top_at, won_at, wins_there, row_and_next}
 use Rattle.lrlex.proofs.lexer.pieces.pieces_between.Goals as goal
 
 pub tiles-init : goal.tiles-init
 tiles-init g c =
-    let def = c.args.definition.now in
-    let d = definition_of g.L.StorageT.Id.number def in
+    let def = c.args.table.now in
+    let d = definition_by g.S.Numbered.number def in
     let text = c.args.text.now in
     let bounds = c.args.boundaries.now in
     let initial = c.requires.initial in
     let is : IsText text = record { bytes = are_bytes text c.type_inv.text; utf8 = c.utf8.text } in
     record {
       searcher = c.in_ok-searcher.ensures;
-      here = subst (λ q. AreOf g.L.StorageT.Id.number def q c.rules_in-here.result) (sym c.rules_in-here.ensures.state) c.rules_in-here.ensures.rules;
+      here = subst (λ q. AreOf g.S.Numbered.number def q c.rules_in-here.result) (sym c.rules_in-here.ensures.state) c.rules_in-here.ensures.rules;
       boundary = subst (IsCharBoundary text) (sym c.place-place.ensures) (between_characters d text c.requires.lexed.0 bounds c.requires.lexed.1 is initial c.args.first (omega (arith, c.requires.order, c.requires.within)));
       many = omega (arith, ap length c.in_ok-pieces.ensures.items);
       at = λ found h. sym c.place-place.ensures;
@@ -33,14 +33,14 @@ tiles-init g c =
 
 pub top_of-state-requires : goal.top_of-state-requires
 top_of-state-requires g c =
-    let d = definition_of g.L.StorageT.Id.number c.args.definition.now in
+    let d = definition_by g.S.Numbered.number c.args.table.now in
     let initial = c.requires.initial in
     let h = c.requires.lexed.1 in
     subst AreEntries (sym c.stack.ensures) (h.entries c.tiles.index no_boundary (omega (arith, c.tiles-test.true, c.requires.within)))
 
 pub rules_at-here-requires-clause-id : goal.rules_at-here-requires-clause-id
 rules_at-here-requires-clause-id g c =
-    let d = definition_of g.L.StorageT.Id.number c.args.definition.now in
+    let d = definition_by g.S.Numbered.number c.args.table.now in
     let text = c.args.text.now in
     let bounds = c.args.boundaries.now in
     let initial = c.requires.initial in
@@ -55,7 +55,7 @@ tile_of-requires-clause-searcher g c =
 
 pub tile_of-requires-clause-some : goal.tile_of-requires-clause-some
 tile_of-requires-clause-some g c =
-    let d = definition_of g.L.StorageT.Id.number c.args.definition.now in
+    let d = definition_by g.S.Numbered.number c.args.table.now in
     let text = c.args.text.now in
     let bounds = c.args.boundaries.now in
     let found = c.requires.lexed.0 in
@@ -78,8 +78,8 @@ piece_of-requires-clause-ends g c =
 
 pub tiles-preserved : goal.tiles-preserved
 tiles-preserved g c =
-    let def = c.args.definition.now in
-    let d = definition_of g.L.StorageT.Id.number def in
+    let def = c.args.table.now in
+    let d = definition_by g.S.Numbered.number def in
     let text = c.args.text.now in
     let bounds = c.args.boundaries.now in
     let i = c.tiles.index in
@@ -91,7 +91,7 @@ tiles-preserved g c =
     let inv = c.tiles.invariant in
     record {
       searcher = c.in_ok-tile.ensures.searcher text inv.searcher;
-      here = subst (λ q. AreOf g.L.StorageT.Id.number def q c.rules_at-here.result) (sym c.rules_at-here.ensures.state) c.rules_at-here.ensures.rules;
+      here = subst (λ q. AreOf g.S.Numbered.number def q c.rules_at-here.result) (sym c.rules_at-here.ensures.state) c.rules_at-here.ensures.rules;
       boundary = IsCharBoundary-from_rest text c.tiles.place c.in_ok-tile.tile.len inv.boundary.0 (subst (λ w. IsCharBoundary w c.in_ok-tile.tile.len) c.range_from-rest.ensures.value c.in_ok-tile.ensures.boundary);
       many = omega (arith, ap length c.in_ok-push.ensures.items, length-append c.tiles.pieces.items (c.piece_of.result ∷ []), inv.many);
       at = λ found h.

@@ -4,7 +4,7 @@ use Rattle.lrlex_table.specs.Decided.{IsText}
 use Rattle.lrlex_table.proofs.ByteLemmas.{are_bytes}
 use Rattle.lrlex.specs.Active.{is_state}
 use Rattle.lrlex.specs.Pieces.{ArePiecesIn}
-use Rattle.lrlex.specs.Views.{definition_of}
+use Rattle.lrlex.specs.Views.{definition_by}
 use Rattle.lrlex.proofs.KnownLemmas.{sorted}
 use Rattle.lrlex.proofs.PeakLemmas.{tiles_are}
 use Rattle.lrlex.proofs.PieceLemmas.{some_up_to, low_and_high, exactly_these, of_both}
@@ -12,13 +12,13 @@ use Rattle.lrlex.proofs.lexer.pieces.pieces_in.Goals as goal
 
 pub up_to-first-requires : goal.up_to-first-requires
 up_to-first-requires g c =
-    let d = definition_of g.L.StorageT.Id.number c.args.definition.now in
+    let d = definition_by g.S.Numbered.number c.args.table.now in
     let initial : is_state d 0 ≡ true = sym c.is_state.ensures ∙ c.if-not-is_state.false in
     sorted d c.args.text.now c.requires.0 c.args.boundaries.now (c.requires.1.lexed initial)
 
 pub overflow_sub-first : goal.overflow_sub-first
 overflow_sub-first g c =
-    let d = definition_of g.L.StorageT.Id.number c.args.definition.now in
+    let d = definition_by g.S.Numbered.number c.args.table.now in
     let text = c.args.text.now in
     let bounds = c.args.boundaries.now in
     let initial : is_state d 0 ≡ true = sym c.is_state.ensures ∙ c.if-not-is_state.false in
@@ -28,19 +28,19 @@ overflow_sub-first g c =
 
 pub up_to-requires : goal.up_to-requires
 up_to-requires g c =
-    let d = definition_of g.L.StorageT.Id.number c.args.definition.now in
+    let d = definition_by g.S.Numbered.number c.args.table.now in
     let initial : is_state d 0 ≡ true = sym c.is_state.ensures ∙ c.if-not-is_state.false in
     sorted d c.args.text.now c.requires.0 c.args.boundaries.now (c.requires.1.lexed initial)
 
 pub overflow_sub-len : goal.overflow_sub-len
 overflow_sub-len g c =
-    let d = definition_of g.L.StorageT.Id.number c.args.definition.now in
+    let d = definition_by g.S.Numbered.number c.args.table.now in
     let initial : is_state d 0 ≡ true = sym c.is_state.ensures ∙ c.if-not-is_state.false in
     omega (arith, c.len.ensures, tiles_are d c.args.text.now c.requires.0 c.args.boundaries.now (c.requires.1.lexed initial))
 
 pub pieces_between-requires-clause-order : goal.pieces_between-requires-clause-order
 pieces_between-requires-clause-order g c =
-    let d = definition_of g.L.StorageT.Id.number c.args.definition.now in
+    let d = definition_by g.S.Numbered.number c.args.table.now in
     let bounds = c.args.boundaries.now in
     let initial : is_state d 0 ≡ true = sym c.is_state.ensures ∙ c.if-not-is_state.false in
     let low = c.up_to-first.ensures in
@@ -51,13 +51,13 @@ pieces_between-requires-clause-order g c =
 
 pub pieces_between-requires-clause-within : goal.pieces_between-requires-clause-within
 pieces_between-requires-clause-within g c =
-    let d = definition_of g.L.StorageT.Id.number c.args.definition.now in
+    let d = definition_by g.S.Numbered.number c.args.table.now in
     let initial : is_state d 0 ≡ true = sym c.is_state.ensures ∙ c.if-not-is_state.false in
     omega (arith, c.len.ensures, c.min-last.ensures, tiles_are d c.args.text.now c.requires.0 c.args.boundaries.now (c.requires.1.lexed initial))
 
 pub returns : goal.returns
 returns g c =
-    let d = definition_of g.L.StorageT.Id.number c.args.definition.now in
+    let d = definition_by g.S.Numbered.number c.args.table.now in
     let text = c.args.text.now in
     let bounds = c.args.boundaries.now in
     let initial : is_state d 0 ≡ true = sym c.is_state.ensures ∙ c.if-not-is_state.false in

@@ -8,7 +8,7 @@ use Rattle.lrlex.proofs.lexer.relexing.many_before.Goals as goal
 
 pub returns-clause-before : goal.returns-clause-before
 returns-clause-before g c =
-    let view = item_of g.L.StorageT.Id.number g.L.LexemeT.Lexeme.seen in
+    let view = item_of g.S.Numbered.number g.X.Lexeme.seen in
     let xs = c.args.items.now in
     let n = c.partition_point.result in
     let point = IsPartitionPoint-from_clause (λ x. begins_before c.args.place (view x)) xs n c.partition_point.ensures.partitioned (in_order_of view c.args.place xs c.requires) (λ a r f k. search (rules, of_calls)) in
@@ -16,7 +16,7 @@ returns-clause-before g c =
 
 pub returns-clause-from : goal.returns-clause-from
 returns-clause-from g c =
-    let view = item_of g.L.StorageT.Id.number g.L.LexemeT.Lexeme.seen in
+    let view = item_of g.S.Numbered.number g.X.Lexeme.seen in
     let xs = c.args.items.now in
     let n = c.partition_point.result in
     let point = IsPartitionPoint-from_clause (λ x. begins_before c.args.place (view x)) xs n c.partition_point.ensures.partitioned (in_order_of view c.args.place xs c.requires) (λ a r f k. search (rules, of_calls)) in

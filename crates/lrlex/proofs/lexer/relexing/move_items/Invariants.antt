@@ -6,5 +6,5 @@ use Rattle.lrlex.proofs.lexer.relexing.move_items.Given as goal
 
 abbrev pub invariant-items : goal.invariant-items
 invariant-items g l =
-    map (item_of g.L.StorageT.Id.number g.L.LexemeT.Lexeme.seen) l.items
-    ≡ moved_up_to (item_of g.L.StorageT.Id.number g.L.LexemeT.Lexeme.seen) (rebased l.from l.to) l.fn.items l.first l.index
+    map (item_of g.S.Numbered.number g.X.Lexeme.seen) l.items
+    ≡ moved_up_to (item_of g.S.Numbered.number g.X.Lexeme.seen) (rebased l.from l.to) l.fn.items l.first l.index

@@ -11,7 +11,7 @@ use Rattle.lrlex.proofs.lexer.relexing.put_between.Goals as goal
 
 pub splice-requires-2-clause-order : goal.splice-requires-2-clause-order
 splice-requires-2-clause-order g c =
-    let view = item_of g.L.StorageT.Id.number g.L.LexemeT.Lexeme.seen in
+    let view = item_of g.S.Numbered.number g.X.Lexeme.seen in
     let old = c.args.items.now.items in
     let bounds = c.args.boundaries.now in
     let index = c.args.anew.index in
@@ -25,7 +25,7 @@ splice-requires-2-clause-order g c =
 
 pub move_items-requires-clause-movable : goal.move_items-requires-clause-movable
 move_items-requires-clause-movable g c =
-    let view = item_of g.L.StorageT.Id.number g.L.LexemeT.Lexeme.seen in
+    let view = item_of g.S.Numbered.number g.X.Lexeme.seen in
     let old = c.args.items.now.items in
     let bounds = c.args.boundaries.now in
     let found = c.args.anew.progress.items.items in
@@ -45,7 +45,7 @@ move_items-requires-clause-movable g c =
 
 pub returns-clause-put : goal.returns-clause-put
 returns-clause-put g c =
-    let view = item_of g.L.StorageT.Id.number g.L.LexemeT.Lexeme.seen in
+    let view = item_of g.S.Numbered.number g.X.Lexeme.seen in
     let old = c.args.items.now.items in
     let bounds = c.args.boundaries.now in
     let numbers = c.args.ahead.now.items in

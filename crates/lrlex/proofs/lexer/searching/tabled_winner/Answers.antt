@@ -4,7 +4,7 @@ use Rattle.lrlex_rules.specs.Parts.{as_rule}
 use Rattle.lrlex.specs.StateTables.{pattern_in}
 use Rattle.lrlex.specs.Active.{is_active}
 use Rattle.lrlex.specs.Tiling.{Wins}
-use Rattle.lrlex.specs.Views.{definition_of}
+use Rattle.lrlex.specs.Views.{definition_by}
 use Rattle.lrlex.proofs.PlaceLemmas.{all_places}
 use Rattle.lrlex.proofs.DecidedLemmas.{decided_look}
 use Rattle.lrlex.proofs.TableLemmas.{active_within, told_none, told_some, told_bytes, best_wins, best_stuck}
@@ -15,7 +15,7 @@ look-sight-requires-clause-tables g c = ap (λ xs. slice_get xs c.args.here.list
 
 pub returns-in_default-clause-sight : goal.returns-in_default-clause-sight
 returns-in_default-clause-sight g c =
-    let d = definition_of g.L.StorageT.Id.number c.args.definition.now in
+    let d = definition_by g.S.Numbered.number c.args.table.now in
     let q = c.args.state in
     let text = c.args.text.now in
     let places = c.args.here.active.now in
@@ -29,7 +29,7 @@ returns-in_default-clause-sight g c =
 
 pub active_place-rule-requires-clause-within : goal.active_place-rule-requires-clause-within
 active_place-rule-requires-clause-within g c =
-    let d = definition_of g.L.StorageT.Id.number c.args.definition.now in
+    let d = definition_by g.S.Numbered.number c.args.table.now in
     let q = c.args.state in
     let text = c.args.text.now in
     let places = c.args.here.active.now in
@@ -42,15 +42,15 @@ active_place-rule-requires-clause-within g c =
 
 pub active_place-rule-requires-clause-all : goal.active_place-rule-requires-clause-all
 active_place-rule-requires-clause-all g c same i lt =
-    let d = definition_of g.L.StorageT.Id.number c.args.definition.now in
-    let rules_len = length-map c.args.definition.now.table.rules.items (as_rule g.L.StorageT.Id.number) in
-    let ok = c.args.definition.now.table.rules.ok.0 in
+    let d = definition_by g.S.Numbered.number c.args.table.now in
+    let rules_len = length-map c.args.table.now.rules.items (as_rule g.S.Numbered.number) in
+    let ok = c.args.table.now.rules.ok.0 in
     let each = all_places (is_active d.states c.args.state) 0 d.rules (omega (arith, ap length c.requires.here.active, same, rules_len, ok, c.len.ensures)) i (omega (arith, lt, rules_len, ok, c.len.ensures)) in
     ap (λ xs. get_or xs i 0) c.requires.here.active ∙ omega (arith, each)
 
 pub returns-clause-sight : goal.returns-clause-sight
 returns-clause-sight g c =
-    let d = definition_of g.L.StorageT.Id.number c.args.definition.now in
+    let d = definition_by g.S.Numbered.number c.args.table.now in
     let q = c.args.state in
     let text = c.args.text.now in
     let places = c.args.here.active.now in
@@ -68,7 +68,7 @@ returns-clause-sight g c =
 
 pub returns-clause-tile : goal.returns-clause-tile
 returns-clause-tile g c =
-    let d = definition_of g.L.StorageT.Id.number c.args.definition.now in
+    let d = definition_by g.S.Numbered.number c.args.table.now in
     let q = c.args.state in
     let text = c.args.text.now in
     let places = c.args.here.active.now in
@@ -77,6 +77,6 @@ returns-clause-tile g c =
     let tile = c.in-Some.tile in
     let told = told_some d q text places t.asked.items c.requires.here.active t refl c.requires.here.tables c.look-sight.result.tile c.look-sight.ensures.winner tile c.in-Some.is in
     let some = told_bytes d q text places t.asked.items c.requires.here.active t refl c.requires.here.tables c.look-sight.result.tile c.look-sight.ensures.winner tile c.in-Some.is in
-    let rules_len = length-map c.args.definition.now.table.rules.items (as_rule g.L.StorageT.Id.number) in
+    let rules_len = length-map c.args.table.now.rules.items (as_rule g.S.Numbered.number) in
     let within : tile.rule < length places = omega (arith, told.within some, length-map places (pattern_in d.rules)) in
-    (told.cuts, omega (arith, c.active_place-rule.ensures, c.args.definition.now.table.rules.ok.0, rules_len, active_within d q places c.requires.here.active tile.rule within))
+    (told.cuts, omega (arith, c.active_place-rule.ensures, c.args.table.now.rules.ok.0, rules_len, active_within d q places c.requires.here.active tile.rule within))

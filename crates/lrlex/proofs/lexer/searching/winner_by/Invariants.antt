@@ -1,5 +1,5 @@
 use Rattle.std.proofs.Common.{◌≡◌, ◌+◌}
-use Rattle.lrlex.specs.Views.{definition_of}
+use Rattle.lrlex.specs.Views.{definition_by}
 use Rattle.lrlex_rules.specs.Matchers.{AreMatchers}
 use Rattle.lrlex.specs.StateTables.{patterns_on}
 use Rattle.lrlex_table.specs.Tables.{IsBestAmong}
@@ -8,7 +8,7 @@ use Rattle.lrlex.proofs.lexer.searching.winner_by.Given as goal
 
 abbrev pub invariant-others : goal.invariant-others
 invariant-others g l = record {
-  matchers : AreMatchers l.definition.table.rules.items l.matchers;
+  matchers : AreMatchers l.table.rules.items l.matchers;
   counted : l.asked ≡ l.fn.asked + l.index;
-  best : IsBestAmong (patterns_on (definition_of g.L.StorageT.Id.number l.definition).rules l.active) (looked_at l.tables.parts.items l.tables.asked.items l.index) l.text l.best.rule l.best.len;
+  best : IsBestAmong (patterns_on (definition_by g.S.Numbered.number l.table).rules l.active) (looked_at l.tables.parts.items l.tables.asked.items l.index) l.text l.best.rule l.best.len;
 }
