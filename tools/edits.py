@@ -2,8 +2,8 @@
 
 A crate's must-fail/GATE.md has them: below a heading with the edit's name stands, in backquotes, the path of the function
 whose contract it breaks, and then the edit as rt reads one, lines file, old and new. The crate, which rt ci has proved, is
-copied, and with the edit the prover must refuse that function; edits are tried side by side. The last line is
-'edits: N refused, M failed'.
+copied, and with the edit the prover must refuse that function. Crates are tried side by side, and the edits of one in turn,
+since each is cheaper over what the prover has kept of those before it. The last line is 'edits: N refused, M failed'.
 
 With --beside, rt ci is still at work and writes what it says to LOG: the edits of a crate are tried once the libraries below
 it are proved, or rt ci has come to its end, and only with what processor time rt ci leaves. What isn't refused then is tried
@@ -29,6 +29,9 @@ GOALS = [
 ]
 VERDICT = re.compile(r"^only=(\d+) proved=(\d+)$", re.M)
 ENDED = re.compile(r"\d+ passed, \d+ failed$")
+
+# How many edits of a crate are worth the check of its functions without them, which has to follow.
+FEWEST = 3
 
 
 def edits_of(crate):
@@ -68,8 +71,8 @@ def goal_of(told):
     return found[0].group(1)[:160] if found else "no goal is named"
 
 
-def tried(edit, listed):
-    """Whether the edit is refused, and what to say."""
+def tried(edit, listed, kept=()):
+    """Whether the edit is refused, and what to say; over what the prover has kept, if that is given."""
     crate, name, function, changes = edit
     label = f"edit {crate}/{name}"
     with tempfile.TemporaryDirectory(prefix="lrlex-edit-") as folder:
@@ -78,7 +81,7 @@ def tried(edit, listed):
         why = changed(folder, changes)
         if why:
             return False, f"{label}: FAILED, {why}"
-        told = checked(folder, crate, listed[crate], ["--only", function])
+        told = checked(folder, crate, listed[crate], [*kept, "--only", function])
     verdict = VERDICT.search(told)
     if not verdict:
         return False, f"{label}: FAILED, it didn't reach the prover:\n{told[-2000:]}"
@@ -86,6 +89,29 @@ def tried(edit, listed):
     if proved < asked:
         return True, f"{label}: refused, as it must be: {goal_of(told)}"
     return False, f"{label}: FAILED, {function} is still proved with it"
+
+
+def are_proved(edits, listed, kept):
+    """Whether the functions of a crate's edits are proved as they stand, over what the prover has kept."""
+    crate, functions = edits[0][0], {function for _, _, function, _ in edits}
+    only = [word for function in sorted(functions) for word in ("--only", function)]
+    verdict = VERDICT.search(checked(f"{TOP}/crates/{crate}", crate, listed[crate], [*kept, *only]))
+    return bool(verdict) and verdict.group(1) == verdict.group(2)
+
+
+def tried_in_turn(edits, listed):
+    """The same of all edits of a crate, each over what the checks of those before it have kept, in a folder of this run.
+
+    What isn't refused so is tried again from nothing. So is each edit, where the functions without it aren't proved over
+    that folder: then it isn't the edits that are refused.
+    """
+    if len(edits) < FEWEST:
+        return [tried(edit, listed) for edit in edits]
+    with tempfile.TemporaryDirectory(prefix="lrlex-edits-") as folder:
+        kept = ["--incremental", folder]
+        found = [tried(edit, listed, kept) for edit in edits]
+        is_sound = are_proved(edits, listed, kept)
+    return [it if is_sound and it[0] else tried(edit, listed) for edit, it in zip(edits, found)]
 
 
 def lines_of(log):
@@ -99,17 +125,17 @@ def has_ended(said):
     return any(ENDED.match(line) for line in said)
 
 
-def tried_beside(edit, listed, log):
+def tried_beside(edits, listed, log):
     """The same while rt ci is at work."""
-    below = libraries_below(listed[edit[0]], listed)
+    below = libraries_below(listed[edits[0][0]], listed)
     while not has_ended(said := lines_of(log)) and any(f"rt: {name} proved" not in said for name in below):
         time.sleep(2)
-    answer = tried(edit, listed)
-    if answer[0] or has_ended(said):
-        return answer
+    found = tried_in_turn(edits, listed)
+    if has_ended(said) or all(is_refused for is_refused, _ in found):
+        return found
     while not has_ended(lines_of(log)):
         time.sleep(2)
-    return tried(edit, listed)
+    return [it if it[0] else tried(edit, listed) for edit, it in zip(edits, found)]
 
 
 def give_way():
@@ -127,15 +153,19 @@ def main(words):
     log = words[1] if words[:1] == ["--beside"] else ""
     names = words[2:] if log else words
     listed = crates()
-    edits = [edit for crate in listed if not names or crate in names for edit in edits_of(crate)]
-    work = (lambda edit: tried_beside(edit, listed, log)) if log else (lambda edit: tried(edit, listed))
+    groups = [edits_of(crate) for crate in listed if not names or crate in names]
+    groups = [edits for edits in groups if edits]
     if log:
         give_way()
+    else:
+        groups.sort(key=len, reverse=True)
+    work = (lambda edits: tried_beside(edits, listed, log)) if log else (lambda edits: tried_in_turn(edits, listed))
     refused = failed = 0
     with concurrent.futures.ThreadPoolExecutor(len(os.sched_getaffinity(0))) as pool:
-        for is_refused, said in pool.map(work, edits):
-            print(said, flush=True)
-            refused, failed = refused + is_refused, failed + (not is_refused)
+        for found in pool.map(work, groups):
+            for is_refused, said in found:
+                print(said, flush=True)
+                refused, failed = refused + is_refused, failed + (not is_refused)
     print(f"edits: {refused} refused, {failed} failed")
     return 1 if failed or not refused else 0
 

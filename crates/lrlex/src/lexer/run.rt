@@ -1,5 +1,6 @@
-ghost use Rattle.std.specs.Prelude.{◌≡◌, ◌+◌, ◌-◌, ◌*◌, ◌<◌, ◌≤◌, None, [], ◌∷◌, length, vec_len, IfOk, slice_index};
-ghost use Rattle.lrlex.specs.Tiling.{Error};
+ghost use Rattle.std.specs.Prelude.{◌≡◌, ℕ, ◌+◌, ◌-◌, ◌*◌, ◌<◌, ◌≤◌, false, List, [], length, vec_len, IfOk, slice_index};
+ghost use Rattle.lrlex_rules.specs.Definition.{Definition};
+ghost use Rattle.lrlex.specs.Active.{is_state};
 ghost use Rattle.lrlex_boundaries.specs.Boundaries.{boundary_at, most_entries};
 ghost use Rattle.lrlex_boundaries.specs.Entries.{AreEntries};
 ghost use Rattle.lrlex.specs.Reach.{Reached, IsLexed, IsRun, searches};
@@ -156,11 +157,13 @@ pub(crate) struct Lexed<X> {
 
 /// Without a state 0: an error alone.
 fn stateless<S: Numbered, X: Lexeme<S>>(alloc: Global) -> Result<Lexed<X>, AllocError>
-    ensures items { IfOk result (λ r. items_by S.number X.seen r.items.items
-        ≡ Error 0 0 None ∷ []) }
-    ensures boundaries { IfOk result (λ r. r.boundaries ≡ []) }
-    ensures ahead { IfOk result (λ r. r.ahead.items ≡ []) }
-    ensures counts { IfOk result (λ r. (r.asked ≡ 0) × (r.anew ≡ 0)) }
+    ensures run { (d : Definition) (text : List ℕ) → is_state d 0 ≡ false → IfOk result (λ r.
+        IsRun d text (items_by S.number X.seen r.items.items) r.boundaries) }
+    ensures looks { (d : Definition) (text : List ℕ) → IfOk result (λ r.
+        LooksAhead d text r.boundaries r.ahead.items) }
+    ensures asked { IfOk result (λ r. r.asked ≡ 0) }
+    ensures none { IfOk result (λ r. r.boundaries ≡ []) }
+    ensures lexed { IfOk result (λ r. r.anew ≡ 0) }
 {
     let mut items = Vec::new(alloc);
     give_error::<S, X>(&mut items, 0, None)?;

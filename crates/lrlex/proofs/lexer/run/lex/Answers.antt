@@ -8,7 +8,7 @@ use Rattle.lrlex.specs.UnderWay.{IsUnderWay, no_front}
 use Rattle.lrlex.specs.Views.{definition_by, items_by}
 use Rattle.lrlex.proofs.FrontLemmas.{some_now}
 use Rattle.lrlex.proofs.BegunLemmas.{begun, begun_looking}
-use Rattle.lrlex.proofs.ReachLemmas.{ended, nothing_left, asked_now, few_searches, run_of, length_now, stateless_of}
+use Rattle.lrlex.proofs.ReachLemmas.{ended, nothing_left, asked_now, few_searches, run_of, length_now}
 use Rattle.lrlex.specs.Asked.{asks_by}
 use Rattle.lrlex.proofs.AskedLemmas.{asks_nowhere, more_asked, all_asked, next_asked}
 use Rattle.lrlex.proofs.lexer.run.lex.Goals as goal
@@ -190,4 +190,7 @@ returns-clause-looks g c =
 
 pub returns-then-not-is_state-clause-run : goal.returns-then-not-is_state-clause-run
 returns-then-not-is_state-clause-run g c =
-    stateless_of (definition_by g.S.Numbered.number c.args.table.now) c.args.text.now _ _ (sym c.is_state.ensures ∙ c.if-not-is_state.true) c.in_ok-stateless.ensures.items c.in_ok-stateless.ensures.boundaries
+    c.stateless.ensures.run (definition_by g.S.Numbered.number c.args.table.now) c.args.text.now (sym c.is_state.ensures ∙ c.if-not-is_state.true)
+
+pub returns-then-not-is_state-clause-looks : goal.returns-then-not-is_state-clause-looks
+returns-then-not-is_state-clause-looks g c = c.stateless.ensures.looks (definition_by g.S.Numbered.number c.args.table.now) c.args.text.now
