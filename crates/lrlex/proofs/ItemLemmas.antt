@@ -1,20 +1,19 @@
 -- What holds of the items of a tiling.
-use Rattle.std.proofs.Common.{◌≡◌, ℕ, zero, suc, option_map, ◌+◌, ◌<◌, ◌≤◌, Bool, true, false, cond, ◌&&◌, ◌==◌, List, [], ◌∷◌, ◌++◌, All, length, take, drop, Option, Some, None, IsSome, IsNone, IfSome, is_some, is_none, unwrap_or, slice_get, get_or, refl, sym, ap, ◌∙◌, subst, inl, inr, arith, true≢false, add-one, append_assoc, IsCharBoundary, IsUtf8, Any}
+use Rattle.std.proofs.Common.{◌≡◌, ℕ, zero, suc, ◌+◌, ◌<◌, ◌≤◌, Bool, true, false, cond, ◌&&◌, List, [], ◌∷◌, ◌++◌, All, length, take, drop, Option, Some, None, IsSome, IsNone, IfSome, is_some, is_none, unwrap_or, slice_get, get_or, refl, sym, ap, ◌∙◌, subst, inl, inr, arith, true≢false, add-one, append_assoc, IsCharBoundary, IsUtf8, Any}
 use Rattle.std.proofs.Props.{props}
 use Rattle.std.proofs.Math.Logic.{∥∥₁_elim}
 use Rattle.std.specs.List.{list_any, concat, AllPairs, AllAdjacentBelow}
-use Rattle.std.proofs.lemmas.Bool.{cond_both, and_parts, cases_Bool}
+use Rattle.std.proofs.lemmas.Bool.{cond_both, cases_Bool}
 use Rattle.std.proofs.lemmas.List.{drop-drop, length-drop, take-append-drop}
 use Rattle.std.proofs.lemmas.List.Elements.{All-nil, All-cons, All-append, All-push, All-weaker}
 use Rattle.std.proofs.lemmas.List.Kept.{AllPairs-cons}
 use Rattle.std.proofs.lemmas.List.Sums.{sum_by-append, sum_by-cons}
 use Rattle.std.proofs.lemmas.Option.{slice_get_within, get_or_from_slice_get, none-some}
 use Rattle.std.proofs.lemmas.Str.{IsCharBoundary-start, IsCharBoundary-from_rest}
-use Rattle.regex.specs.Patterns.{Re, find_str, span}
-use Rattle.regex_hir.specs.Text.{is_boundary}
-use Rattle.regex.proofs.Utf8Lemmas.{IsCharBoundary-of_test}
 use Rattle.lrlex_rules.specs.Definition.{Definition, Rule}
-use Rattle.lrlex_rules.specs.Patterns.{end_from_zero, match_length, pattern_of}
+use Rattle.lrlex_matching.specs.Matching.{match_length}
+use Rattle.lrlex_matching.proofs.ForCallers.{length_cuts}
+use Rattle.lrlex_rules.specs.Patterns.{pattern_of}
 use Rattle.lrlex.specs.Active.{is_active, is_state, taken_by, taken_by_any, no_rule, rule_at, lexeme_id, lacks_id}
 use Rattle.lrlex.specs.Tiling.{Tile, Item, Item-set, Lexeme, Error, Wins, IsWinner, top, End, Done, NoMatch, NoId, NoTarget, IsEnd, stack_past, IsTiling, lexeme_of, tile_items, end_items, items}
 use Rattle.lrlex.specs.Boundaries.{Boundary}
@@ -28,21 +27,10 @@ use Rattle.lrlex.proofs.TilingLemmas.{Wins-le}
 EndsCleanly : List ℕ → ℕ → Type 0
 EndsCleanly text n = n ≤ length text → 0 < n → IsCharBoundary text n
 
-end_from_zero-cut : (text : List ℕ) (o : Option (ℕ × ℕ)) → EndsCleanly text (end_from_zero text o)
-unfolding EndsCleanly
-end_from_zero-cut text None = λ le some. absurd (omega (arith, some))
-end_from_zero-cut text (Some s) =
-    cond_both (s.0 == 0 && is_boundary text s.1) s.1 0 (EndsCleanly text) (λ e le some. IsCharBoundary-of_test text s.1 le (and_parts _ _ e).1)
-    (λ e le some. absurd (omega (arith, some)))
-
-match_length-cut : (re : Re) (text : List ℕ) → EndsCleanly text (match_length re text)
-unfolding match_length
-match_length-cut re text = end_from_zero-cut text (option_map span (find_str re text 0))
-
 taken_by-cut : (d : Definition) (q : ℕ) (text : List ℕ) (r : Rule) → EndsCleanly text (taken_by d q text r)
 unfolding taken_by EndsCleanly
 taken_by-cut d q text r =
-    cond_both (is_active d.states q r) (match_length (pattern_of r) text) 0 (EndsCleanly text) (λ e. match_length-cut (pattern_of r) text)
+    cond_both (is_active d.states q r) (match_length (pattern_of r) text) 0 (EndsCleanly text) (λ e le some. length_cuts (pattern_of r) text _ refl some le)
     (λ e le some. absurd (omega (arith, some)))
 
 taken_by_any-cut : (d : Definition) (q : ℕ) (text : List ℕ) (o : Option Rule) → EndsCleanly text (taken_by_any d q text o)

@@ -11,7 +11,8 @@ use Rattle.std.proofs.lemmas.List.Folds.{list_any_more}
 use Rattle.regex_hir.specs.Text.{is_some_and}
 use Rattle.regex.specs.Patterns.{Re, SameCaptures, empty}
 use Rattle.lrlex_rules.specs.Definition.{Definition, Rule}
-use Rattle.lrlex_rules.specs.Patterns.{match_length, pattern_of}
+use Rattle.lrlex_matching.specs.Matching.{match_length}
+use Rattle.lrlex_rules.specs.Patterns.{pattern_of}
 use Rattle.lrlex_rules.specs.Parts.{RuleParts, as_rule, as_state}
 use Rattle.lrlex_rules.specs.declared.states.StartState as start
 use Rattle.lrlex_table.specs.Merged.{next_rows, pattern_at, IsTableOf, IsLongest, NoneMatches}

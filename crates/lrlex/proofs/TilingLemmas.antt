@@ -1,35 +1,22 @@
 -- A text has one tiling, and what follows a boundary is a tiling of what is left.
-use Rattle.std.proofs.Common.{◌≡◌, ℕ, ◌≤◌, Bool, true, false, cond, List, [], ◌∷◌, length, drop, Option, Some, None, option_map, refl, sym, ap, ap₂, ◌∙◌, subst, inl, inr, arith, true≢false, slice_get}
+use Rattle.std.proofs.Common.{◌≡◌, ℕ, ◌≤◌, Bool, true, false, cond, List, [], ◌∷◌, length, drop, Option, Some, None, refl, sym, ap, ap₂, ◌∙◌, subst, inl, inr, arith, true≢false, slice_get}
 use Rattle.std.proofs.lemmas.Bool.{cases_lt}
-use Rattle.regex.specs.Patterns.{Re, Match, find_str, span}
-use Rattle.regex_hir.proofs.MatchesLemmas.{Matches-IsSpan}
-use Rattle.regex.proofs.ForCallers.{find_str_sound}
-use Rattle.regex.proofs.SearchLemmas.{leftmost_attempt}
 use Rattle.lrlex_rules.specs.Definition.{Definition, Rule}
-use Rattle.lrlex_rules.specs.Patterns.{end_from_zero, match_length, pattern_of}
+use Rattle.lrlex_matching.proofs.ForCallers.{length_within}
+use Rattle.lrlex_rules.specs.Patterns.{pattern_of}
 use Rattle.lrlex.specs.Active.{is_active, taken_by, taken_by_any, rule_at, lacks_id, lacks_target}
 use Rattle.lrlex.specs.Tiling.{Tile}
 use Rattle.lrlex.specs.Tiling.{Wins, IsStuck, top, End, Done, NoMatch, NoId, NoTarget, IsWinner, IsEnd, IsTaken, stack_past, IsTiling}
 
--- ---- a match ends within the text
+-- ---- a winner ends within the text
 
 within_cases : (b : Bool) (n len : ℕ) → n ≤ len → cond b n 0 ≤ len
 within_cases true n len h = h
 within_cases false n len h = omega arith
 
-match_length_of : (re : Re) (text : List ℕ) (o : Option Match) → find_str re text 0 ≡ o → end_from_zero text (option_map span o) ≤ length text
-match_length_of re text None e = omega arith
-match_length_of re text (Some m) e =
-    within_cases _ m.trace.end (length text)
-    (omega (arith, Matches-IsSpan text re m.start m.trace.end (find_str_sound re text 0 m e).1, (leftmost_attempt re text true 0 m e).1))
-
-pub match_length-le : (re : Re) (text : List ℕ) → match_length re text ≤ length text
-unfolding match_length
-match_length-le re text = match_length_of re text _ refl
-
 taken_by-le : (d : Definition) (q : ℕ) (text : List ℕ) (r : Rule) → taken_by d q text r ≤ length text
 unfolding taken_by
-taken_by-le d q text r = within_cases (is_active d.states q r) _ _ (match_length-le (pattern_of r) text)
+taken_by-le d q text r = within_cases (is_active d.states q r) _ _ (length_within (pattern_of r) text)
 
 taken_by_any-le : (d : Definition) (q : ℕ) (text : List ℕ) (o : Option Rule) → taken_by_any d q text o ≤ length text
 taken_by_any-le d q text None = omega arith

@@ -9,7 +9,8 @@ use Rattle.std.proofs.lemmas.Option.{slice_get-map, slice_get_past, slice_get_re
 use Rattle.std.specs.List.{list_any, find, position, position_or_len}
 use Rattle.regex_hir.specs.Text.{is_some_and}
 use Rattle.lrlex_rules.specs.Definition.{Definition, Rule, StartState}
-use Rattle.lrlex_rules.specs.Patterns.{match_length, pattern_of}
+use Rattle.lrlex_matching.specs.Matching.{match_length}
+use Rattle.lrlex_rules.specs.Patterns.{pattern_of}
 use Rattle.lrlex.specs.Active.{is_active, is_inclusive, taken_by, taken_by_any, no_rule, rule_at}
 use Rattle.lrlex_rules.specs.Parts.{RuleParts, as_rule, as_state}
 use Rattle.lrlex.specs.Views.{definition_of}

@@ -5,7 +5,8 @@ use Rattle.regex_hir.specs.Text.{is_some_and}
 use Rattle.regex.specs.Patterns.{default_config}
 use Rattle.lrlex_base.specs.Spans.{at_place}
 use Rattle.lrlex_rules.specs.Definition.{Definition, Rule, StartState}
-use Rattle.lrlex_rules.specs.Patterns.{pattern_of, match_length}
+use Rattle.lrlex_matching.specs.Matching.{match_length}
+use Rattle.lrlex_rules.specs.Patterns.{pattern_of}
 
 -- a state has the id
 abbrev pub is_state : Definition → ℕ → Bool

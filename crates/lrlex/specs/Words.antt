@@ -10,5 +10,5 @@ pub use Rattle.lrlex_rules.specs.Parts.{RuleParts, as_rule, as_state}
 pub use Rattle.lrlex_rules.specs.Answer.{IsAnswer}
 pub use Rattle.lrlex_rules.specs.Faults.{IsPlaced, fault_kind, fault_spans}
 pub use Rattle.lrlex_rules.specs.Laws.{IsLawful}
-unfoldable pub use Rattle.lrlex_rules.specs.Patterns.{match_length}
+unfoldable pub use Rattle.lrlex_matching.specs.Matching.{match_length}
 pub use Rattle.lrlex_rules.specs.Patterns.{rule_pattern}

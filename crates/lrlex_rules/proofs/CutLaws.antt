@@ -1,10 +1,10 @@
 -- A text is cut in one way.
-use Rattle.std.proofs.Common.{◌≡◌, ℕ, ◌+◌, zero, suc, Bool, true, false, List, All, [], ◌∷◌, ◌++◌, length, map, refl, sym, ap, ap₂, subst, ◌∙◌, arith}
+use Rattle.std.proofs.Common.{◌≡◌, ℕ, ◌+◌, Bool, true, false, List, [], ◌∷◌, length, map, refl, sym, ap, ◌∙◌, arith}
 use Rattle.std.specs.Prelude.{encode_utf8_all}
 use Rattle.std.specs.Char.{len_utf8}
 use Rattle.std.specs.Str.{NonePass}
 use Rattle.std.proofs.lemmas.List.Elements.{All-head, All-tail, All-cons}
-use Rattle.lrlex_rules.specs.Text.{Piece, piece, cut_chars, rejoined, IsCut}
+use Rattle.lrlex_rules.specs.Text.{Piece, cut_chars, rejoined, IsCut}
 use Rattle.lrlex_rules.proofs.Cuts.{cut_chars_none, cut_chars_first}
 
 abbrev texts : List Piece → List (List ℕ)

@@ -26,7 +26,6 @@ pub mod Rising
 pub mod RuleEvents
 pub mod RuleRuns
 pub mod Runs
-pub mod SearchLemmas
 pub mod Sections
 pub mod Steady
 pub mod Tells

@@ -1,5 +1,5 @@
 -- A compiled rule gives what its text is read as.
-use Rattle.std.proofs.Common.{◌≡◌, ℕ, ◌≤◌, ◌<◌, true, List, length, get_or, Option, None, Some, IsSomeAnd, ap, subst}
+use Rattle.std.proofs.Common.{◌≡◌, ℕ, ◌≤◌, List, length, Option, None, Some, IsSomeAnd, subst}
 use Rattle.std.specs.Option.{option_map_or}
 use Rattle.std.specs.Str.{chars}
 use Rattle.std.proofs.Props.{props}
@@ -10,8 +10,7 @@ use Rattle.regex_syntax.specs.Verdict.{Reads}
 use Rattle.regex.specs.Patterns.{Config, Re, SameCaptures, empty}
 use Rattle.regex.specs.Strings.{regex_pattern, regex_config, regex_source, IsReadFromSource}
 use Rattle.regex.specs.declared.string.regex.Regex.{Regex}
-use Rattle.regex.proofs.ForCallers.{span_alike}
-use Rattle.lrlex_rules.specs.Patterns.{pattern_read, end_from_zero, match_length}
+use Rattle.lrlex_rules.specs.Patterns.{pattern_read}
 
 read_value : (o : Option (Nested Re × Names)) (most : ℕ) (a : Re) (names : Names) →
     IsSomeAnd o (λ (re, found). (re.depth ≤ most) × SameCaptures a re.value × (names ≡ found) × (group_count a ≤ length names)) →
@@ -34,8 +33,3 @@ source_alike re config source is read under =
     record { at = λ hay bytes k i. ∥∥₁_elim read (outcomes_prop _ _) (λ h. (as_read re h).at hay bytes k i) } in
     subst (λ o. SameCaptures (regex_pattern re) (pattern_read o source)) under
     (subst (λ s. SameCaptures (regex_pattern re) (pattern_read (regex_config re) s)) is here)
-
--- and such patterns match equally much
-pub length_alike : (a b : Re) → SameCaptures a b → (text : List ℕ) → ((k : ℕ) → get_or text k 0 < 256) → match_length a text ≡ match_length b text
-unfolding match_length
-length_alike a b same text bytes = ap (end_from_zero text) (span_alike same text bytes true 0)

@@ -1,5 +1,5 @@
 -- The settings of a rule file.
-use Rattle.std.specs.Prelude.{ℕ, ◌*◌, ◌^◌, min, Bool, true, false, Option, Some, None, unwrap_or}
+use Rattle.std.specs.Prelude.{ℕ, ◌*◌, ◌^◌, min, Bool, true, false, Some, None, unwrap_or}
 use Rattle.regex.specs.Patterns.{Config}
 use Rattle.lrlex_rules.specs.declared.flags.LexFlags.{LexFlags}
 

@@ -10,6 +10,7 @@ pub mod Escape
 pub mod Outcome
 pub mod Laws
 -- what a rule's pattern matches
+pub use Rattle.lrlex_matching.specs.Matching
 pub mod Patterns
 pub mod Matchers
 -- what contracts see of the program

@@ -1,16 +1,17 @@
-//! Rules that are asked: how many bytes of a text a rule's pattern matches, found by `regex`.
+//! Rules that are asked: how many bytes of a text a rule's pattern matches, and how often that is asked.
 ghost use Rattle.std.specs.Prelude.{◌≡◌, ◌+◌, ◌^◌, ◌<◌, IfOk, IsCharBoundary};
 ghost use Rattle.regex.specs.Patterns.{SameCaptures};
 ghost use Rattle.regex.specs.Strings.{matcher_pattern};
+ghost use Rattle.lrlex_matching.specs.Matching.{match_length};
 ghost use Rattle.lrlex_rules.specs.Matchers.{IsMatcherOf, AreMatchers};
-ghost use Rattle.lrlex_rules.specs.Patterns.{match_length, rule_pattern};
+ghost use Rattle.lrlex_rules.specs.Patterns.{rule_pattern};
 
 use crate::rules::Rule;
+use lrlex_matching::matched;
 use regex::Matcher;
 use std::alloc::{AllocError, Global};
 
-/// How many bytes of the text the rule's pattern matches. No other function searches.
-#[tactic(auto, unfolding(crate::specs::Patterns::match_length))]
+/// How many bytes of the text the rule's pattern matches, by a search that is counted. No other function calls `matched`.
 fn ask<S>(matcher: &mut Matcher<'_>, rule: &Rule<S>, text: &str, asked: &mut u128) -> usize
     requires rule { SameCaptures (matcher_pattern matcher.old) (rule_pattern rule.now) }
     requires room { asked.old + 1 < 2 ^ 128 }
@@ -20,13 +21,7 @@ fn ask<S>(matcher: &mut Matcher<'_>, rule: &Rule<S>, text: &str, asked: &mut u12
     ensures same { matcher_pattern matcher.new ≡ matcher_pattern matcher.old }
 {
     *asked += 1;
-    match matcher.find(text) {
-        Some(found) => {
-            let start = found.start();
-            if start == 0 { found.end() } else { 0 }
-        }
-        None => 0,
-    }
+    matched(matcher, text)
 }
 
 /// The same, by a matcher that is made where there is none yet. Out of line, since a matcher's room on the stack would cost

@@ -6,7 +6,7 @@ use Rattle.std.proofs.lemmas.List.Elements.{All-get_or}
 use Rattle.std.proofs.lemmas.List.Folds.{list_any_more}
 use Rattle.std.proofs.lemmas.Str.{IsCharBoundary-start}
 use Rattle.regex.specs.Patterns.{Re, empty}
-use Rattle.lrlex_rules.specs.Patterns.{match_length}
+use Rattle.lrlex_matching.specs.Matching.{match_length}
 use Rattle.lrlex_table.specs.Merged.{pattern_at, IsLongest, NoneMatches}
 use Rattle.lrlex_table.specs.declared.tables.Part.{Part}
 use Rattle.lrlex_table.specs.declared.tables.Tables.{Tables}

@@ -2,7 +2,7 @@
 use Rattle.std.specs.Prelude.{◌≡◌, ℕ, ◌+◌, ◌<◌, ◌≤◌, Bool, true, false, ◌==◌, List, All, [], ◌∷◌, length, map, Option, Some, vec_len, IfSome, IsCharBoundary, MatchOption, slice_get}
 use Rattle.std.specs.List.{list_any, sum_by}
 use Rattle.regex.specs.Patterns.{Re}
-use Rattle.lrlex_rules.specs.Patterns.{match_length}
+use Rattle.lrlex_matching.specs.Matching.{match_length}
 use Rattle.lrlex_table.specs.Merged.{pattern_at, IsTableOf, IsLongest, NoneMatches}
 use Rattle.lrlex_table.specs.Decided.{IsText, BeginsAlike}
 use Rattle.lrlex_table.specs.declared.single.Single.{Single}

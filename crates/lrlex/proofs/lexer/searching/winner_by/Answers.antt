@@ -2,7 +2,7 @@ use Rattle.std.proofs.Common.{◌≡◌, ℕ, ◌+◌, ◌<◌, ◌≤◌, ◌�
 use Rattle.std.proofs.lemmas.Option.{slice_get_read}
 use Rattle.std.proofs.lemmas.List.{length-map}
 use Rattle.lrlex_rules.specs.Parts.{as_rule}
-use Rattle.lrlex_rules.specs.Patterns.{match_length}
+use Rattle.lrlex_matching.specs.Matching.{match_length}
 use Rattle.lrlex_table.specs.Tables.{IsBestAmong}
 use Rattle.lrlex_rules.specs.Matchers.{IsMatcherOf}
 use Rattle.lrlex.specs.StateTables.{patterns_on, pattern_in}

@@ -1,10 +1,10 @@
 -- What a search answers: the end of a match that begins at the text's beginning, and 0 where there is none.
-use Rattle.std.proofs.Common.{◌≡◌, ◌≢◌, ne_eqb, ℕ, Bool, true, false, ◌==◌, List, Option, Some, option_map, refl, sym, ap, ◌∙◌, eq-eqb, ◌&&◌, IsCharBoundary}
+use Rattle.std.proofs.Common.{◌≡◌, ◌≢◌, ne_eqb, ℕ, true, false, ◌==◌, List, Option, Some, option_map, refl, sym, ap, ◌∙◌, eq-eqb, ◌&&◌, IsCharBoundary}
 use Rattle.std.proofs.lemmas.Bool.{cond-true, cond-false}
 use Rattle.regex.specs.Patterns.{Re, find_str, span}
 use Rattle.regex_hir.specs.Text.{is_boundary}
 use Rattle.regex.proofs.Utf8Lemmas.{test_of_IsCharBoundary}
-use Rattle.lrlex_rules.specs.Patterns.{end_from_zero, match_length}
+use Rattle.lrlex_matching.specs.Matching.{end_from_zero, match_length}
 
 end_at_zero : (text : List ℕ) (s e : ℕ) → s ≡ 0 → IsCharBoundary text e → end_from_zero text (Some (s, e)) ≡ e
 end_at_zero text s e at cut =

@@ -1,0 +1,2 @@
+pub mod FoundLemmas
+pub mod ForCallers

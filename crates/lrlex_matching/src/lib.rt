@@ -1,0 +1,24 @@
+//! Matching: how many bytes of a text a pattern matches, found by `regex`.
+#![tactic(auto)]
+
+ghost use Rattle.std.specs.Prelude.{◌≡◌, IsCharBoundary};
+ghost use Rattle.regex.specs.Strings.{matcher_pattern};
+ghost use Rattle.lrlex_matching.specs.Matching.{match_length};
+
+use regex::Matcher;
+
+/// How many bytes of the text its pattern matches, by the leftmost match, where that starts at the text's beginning; else 0.
+/// No other function searches.
+pub fn matched(matcher: &mut Matcher<'_>, text: &str) -> usize
+    ensures length { result ≡ match_length (matcher_pattern matcher.old) text.now }
+    ensures boundary { IsCharBoundary text.now result }
+    ensures same { matcher_pattern matcher.new ≡ matcher_pattern matcher.old }
+{
+    match matcher.find(text) {
+        Some(found) => {
+            let start = found.start();
+            if start == 0 { found.end() } else { 0 }
+        }
+        None => 0,
+    }
+}
