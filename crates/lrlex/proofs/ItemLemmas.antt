@@ -1,18 +1,15 @@
 -- What holds of the items of a tiling.
-use Rattle.std.proofs.Common.{◌≡◌, ℕ, zero, suc, option_map, ◌+◌, ◌<◌, ◌≤◌, Bool, true, false, cond, ◌&&◌, ◌==◌, List, [], ◌∷◌, ◌++◌, All, length, take, drop, Option, Some, None, IsSome, IsNone, IfSome, is_some, is_none, unwrap_or, slice_get, get_or, refl, sym, ap, ◌∙◌, subst, inl, inr, arith, true≢false, add-one, append_assoc, IsCharBoundary, IsUtf8, Any}
+use Rattle.std.proofs.Common.{◌≡◌, ℕ, zero, suc, ◌+◌, ◌<◌, ◌≤◌, Bool, true, false, cond, ◌&&◌, List, [], ◌∷◌, ◌++◌, All, length, take, drop, Option, Some, None, IsSome, IsNone, IfSome, is_some, is_none, unwrap_or, slice_get, get_or, refl, sym, ap, ◌∙◌, subst, inl, inr, arith, true≢false, add-one, append_assoc, IsCharBoundary, IsUtf8, Any}
 use Rattle.std.proofs.Props.{props}
 use Rattle.std.proofs.Math.Logic.{∥∥₁_elim}
 use Rattle.std.specs.List.{list_any, concat, AllPairs, AllAdjacentBelow}
-use Rattle.std.proofs.lemmas.Bool.{cond_both, and_parts, cases_Bool}
+use Rattle.std.proofs.lemmas.Bool.{cond_both, cases_Bool}
 use Rattle.std.proofs.lemmas.List.{drop-drop, length-drop, take-append-drop}
 use Rattle.std.proofs.lemmas.List.Elements.{All-nil, All-cons, All-append, All-push, All-weaker}
 use Rattle.std.proofs.lemmas.List.Kept.{AllPairs-cons}
 use Rattle.std.proofs.lemmas.List.Sums.{sum_by-append, sum_by-cons}
 use Rattle.std.proofs.lemmas.Option.{slice_get_within, get_or_from_slice_get, none-some}
 use Rattle.std.proofs.lemmas.Str.{IsCharBoundary-start, IsCharBoundary-from_rest}
-use Rattle.regex.specs.Patterns.{Re, find_str, span}
-use Rattle.regex_hir.specs.Text.{is_boundary}
-use Rattle.regex.proofs.Utf8Lemmas.{IsCharBoundary-of_test}
 use Rattle.lrlex_rules.specs.Definition.{Definition, Rule}
 use Rattle.lrlex_matching.specs.Matching.{match_length}
 use Rattle.lrlex_matching.proofs.ForCallers.{length_cuts}

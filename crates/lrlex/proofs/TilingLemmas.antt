@@ -1,10 +1,6 @@
 -- A text has one tiling, and what follows a boundary is a tiling of what is left.
-use Rattle.std.proofs.Common.{◌≡◌, ℕ, ◌≤◌, Bool, true, false, cond, List, [], ◌∷◌, length, drop, Option, Some, None, option_map, refl, sym, ap, ap₂, ◌∙◌, subst, inl, inr, arith, true≢false, slice_get}
+use Rattle.std.proofs.Common.{◌≡◌, ℕ, ◌≤◌, Bool, true, false, cond, List, [], ◌∷◌, length, drop, Option, Some, None, refl, sym, ap, ap₂, ◌∙◌, subst, inl, inr, arith, true≢false, slice_get}
 use Rattle.std.proofs.lemmas.Bool.{cases_lt}
-use Rattle.regex.specs.Patterns.{Re, Match, find_str, span}
-use Rattle.regex_hir.proofs.MatchesLemmas.{Matches-IsSpan}
-use Rattle.regex.proofs.ForCallers.{find_str_sound}
-use Rattle.regex.proofs.SearchLemmas.{leftmost_attempt}
 use Rattle.lrlex_rules.specs.Definition.{Definition, Rule}
 use Rattle.lrlex_matching.proofs.ForCallers.{length_within}
 use Rattle.lrlex_rules.specs.Patterns.{pattern_of}
@@ -12,7 +8,7 @@ use Rattle.lrlex.specs.Active.{is_active, taken_by, taken_by_any, rule_at, lacks
 use Rattle.lrlex.specs.Tiling.{Tile}
 use Rattle.lrlex.specs.Tiling.{Wins, IsStuck, top, End, Done, NoMatch, NoId, NoTarget, IsWinner, IsEnd, IsTaken, stack_past, IsTiling}
 
--- ---- a match ends within the text
+-- ---- a winner ends within the text
 
 within_cases : (b : Bool) (n len : ℕ) → n ≤ len → cond b n 0 ≤ len
 within_cases true n len h = h
