@@ -8,8 +8,7 @@ ghost use Rattle.lrlex.specs.Ids.{is_named, ids_of, with_own_id, is_lacking, is_
 
 use crate::lexer::RuleTable;
 use crate::names::have_own_ids;
-use crate::numbered::Numbered;
-use lrlex_base::{Id, Span};
+use lrlex_base::{Id, Numbered, Span};
 use lrlex_rules::Rule;
 use std::alloc::{AllocError, Global};
 use std::collections::{HashMap, HashSet};
