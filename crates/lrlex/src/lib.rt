@@ -7,7 +7,6 @@ mod ids;
 mod lexer;
 mod lookups;
 mod names;
-mod numbered;
 
 pub use crate::definitions::LexerDef;
 pub use crate::errors::LRLexError;

@@ -9,6 +9,7 @@ mod laws;
 mod lexemes;
 mod lexers;
 mod newlines;
+mod numbered;
 mod spans;
 
 pub use crate::classes::{is_blank, is_line_sep, is_white_space};
@@ -18,4 +19,5 @@ pub use crate::ids::Id;
 pub use crate::lexemes::{LexError, Lexeme};
 pub use crate::lexers::{Items, Lexer, LexerTypes, NonStreamingLexer};
 pub use crate::newlines::NewlineCache;
+pub use crate::numbered::Numbered;
 pub use crate::spans::{Span, Spanned, SpansKind};

@@ -5,7 +5,7 @@ ghost use Rattle.lrlex.specs.Active.{is_inclusive, is_active_where, active_place
 ghost use Rattle.lrlex_rules.specs.Parts.{as_rule, as_state};
 ghost use Rattle.lrlex.specs.StateTables.{AreBelow, ArePlaced, list_in};
 
-use crate::numbered::Numbered;
+use lrlex_base::Numbered;
 use lrlex_rules::{Rule, StartState};
 use std::alloc::{AllocError, Global};
 

@@ -13,8 +13,7 @@ use crate::lexer::resuming::up_to;
 use crate::lexer::run::LexRun;
 use crate::lexer::searching::{Searcher, Tile};
 use crate::lexer::stack::top_of;
-use crate::numbered::Numbered;
-use lrlex_base::{LexerTypes, Span};
+use lrlex_base::{LexerTypes, Numbered, Span};
 use lrlex_boundaries::Boundaries;
 use std::alloc::{AllocError, Global};
 

@@ -5,7 +5,7 @@ ghost use Rattle.lrlex.specs.AtHand.{AreOf, HasAsked, IsSearcherOf, IsSightOf};
 ghost use Rattle.lrlex.specs.Views.{definition_by};
 
 use crate::lexer::definition::{RuleTable, RulesIn};
-use crate::numbered::Numbered;
+use lrlex_base::Numbered;
 use lrlex_rules::{ask_by, no_matchers};
 use lrlex_table::DeadEnds;
 use regex::Matcher;

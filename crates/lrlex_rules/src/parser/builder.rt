@@ -27,7 +27,7 @@ use crate::parser::text::{
 };
 use crate::rules::Rule;
 use crate::states::StartState;
-use lrlex_base::{Id, Span};
+use lrlex_base::{Numbered, Span};
 use std::alloc::{AllocError, Global};
 
 /// A name of its own, if there is one.
@@ -52,7 +52,7 @@ pub(crate) struct Builder<'t, StorageT> {
     is_refused: bool,
 }
 
-impl<'t, StorageT: Id> Builder<'t, StorageT> {
+impl<'t, StorageT: Numbered> Builder<'t, StorageT> {
     /// A builder that has the state with which each rule file begins.
     fn new(alloc: Global) -> Result<Builder<'t, StorageT>, AllocError>
         ensures { IfOk result (λ b. (flags : LexFlags) →
@@ -217,12 +217,12 @@ impl<'t, StorageT: Id> Builder<'t, StorageT> {
             (λ s events. rule_event s (rules_of events) at
             (as_parts parts.entry) (as_pattern pattern))) }
     {
-        let Some(id) = StorageT::from_count(self.rules.list.as_slice().len()) else {
+        let Some(id) = StorageT::of_count(self.rules.list.as_slice().len()) else {
             return self.refuse(alloc, LexErrorKind::TooManyRules, at);
         };
         let name = owned(alloc, parts.label.name)?;
         let Pattern { start_states, text } = pattern;
-        match Rule::new(
+        match Rule::from_parts(
             alloc,
             Some(id),
             name,
@@ -379,7 +379,7 @@ pub struct RuleFile<StorageT> {
 }
 
 /// Reads a rule text, and compiles its patterns under these flags.
-pub fn read_rules<StorageT: Id>(
+pub fn read_rules<StorageT: Numbered>(
     alloc: Global,
     text: &str,
     flags: LexFlags,

@@ -5,7 +5,7 @@ ghost use Rattle.lrlex_rules.specs.Parts.{state_name, rule_name, ArePlaces, Note
 
 use crate::rules::Rule;
 use crate::states::StartState;
-use lrlex_base::Id;
+use lrlex_base::Numbered;
 use std::alloc::{AllocError, Global};
 use std::collections::BTreeMap;
 
@@ -79,7 +79,7 @@ pub(crate) struct Rules<'t, StorageT> {
     ghost placed: { ArePlaces rule_name places list.items } by { Prim.hlevel props },
 }
 
-impl<'t, StorageT: Id> Rules<'t, StorageT> {
+impl<'t, StorageT: Numbered> Rules<'t, StorageT> {
     ghost use Rattle.lrlex_rules.specs.Parts.{as_rule};
     ghost use Rattle.lrlex_rules.specs.Outcome.{rule_with_name};
 

@@ -15,33 +15,33 @@ pub returns-then-not-is_empty-clause-answer : goal.returns-then-not-is_empty-cla
 returns-then-not-is_empty-clause-answer g c =
     let rr = c.resolved-resolved.result in
     let r = refused_of c.read.new.self in
-    let suits : Suits (settings c.args.flags g.StorageT.Id.greatest r) rr g.StorageT.Id.greatest = record { flags_are = sym c.resolved-resolved.ensures; greatest_is = refl } in
+    let suits : Suits (settings c.args.flags g.StorageT.Numbered.greatest r) rr g.StorageT.Numbered.greatest = record { flags_are = sym c.resolved-resolved.ensures; greatest_is = refl } in
     let some : eqb (length c.read.new.self.errors.list.items) 0 ≡ false = ap (λ (es : List LexBuildError). eqb (length es) 0) (sym c.as_slice.ensures.value) ∙ sym c.is_empty.ensures ∙ c.if-not-is_empty.true in
-    answers_faults g.StorageT.Id.number c.args.flags rr g.StorageT.Id.greatest r c.args.text.now c.read.new.self c.resolved-resolved.ensures (c.in_ok-read.ensures (settings c.args.flags g.StorageT.Id.greatest r) suits _ (c.in_ok-builder.ensures rr) refl) some
+    answers_faults g.StorageT.Numbered.number c.args.flags rr g.StorageT.Numbered.greatest r c.args.text.now c.read.new.self c.resolved-resolved.ensures (c.in_ok-read.ensures (settings c.args.flags g.StorageT.Numbered.greatest r) suits _ (c.in_ok-builder.ensures rr) refl) some
 
 pub returns-clause-answer : goal.returns-clause-answer
 returns-clause-answer g c =
     let rr = c.resolved-resolved.result in
-    let suits : Suits (settings c.args.flags g.StorageT.Id.greatest None) rr g.StorageT.Id.greatest = record { flags_are = sym c.resolved-resolved.ensures; greatest_is = refl } in
+    let suits : Suits (settings c.args.flags g.StorageT.Numbered.greatest None) rr g.StorageT.Numbered.greatest = record { flags_are = sym c.resolved-resolved.ensures; greatest_is = refl } in
     let none : eqb (length c.read.new.self.errors.list.items) 0 ≡ true = ap (λ (es : List LexBuildError). eqb (length es) 0) (sym c.as_slice.ensures.value) ∙ sym c.is_empty.ensures ∙ c.if-not-is_empty.false in
-    answers_definition g.StorageT.Id.number c.args.flags rr g.StorageT.Id.greatest None c.args.text.now c.read.new.self c.resolved-resolved.ensures
-    (c.in_ok-read.ensures (settings c.args.flags g.StorageT.Id.greatest None) suits _ (c.in_ok-builder.ensures rr) (none_told c.read.new.self none)) none
+    answers_definition g.StorageT.Numbered.number c.args.flags rr g.StorageT.Numbered.greatest None c.args.text.now c.read.new.self c.resolved-resolved.ensures
+    (c.in_ok-read.ensures (settings c.args.flags g.StorageT.Numbered.greatest None) suits _ (c.in_ok-builder.ensures rr) (none_told c.read.new.self none)) none
 
 pub returns-then-not-is_empty-clause-refusals : goal.returns-then-not-is_empty-clause-refusals
 returns-then-not-is_empty-clause-refusals g c =
     let rr = c.resolved-resolved.result in
     let r = refused_of c.read.new.self in
-    let suits : Suits (settings c.args.flags g.StorageT.Id.greatest r) rr g.StorageT.Id.greatest = record { flags_are = sym c.resolved-resolved.ensures; greatest_is = refl } in
-    let all = whole g.StorageT.Id.number c.args.flags rr g.StorageT.Id.greatest r c.args.text.now c.read.new.self c.resolved-resolved.ensures (c.in_ok-read.ensures (settings c.args.flags g.StorageT.Id.greatest r) suits _ (c.in_ok-builder.ensures rr) refl) in
-    let P : LexFlags → Type 0 = λ f. AreRefusals (config_of f) (refused_patterns (events_of (settings c.args.flags g.StorageT.Id.greatest r) c.args.text.now)) (regex_errors c.read.new.self.errors.list.items) in
+    let suits : Suits (settings c.args.flags g.StorageT.Numbered.greatest r) rr g.StorageT.Numbered.greatest = record { flags_are = sym c.resolved-resolved.ensures; greatest_is = refl } in
+    let all = whole g.StorageT.Numbered.number c.args.flags rr g.StorageT.Numbered.greatest r c.args.text.now c.read.new.self c.resolved-resolved.ensures (c.in_ok-read.ensures (settings c.args.flags g.StorageT.Numbered.greatest r) suits _ (c.in_ok-builder.ensures rr) refl) in
+    let P : LexFlags → Type 0 = λ f. AreRefusals (config_of f) (refused_patterns (events_of (settings c.args.flags g.StorageT.Numbered.greatest r) c.args.text.now)) (regex_errors c.read.new.self.errors.list.items) in
     subst P c.resolved-resolved.ensures all.refusals
 
 pub returns-then-not-is_empty-clause-placed : goal.returns-then-not-is_empty-clause-placed
 returns-then-not-is_empty-clause-placed g c =
-    outcome_placed (settings c.args.flags g.StorageT.Id.greatest (refused_of c.read.new.self)) c.args.text.now c.read.new.self.errors.list.items c.utf8.text (returns-then-not-is_empty-clause-answer g c)
+    outcome_placed (settings c.args.flags g.StorageT.Numbered.greatest (refused_of c.read.new.self)) c.args.text.now c.read.new.self.errors.list.items c.utf8.text (returns-then-not-is_empty-clause-answer g c)
 
 pub returns-clause-lawful : goal.returns-clause-lawful
-returns-clause-lawful g c = outcome_lawful (settings c.args.flags g.StorageT.Id.greatest None) c.args.text.now _ c.utf8.text (sym (returns-clause-answer g c))
+returns-clause-lawful g c = outcome_lawful (settings c.args.flags g.StorageT.Numbered.greatest None) c.args.text.now _ c.utf8.text (sym (returns-clause-answer g c))
 
 pub returns-clause-first : goal.returns-clause-first
-returns-clause-first g c = outcome_first (settings c.args.flags g.StorageT.Id.greatest None) c.args.text.now _ (sym (returns-clause-answer g c))
+returns-clause-first g c = outcome_first (settings c.args.flags g.StorageT.Numbered.greatest None) c.args.text.now _ (sym (returns-clause-answer g c))

@@ -12,26 +12,33 @@ use Rattle.lrlex_rules.proofs.parser.builder.Builder.add_rule.Goals as goal
 
 pub returns-in_default : goal.returns-in_default
 returns-in_default g c =
-    let more : g.StorageT.Id.greatest < length c.args.self.now.rules.list.items = subst (λ (n : ℕ). g.StorageT.Id.greatest < n) (ap (length {A = _}) c.as_slice.ensures.value) (c.in_default.ensures.none.0 refl) in
-    on_ok c.refuse.result (line_too_many g.StorageT.Id.number c.args.flags.now g.StorageT.Id.greatest c.args.self.now c.refuse.new.self c.args.at (as_parts c.args.parts) (as_pattern c.args.pattern) more) c.refuse.ensures.adds
+    let more : g.StorageT.Numbered.greatest < length c.args.self.now.rules.list.items = subst (λ (n : ℕ). g.StorageT.Numbered.greatest < n) (ap (length {A = _}) c.as_slice.ensures.value) (c.in_default.ensures.none.0 refl) in
+    on_ok c.refuse.result (line_too_many g.StorageT.Numbered.number c.args.flags.now g.StorageT.Numbered.greatest c.args.self.now c.refuse.new.self c.args.at (as_parts c.args.parts) (as_pattern c.args.pattern) more) c.refuse.ensures.adds
 
 pub returns-in_ok-push-in-Ok : goal.returns-in_ok-push-in-Ok
 returns-in_ok-push-in-Ok g c =
     let count : length c.as_slice.result.now ≡ length c.args.self.now.rules.list.items = ap (length {A = _}) c.as_slice.ensures.value in
-    let room : length c.args.self.now.rules.list.items ≤ g.StorageT.Id.greatest = subst (λ (n : ℕ). n ≤ g.StorageT.Id.greatest) count (at_most g.StorageT.Id.greatest (length c.as_slice.result.now) (λ lt. let e : true ≡ false = c.in-Some.ensures.none.1 lt in cc)) in
-    let made = rw c.in-Ok.is at c.in_ok-rule.ensures.made in
-    let is : as_rule g.StorageT.Id.number c.in-Ok.rule ≡ _ = rule_made (as_parts c.args.parts) (as_pattern c.args.pattern) c.args.flags.now (as_rule g.StorageT.Id.number c.in-Ok.rule) (g.StorageT.Id.number c.in-Some.id) (length c.args.self.now.rules.list.items) (option_map string_bytes c.in_ok-name.name) made (c.in-Some.ensures.value ∙ count) c.in_ok-name.ensures in
-    line_kept g.StorageT.Id.number c.args.flags.now g.StorageT.Id.greatest c.args.self.now _ c.args.at (as_parts c.args.parts) (as_pattern c.args.pattern) c.requires room refl
-    (λ r same events was. adds_rule g.StorageT.Id.number c.args.flags.now c.args.self.now _ events was c.requires r refl refl refl
-    (ap (map (as_rule g.StorageT.Id.number)) c.in_ok-push-in-Ok.ensures ∙ map_push (as_rule g.StorageT.Id.number) c.args.self.now.rules.list.items _
-    ∙ ap (λ (x : Rule). map (as_rule g.StorageT.Id.number) c.args.self.now.rules.list.items ++ x ∷ []) (is ∙ sym same)))
+    let room : length c.args.self.now.rules.list.items ≤ g.StorageT.Numbered.greatest = subst (λ (n : ℕ). n ≤ g.StorageT.Numbered.greatest) count (at_most g.StorageT.Numbered.greatest (length c.as_slice.result.now) (λ lt. let e : true ≡ false = c.in-Some.ensures.none.1 lt in cc)) in
+    let numbered = c.in_ok-rule.ensures.made g.StorageT.Numbered.number in
+    let made = rw c.in-Ok.is at numbered in
+    let is : as_rule g.StorageT.Numbered.number c.in-Ok.rule ≡ _ = rule_made (as_parts c.args.parts) (as_pattern c.args.pattern) c.args.flags.now (as_rule g.StorageT.Numbered.number c.in-Ok.rule) (g.StorageT.Numbered.number c.in-Some.id) (length c.args.self.now.rules.list.items) (option_map string_bytes c.in_ok-name.name) made (c.in-Some.ensures.value ∙ count) c.in_ok-name.ensures in
+    line_kept g.StorageT.Numbered.number c.args.flags.now g.StorageT.Numbered.greatest c.args.self.now _ c.args.at (as_parts c.args.parts) (as_pattern c.args.pattern) c.requires room refl
+    (λ r same events was. adds_rule g.StorageT.Numbered.number c.args.flags.now c.args.self.now _ events was c.requires r refl refl refl
+    (ap (map (as_rule g.StorageT.Numbered.number)) c.in_ok-push-in-Ok.ensures ∙ map_push (as_rule g.StorageT.Numbered.number) c.args.self.now.rules.list.items _
+    ∙ ap (λ (x : Rule). map (as_rule g.StorageT.Numbered.number) c.args.self.now.rules.list.items ++ x ∷ []) (is ∙ sym same)))
 
 pub returns-in-Err : goal.returns-in-Err
 returns-in-Err g c =
     let count : length c.as_slice.result.now ≡ length c.args.self.now.rules.list.items = ap (length {A = _}) c.as_slice.ensures.value in
-    let room : length c.args.self.now.rules.list.items ≤ g.StorageT.Id.greatest = subst (λ (n : ℕ). n ≤ g.StorageT.Id.greatest) count (at_most g.StorageT.Id.greatest (length c.as_slice.result.now) (λ lt. let e : true ≡ false = c.in-Some.ensures.none.1 lt in cc)) in
+    let room : length c.args.self.now.rules.list.items ≤ g.StorageT.Numbered.greatest = subst (λ (n : ℕ). n ≤ g.StorageT.Numbered.greatest) count (at_most g.StorageT.Numbered.greatest (length c.as_slice.result.now) (λ lt. let e : true ≡ false = c.in-Some.ensures.none.1 lt in cc)) in
     let refused = rw c.in-Err.is at c.in_ok-rule.ensures.refused in
     let kind = rw c.in-Err.is at c.in_ok-rule.ensures.kind in
     let not_memory = rw c.in-Err.is at c.in_ok-rule.ensures.not_memory in
     let why : IsRefused (config_of c.args.flags.now) (string_bytes c.args.pattern.text) c.in-Err.error = record { by_grammar = refused; kind = kind; not_memory = not_memory } in
-    on_ok c.refuse_pattern.result (line_refused g.StorageT.Id.number c.args.flags.now g.StorageT.Id.greatest c.args.self.now c.refuse_pattern.new.self c.args.at (as_parts c.args.parts) (as_pattern c.args.pattern) c.in-Err.error c.requires room why) c.refuse_pattern.ensures
+    on_ok c.refuse_pattern.result (line_refused g.StorageT.Numbered.number c.args.flags.now g.StorageT.Numbered.greatest c.args.self.now c.refuse_pattern.new.self c.args.at (as_parts c.args.parts) (as_pattern c.args.pattern) c.in-Err.error c.requires room why) c.refuse_pattern.ensures
+
+pub push-requires : goal.push-requires
+push-requires g c =
+    let numbered = c.in_ok-rule.ensures.made g.StorageT.Numbered.number in
+    let made = rw c.in-Ok.is at numbered in
+    ap (λ (r : Rule). r.name) made ∙ c.in_ok-name.ensures

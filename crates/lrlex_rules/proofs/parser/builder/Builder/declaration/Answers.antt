@@ -20,7 +20,7 @@ returns-in-Some g c =
     let says : map (declared_name c.in-Some.exclusive) (cut is_white_space (as_piece c.trim-parameters.result)) ≡ declared_by (as_piece c.args.line) =
     declared_is (as_piece c.args.line) _ _ c.in-Some.exclusive (as_piece c.trim-parameters.result) c.first_word.ensures.word c.first_word.ensures.rest c.in-Some.ensures c.trim-parameters.ensures.value (sym c.is_empty.ensures ∙ c.if-not-is_empty.true) in
     on_ok c.declare_all.result (λ reads flags events was.
-    let P : List Declared → Type 0 = λ ds. Represents g.StorageT.Id.number flags c.declare_all.new.self (events_after state_event events ds) in
+    let P : List Declared → Type 0 = λ ds. Represents g.StorageT.Numbered.number flags c.declare_all.new.self (events_after state_event events ds) in
     subst P says (reads flags events was)) c.declare_all.ensures
 
 pub returns-in_default : goal.returns-in_default
@@ -33,6 +33,6 @@ returns-in_default g c =
     let says : Wrong (fault_at UnknownDeclaration c.args.line.at) ∷ [] ≡ declared_by (as_piece c.args.line) =
     undeclared_is (as_piece c.args.line) _ _ (as_piece c.trim-parameters.result) c.first_word.ensures.word c.first_word.ensures.rest c.trim-parameters.ensures.value nothing in
     on_ok c.refuse.result (λ adds flags events was.
-    let P : List Declared → Type 0 = λ ds. Represents g.StorageT.Id.number flags c.refuse.new.self (events_after state_event events ds) in
-    let Q : List Event → Type 0 = λ es. Represents g.StorageT.Id.number flags c.refuse.new.self es in
+    let P : List Declared → Type 0 = λ ds. Represents g.StorageT.Numbered.number flags c.refuse.new.self (events_after state_event events ds) in
+    let Q : List Event → Type 0 = λ es. Represents g.StorageT.Numbered.number flags c.refuse.new.self es in
     subst P says (subst Q (events_after_one state_event events (Wrong (fault_at UnknownDeclaration c.args.line.at)) (sym was.refused ∙ c.requires.calm)) (adds flags events was))) c.refuse.ensures.adds

@@ -8,4 +8,4 @@ use Rattle.lrlex_rules.proofs.parser.builder.Builder.declarations.Given as goal
 
 -- whatever events the builder began with, it has those of the lines so far too
 abbrev pub invariant-loop-line : goal.invariant-loop-line
-invariant-loop-line g l = Reads g.StorageT.Id.number l.fn.self l.self (λ (events : List Event). events_after state_event events (flat_map declared_by (map as_piece (take l.line-index l.lines))))
+invariant-loop-line g l = Reads g.StorageT.Numbered.number l.fn.self l.self (λ (events : List Event). events_after state_event events (flat_map declared_by (map as_piece (take l.line-index l.lines))))

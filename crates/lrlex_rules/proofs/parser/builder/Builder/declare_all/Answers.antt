@@ -48,5 +48,5 @@ loop-left-preserved g c =
 pub returns-then-self : goal.returns-then-self
 returns-then-self g c flags events was =
     let before = c.loop-left.invariant.reads flags events was in
-    let P : List Event → Type 0 = λ es. Represents g.StorageT.Id.number flags c.loop-left.self es in
+    let P : List Event → Type 0 = λ es. Represents g.StorageT.Numbered.number flags c.loop-left.self es in
     subst P (sym (events_after_refused state_event before.0 _ (sym before.1.refused ∙ c.if-self.true)) ∙ before.2) before.1

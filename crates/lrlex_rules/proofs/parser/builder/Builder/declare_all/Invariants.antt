@@ -12,7 +12,7 @@ use Rattle.lrlex_rules.proofs.parser.builder.Builder.declare_all.Given as goal
 -- whatever events the builder began with, it has those of the names so far too, and the names that are left say the rest
 abbrev pub invariant-loop-left : goal.invariant-loop-left
 invariant-loop-left g l = record {
-  reads : (flags : LexFlags) (events : List Event) → Represents g.StorageT.Id.number flags l.fn.self events → (so_far : List Event) × Represents g.StorageT.Id.number flags l.self so_far
+  reads : (flags : LexFlags) (events : List Event) → Represents g.StorageT.Numbered.number flags l.fn.self events → (so_far : List Event) × Represents g.StorageT.Numbered.number flags l.self so_far
       × (events_after state_event so_far (map (declared_name l.exclusive) (pieces_left is_white_space l.end (option_copied l.left))) ≡ events_after state_event events (map (declared_name l.exclusive) (cut is_white_space (as_piece l.names))));
   short : IfSome (option_copied l.left) (λ rest. length rest ≤ l.end);
 }

@@ -7,5 +7,5 @@ use Rattle.lrlex_rules.proofs.parser.builder.Builder.lines.Given as goal
 -- whatever events the builder began with, it has those of the lines so far too, if the settings name the same of these lines as the builder does
 abbrev pub invariant-loop-line : goal.invariant-loop-line
 invariant-loop-line g l =
-    (s : Settings) → Suits s l.flags g.StorageT.Id.greatest → (events : List Event) → Represents g.StorageT.Id.number l.flags l.fn.self events → HitAlike s.refused (refused_of l.self) l.lines l.line-index
-    → Represents g.StorageT.Id.number l.flags l.self (events_after (line_event s) events (map as_piece (take l.line-index l.lines)))
+    (s : Settings) → Suits s l.flags g.StorageT.Numbered.greatest → (events : List Event) → Represents g.StorageT.Numbered.number l.flags l.fn.self events → HitAlike s.refused (refused_of l.self) l.lines l.line-index
+    → Represents g.StorageT.Numbered.number l.flags l.self (events_after (line_event s) events (map as_piece (take l.line-index l.lines)))

@@ -17,8 +17,8 @@ returns-in-Some g c =
     let end : Some (as_piece c.in-Some.mark) ≡ section_end (trimmed_lines c.args.text.now) = ap (option_map as_piece) (sym c.in-Some.is) ∙ declared_end c.args.text.now c.in_ok-declared.declared.end c.in_ok-declared.ensures.end in
     on_ok c.rules.result (λ reads s suits events was same.
     let so_far = c.in_ok-declarations.ensures flags events was in
-    let P : Option Piece → Type 0 = λ o. Represents g.StorageT.Id.number flags c.rules.new.self (rules_events s c.args.text.now (events_after state_event events (declarations (allows_comments flags) c.args.text.now)) o) in
-    let Q : List Declared → Type 0 = λ ds. Represents g.StorageT.Id.number flags c.declarations.new.self (events_after state_event events ds) in
+    let P : Option Piece → Type 0 = λ o. Represents g.StorageT.Numbered.number flags c.rules.new.self (rules_events s c.args.text.now (events_after state_event events (declarations (allows_comments flags) c.args.text.now)) o) in
+    let Q : List Declared → Type 0 = λ ds. Represents g.StorageT.Numbered.number flags c.declarations.new.self (events_after state_event events ds) in
     subst P end (reads s suits _ (subst Q all so_far) same)) c.rules.ensures
 
 pub returns : goal.returns
@@ -28,6 +28,6 @@ returns g c =
     let end : None ≡ section_end (trimmed_lines c.args.text.now) = ap (option_map as_piece) (sym c.in-None.is) ∙ declared_end c.args.text.now c.in_ok-declared.declared.end c.in_ok-declared.ensures.end in
     on_ok c.then_refuse.result (λ reads s suits events was same.
     let so_far = c.in_ok-declarations.ensures flags events was in
-    let P : Option Piece → Type 0 = λ o. Represents g.StorageT.Id.number flags c.then_refuse.new.self (rules_events s c.args.text.now (events_after state_event events (declarations (allows_comments flags) c.args.text.now)) o) in
-    let Q : List Declared → Type 0 = λ ds. Represents g.StorageT.Id.number flags c.declarations.new.self (events_after state_event events ds) in
+    let P : Option Piece → Type 0 = λ o. Represents g.StorageT.Numbered.number flags c.then_refuse.new.self (rules_events s c.args.text.now (events_after state_event events (declarations (allows_comments flags) c.args.text.now)) o) in
+    let Q : List Declared → Type 0 = λ ds. Represents g.StorageT.Numbered.number flags c.declarations.new.self (events_after state_event events ds) in
     subst P end (reads flags _ (subst Q all so_far))) c.then_refuse.ensures.reads

@@ -11,7 +11,7 @@ use Rattle.lrlex_rules.proofs.parser.builder.Builder.refuse.Goals as goal
 
 pub returns-clause-adds : goal.returns-clause-adds
 returns-clause-adds g c flags events was =
-    adds_fatal g.StorageT.Id.number flags c.args.self.now _ events was c.requires.calm (fault_at (as_kind c.args.kind) c.args.at) c.requires.own refl refl refl
+    adds_fatal g.StorageT.Numbered.number flags c.args.self.now _ events was c.requires.calm (fault_at (as_kind c.args.kind) c.args.at) c.requires.own refl refl refl
     (ap (map as_fault) c.in_ok-push.ensures ∙ map_push as_fault c.args.self.now.errors.list.items _
     ∙ ap (λ (f : Fault). map as_fault c.args.self.now.errors.list.items ++ f ∷ []) (one_fault c.new-2.result c.args.kind _ _ _ _ c.new-2.ensures.kind c.new-2.ensures.spans c.in_ok-spans.ensures.items c.new.ensures.start c.new.ensures.end))
 

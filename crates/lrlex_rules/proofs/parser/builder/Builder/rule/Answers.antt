@@ -13,21 +13,21 @@ use Rattle.lrlex_rules.proofs.parser.builder.Builder.rule.Goals as goal
 
 pub returns-in-Some : goal.returns-in-Some
 returns-in-Some g c =
-    on_ok c.add_duplicate.result (line_duplicate g.StorageT.Id.number c.args.flags.now g.StorageT.Id.greatest c.args.self.now _ c.args.at (as_parts c.args.parts) (as_rule g.StorageT.Id.number c.in-Some.original.now) c.requires c.in-Some.ensures refl refl refl) (rw c.name_span-first.ensures at c.add_duplicate.ensures)
+    on_ok c.add_duplicate.result (line_duplicate g.StorageT.Numbered.number c.args.flags.now g.StorageT.Numbered.greatest c.args.self.now _ c.args.at (as_parts c.args.parts) (as_rule g.StorageT.Numbered.number c.in-Some.original.now) c.requires c.in-Some.ensures refl refl refl) (rw c.name_span-first.ensures at c.add_duplicate.ensures)
 
 pub returns-in-Ok : goal.returns-in-Ok
 returns-in-Ok g c =
     let read : Ok (as_pattern c.in-Ok.pattern) ≡ read_pattern (unwrap_or c.args.flags.now.posix_escapes false) (as_states c.args.self.now.states) c.args.at (trim_head c.args.parts.head.now) =
     sym (ap (seen as_pattern as_fatal) c.in-Ok.is) ∙ c.in_ok-pattern.ensures ∙ ap (λ (b : Bool). read_pattern b (as_states c.args.self.now.states) c.args.at c.trim_head-head.result.now) c.has_posix_escapes-posix.ensures
     ∙ ap (read_pattern (unwrap_or c.args.flags.now.posix_escapes false) (as_states c.args.self.now.states) c.args.at) c.trim_head-head.ensures in
-    on_ok c.add_rule.result (line_same g.StorageT.Id.number c.args.flags.now g.StorageT.Id.greatest c.args.self.now c.add_rule.new.self c.args.at (λ s events. rule_event s (rules_of events) c.args.at (as_parts c.args.parts) (as_pattern c.in-Ok.pattern))
+    on_ok c.add_rule.result (line_same g.StorageT.Numbered.number c.args.flags.now g.StorageT.Numbered.greatest c.args.self.now c.add_rule.new.self c.args.at (λ s events. rule_event s (rules_of events) c.args.at (as_parts c.args.parts) (as_pattern c.in-Ok.pattern))
     (λ s events. split_event s events c.args.at (Ok (as_parts c.args.parts)))
-    (offered_is g.StorageT.Id.number c.args.flags.now g.StorageT.Id.greatest c.args.self.now c.args.at (as_parts c.args.parts) c.in_default.ensures (as_pattern c.in-Ok.pattern) read)) c.add_rule.ensures
+    (offered_is g.StorageT.Numbered.number c.args.flags.now g.StorageT.Numbered.greatest c.args.self.now c.args.at (as_parts c.args.parts) c.in_default.ensures (as_pattern c.in-Ok.pattern) read)) c.add_rule.ensures
 
 pub returns-in-Err : goal.returns-in-Err
 returns-in-Err g c =
     let read : Err (as_fatal c.in-Err.fatal) ≡ read_pattern (unwrap_or c.args.flags.now.posix_escapes false) (as_states c.args.self.now.states) c.args.at (trim_head c.args.parts.head.now) =
     sym (ap (seen as_pattern as_fatal) c.in-Err.is) ∙ c.in_ok-pattern.ensures ∙ ap (λ (b : Bool). read_pattern b (as_states c.args.self.now.states) c.args.at c.trim_head-head.result.now) c.has_posix_escapes-posix.ensures
     ∙ ap (read_pattern (unwrap_or c.args.flags.now.posix_escapes false) (as_states c.args.self.now.states) c.args.at) c.trim_head-head.ensures in
-    on_ok c.refuse.result (line_from g.StorageT.Id.number c.args.flags.now g.StorageT.Id.greatest c.args.self.now c.refuse.new.self c.args.at (λ s events. split_event s events c.args.at (Ok (as_parts c.args.parts))) (λ events. Fatal (as_fatal c.in-Err.fatal))
-    (unread_is g.StorageT.Id.number c.args.flags.now g.StorageT.Id.greatest c.args.self.now c.args.at (as_parts c.args.parts) c.in_default.ensures (as_fatal c.in-Err.fatal) read)) c.refuse.ensures.adds
+    on_ok c.refuse.result (line_from g.StorageT.Numbered.number c.args.flags.now g.StorageT.Numbered.greatest c.args.self.now c.refuse.new.self c.args.at (λ s events. split_event s events c.args.at (Ok (as_parts c.args.parts))) (λ events. Fatal (as_fatal c.in-Err.fatal))
+    (unread_is g.StorageT.Numbered.number c.args.flags.now g.StorageT.Numbered.greatest c.args.self.now c.args.at (as_parts c.args.parts) c.in_default.ensures (as_fatal c.in-Err.fatal) read)) c.refuse.ensures.adds

@@ -20,8 +20,8 @@ returns-in_default g c s suits events was same =
     let spot = section_place c.args.text.now c.args.mark c.behind.result.now c.skip_blanks-section.result.now c.behind.ensures c.skip_blanks-section.ensures.value c.requires.mark in
     let ls = c.as_slice.result.now in
     let said = ap (map as_piece) c.as_slice.ensures.value ∙ c.in_ok-rules.ensures.lines in
-    let P : List Event → Type 0 = λ es. Represents g.StorageT.Id.number flags c.lines.new.self es in
-    subst P (rules_endless flags g.StorageT.Id.greatest c.args.text.now c.skip_blanks-section.result.now at c.args.mark ls c.in_ok-rules.rules.end c.allows_comments-comments.result spot.0 spot.1 c.allows_comments-comments.ensures said c.in_ok-rules.ensures.end c.in_default.is s suits events) (c.in_ok-lines.ensures s suits events was same)
+    let P : List Event → Type 0 = λ es. Represents g.StorageT.Numbered.number flags c.lines.new.self es in
+    subst P (rules_endless flags g.StorageT.Numbered.greatest c.args.text.now c.skip_blanks-section.result.now at c.args.mark ls c.in_ok-rules.rules.end c.allows_comments-comments.result spot.0 spot.1 c.allows_comments-comments.ensures said c.in_ok-rules.ensures.end c.in_default.is s suits events) (c.in_ok-lines.ensures s suits events was same)
 
 pub returns-then-is_white : goal.returns-then-is_white
 returns-then-is_white g c s suits events was same =
@@ -31,8 +31,8 @@ returns-then-is_white g c s suits events was same =
     let ls = c.as_slice.result.now in
     let said = ap (map as_piece) c.as_slice.ensures.value ∙ c.in_ok-rules.ensures.lines in
     let marked : MarkAt at c.skip_blanks-section.result.now c.in-Some.end = subst (λ (o : Option Line). IfSome o (MarkAt at c.skip_blanks-section.result.now)) c.in-Some.is c.in_ok-rules.ensures.mark in
-    let P : List Event → Type 0 = λ es. Represents g.StorageT.Id.number flags c.lines.new.self es in
-    subst P (rules_white flags g.StorageT.Id.greatest c.args.text.now c.skip_blanks-section.result.now at c.args.mark ls c.in_ok-rules.rules.end c.allows_comments-comments.result spot.0 spot.1 c.allows_comments-comments.ensures said c.in_ok-rules.ensures.end c.in-Some.end c.behind-routines.result.now c.in-Some.is marked.from c.behind-routines.ensures (sym c.is_white.ensures ∙ c.if-is_white.true) s suits events) (c.in_ok-lines.ensures s suits events was same)
+    let P : List Event → Type 0 = λ es. Represents g.StorageT.Numbered.number flags c.lines.new.self es in
+    subst P (rules_white flags g.StorageT.Numbered.greatest c.args.text.now c.skip_blanks-section.result.now at c.args.mark ls c.in_ok-rules.rules.end c.allows_comments-comments.result spot.0 spot.1 c.allows_comments-comments.ensures said c.in_ok-rules.ensures.end c.in-Some.end c.behind-routines.result.now c.in-Some.is marked.from c.behind-routines.ensures (sym c.is_white.ensures ∙ c.if-is_white.true) s suits events) (c.in_ok-lines.ensures s suits events was same)
 
 pub returns : goal.returns
 returns g c =
@@ -43,7 +43,7 @@ returns g c =
     let said = ap (map as_piece) c.as_slice.ensures.value ∙ c.in_ok-rules.ensures.lines in
     let marked : MarkAt at c.skip_blanks-section.result.now c.in-Some.end = subst (λ (o : Option Line). IfSome o (MarkAt at c.skip_blanks-section.result.now)) c.in-Some.is c.in_ok-rules.ensures.mark in
     on_both c.then_refuse.result (λ reads keeps s suits events was same.
-    let P : List Event → Type 0 = λ es. Represents g.StorageT.Id.number flags c.then_refuse.new.self es in
-    subst P (rules_routines flags g.StorageT.Id.greatest c.args.text.now c.skip_blanks-section.result.now at c.args.mark ls c.in_ok-rules.rules.end c.allows_comments-comments.result spot.0 spot.1 c.allows_comments-comments.ensures said c.in_ok-rules.ensures.end c.in-Some.end c.behind-routines.result.now c.in-Some.is marked.from c.behind-routines.ensures (sym c.is_white.ensures ∙ c.if-is_white.false) s suits events)
+    let P : List Event → Type 0 = λ es. Represents g.StorageT.Numbered.number flags c.then_refuse.new.self es in
+    subst P (rules_routines flags g.StorageT.Numbered.greatest c.args.text.now c.skip_blanks-section.result.now at c.args.mark ls c.in_ok-rules.rules.end c.allows_comments-comments.result spot.0 spot.1 c.allows_comments-comments.ensures said c.in_ok-rules.ensures.end c.in-Some.end c.behind-routines.result.now c.in-Some.is marked.from c.behind-routines.ensures (sym c.is_white.ensures ∙ c.if-is_white.false) s suits events)
     (reads flags _ (c.in_ok-lines.ensures s suits events was (same ∙ keeps))))
     c.then_refuse.ensures.reads c.then_refuse.ensures.keeps

@@ -9,5 +9,5 @@ use Rattle.lrlex_rules.proofs.parser.builder.Builder.then_refuse.Goals as goal
 pub returns-clause-reads : goal.returns-clause-reads
 returns-clause-reads g c =
     on_ok c.refuse.result (λ adds flags events was.
-    let P : List Event → Type 0 = λ es. Represents g.StorageT.Id.number flags c.refuse.new.self es in
+    let P : List Event → Type 0 = λ es. Represents g.StorageT.Numbered.number flags c.refuse.new.self es in
     subst P (then_fatal_is events (as_kind c.args.kind) c.args.at (sym was.refused ∙ c.if-self.false)) (adds flags events was)) c.refuse.ensures.adds

@@ -8,6 +8,6 @@ use Rattle.lrlex_rules.proofs.parser.builder.Builder.verbatim.Goals as goal
 
 pub returns : goal.returns
 returns g c flags events was =
-    adds_verbatim g.StorageT.Id.number flags c.args.self.now _ events was c.requires.calm (span_of (as_piece c.args.line)) refl refl refl
+    adds_verbatim g.StorageT.Numbered.number flags c.args.self.now _ events was c.requires.calm (span_of (as_piece c.args.line)) refl refl refl
     (ap (map as_fault) c.in_ok-push.ensures ∙ map_push as_fault c.args.self.now.errors.list.items _
     ∙ ap (λ (f : Fault). map as_fault c.args.self.now.errors.list.items ++ f ∷ []) (one_fault c.new.result _ _ _ _ _ c.new.ensures.kind c.new.ensures.spans c.in_ok-spans.ensures.items c.new-span.ensures.start c.new-span.ensures.end))

@@ -10,13 +10,13 @@ pub returns-in-Some : goal.returns-in-Some
 returns-in-Some g c =
     let name = c.in_ok-name.field-0.now in
     let all = c.args.self.now.list.items in
-    ap (option_map (as_rule g.StorageT.Id.number)) (got c.deref.result.now c.in-Some.place.now c.get-in-Some.result c.get-in-Some.ensures.lookup ∙ ap (λ xs. slice_get xs c.in-Some.place.now) c.deref.ensures.value)
-    ∙ first_at (has_name name) (as_rule g.StorageT.Id.number) all (Some c.in-Some.place.now) (c.in-Some.ensures.value ∙ c.args.self.now.placed name)
-    ∙ ap (λ (o : Option (Bor (List ℕ))). rule_with_name (map (as_rule g.StorageT.Id.number) all) (option_copied o)) (sym c.in_ok-name.was)
+    ap (option_map (as_rule g.StorageT.Numbered.number)) (got c.deref.result.now c.in-Some.place.now c.get-in-Some.result c.get-in-Some.ensures.lookup ∙ ap (λ xs. slice_get xs c.in-Some.place.now) c.deref.ensures.value)
+    ∙ first_at (has_name name) (as_rule g.StorageT.Numbered.number) all (Some c.in-Some.place.now) (c.in-Some.ensures.value ∙ c.args.self.now.placed name)
+    ∙ ap (λ (o : Option (Bor (List ℕ))). rule_with_name (map (as_rule g.StorageT.Numbered.number) all) (option_copied o)) (sym c.in_ok-name.was)
 
 pub returns-in-None : goal.returns-in-None
 returns-in-None g c =
     let name = c.in_ok-name.field-0.now in
     let all = c.args.self.now.list.items in
-    first_at (has_name name) (as_rule g.StorageT.Id.number) all None (c.in-None.ensures.value ∙ c.args.self.now.placed name)
-    ∙ ap (λ (o : Option (Bor (List ℕ))). rule_with_name (map (as_rule g.StorageT.Id.number) all) (option_copied o)) (sym c.in_ok-name.was)
+    first_at (has_name name) (as_rule g.StorageT.Numbered.number) all None (c.in-None.ensures.value ∙ c.args.self.now.placed name)
+    ∙ ap (λ (o : Option (Bor (List ℕ))). rule_with_name (map (as_rule g.StorageT.Numbered.number) all) (option_copied o)) (sym c.in_ok-name.was)
