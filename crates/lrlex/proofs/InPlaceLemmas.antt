@@ -5,8 +5,9 @@ use Rattle.std.proofs.Props.{props}
 use Rattle.std.proofs.lemmas.Bool.{cases_lt, true≢false}
 use Rattle.std.proofs.lemmas.List.{map-append, nil_from_length}
 use Rattle.lrlex_base.specs.Seen.{Seen}
-use Rattle.lrlex_base.specs.Spans.{as_span}
+use Rattle.lrlex_base.specs.Spans.{as_span, Span as Cut}
 use Rattle.lrlex_base.specs.declared.spans.Span.{Span}
+use Rattle.lrlex_rules.specs.Definition.{Definition}
 use Rattle.lrlex.specs.Active.{is_state}
 use Rattle.lrlex.specs.Asked.{asks_by}
 use Rattle.lrlex_boundaries.specs.Boundaries.{Boundary, boundary_at, last_entries}
@@ -131,3 +132,8 @@ module _ {S X : Type 0} (number : S → ℕ) (seen : X → Seen S) (def : RuleTa
 
       pub behind_counts : AreCountsOf (definition_by number def) (asks_by def new) olds numbers (as_span removed) put new bounds' a.progress.asked (length a.progress.boundaries - 1)
       behind_counts = h.counts [] bounds' (λ _. refl) (is.boundaries ∙ sym (append-nil (take a.index olds ++ a.progress.boundaries)))
+
+-- the same counts, of what is known to be the same
+pub counts_moved : {d : Definition} (asks : List ℕ → List Boundary → ℕ) {old old' : List Boundary} {ahead ahead' : List ℕ} {removed removed' : Cut} {put text text' : List ℕ} {new : List Boundary} {many anew : ℕ} →
+    old' ≡ old → ahead' ≡ ahead → removed' ≡ removed → text' ≡ text → AreCountsOf d (asks text') old' ahead' removed' put text' new many anew → AreCountsOf d (asks text) old ahead removed put text new many anew
+counts_moved asks is_old is_ahead is_removed is_text h = rw (sym is_old, sym is_ahead, sym is_removed, sym is_text) h

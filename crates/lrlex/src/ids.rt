@@ -126,6 +126,7 @@ impl<S: Id> RuleTable<S> {
             ≡ map (with_own_id (ids_of S.number ids.now))
             (map (as_rule S.number) self.old.rules.items) }
         ensures states { self.new.start_states ≡ self.old.start_states }
+        ensures flags { self.new.flags ≡ self.old.flags }
     {
         take_ids(self.rules.as_mut_slice(), ids);
         self.own_ids = have_own_ids(&self.rules);

@@ -1,5 +1,7 @@
 //! Classes of characters, spans, lexemes and ids.
-use lrlex_base::{DefaultLexeme, Id, Lexeme, Span, is_blank, is_line_sep, is_white_space};
+use lrlex_base::{
+    DefaultLexeme, Id, Lexeme, Numbered, Span, is_blank, is_line_sep, is_white_space,
+};
 
 /// A character, and whether it is white space, separates lines, and is a blank.
 const CLASSES: &[(char, bool, bool, bool)] = &[
@@ -68,8 +70,9 @@ fn a_lexeme_gives_back_what_it_was_made_of(rt: HostRuntime) {
 #[test]
 fn ids_end_at_their_greatest(rt: HostRuntime) {
     let small = u8::from_count(255) == Some(255) && u8::from_count(256).is_none();
+    let numbered = u8::of_count(255) == Some(255) && u8::of_count(256).is_none();
     let short = u16::from_count(65_535) == Some(65_535) && u16::from_count(65_536).is_none();
-    assert!(rt; small && short);
+    assert!(rt; small && short && numbered);
     let usual = u32::from_count(4_294_967_295) == Some(4_294_967_295);
     let past = u32::from_count(4_294_967_296).is_none();
     assert!(rt; usual && past);

@@ -3,12 +3,14 @@ use Rattle.std.specs.String.{string_bytes}
 use Rattle.lrlex_base.specs.Edits.{edited}
 use Rattle.lrlex_base.specs.Places.{AreBreaksOf}
 use Rattle.lrlex_base.specs.Spans.{Fits, as_span, span}
+use Rattle.lrlex.specs.Asked.{asks_by}
 use Rattle.lrlex.specs.Kept.{LooksAhead}
 use Rattle.lrlex.specs.Nearest.{FitsAt}
 use Rattle.lrlex.specs.Ran.{Ran}
 use Rattle.lrlex.specs.Reach.{IsRun}
 use Rattle.lrlex.specs.Views.{definition_of, items_by}
 use Rattle.lrlex.proofs.DocumentLemmas.{edited_back, edited_fits, fits_at, refused_by_memory, refused_fitting, still_known, still_same}
+use Rattle.lrlex.proofs.InPlaceLemmas.{counts_moved}
 use Rattle.lrlex.proofs.ItemLemmas.{have_laws}
 use Rattle.lrlex.proofs.lexer.document.Document.edit.Goals as goal
 
@@ -110,3 +112,8 @@ returns-in-Err-clause-kept g c =
     let kept : (c.relex_in_place.new.items.items ≡ c.self.inside.items.items) × (c.relex_in_place.new.boundaries ≡ c.self.inside.boundaries) × (c.relex_in_place.new.ahead.items ≡ c.self.inside.ahead.items) =
     c.in-Err.ensures.kept in
     still_same c.self.inside.definition.now was (string_bytes c.put_text-in-Err.new.text) c.self.inside.items.items c.relex_in_place.new.items.items c.self.inside.boundaries c.relex_in_place.new.boundaries c.self.inside.ahead.items c.relex_in_place.new.ahead.items c.self.inside.asked c.self.inside.anew c.args.self.now back kept.0 kept.1 kept.2 c.self.view_is
+
+pub returns-in-Ok-clause-counts : goal.returns-in-Ok-clause-counts
+returns-in-Ok-clause-counts g c =
+    counts_moved (asks_by c.self.inside.definition.now.table) (ap (λ (v : Ran _ _). v.boundaries) c.self.view_is) (ap (λ (v : Ran _ _). v.ahead) c.self.view_is)
+    (ap₂ span c.new.ensures.start c.new.ensures.end) c.deref-3.ensures c.in-Ok.ensures.counts

@@ -1,4 +1,7 @@
-use Rattle.std.proofs.Common.{sym}
+use Rattle.std.proofs.Common.{◌∙◌, ap, refl, sym}
+use Rattle.lrlex.specs.Asked.{asks_by}
+use Rattle.lrlex.specs.Ran.{Ran}
+use Rattle.lrlex.proofs.InPlaceLemmas.{counts_moved}
 use Rattle.lrlex.proofs.ItemLemmas.{have_laws}
 use Rattle.lrlex.proofs.lexer.run.LexRun.relex.Goals as goal
 
@@ -6,4 +9,6 @@ pub returns-clause-laws : goal.returns-clause-laws
 returns-clause-laws g c = have_laws _ _ _ _ (rw (sym c.self.view_is) c.in_ok-asked.ensures.run)
 
 pub returns-clause-counts : goal.returns-clause-counts
-returns-clause-counts g c = rw (sym c.self.view_is) c.in_ok-asked.ensures.counts
+returns-clause-counts g c =
+    counts_moved (asks_by c.self.inside.definition.now.table) (c.in_ok-boundaries.ensures ∙ ap (λ (v : Ran _ _). v.boundaries) c.self.view_is)
+    (c.in_ok-ahead.ensures ∙ c.deref-2.ensures.value ∙ ap (λ (v : Ran _ _). v.ahead) c.self.view_is) refl refl c.in_ok-asked.ensures.counts
