@@ -15,7 +15,10 @@ use std::collections::{HashMap, HashSet};
 use std::hash::Hash;
 
 /// The names of the rules.
-fn names_of<'r, S: Numbered>(alloc: Global, rules: &'r [Rule<S>]) -> Result<HashSet<&'r str>, AllocError>
+fn names_of<'r, S: Numbered>(
+    alloc: Global,
+    rules: &'r [Rule<S>],
+) -> Result<HashSet<&'r str>, AllocError>
     ensures { IfOk result (λ names. (name : List ℕ)
         → contains_by (λ k. bytes_eq name k.now) names
         ≡ list_any (is_named name) (map (as_rule S.number) rules.now)) }

@@ -184,15 +184,7 @@ pub(crate) fn advance<'d, S: Numbered, X: Lexeme<S>>(
     let state = top_of(&progress.stack);
     *here = table.rules_at(*here, state);
     let rest = &text[place..];
-    let sight = searcher.winner(
-        alloc,
-        table,
-        state,
-        *here,
-        place,
-        rest,
-        &mut progress.asked,
-    )?;
+    let sight = searcher.winner(alloc, table, state, *here, place, rest, &mut progress.asked)?;
     let Some(tile) = sight.tile else {
         give_error::<S, X>(&mut progress.items, place, Some(state))?;
         return Ok(false);

@@ -73,10 +73,7 @@ pub(crate) fn begins_before<S: Numbered, X: Lexeme<S>>(
 }
 
 /// How many items begin before the place, of items in order.
-fn many_before<S: Numbered, X: Lexeme<S>>(
-    items: &[Result<X, LRLexError>],
-    place: usize,
-) -> usize
+fn many_before<S: Numbered, X: Lexeme<S>>(items: &[Result<X, LRLexError>], place: usize) -> usize
     requires { IsPartitionedBy (begins_before place)
         (map (item_of S.number X.seen) items.now) }
     ensures within { result ≤ length items.now }
@@ -255,14 +252,7 @@ fn cut_anew<S: Numbered, X: Lexeme<S>>(
                 met: Some(cursor),
             });
         }
-        if !advance(
-            alloc,
-            table,
-            new,
-            &mut here,
-            &mut searcher,
-            &mut progress,
-        )? {
+        if !advance(alloc, table, new, &mut here, &mut searcher, &mut progress)? {
             return Ok(Anew {
                 index,
                 first,
