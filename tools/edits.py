@@ -2,12 +2,13 @@
 
 A crate's must-fail/GATE.md has them: below a heading with the edit's name stands, in backquotes, the path of the function
 whose contract it breaks, and then the edit as rt reads one, lines file, old and new. The crate, which rt ci has proved, is
-copied, and with the edit the prover must refuse that function. Crates are tried side by side, and the edits of one in turn,
-since each is cheaper over what the prover has kept of those before it. The last line is 'edits: N refused, M failed'.
+copied, all its edits are made there, and the prover must refuse each of these functions at a goal of its own. One check does
+for all: what the others change is their bodies, and a function is proved by the contracts of those that it calls. Crates are
+tried side by side. The last line is 'edits: N refused, M failed'.
 
 With --beside, rt ci is still at work and writes what it says to LOG: the edits of a crate are tried once the libraries below
-it are proved, or rt ci has come to its end, and only with what processor time rt ci leaves. What isn't refused then is tried
-once more when rt ci has ended.
+it are proved, or rt ci has come to its end, and only with what processor time rt ci leaves. Where not all are refused then,
+they are tried once more when rt ci has ended.
 """
 
 import concurrent.futures
@@ -21,17 +22,8 @@ import time
 from prover import TOP, checked, crates, libraries_below
 
 EDIT = re.compile(r"^## (\S+)\n\n`(\S+)`[^\n]*\n\n```\n((?:file: .*\nold: .*\nnew: .*\n)+)```$", re.M)
-PLACE = r"(?:\./)?(?:src|proofs)/\S+:\d+:\d+: "
-GOALS = [
-    re.compile(rf"^({PLACE}error.*)$", re.M),
-    re.compile(rf"^note: ({PLACE}it is not proved.*)$", re.M),
-    re.compile(rf"^(?:note: )?({PLACE}.*)$", re.M),
-]
-VERDICT = re.compile(r"^only=(\d+) proved=(\d+)$", re.M)
+LEFT = re.compile(r"`search` did not prove `([^`]+)`")
 ENDED = re.compile(r"\d+ passed, \d+ failed$")
-
-# How many edits of a crate are worth the check of its functions without them, which has to follow.
-FEWEST = 3
 
 
 def edits_of(crate):
@@ -65,53 +57,44 @@ def changed(folder, changes):
     return ""
 
 
-def goal_of(told):
-    """The first line that names the goal which isn't proved."""
-    found = [it for it in (goal.search(told) for goal in GOALS) if it]
-    return found[0].group(1)[:160] if found else "no goal is named"
+def goal_of(function, verdict, told):
+    """The goal of the function that isn't proved, as the prover tells it; none where it tells none."""
+    answers = re.escape(f"./proofs/{function.replace('::', '/')}/")
+    found = re.search(rf"^{answers}\S+:\d+:\d+: error.*$", told, re.M)
+    if not found and (left := LEFT.search(verdict)):
+        found = re.search(rf"^note: src/\S+:\d+:\d+: .*\(`{re.escape(left.group(1))}`\).*$", told, re.M)
+    return found.group(0).removeprefix("note: ")[:160] if found else ""
 
 
-def tried(edit, listed, kept=()):
-    """Whether the edit is refused, and what to say; over what the prover has kept, if that is given."""
-    crate, name, function, changes = edit
+def judged(edit, why, told):
+    """Whether the edit is refused, and what to say: why it couldn't be made, or by what the prover told."""
+    crate, name, function, _ = edit
     label = f"edit {crate}/{name}"
-    with tempfile.TemporaryDirectory(prefix="lrlex-edit-") as folder:
-        for part in ("src", "specs", "proofs"):
-            shutil.copytree(f"{TOP}/crates/{crate}/{part}", f"{folder}/{part}")
-        why = changed(folder, changes)
-        if why:
-            return False, f"{label}: FAILED, {why}"
-        told = checked(folder, crate, listed[crate], [*kept, "--only", function])
-    verdict = VERDICT.search(told)
+    if why:
+        return False, f"{label}: FAILED, {why}"
+    verdict = re.search(rf"^fn {re.escape(f'{crate}::{function}')}: (.*)$", told, re.M)
     if not verdict:
         return False, f"{label}: FAILED, it didn't reach the prover:\n{told[-2000:]}"
-    asked, proved = map(int, verdict.groups())
-    if proved < asked:
-        return True, f"{label}: refused, as it must be: {goal_of(told)}"
-    return False, f"{label}: FAILED, {function} is still proved with it"
+    if verdict.group(1).startswith("proved"):
+        return False, f"{label}: FAILED, {function} is still proved with it"
+    goal = goal_of(function, verdict.group(1), told)
+    if not goal:
+        return False, f"{label}: FAILED, {function} is refused at no goal of its own: {verdict.group(1)}"
+    return True, f"{label}: refused, as it must be: {goal}"
 
 
-def are_proved(edits, listed, kept):
-    """Whether the functions of a crate's edits are proved as they stand, over what the prover has kept."""
-    crate, functions = edits[0][0], {function for _, _, function, _ in edits}
-    only = [word for function in sorted(functions) for word in ("--only", function)]
-    verdict = VERDICT.search(checked(f"{TOP}/crates/{crate}", crate, listed[crate], [*kept, *only]))
-    return bool(verdict) and verdict.group(1) == verdict.group(2)
-
-
-def tried_in_turn(edits, listed):
-    """The same of all edits of a crate, each over what the checks of those before it have kept, in a folder of this run.
-
-    What isn't refused so is tried again from nothing. So is each edit, where the functions without it aren't proved over
-    that folder: then it isn't the edits that are refused.
-    """
-    if len(edits) < FEWEST:
-        return [tried(edit, listed) for edit in edits]
+def tried(edits, listed):
+    """The same of all edits of a crate, which change a function each."""
+    crate = edits[0][0]
+    functions = [function for _, _, function, _ in edits]
+    if len({*functions}) < len(edits):
+        sys.exit(f"edits: two of {crate} change one function, so which of them is refused couldn't be told")
     with tempfile.TemporaryDirectory(prefix="lrlex-edits-") as folder:
-        kept = ["--incremental", folder]
-        found = [tried(edit, listed, kept) for edit in edits]
-        is_sound = are_proved(edits, listed, kept)
-    return [it if is_sound and it[0] else tried(edit, listed) for edit, it in zip(edits, found)]
+        for part in ("src", "specs", "proofs"):
+            shutil.copytree(f"{TOP}/crates/{crate}/{part}", f"{folder}/{part}")
+        whys = [changed(folder, changes) for *_, changes in edits]
+        told = checked(folder, crate, listed[crate], [word for it in functions for word in ("--only", it)])
+    return [judged(edit, why, told) for edit, why in zip(edits, whys)]
 
 
 def lines_of(log):
@@ -130,12 +113,12 @@ def tried_beside(edits, listed, log):
     below = libraries_below(listed[edits[0][0]], listed)
     while not has_ended(said := lines_of(log)) and any(f"rt: {name} proved" not in said for name in below):
         time.sleep(2)
-    found = tried_in_turn(edits, listed)
+    found = tried(edits, listed)
     if has_ended(said) or all(is_refused for is_refused, _ in found):
         return found
     while not has_ended(lines_of(log)):
         time.sleep(2)
-    return [it if it[0] else tried(edit, listed) for edit, it in zip(edits, found)]
+    return tried(edits, listed)
 
 
 def give_way():
@@ -159,7 +142,7 @@ def main(words):
         give_way()
     else:
         groups.sort(key=len, reverse=True)
-    work = (lambda edits: tried_beside(edits, listed, log)) if log else (lambda edits: tried_in_turn(edits, listed))
+    work = (lambda edits: tried_beside(edits, listed, log)) if log else (lambda edits: tried(edits, listed))
     refused = failed = 0
     with concurrent.futures.ThreadPoolExecutor(len(os.sched_getaffinity(0))) as pool:
         for found in pool.map(work, groups):
