@@ -12,7 +12,7 @@ use Rattle.lrlex_rules.specs.declared.states.StartState as start
 use Rattle.lrlex.specs.declared.lexer.definition.LRNonStreamingLexerDef.{LRNonStreamingLexerDef}
 use Rattle.lrlex.specs.declared.lexer.definition.RuleTable.{RuleTable}
 
--- what a table of rules says, where `number` gives the number that an id stands for
+-- what a rule table says, where `number` gives the number that an id stands for
 abbrev pub definition_by : {S : Type 0} → (S → ℕ) → RuleTable S → Definition
 definition_by number t = record {
   states = map as_state t.start_states.items;

@@ -144,7 +144,7 @@ impl<'lexer, 'input, L: LexerTypes<LexErrorT = LRLexError>> LexRun<'lexer, 'inpu
     }
 }
 
-/// What lexing a text gave, by a table of rules.
+/// What lexing a text gave, by a rule table.
 #[derive(Drop)]
 pub(crate) struct Lexed<X> {
     pub(crate) items: Vec<Result<X, LRLexError>>,
