@@ -3,7 +3,7 @@ use crate::expected::{
     Definition, FAULTY, IDS, OLD, RULE_FACTS, RULES, RuleFacts, STATE_FACTS, are_faults, are_items,
     are_rules, is_rule, is_state,
 };
-use crate::fault::{Fault, TRIES, count, expect};
+use crate::fault::{Came, Fault, TRIES, count, expect, expect_all};
 use lrlex::{
     Budget, DEFAULT_LEX_FLAGS, LexBuildResult, LexFlags, LexerDef, Rule, Span, StartState,
     UNSPECIFIED_LEX_FLAGS,
@@ -18,16 +18,21 @@ pub fn made(alloc: Global) -> Result<Definition, Fault> {
     }
 }
 
-/// The definition has the start states of `RULES`.
-fn expect_states(definition: &Definition) -> Result<(), Fault> {
+/// The definition is still that of `RULES`.
+pub fn expect_lent(definition: &Definition) -> Result<(), Fault> {
+    expect("rules lent", are_rules(definition.rules(), &IDS))
+}
+
+/// Whether the definition has the start states of `RULES`.
+fn has_states(definition: &Definition) -> bool {
     let mut states = definition.iter_start_states();
     for (id, want) in STATE_FACTS.iter().enumerate() {
         match states.next() {
-            Some(state) => expect("start state", is_state(state, id, *want))?,
-            None => return Err(Fault::Wrong("number of start states")),
+            Some(state) if is_state(state, id, *want) => {}
+            _ => return false,
         }
     }
-    expect("number of start states", states.next().is_none())
+    states.next().is_none()
 }
 
 /// The definition lexes the text as `RULES` lex the old one.
@@ -43,9 +48,11 @@ fn expect_definition(
     asked: usize,
     text: &str,
 ) -> Result<(), Fault> {
-    expect("rules", are_rules(definition.rules(), &IDS))?;
-    expect_states(definition)?;
-    expect("rules without a table", definition.asked_rules() == asked)?;
+    expect_all(&[
+        ("rules", are_rules(definition.rules(), &IDS)),
+        ("start states", has_states(definition)),
+        ("rules without a table", definition.asked_rules() == asked),
+    ])?;
     expect_lexing(alloc, definition, text)
 }
 
@@ -62,53 +69,34 @@ fn expect_built(
     }
 }
 
-pub fn from_str(alloc: Global, told: &mut u32) -> Result<(), Fault> {
-    for _ in 0..TRIES {
-        match Definition::from_str(alloc, RULES) {
-            Ok(built) => return expect_built(alloc, &built, 1, OLD.text),
-            Err(_) => count(told),
-        }
-    }
-    Err(Fault::Memory)
+pub fn from_str(alloc: Global) -> Came {
+    let built = Definition::from_str(alloc, RULES)?;
+    Ok(expect_built(alloc, &built, 1, OLD.text))
 }
 
 /// The same, of a rule text with faults.
-pub fn from_str_faults(alloc: Global, told: &mut u32) -> Result<(), Fault> {
-    for _ in 0..TRIES {
-        match Definition::from_str(alloc, FAULTY) {
-            Ok(Ok(_)) => return Err(Fault::Wrong("no fault")),
-            Ok(Err(faults)) => return expect("faults", are_faults(faults.as_slice())),
-            Err(_) => count(told),
-        }
+pub fn from_str_faults(alloc: Global) -> Came {
+    match Definition::from_str(alloc, FAULTY)? {
+        Ok(_) => Ok(Err(Fault::Wrong("no fault"))),
+        Err(faults) => Ok(expect("faults", are_faults(faults.as_slice()))),
     }
-    Err(Fault::Memory)
 }
 
 /// In either case of letters.
-pub fn new_with_options(alloc: Global, told: &mut u32) -> Result<(), Fault> {
+pub fn new_with_options(alloc: Global) -> Came {
     let flags = LexFlags {
         case_insensitive: Some(true),
         ..UNSPECIFIED_LEX_FLAGS
     };
-    for _ in 0..TRIES {
-        match Definition::new_with_options(alloc, RULES, flags) {
-            Ok(built) => return expect_built(alloc, &built, 1, "AB 12 \"X Y\" 34\n"),
-            Err(_) => count(told),
-        }
-    }
-    Err(Fault::Memory)
+    let built = Definition::new_with_options(alloc, RULES, flags)?;
+    Ok(expect_built(alloc, &built, 1, "AB 12 \"X Y\" 34\n"))
 }
 
 /// Without tables.
-pub fn new_with_budget(alloc: Global, told: &mut u32) -> Result<(), Fault> {
-    for _ in 0..TRIES {
-        let none = Budget::new(0, 0);
-        match Definition::new_with_budget(alloc, RULES, UNSPECIFIED_LEX_FLAGS, none) {
-            Ok(built) => return expect_built(alloc, &built, 7, OLD.text),
-            Err(_) => count(told),
-        }
-    }
-    Err(Fault::Memory)
+pub fn new_with_budget(alloc: Global) -> Came {
+    let none = Budget::new(0, 0);
+    let built = Definition::new_with_budget(alloc, RULES, UNSPECIFIED_LEX_FLAGS, none)?;
+    Ok(expect_built(alloc, &built, 7, OLD.text))
 }
 
 /// A rule of these parts. The inner `Err` is a refusal of its pattern.
@@ -136,7 +124,7 @@ fn rule_of(
 /// The rules of `RULES`, put together.
 fn rules(alloc: Global) -> Result<Vec<Rule<u32>>, Fault> {
     let mut rules = Vec::new(alloc);
-    for facts in &RULE_FACTS {
+    for facts in RULE_FACTS {
         match rule_of(alloc, facts)? {
             Ok(rule) => rules.push(rule)?,
             Err(_) => return Err(Fault::Wrong("refusal of a good pattern")),
@@ -155,18 +143,23 @@ fn states(alloc: Global) -> Result<Vec<StartState>, Fault> {
     Ok(states)
 }
 
-pub fn from_rules(alloc: Global, told: &mut u32) -> Result<(), Fault> {
-    for _ in 0..TRIES {
-        match Definition::from_rules(alloc, states(alloc)?, rules(alloc)?) {
-            Ok(definition) => return expect_definition(alloc, &definition, 1, OLD.text),
-            Err(_) => count(told),
+/// The start states and the rules, put together.
+fn parts(alloc: Global) -> Result<(Vec<StartState>, Vec<Rule<u32>>), Fault> {
+    Ok((states(alloc)?, rules(alloc)?))
+}
+
+pub fn from_rules(alloc: Global) -> Came {
+    match parts(alloc) {
+        Ok((states, rules)) => {
+            let definition = Definition::from_rules(alloc, states, rules)?;
+            Ok(expect_definition(alloc, &definition, 1, OLD.text))
         }
+        Err(fault) => Ok(Err(fault)),
     }
-    Err(Fault::Memory)
 }
 
 pub fn rule_new(alloc: Global, told: &mut u32) -> Result<(), Fault> {
-    for facts in &RULE_FACTS {
+    for facts in RULE_FACTS {
         one_rule(alloc, facts, told)?;
     }
     Ok(())
@@ -176,8 +169,8 @@ fn one_rule(alloc: Global, facts: &RuleFacts, told: &mut u32) -> Result<(), Faul
     for _ in 0..TRIES {
         match rule_of(alloc, facts) {
             Ok(Ok(rule)) => {
-                expect("rule", is_rule(&rule, facts))?;
-                return expect("id", rule.tok_id() == facts.id);
+                let is_right = is_rule(&rule, facts) && rule.tok_id() == facts.id;
+                return expect("rule", is_right);
             }
             Ok(Err(_)) => return Err(Fault::Wrong("refusal of a good pattern")),
             Err(_) => count(told),
@@ -186,12 +179,7 @@ fn one_rule(alloc: Global, facts: &RuleFacts, told: &mut u32) -> Result<(), Faul
     Err(Fault::Memory)
 }
 
-pub fn start_state_new(alloc: Global, told: &mut u32) -> Result<(), Fault> {
-    for _ in 0..TRIES {
-        match StartState::new(alloc, 3, "AB", true, Span::new(2, 4)) {
-            Ok(state) => return expect("state", is_state(&state, 3, ("AB", true, (2, 4)))),
-            Err(_) => count(told),
-        }
-    }
-    Err(Fault::Memory)
+pub fn start_state_new(alloc: Global) -> Came {
+    let state = StartState::new(alloc, 3, "AB", true, Span::new(2, 4))?;
+    Ok(expect("state", is_state(&state, 3, ("AB", true, (2, 4)))))
 }

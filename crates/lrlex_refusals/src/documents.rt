@@ -1,7 +1,7 @@
 //! The calls of a document.
 use crate::definitions::made;
-use crate::expected::{Lexed, NEW, OLD, PUT, are_items, are_pieces};
-use crate::fault::{Fault, TRIES, count, expect};
+use crate::expected::{Definition, Lexed, NEW, OLD, PUT, are_items, are_pieces};
+use crate::fault::{Came, Fault, TRIES, count, expect, expect_all};
 use lrlex::{DefaultLexerTypes, Document, EditError};
 use std::alloc::Global;
 
@@ -9,24 +9,20 @@ type Text<'d> = Document<'d, DefaultLexerTypes<u32>>;
 
 /// The document is that of this text.
 fn expect_document(document: &Text<'_>, want: &Lexed) -> Result<(), Fault> {
-    expect("text", document.text() == want.text)?;
-    expect("items", are_items(document.items(), want.items))?;
-    expect("number of tiles", document.tiles() == want.tiles.len())?;
-    expect(
-        "place of the end",
-        document.place(want.text.len()) == want.end,
-    )
+    expect_all(&[
+        ("text", document.text() == want.text),
+        ("items", are_items(document.items(), want.items)),
+        ("number of tiles", document.tiles() == want.tiles.len()),
+        (
+            "place of the end",
+            document.place(want.text.len()) == want.end,
+        ),
+    ])
 }
 
-pub fn new(alloc: Global, told: &mut u32) -> Result<(), Fault> {
-    let definition = made(alloc)?;
-    for _ in 0..TRIES {
-        match Document::new(alloc, &definition, OLD.text) {
-            Ok(document) => return expect_document(&document, &OLD),
-            Err(_) => count(told),
-        }
-    }
-    Err(Fault::Memory)
+pub fn new(alloc: Global, definition: &Definition) -> Came {
+    let document = Document::new(alloc, definition, OLD.text)?;
+    Ok(expect_document(&document, &OLD))
 }
 
 /// The document's pieces are those of this text.
@@ -63,7 +59,7 @@ struct Step {
 }
 
 /// There and back again.
-const STEPS: [Step; 2] = [
+const STEPS: &[Step] = &[
     Step {
         from: 3,
         to: 5,
@@ -93,12 +89,17 @@ fn take(alloc: Global, document: &mut Text<'_>, step: &Step, told: &mut u32) -> 
     Err(Fault::Memory)
 }
 
+/// Makes the edits.
+fn take_all(alloc: Global, document: &mut Text<'_>, told: &mut u32) -> Result<(), Fault> {
+    for step in STEPS {
+        take(alloc, document, step, told)?;
+        expect_pieces(alloc, document, step.after, told)?;
+    }
+    Ok(())
+}
+
 pub fn edit(alloc: Global, told: &mut u32) -> Result<(), Fault> {
     let definition = made(alloc)?;
     let mut document = Document::new(alloc, &definition, OLD.text)?;
-    for step in &STEPS {
-        take(alloc, &mut document, step, told)?;
-        expect_pieces(alloc, &document, step.after, told)?;
-    }
-    Ok(())
+    take_all(alloc, &mut document, told)
 }

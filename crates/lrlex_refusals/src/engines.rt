@@ -1,6 +1,6 @@
 //! The calls of the engine.
 use crate::expected::{Definition, FAULTY, Lexed, NEW, OLD, PUT, REPORT, RULES};
-use crate::fault::{Fault, TRIES, count, expect};
+use crate::fault::{Fault, TRIES, count, expect, expect_all};
 use lrlex::{DefaultLexerTypes, Edit, LexerDef, Span, UNSPECIFIED_LEX_FLAGS};
 use lrlex_cli::engine;
 use lrlex_cli::engine::{Ended, EngineFault};
@@ -52,14 +52,18 @@ impl Write for Page {
 /// Why a call of the engine is no answer that memory ran out. One that is, is counted.
 fn expect_memory(fault: &EngineFault, page: &Page, told: &mut u32) -> Result<(), Fault> {
     count(told);
-    expect("fault of the engine", matches!(fault, EngineFault::Memory))?;
-    expect("page after out of memory", page.has(""))
+    expect_all(&[
+        ("fault of the engine", matches!(fault, EngineFault::Memory)),
+        ("page after out of memory", page.has("")),
+    ])
 }
 
 /// The whole text was lexed, and its lines were written.
 fn expect_lexed(ended: &Ended, page: &Page, want: &Lexed) -> Result<(), Fault> {
-    expect("end of the engine", matches!(ended, Ended::Lexed))?;
-    expect("lines", page.has(want.lines))
+    expect_all(&[
+        ("end of the engine", matches!(ended, Ended::Lexed)),
+        ("lines", page.has(want.lines)),
+    ])
 }
 
 pub fn run(alloc: Global, told: &mut u32) -> Result<(), Fault> {

@@ -33,7 +33,7 @@ pub struct RuleFacts {
 }
 
 /// The rules of `RULES`.
-pub const RULE_FACTS: [RuleFacts; 7] = [
+pub const RULE_FACTS: &[RuleFacts] = &[
     RuleFacts {
         id: Some(0),
         name: Some("NAME"),
@@ -104,7 +104,7 @@ pub const IDS: [Option<u32>; 7] = [
 ];
 
 /// The start states of `RULES`: name, whether exclusive, and the place of the name.
-pub const STATE_FACTS: [(&str, bool, (usize, usize)); 2] = [
+pub const STATE_FACTS: &[(&str, bool, (usize, usize))] = &[
     ("INITIAL", false, (0, 0)),
     ("TEXT", true, (3, 7)),
 ];
@@ -174,7 +174,7 @@ pub const NEW: Lexed = Lexed {
 pub const FAULTY: &str = "%s AA\n%s AA\n%%\na 'Y'\nb 'Y'\n( 'OPEN'\n";
 
 /// The faults of `FAULTY`: what is wrong, and where.
-pub const FAULTS: [(&str, &[(usize, usize)]); 3] = [
+pub const FAULTS: &[(&str, &[(usize, usize)])] = &[
     ("Start state already exists", &[(3, 5), (9, 11)]),
     ("Rule name already exists", &[(18, 19), (24, 25)]),
     ("Invalid regular expression", &[(27, 27)]),

@@ -37,6 +37,17 @@ pub fn expect(what: &'static str, holds: bool) -> Result<(), Fault> {
     }
 }
 
+/// All of these have to hold.
+pub fn expect_all(facts: &[(&'static str, bool)]) -> Result<(), Fault> {
+    for (what, holds) in facts {
+        expect(*what, *holds)?;
+    }
+    Ok(())
+}
+
+/// What came of a call: whether its answer is right, or an answer that memory ran out.
+pub type Came = Result<Result<(), Fault>, AllocError>;
+
 /// Counts an answer that memory ran out.
 pub fn count(told: &mut u32) {
     *told = told.saturating_add(1);
@@ -55,11 +66,12 @@ pub enum Stop {
 
 impl fmt::Display for Stop {
     fn fmt<W: fmt::Write>(&self, f: &mut fmt::Formatter<W>) -> fmt::Result {
-        match self {
-            Stop::Usage => write!(f, "Usage: lrlex_refusals [CALL]"),
-            Stop::Memory => write!(f, "Out of memory"),
-            Stop::System => write!(f, "Standard output failed, or the words can't be read"),
-        }
+        let text = match self {
+            Stop::Usage => "Usage: lrlex_refusals [CALL]",
+            Stop::Memory => "Out of memory",
+            Stop::System => "Standard output failed, or the words can't be read",
+        };
+        write!(f, "{text}")
     }
 }
 

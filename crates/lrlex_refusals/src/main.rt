@@ -71,7 +71,7 @@ fn served(rt: &HostRuntime) -> Result<bool, Stop> {
     }
     let mut right = true;
     for named in CALLS {
-        right &= show(rt, named)?;
+        right &= show(rt, *named)?;
     }
     Ok(right)
 }

@@ -1,13 +1,13 @@
 //! The calls that take a map of names.
 use crate::definitions::made;
 use crate::expected::{Definition, IDS, are_rules, is_span};
-use crate::fault::{Fault, TRIES, count, expect};
+use crate::fault::{Fault, TRIES, count, expect, expect_all};
 use lrlex::{LexerDef, Span};
 use std::alloc::{AllocError, Global};
 use std::collections::{HashMap, HashSet};
 
 /// A rule's names with ids of their own, but for `LAST`, and a name that no rule has.
-const NAMED: [(&str, u32); 4] = [("NAME", 7), ("NUMBER", 9), ("PART", 8), ("MORE", 4)];
+const NAMED: &[(&str, u32)] = &[("NAME", 7), ("NUMBER", 9), ("PART", 8), ("MORE", 4)];
 
 /// The ids that the rules have after that.
 const OWN_IDS: [Option<u32>; 7] = [Some(7), None, Some(9), Some(3), Some(8), Some(5), Some(6)];
@@ -15,18 +15,27 @@ const OWN_IDS: [Option<u32>; 7] = [Some(7), None, Some(9), Some(3), Some(8), Som
 fn named(alloc: Global) -> Result<HashMap<&'static str, u32>, AllocError> {
     let mut ids = HashMap::new(alloc);
     for (name, id) in NAMED {
-        ids.insert(name, id)?;
+        ids.insert(*name, *id)?;
     }
     Ok(ids)
 }
 
+/// Whether the map has these names alone.
+fn is_named(ids: &HashMap<&'static str, u32>) -> bool {
+    for (name, id) in NAMED {
+        if ids.get(*name) != Some(id) {
+            return false;
+        }
+    }
+    ids.len() == NAMED.len()
+}
+
 /// The map and the ids of the definition are what they were.
 fn expect_lent(definition: &Definition, ids: &HashMap<&'static str, u32>) -> Result<(), Fault> {
-    expect("rules lent", are_rules(definition.rules(), &IDS))?;
-    for (name, id) in NAMED {
-        expect("map lent", ids.get(name) == Some(&id))?;
-    }
-    expect("map lent", ids.len() == NAMED.len())
+    expect_all(&[
+        ("rules lent", are_rules(definition.rules(), &IDS)),
+        ("map lent", is_named(ids)),
+    ])
 }
 
 /// The rules have their own ids, and no rule has the name `MORE`.
@@ -46,20 +55,30 @@ fn expect_name(unused: Option<&HashSet<String>>) -> Result<(), Fault> {
     }
 }
 
-pub fn set_rule_ids(alloc: Global, told: &mut u32) -> Result<(), Fault> {
-    let mut definition = made(alloc)?;
-    let ids = named(alloc)?;
+/// Sets these ids.
+fn set_ids(
+    alloc: Global,
+    definition: &mut Definition,
+    ids: &HashMap<&'static str, u32>,
+    told: &mut u32,
+) -> Result<(), Fault> {
     for _ in 0..TRIES {
-        match definition.set_rule_ids(alloc, &ids) {
+        match definition.set_rule_ids(alloc, ids) {
             Ok((lacking, unused)) => {
                 expect_name(unused.as_ref())?;
-                return expect_ids(&definition, lacking.as_ref());
+                return expect_ids(definition, lacking.as_ref());
             }
             Err(_) => count(told),
         }
-        expect_lent(&definition, &ids)?;
+        expect_lent(definition, ids)?;
     }
     Err(Fault::Memory)
+}
+
+pub fn set_rule_ids(alloc: Global, told: &mut u32) -> Result<(), Fault> {
+    let mut definition = made(alloc)?;
+    let ids = named(alloc)?;
+    set_ids(alloc, &mut definition, &ids, told)
 }
 
 /// The set has the name `LAST` with its place alone.
@@ -67,53 +86,83 @@ fn expect_place(unused: Option<&HashSet<(String, Span)>>) -> Result<(), Fault> {
     let Some(places) = unused else {
         return Err(Fault::Wrong("no names unused"));
     };
+    let mut is_right = places.len() == 1;
     for key in places.iter() {
         let (name, span) = key;
-        expect(
-            "name unused",
-            name.as_str() == "LAST" && is_span(*span, (34, 38)),
-        )?;
+        is_right &= name.as_str() == "LAST" && is_span(*span, (34, 38));
     }
-    expect("number of names unused", places.len() == 1)
+    expect("names unused", is_right)
+}
+
+/// Sets these ids, and tells places too.
+fn set_ids_spanned(
+    alloc: Global,
+    definition: &mut Definition,
+    ids: &HashMap<&'static str, u32>,
+    told: &mut u32,
+) -> Result<(), Fault> {
+    for _ in 0..TRIES {
+        match definition.set_rule_ids_spanned(alloc, ids) {
+            Ok((lacking, unused)) => {
+                expect_place(unused.as_ref())?;
+                return expect_ids(definition, lacking.as_ref());
+            }
+            Err(_) => count(told),
+        }
+        expect_lent(definition, ids)?;
+    }
+    Err(Fault::Memory)
 }
 
 pub fn set_rule_ids_spanned(alloc: Global, told: &mut u32) -> Result<(), Fault> {
     let mut definition = made(alloc)?;
     let ids = named(alloc)?;
-    for _ in 0..TRIES {
-        match definition.set_rule_ids_spanned(alloc, &ids) {
-            Ok((lacking, unused)) => {
-                expect_place(unused.as_ref())?;
-                return expect_ids(&definition, lacking.as_ref());
-            }
-            Err(_) => count(told),
-        }
-        expect_lent(&definition, &ids)?;
-    }
-    Err(Fault::Memory)
+    set_ids_spanned(alloc, &mut definition, &ids, told)
 }
 
 /// The module of `+` and `ID`.
 const MODULE: &str =
     "#[allow(dead_code)]\nmod x {\n    pub const T_PLUS: u32 = 3;\n    pub const T_ID: u32 = 7;\n    #[allow(dead_code)]\n    pub const TOK_IDS: &[u32] = &[3, 7];\n}\n";
 
-pub fn ct_token_map(alloc: Global, told: &mut u32) -> Result<(), Fault> {
-    let mut tokens: HashMap<String, u32> = HashMap::new(alloc);
+type Tokens = HashMap<String, u32>;
+
+type Renames = HashMap<&'static str, &'static str>;
+
+/// The tokens.
+fn tokens(alloc: Global) -> Result<Tokens, Fault> {
+    let mut tokens = HashMap::new(alloc);
     tokens.insert(String::from_str(alloc, "+")?, 3)?;
     tokens.insert(String::from_str(alloc, "ID")?, 7)?;
-    let mut renames: HashMap<&str, &str> = HashMap::new(alloc);
-    renames.insert("+", "PLUS")?;
+    Ok(tokens)
+}
+
+/// Makes the module of these tokens.
+fn map_tokens(
+    alloc: Global,
+    tokens: &Tokens,
+    renames: &Renames,
+    told: &mut u32,
+) -> Result<(), Fault> {
     for _ in 0..TRIES {
-        match lrlex::ct_token_map(alloc, "x", "u32", &tokens, Some(&renames)) {
+        match lrlex::ct_token_map(alloc, "x", "u32", tokens, Some(renames)) {
             Ok(Ok(text)) => return expect("module", text.as_str() == MODULE),
             Ok(Err(_)) => return Err(Fault::Wrong("faults of good names")),
             Err(_) => count(told),
         }
-        expect(
-            "map lent",
-            tokens.get("+") == Some(&3) && tokens.get("ID") == Some(&7),
-        )?;
-        expect("names lent", renames.get("+") == Some(&"PLUS"))?;
+        expect_all(&[
+            (
+                "map lent",
+                tokens.get("+") == Some(&3) && tokens.get("ID") == Some(&7),
+            ),
+            ("names lent", renames.get("+") == Some(&"PLUS")),
+        ])?;
     }
     Err(Fault::Memory)
+}
+
+pub fn ct_token_map(alloc: Global, told: &mut u32) -> Result<(), Fault> {
+    let tokens = tokens(alloc)?;
+    let mut renames = HashMap::new(alloc);
+    renames.insert("+", "PLUS")?;
+    map_tokens(alloc, &tokens, &renames, told)
 }

@@ -1,8 +1,8 @@
 //! The call that reads the program's words.
-use crate::fault::{Fault, TRIES, count, expect};
+use crate::fault::{Came, Fault, expect_all};
 use lrlex::{LexFlags, UNSPECIFIED_LEX_FLAGS};
 use lrlex_cli::words::{Words, WordsFault, read};
-use std::alloc::Global;
+use std::alloc::{AllocError, Global};
 
 /// Words of the program, its own name first.
 const WORDS: [&str; 13] = [
@@ -28,22 +28,22 @@ fn expect_words(words: &Words) -> Result<(), Fault> {
         nest_limit: Some(9),
         ..UNSPECIFIED_LEX_FLAGS
     };
-    expect("path of the rules", words.rules.as_str() == "r.l")?;
-    expect("path of the input", words.input.as_str() == "i.txt")?;
-    expect("flags", words.flags == flags)?;
-    match &words.edit {
-        Some((from, to, put)) => expect("edit", (*from, *to, put.as_str()) == (3, 5, "cd")),
-        None => Err(Fault::Wrong("no edit")),
-    }
+    let edit = match &words.edit {
+        Some((from, to, put)) => (*from, *to, put.as_str()) == (3, 5, "cd"),
+        None => false,
+    };
+    expect_all(&[
+        ("path of the rules", words.rules.as_str() == "r.l"),
+        ("path of the input", words.input.as_str() == "i.txt"),
+        ("flags", words.flags == flags),
+        ("edit", edit),
+    ])
 }
 
-pub fn words_read(alloc: Global, told: &mut u32) -> Result<(), Fault> {
-    for _ in 0..TRIES {
-        match read(alloc, &WORDS) {
-            Ok(words) => return expect_words(&words),
-            Err(WordsFault::Refused) => return Err(Fault::Wrong("refusal of good words")),
-            Err(WordsFault::Memory) => count(told),
-        }
+pub fn words_read(alloc: Global) -> Came {
+    match read(alloc, &WORDS) {
+        Ok(words) => Ok(expect_words(&words)),
+        Err(WordsFault::Refused) => Ok(Err(Fault::Wrong("refusal of good words"))),
+        Err(WordsFault::Memory) => Err(AllocError),
     }
-    Err(Fault::Memory)
 }

@@ -12,9 +12,9 @@ fn command<'a>(alloc: Global) -> Result<Command<'a>, AllocError> {
 
 /// The call of this name, with that name.
 fn call_of(word: &str) -> Result<Named, Stop> {
-    for (name, call) in CALLS {
-        if name == word {
-            return Ok((name, call));
+    for named in CALLS {
+        if named.0 == word {
+            return Ok(*named);
         }
     }
     Err(Stop::Usage)
