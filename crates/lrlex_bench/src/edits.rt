@@ -55,10 +55,9 @@ fn tell_relex(
         worst,
     } = spread;
     let faster = Tenths::of(anew.median, median);
-    println!(rt; "{name} matches asked: {asked}")?;
-    println!(rt; "{name} median ns: {median}")?;
-    println!(rt; "{name} best ns: {best}")?;
-    println!(rt; "{name} worst ns: {worst}")?;
+    println!(rt;
+        "{name} matches asked: {asked}\n{name} median ns: {median}\n{name} best ns: {best}\n{name} worst ns: {worst}"
+    )?;
     println!(rt; "{name} times faster than run: {faster}")?;
     Ok(())
 }
@@ -107,8 +106,7 @@ pub fn tell_edits(
     let run = definition.run(rt.alloc(), text)?;
     let median = anew.median;
     let asked = run.asked();
-    println!(rt; "run matches asked: {asked}")?;
-    println!(rt; "run median ns: {median}")?;
+    println!(rt; "run matches asked: {asked}\nrun median ns: {median}")?;
     let middle = boundary_from(text, text.len() / 2);
     tell_edit(rt, &run, text, "front", 0, anew, times)?;
     tell_edit(rt, &run, text, "middle", middle, anew, times)?;

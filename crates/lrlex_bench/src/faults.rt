@@ -5,7 +5,7 @@ use std::alloc::{AllocError, AllocFailed};
 use std::{fmt, io};
 
 /// Why the program can't do what it is asked.
-#[derive(Clone, Copy, Debug, PartialEq, Eq)]
+#[derive(Clone, Copy)]
 pub enum Fault {
     /// The words are refused.
     Usage,
@@ -25,15 +25,16 @@ pub enum Fault {
 
 impl fmt::Display for Fault {
     fn fmt<W: fmt::Write>(&self, f: &mut fmt::Formatter<W>) -> fmt::Result {
-        match self {
-            Fault::Usage => write!(f, "{USAGE}"),
-            Fault::CannotReadRules => write!(f, "Can't read the rule file"),
-            Fault::CannotReadInput => write!(f, "Can't read the input"),
-            Fault::Refused => write!(f, "The rule file has faults"),
-            Fault::DoesNotFit => write!(f, "A key doesn't fit the text"),
-            Fault::Memory => write!(f, "Out of memory"),
-            Fault::System => write!(f, "The clock or standard output failed"),
-        }
+        let text = match self {
+            Fault::Usage => USAGE,
+            Fault::CannotReadRules => "Can't read the rule file",
+            Fault::CannotReadInput => "Can't read the input",
+            Fault::Refused => "The rule file has faults",
+            Fault::DoesNotFit => "A key doesn't fit the text",
+            Fault::Memory => "Out of memory",
+            Fault::System => "The clock or standard output failed",
+        };
+        write!(f, "{text}")
     }
 }
 

@@ -2,13 +2,13 @@
 use std::fmt;
 
 /// A number of hundredths, written with two decimals.
-#[derive(Clone, Copy, Debug)]
+#[derive(Clone, Copy)]
 pub struct Hundredths {
     count: u128,
 }
 
 /// A number of tenths, written with one decimal.
-#[derive(Clone, Copy, Debug)]
+#[derive(Clone, Copy)]
 pub struct Tenths {
     count: u128,
 }

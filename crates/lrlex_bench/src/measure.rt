@@ -165,13 +165,10 @@ fn tell_sizes(
     let rows = definition.table_rows();
     let asked = definition.asked_rules();
     let ms = Hundredths::of(built.as_nanos(), 1_000_000);
-    println!(rt; "bytes: {bytes}")?;
-    println!(rt; "rules: {rules}")?;
-    println!(rt; "states: {states}")?;
-    println!(rt; "tables: {tables}")?;
-    println!(rt; "rows of tables: {rows}")?;
-    println!(rt; "rules without a table: {asked}")?;
-    println!(rt; "build ms: {ms}")?;
+    println!(rt; "bytes: {bytes}\nrules: {rules}\nstates: {states}")?;
+    println!(rt;
+        "tables: {tables}\nrows of tables: {rows}\nrules without a table: {asked}\nbuild ms: {ms}"
+    )?;
     Ok(())
 }
 
@@ -184,11 +181,9 @@ fn tell_counts(rt: &HostRuntime, counts: &Counts) -> Result<(), Fault> {
         asked,
         peak,
     } = *counts;
-    println!(rt; "bytes lexed: {end}")?;
-    println!(rt; "lexemes: {lexemes}")?;
-    println!(rt; "tiles: {tiles}")?;
-    println!(rt; "matches asked: {asked}")?;
-    println!(rt; "peak entries: {peak}")?;
+    println!(rt;
+        "bytes lexed: {end}\nlexemes: {lexemes}\ntiles: {tiles}\nmatches asked: {asked}\npeak entries: {peak}"
+    )?;
     Ok(())
 }
 
@@ -197,9 +192,9 @@ fn tell_bytes(rt: &HostRuntime, name: &str, spread: Spread, bytes: usize) -> Res
     let median = Hundredths::of(spread.median, bytes as u128);
     let best = Hundredths::of(spread.best, bytes as u128);
     let worst = Hundredths::of(spread.worst, bytes as u128);
-    println!(rt; "{name} median ns per byte: {median}")?;
-    println!(rt; "{name} best ns per byte: {best}")?;
-    println!(rt; "{name} worst ns per byte: {worst}")?;
+    println!(rt;
+        "{name} median ns per byte: {median}\n{name} best ns per byte: {best}\n{name} worst ns per byte: {worst}"
+    )?;
     Ok(())
 }
 
@@ -223,7 +218,6 @@ pub fn tell_run(
     tell_bytes(rt, "run", runs, text.len())?;
     tell_bytes(rt, "lexer", lexers, text.len())?;
     tell_bytes(rt, "lines", lines, text.len())?;
-    println!(rt; "peak kB before lexing: {before}")?;
-    println!(rt; "peak kB: {after}")?;
+    println!(rt; "peak kB before lexing: {before}\npeak kB: {after}")?;
     Ok(())
 }

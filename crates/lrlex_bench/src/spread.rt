@@ -3,7 +3,7 @@ ghost use Rattle.std.specs.Prelude.{◌≡◌, ◌-◌, ◌/◌, length, slice_i
 ghost use Rattle.std.specs.List.Sorted.{IsNonDecreasing, IsPermutation};
 
 /// Of several times in nanoseconds: the middle one, the shortest and the longest.
-#[derive(Clone, Copy, Debug)]
+#[derive(Clone, Copy)]
 pub struct Spread {
     pub median: u128,
     pub best: u128,

@@ -8,7 +8,7 @@ use std::alloc::{AllocError, Global};
 pub const USAGE: &str = "Usage: lrlex_bench RULES INPUT K [--edits | --keys] [--no-tables]";
 
 /// What the words say.
-#[derive(Debug, Drop)]
+#[derive(Drop)]
 pub struct Words {
     /// The path of the rule file.
     pub rules: String,
@@ -24,28 +24,32 @@ pub struct Words {
     pub tables: bool,
 }
 
+/// A word that has to be there.
+fn word<'a>(alloc: Global, name: &'a str) -> Arg<'a> {
+    Arg::new(alloc, name).required(true)
+}
+
+/// A number that has to be there.
+fn number<'a>(alloc: Global, name: &'a str) -> Arg<'a> {
+    word(alloc, name)
+        .action(ArgAction::Set)
+        .value_parser(value_parser!(u32))
+}
+
+/// An option without a value.
+fn option<'a>(alloc: Global, name: &'a str) -> Arg<'a> {
+    Arg::new(alloc, name).long(name).action(ArgAction::SetTrue)
+}
+
 /// The command, as `clap` has it.
 fn command<'a>(alloc: Global) -> Result<Command<'a>, AllocError> {
-    let times = Arg::new(alloc, "times")
-        .required(true)
-        .action(ArgAction::Set)
-        .value_parser(value_parser!(u32));
-    let edits = Arg::new(alloc, "edits")
-        .long("edits")
-        .action(ArgAction::SetTrue);
-    let keys = Arg::new(alloc, "keys")
-        .long("keys")
-        .action(ArgAction::SetTrue);
-    let no_tables = Arg::new(alloc, "no-tables")
-        .long("no-tables")
-        .action(ArgAction::SetTrue);
     Command::new(alloc, "lrlex_bench")
-        .arg(Arg::new(alloc, "rules").required(true))?
-        .arg(Arg::new(alloc, "input").required(true))?
-        .arg(times)?
-        .arg(edits)?
-        .arg(keys)?
-        .arg(no_tables)
+        .arg(word(alloc, "rules"))?
+        .arg(word(alloc, "input"))?
+        .arg(number(alloc, "times"))?
+        .arg(option(alloc, "edits"))?
+        .arg(option(alloc, "keys"))?
+        .arg(option(alloc, "no-tables"))
 }
 
 /// The words of the matches.
