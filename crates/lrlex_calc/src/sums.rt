@@ -4,7 +4,7 @@ use lrlex::{LexError, Lexeme, Lexer};
 use std::alloc::{AllocError, AllocFailed, Global};
 
 /// Why a line has no value.
-#[derive(Clone, Copy, Debug, PartialEq, Eq)]
+#[derive(Clone, Copy)]
 pub enum Failure {
     /// At this column, from 1, stands what is wrong.
     Wrong { column: usize, why: &'static str },
@@ -23,7 +23,7 @@ impl<T: Drop> From<AllocFailed<T>> for Failure {
     }
 }
 
-#[derive(Clone, Copy, Debug, PartialEq, Eq)]
+#[derive(Clone, Copy)]
 enum Operator {
     Add,
     Subtract,
@@ -32,7 +32,7 @@ enum Operator {
 }
 
 /// What waits for its right side.
-#[derive(Clone, Copy, Debug, PartialEq, Eq)]
+#[derive(Clone, Copy)]
 enum Held {
     Parenthesis,
     Negation,
@@ -41,14 +41,14 @@ enum Held {
 }
 
 /// What waits, and the column where it stands.
-#[derive(Clone, Copy, Debug, PartialEq, Eq)]
+#[derive(Clone, Copy)]
 struct Waiting {
     held: Held,
     column: usize,
 }
 
 /// A line that is read so far.
-#[derive(Debug, Drop)]
+#[derive(Drop)]
 struct Sum {
     /// The value up to here, from the innermost that waits on. None where a value has to come.
     value: Option<i64>,

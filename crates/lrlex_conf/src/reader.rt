@@ -10,7 +10,7 @@ type Types = DefaultLexerTypes<u32>;
 type Definition = LRNonStreamingLexerDef<Types>;
 
 /// Where a configuration is wrong, and why.
-#[derive(Clone, Copy, Debug, PartialEq, Eq)]
+#[derive(Clone, Copy)]
 pub struct Fault {
     /// Line and column, from 1.
     pub place: (usize, usize),
@@ -18,7 +18,7 @@ pub struct Fault {
 }
 
 /// Why a token wasn't taken.
-#[derive(Clone, Copy, Debug, PartialEq, Eq)]
+#[derive(Clone, Copy)]
 enum Refusal {
     Wrong(&'static str),
     Memory,
@@ -37,7 +37,7 @@ impl<T: Drop> From<AllocFailed<T>> for Refusal {
 }
 
 /// A configuration that is read so far.
-#[derive(Debug, Drop)]
+#[derive(Drop)]
 struct Reader<'t> {
     /// The names of the sections that are open, the innermost last.
     sections: Vec<&'t str>,

@@ -1,7 +1,7 @@
 //! Edits, as lines of the input say them.
 
 /// Bytes of a text, and what is put in their place.
-#[derive(Clone, Copy, Debug, PartialEq, Eq)]
+#[derive(Clone, Copy)]
 pub struct Change<'t> {
     /// The first byte that goes.
     pub from: usize,

@@ -2,7 +2,7 @@
 use lrlex::Piece;
 
 /// What a piece is shown as.
-#[derive(Clone, Copy, Debug, PartialEq, Eq)]
+#[derive(Clone, Copy)]
 pub enum Class {
     Plain,
     Comment,

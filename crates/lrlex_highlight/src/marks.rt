@@ -3,7 +3,7 @@ use crate::classes::Class;
 use std::alloc::AllocError;
 
 /// The marks of a text.
-#[derive(Clone, Copy, Debug, PartialEq, Eq)]
+#[derive(Clone, Copy)]
 pub enum Marks {
     /// Colours as terminals have them (ECMA-48, select graphic rendition).
     Terminal,

@@ -6,7 +6,7 @@ use clap::{Arg, ArgAction, ArgMatches, Command};
 use std::alloc::{AllocError, Global};
 
 /// What the words say.
-#[derive(Debug, Drop)]
+#[derive(Drop)]
 pub struct Words {
     /// The path of the rule file.
     pub rules: String,
@@ -15,28 +15,32 @@ pub struct Words {
     pub marks: Marks,
 }
 
-/// The command, as `clap` has it.
-fn command<'a>(alloc: Global) -> Result<Command<'a>, AllocError> {
-    let rules = Arg::new(alloc, "rules")
-        .value_name("RULES")
-        .help("The rule file")
-        .required(true);
-    let input = Arg::new(alloc, "input")
-        .value_name("INPUT")
-        .help("The text to show")
-        .required(true);
-    let html = Arg::new(alloc, "html")
+/// A path that has to be there.
+fn path<'a>(alloc: Global, name: &'a str, shown: &'a str, help: &'a str) -> Arg<'a> {
+    Arg::new(alloc, name)
+        .value_name(shown)
+        .help(help)
+        .required(true)
+}
+
+/// The option of a page.
+fn html<'a>(alloc: Global) -> Arg<'a> {
+    Arg::new(alloc, "html")
         .long("html")
         .help("Writes a page, and no text for a terminal")
-        .action(ArgAction::SetTrue);
+        .action(ArgAction::SetTrue)
+}
+
+/// The command, as `clap` has it.
+fn command<'a>(alloc: Global) -> Result<Command<'a>, AllocError> {
     Command::new(alloc, "lrlex_highlight")
         .about("Shows a text in colours, by the pieces into which the rules cut it.")
         .after_help(
             "Without words both are read from standard input, the rules before a line ----.",
         )
-        .arg(rules)?
-        .arg(input)?
-        .arg(html)
+        .arg(path(alloc, "rules", "RULES", "The rule file"))?
+        .arg(path(alloc, "input", "INPUT", "The text to show"))?
+        .arg(html(alloc))
 }
 
 /// The words of the matches.

@@ -11,14 +11,14 @@ type Types = DefaultLexerTypes<u32>;
 type Definition = LRNonStreamingLexerDef<Types>;
 
 /// What is open round a place.
-#[derive(Clone, Copy, Debug, PartialEq, Eq)]
+#[derive(Clone, Copy)]
 enum Open {
     Object,
     Array,
 }
 
 /// What may come next.
-#[derive(Clone, Copy, Debug, PartialEq, Eq)]
+#[derive(Clone, Copy)]
 enum Next {
     Value,
     ElementOrEnd,
@@ -30,7 +30,7 @@ enum Next {
 }
 
 /// Where a text isn't JSON.
-#[derive(Debug, Drop)]
+#[derive(Drop)]
 pub struct Fault<'t> {
     /// Where it stands.
     pub span: Span,
@@ -40,7 +40,7 @@ pub struct Fault<'t> {
 }
 
 /// How far a text was read.
-#[derive(Debug, Drop)]
+#[derive(Drop)]
 struct Reader {
     /// What is open, the innermost last.
     open: Vec<Open>,

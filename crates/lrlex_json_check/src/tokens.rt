@@ -18,7 +18,7 @@ true|false|null 'LITERAL'
 "#;
 
 /// What a lexeme is to the reader.
-#[derive(Clone, Copy, Debug, PartialEq, Eq)]
+#[derive(Clone, Copy, PartialEq, Eq)]
 pub enum Token {
     LeftBrace,
     RightBrace,

@@ -5,7 +5,7 @@ use serde_json::Value;
 use std::alloc::{AllocError, AllocFailed, Global};
 
 /// Why a case can't be replayed.
-#[derive(Clone, Copy, Debug)]
+#[derive(Clone, Copy)]
 pub enum Trouble {
     Memory,
     Malformed,
