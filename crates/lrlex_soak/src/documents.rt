@@ -1,6 +1,6 @@
 //! A document after each of its edits is what lexing its text anew gives.
 use crate::edits::Step;
-use crate::facts::{Counts, Definition, Facts, cuts_of, facts_of, items_of, joined};
+use crate::facts::{Counts, Definition, Facts, cuts_of, facts_of, items_of};
 use crate::places::{Place, counted};
 use crate::record::{Record, add};
 use crate::relexing::{compare_facts, compare_run, relexed};
@@ -35,7 +35,6 @@ fn facts_shown<'d>(alloc: Global, document: &Edited<'d>) -> Result<Facts<'d>, Al
         items: items_of(alloc, document.items())?,
         boundaries: Vec::new(alloc),
         pieces: cuts_of(alloc, document.text(), pieces.as_slice())?,
-        joined: joined(alloc, pieces.as_slice())?,
         counts: Counts {
             tiles: document.tiles(),
             asked: document.asked(),
@@ -91,12 +90,7 @@ fn all_shown<'d>(
 }
 
 /// Compares the places that the document tells with those that are counted by hand.
-fn compare_places(
-    alloc: Global,
-    step: &Step,
-    places: &[Place],
-    record: &mut Record,
-) -> Result<(), AllocError> {
+fn compare_places(step: &Step, places: &[Place], record: &mut Record) {
     let [first, second, third] = step.bytes;
     let text = step.after.as_str();
     let expected = [
@@ -105,45 +99,32 @@ fn compare_places(
         counted(text, third),
     ];
     add(&mut record.tally.counted, expected.len());
-    record.same(alloc, "places after an edit", &expected, places)
+    record.same("places after an edit", &expected, places);
 }
 
 /// Compares a document after an edit with the run of its text.
-fn compare_shown(
-    alloc: Global,
-    step: &Step,
-    anew: &Facts<'_>,
-    got: &Shown<'_>,
-    record: &mut Record,
-) -> Result<(), AllocError> {
-    record.same(alloc, "whether an edit fits", &[step.fits], &[got.made])?;
+fn compare_shown(step: &Step, anew: &Facts<'_>, got: &Shown<'_>, record: &mut Record) {
+    record.same("whether an edit fits", &[step.fits], &[got.made]);
     record.same(
-        alloc,
         "text after an edit",
         &[step.after.as_str()],
         &[got.text.as_str()],
-    )?;
-    compare_facts(alloc, anew, &got.facts, record)?;
+    );
+    compare_facts(anew, &got.facts, record);
     let tiles = got.facts.counts.tiles;
-    record.same(alloc, "tiles of a document", &[anew.counts.tiles], &[tiles])?;
-    compare_places(alloc, step, &got.places, record)
+    record.same("tiles of a document", &[anew.counts.tiles], &[tiles]);
+    compare_places(step, &got.places, record);
 }
 
 /// Compares a document that an edit doesn't fit with what it was before.
-fn compare_unfit(
-    alloc: Global,
-    before: &Shown<'_>,
-    got: &Shown<'_>,
-    record: &mut Record,
-) -> Result<(), AllocError> {
+fn compare_unfit(before: &Shown<'_>, got: &Shown<'_>, record: &mut Record) {
     add(&mut record.tally.unfit, 1);
-    compare_facts(alloc, &before.facts, &got.facts, record)?;
+    compare_facts(&before.facts, &got.facts, record);
     record.same(
-        alloc,
         "counts after no edit",
         &[before.facts.counts],
         &[got.facts.counts],
-    )
+    );
 }
 
 /// Counts an edit.
@@ -155,23 +136,21 @@ fn count(counts: Counts, record: &mut Record) {
 
 /// Compares a document and a run after an edit that fits with the run of the new text.
 fn compare_fit(
-    alloc: Global,
     anew: &Facts<'_>,
     got: &Shown<'_>,
     relexed: Option<&Facts<'_>>,
     record: &mut Record,
-) -> Result<(), AllocError> {
+) {
     count(got.facts.counts, record);
     let Some(relexed) = relexed else {
-        return record.law(alloc, "an edit makes its text", false);
+        return record.law("an edit makes its text", false);
     };
     record.same(
-        alloc,
         "counts of a document",
         &[relexed.counts],
         &[got.facts.counts],
-    )?;
-    compare_run(alloc, anew, relexed, record)
+    );
+    compare_run(anew, relexed, record);
 }
 
 /// Takes a document and a run through these edits of the text, and compares them after each with the run of the new text.
@@ -189,11 +168,11 @@ pub fn compare_edits(
     for (number, (step, got)) in steps.iter().zip(all.iter().skip(1)).enumerate() {
         record.at = number;
         let anew = facts_of(alloc, definition, step.after.as_str())?;
-        compare_shown(alloc, step, &anew, got, record)?;
+        compare_shown(step, &anew, got, record);
         if step.fits {
-            compare_fit(alloc, &anew, got, runs.next(), record)?;
+            compare_fit(&anew, got, runs.next(), record);
         } else if let Some(before) = before {
-            compare_unfit(alloc, before, got, record)?;
+            compare_unfit(before, got, record);
         }
         before = Some(got);
     }

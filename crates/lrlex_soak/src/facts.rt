@@ -51,8 +51,6 @@ pub struct Facts<'d> {
     /// Each boundary, and the entries of its stack. None of a document, which doesn't tell them.
     pub boundaries: Vec<Fact>,
     pub pieces: Vec<Cut<'d>>,
-    /// The texts of the pieces.
-    pub joined: String,
     pub counts: Counts,
 }
 
@@ -101,15 +99,6 @@ pub fn cuts_of<'d>(
     Ok(cuts)
 }
 
-/// The texts of these pieces, joined.
-pub fn joined(alloc: Global, pieces: &[Piece<'_, '_>]) -> Result<String, AllocError> {
-    let mut text = String::new(alloc);
-    for piece in pieces {
-        text.push_str(piece.text)?;
-    }
-    Ok(text)
-}
-
 /// Adds a boundary: its place and its stack.
 fn push_boundary(
     facts: &mut Vec<Fact>,
@@ -139,7 +128,6 @@ pub fn facts_of_run<'d>(alloc: Global, run: &Run<'d, '_>) -> Result<Facts<'d>, A
         items: items_of(alloc, run.items())?,
         boundaries: boundaries_of(alloc, run)?,
         pieces: cuts_of(alloc, run.text(), pieces.as_slice())?,
-        joined: joined(alloc, pieces.as_slice())?,
         counts: Counts {
             tiles: run.tiles(),
             asked: run.asked(),

@@ -4,7 +4,7 @@ use std::alloc::{AllocError, AllocFailed};
 use std::{fmt, io};
 
 /// Why the program can't do what it is asked.
-#[derive(Clone, Copy, Debug, PartialEq, Eq)]
+#[derive(Clone, Copy)]
 pub enum Fault {
     /// The words are refused.
     Usage,
@@ -16,11 +16,12 @@ pub enum Fault {
 
 impl fmt::Display for Fault {
     fn fmt<W: fmt::Write>(&self, f: &mut fmt::Formatter<W>) -> fmt::Result {
-        match self {
-            Fault::Usage => write!(f, "{USAGE}"),
-            Fault::Memory => write!(f, "Out of memory"),
-            Fault::System => write!(f, "Standard output failed, or the words can't be read"),
-        }
+        let text = match self {
+            Fault::Usage => USAGE,
+            Fault::Memory => "Out of memory",
+            Fault::System => "Standard output failed, or the words can't be read",
+        };
+        write!(f, "{text}")
     }
 }
 

@@ -12,7 +12,7 @@ type LexerOf<'lexer, 'input> = LRNonStreamingLexer<'lexer, 'input, DefaultLexerT
 type At = (usize, usize);
 
 /// What a lexer tells of one of its items.
-#[derive(Clone, Copy, PartialEq, Eq, Debug)]
+#[derive(Clone, Copy, PartialEq, Eq)]
 struct Told<'t> {
     item: Fact,
     text: &'t str,
@@ -50,26 +50,6 @@ fn told_of<'t>(lexer: &LexerOf<'_, 't>, item: &Item, ends: Option<(At, At)>) -> 
     }
 }
 
-/// What the lexer of the text tells.
-fn all_told<'t>(
-    alloc: Global,
-    definition: &Definition,
-    text: &'t str,
-) -> Result<Vec<Told<'t>>, AllocError> {
-    let lexer = definition.lexer(alloc, text)?;
-    let mut told = Vec::new(alloc);
-    for item in lexer.iter() {
-        let span = span_of(&item);
-        let ends = if span.fits(text) {
-            Some(lexer.line_col(span))
-        } else {
-            None
-        };
-        told.push(told_of(&lexer, &item, ends))?;
-    }
-    Ok(told)
-}
-
 /// What must be told of an item.
 fn expected_of<'t>(text: &'t str, item: Fact) -> Told<'t> {
     let (start, end) = match item {
@@ -95,16 +75,22 @@ pub fn compare_lexer(
     facts: &Facts<'_>,
     record: &mut Record,
 ) -> Result<(), AllocError> {
-    let mut expected = Vec::new(alloc);
-    for item in &facts.items {
-        expected.push(expected_of(text, *item))?;
+    let lexer = definition.lexer(alloc, text)?;
+    let mut expected = facts.items.iter();
+    let mut are_told = true;
+    for item in lexer.iter() {
+        add(&mut record.tally.counted, 1);
+        let span = span_of(&item);
+        let ends = if span.fits(text) {
+            Some(lexer.line_col(span))
+        } else {
+            None
+        };
+        are_told &= match expected.next() {
+            Some(fact) => told_of(&lexer, &item, ends) == expected_of(text, *fact),
+            None => false,
+        };
     }
-    let told = all_told(alloc, definition, text)?;
-    add(&mut record.tally.counted, told.len());
-    record.same(
-        alloc,
-        "items of a lexer",
-        expected.as_slice(),
-        told.as_slice(),
-    )
+    record.law("items of a lexer", are_told && expected.next().is_none());
+    Ok(())
 }

@@ -1,29 +1,29 @@
 //! Token ids that are set from a map of names.
 use crate::chance::Chance;
 use crate::facts::{Definition, Fact, Facts, facts_of};
-use crate::naming::{Called, has_name, names_in, names_of};
+use crate::naming::{has_name, name_of};
 use crate::record::{Record, add};
 use crate::rules::RuleText;
 use crate::ways::asking_definition;
-use lrlex::LexerDef;
+use lrlex::{LexerDef, Rule};
 use std::alloc::{AllocError, Global};
-use std::collections::HashMap;
+use std::collections::{HashMap, HashSet};
 
 /// Names that no rule has.
 const UNKNOWN: &[&str] = &["", "R", "R00", "r0", "R9", "Ω"];
 
-/// Names by which rules are told.
-type Names<'n> = Option<Vec<&'n str>>;
+/// An id, and the name that has it.
+type Named<'n> = (&'n str, u32);
 
 /// A map by chance: ids for most names of the rules, and for a few that no rule has.
 fn ids_by_chance<'n>(
     alloc: Global,
     chance: &mut Chance,
-    rules: &[Called<'n>],
-) -> Result<Vec<(&'n str, u32)>, AllocError> {
+    rules: &'n [Rule<u32>],
+) -> Result<Vec<Named<'n>>, AllocError> {
     let mut ids = Vec::new(alloc);
     for rule in rules {
-        match rule.name {
+        match rule.name() {
             Some(name) if !chance.one_in(6) => ids.push((name, chance.id()))?,
             _ => {}
         }
@@ -37,7 +37,7 @@ fn ids_by_chance<'n>(
 }
 
 /// The id that the map has for the name.
-fn id_for(ids: &[(&str, u32)], name: &str) -> Option<u32> {
+fn id_for(ids: &[Named<'_>], name: &str) -> Option<u32> {
     for (known, id) in ids {
         if *known == name {
             return Some(*id);
@@ -46,44 +46,57 @@ fn id_for(ids: &[(&str, u32)], name: &str) -> Option<u32> {
     None
 }
 
-/// The names in their order, or none where there is none.
-fn sorted(names: Vec<&str>) -> Names<'_> {
-    let mut names = names;
-    if names.is_empty() {
-        return None;
-    }
-    names.sort_unstable();
-    Some(names)
-}
-
-/// What setting the ids must tell: the map's names that no rule has, and the rules' names that the map lacks.
-fn sets_expected(
-    alloc: Global,
-    rules: &[Called<'_>],
-    ids: &[(&str, u32)],
+/// Whether these are the names of the map that no rule has, none exactly where there are none.
+fn are_lacking(
+    rules: &[Rule<u32>],
+    ids: &[Named<'_>],
+    names: Option<&HashSet<&str>>,
     record: &mut Record,
-) -> Result<String, AllocError> {
-    let mut lacking = Vec::new(alloc);
+) -> bool {
+    let mut count = 0usize;
     for (name, _) in ids {
         if !has_name(rules, name) {
-            lacking.push(*name)?;
+            count = count.saturating_add(1);
+            if !names.is_some_and(|names| names.contains(name)) {
+                return false;
+            }
         }
     }
-    let mut unused = Vec::new(alloc);
+    add(&mut record.tally.lacking, count);
+    match names {
+        Some(names) => count > 0 && names.len() == count,
+        None => count == 0,
+    }
+}
+
+/// Whether these are the names of rules that the map lacks, none exactly where there are none.
+fn are_unused(
+    rules: &[Rule<u32>],
+    ids: &[Named<'_>],
+    names: Option<&HashSet<String>>,
+    record: &mut Record,
+) -> bool {
+    let mut count = 0usize;
     for rule in rules {
-        match rule.name {
-            Some(name) if id_for(ids, name).is_none() => unused.push(name)?,
+        match rule.name() {
+            Some(name) if id_for(ids, name).is_none() => {
+                count = count.saturating_add(1);
+                if !names.is_some_and(|names| names.contains(name)) {
+                    return false;
+                }
+            }
             _ => {}
         }
     }
-    add(&mut record.tally.lacking, lacking.len());
-    add(&mut record.tally.unused, unused.len());
-    let (lacking, unused) = (sorted(lacking), sorted(unused));
-    format!(in alloc; "{lacking:?} {unused:?}")
+    add(&mut record.tally.unused, count);
+    match names {
+        Some(names) => count > 0 && names.len() == count,
+        None => count == 0,
+    }
 }
 
 /// The map.
-fn map_of<'n>(alloc: Global, ids: &[(&'n str, u32)]) -> Result<HashMap<&'n str, u32>, AllocError> {
+fn map_of<'n>(alloc: Global, ids: &[Named<'n>]) -> Result<HashMap<&'n str, u32>, AllocError> {
     let mut map = HashMap::new(alloc);
     for (name, id) in ids {
         map.insert(*name, *id)?;
@@ -91,56 +104,53 @@ fn map_of<'n>(alloc: Global, ids: &[(&'n str, u32)]) -> Result<HashMap<&'n str, 
     Ok(map)
 }
 
-/// Sets the ids of the map. What that tells, in order.
-fn set_ids(
+/// Sets the ids of the map, and compares the names without a counterpart that this tells.
+fn compare_sets(
     alloc: Global,
-    definition: &mut Definition,
-    ids: &[(&str, u32)],
-) -> Result<String, AllocError> {
+    changed: &mut Definition,
+    rules: &[Rule<u32>],
+    ids: &[Named<'_>],
+    record: &mut Record,
+) -> Result<(), AllocError> {
     let map = map_of(alloc, ids)?;
-    let (lacking, unused) = definition.set_rule_ids(alloc, &map)?;
-    let mut names = Vec::new(alloc);
-    if let Some(lacking) = &lacking {
-        for name in lacking {
-            names.push(*name)?;
-        }
-    }
-    let mut others = Vec::new(alloc);
-    if let Some(unused) = &unused {
-        for name in unused {
-            others.push(name.as_str())?;
-        }
-    }
-    let (lacking, unused) = (sorted(names), sorted(others));
-    format!(in alloc; "{lacking:?} {unused:?}")
+    let (lacking, unused) = changed.set_rule_ids(alloc, &map)?;
+    let are_right = are_lacking(rules, ids, lacking.as_ref(), record)
+        && are_unused(rules, ids, unused.as_ref(), record);
+    record.law("names without a counterpart", are_right);
+    Ok(())
 }
 
-/// What the items must be once the ids are the map's: the lexemes of the named pieces up to one whose name has no id.
-fn items_expected(
-    alloc: Global,
-    facts: &Facts<'_>,
-    ids: &[(&str, u32)],
-) -> Result<Vec<Fact>, AllocError> {
-    let mut items = Vec::new(alloc);
-    for piece in &facts.pieces {
+/// Whether the items are what they must be once the ids are the map's: the lexemes of the named pieces up to one whose name
+/// has no id.
+fn are_mapped(before: &Facts<'_>, ids: &[Named<'_>], items: &[Fact]) -> bool {
+    let mut items = items.iter();
+    for piece in &before.pieces {
         if let Some(name) = piece.name {
-            let Some(id) = id_for(ids, name) else {
-                items.push(Fact::Fault(piece.start, piece.start, None))?;
-                return Ok(items);
+            let expected = match id_for(ids, name) {
+                Some(id) => Fact::Lexeme(id as usize, piece.start, piece.end),
+                None => Fact::Fault(piece.start, piece.start, None),
             };
-            items.push(Fact::Lexeme(id as usize, piece.start, piece.end))?;
+            match items.next() {
+                Some(item) if *item == expected => {}
+                _ => return false,
+            }
+            if let Fact::Fault(_, _, _) = expected {
+                return items.next().is_none();
+            }
         }
     }
-    if let Some(Fact::Fault(start, end, state)) = facts.items.as_slice().last() {
-        items.push(Fact::Fault(*start, *end, *state))?;
+    match before.items.as_slice().last() {
+        Some(Fact::Fault(start, end, state)) => {
+            items.next() == Some(&Fact::Fault(*start, *end, *state)) && items.next().is_none()
+        }
+        _ => items.next().is_none(),
     }
-    Ok(items)
 }
 
 /// The name of the first rule that has this id by the map.
-fn first_named<'n>(rules: &[Called<'n>], ids: &[(&str, u32)], id: u32) -> Option<&'n str> {
+fn first_named<'n>(rules: &'n [Rule<u32>], ids: &[Named<'_>], id: u32) -> Option<&'n str> {
     for rule in rules {
-        match rule.name {
+        match rule.name() {
             Some(name) if id_for(ids, name) == Some(id) => return Some(name),
             _ => {}
         }
@@ -148,49 +158,39 @@ fn first_named<'n>(rules: &[Called<'n>], ids: &[(&str, u32)], id: u32) -> Option
     None
 }
 
-/// What the lexemes of these items must be called.
-fn names_expected<'n>(
-    alloc: Global,
-    rules: &[Called<'n>],
-    ids: &[(&str, u32)],
+/// Whether each lexeme is called what the first rule with its id is called by the map.
+fn are_called(
+    changed: &Definition,
+    rules: &[Rule<u32>],
+    ids: &[Named<'_>],
     items: &[Fact],
-) -> Result<Vec<Option<&'n str>>, AllocError> {
-    let mut names = Vec::new(alloc);
+) -> bool {
     for item in items {
         if let Fact::Lexeme(id, _, _) = item {
             let id = u32::try_from(*id).unwrap_or(u32::MAX);
-            names.push(first_named(rules, ids, id))?;
+            if name_of(changed, item) != first_named(rules, ids, id) {
+                return false;
+            }
         }
     }
-    Ok(names)
+    true
 }
 
 /// Compares what lexing the text gives once the ids are the map's with what follows from the run before.
 fn compare_mapped(
     alloc: Global,
     changed: &Definition,
-    rules: &[Called<'_>],
-    ids: &[(&str, u32)],
+    rules: &[Rule<u32>],
+    ids: &[Named<'_>],
     text: &str,
     before: &Facts<'_>,
     record: &mut Record,
 ) -> Result<(), AllocError> {
-    let items = items_expected(alloc, before, ids)?;
     let after = facts_of(alloc, changed, text)?;
-    record.same(
-        alloc,
-        "items by a map",
-        items.as_slice(),
-        after.items.as_slice(),
-    )?;
-    let expected = names_expected(alloc, rules, ids, items.as_slice())?;
-    let names = names_of(alloc, changed, items.as_slice())?;
-    record.same(
-        alloc,
-        "names by a map",
-        expected.as_slice(),
-        names.as_slice(),
-    )
+    let items = after.items.as_slice();
+    record.law("items by a map", are_mapped(before, ids, items));
+    record.law("names by a map", are_called(changed, rules, ids, items));
+    Ok(())
 }
 
 /// Sets token ids by chance, and compares what comes of that. `before` is the run of the text by the definition as read.
@@ -204,26 +204,13 @@ pub fn compare_mapping(
     record: &mut Record,
 ) -> Result<(), AllocError> {
     let Some(mut changed) = asking_definition(alloc, rules)? else {
-        return record.law(alloc, "the same rule text is accepted again", false);
+        record.law("the same rule text is accepted again", false);
+        return Ok(());
     };
-    let called = names_in(alloc, original)?;
-    let ids = ids_by_chance(alloc, chance, called.as_slice())?;
+    let rules = original.rules();
+    let ids = ids_by_chance(alloc, chance, rules)?;
+    let ids = ids.as_slice();
     add(&mut record.tally.maps, 1);
-    let expected = sets_expected(alloc, called.as_slice(), ids.as_slice(), record)?;
-    let sets = set_ids(alloc, &mut changed, ids.as_slice())?;
-    record.same(
-        alloc,
-        "names without a counterpart",
-        &[expected.as_str()],
-        &[sets.as_str()],
-    )?;
-    compare_mapped(
-        alloc,
-        &changed,
-        called.as_slice(),
-        ids.as_slice(),
-        text,
-        before,
-        record,
-    )
+    compare_sets(alloc, &mut changed, rules, ids, record)?;
+    compare_mapped(alloc, &changed, rules, ids, text, before, record)
 }

@@ -4,48 +4,69 @@ use crate::naming::{compare_names, compare_rules};
 use crate::record::{Record, add};
 use crate::rules::RuleText;
 use crate::tiling::compare_tiling;
-use lrlex::{Budget, LexBuildError, LexBuildResult, LexerDef};
+use lrlex::{Budget, LexBuildError, LexBuildResult, LexerDef, Rule, StartState};
 use lrlex_base::Spanned;
 use std::alloc::{AllocError, Global};
 
-/// What reading a rule text gave.
-#[derive(Drop)]
-struct Reading {
-    /// How many faults it has, or none where there is a definition.
-    faults: Option<usize>,
-    /// Whether each fault names a place, and each place is in the text.
-    are_placed: bool,
-    /// All of it, in words.
-    told: String,
+/// Whether two start states are the same.
+fn is_same_state(one: &StartState, other: &StartState) -> bool {
+    one.id() == other.id()
+        && one.name() == other.name()
+        && one.name_span() == other.name_span()
+        && one.exclusive() == other.exclusive()
 }
 
-/// Tells the states and the rules of a definition.
-fn told_of(alloc: Global, definition: &Definition) -> Result<String, AllocError> {
-    let mut told = String::new(alloc);
-    for state in definition.iter_start_states() {
-        let (id, name, exclusive) = (state.id(), state.name(), state.exclusive());
-        let span = state.name_span();
-        write!(told, "state {id} {name:?} {exclusive} {span:?}\n")?;
+/// Whether two rules are the same, but for their flags.
+fn is_same_rule(one: &Rule<u32>, other: &Rule<u32>) -> bool {
+    one.tok_id() == other.tok_id()
+        && one.name() == other.name()
+        && one.name_span() == other.name_span()
+        && one.re_str() == other.re_str()
+        && one.start_states() == other.start_states()
+        && one.target_state() == other.target_state()
+}
+
+/// Whether the start states of two definitions are the same.
+fn have_same_states(one: &Definition, other: &Definition) -> bool {
+    let mut others = other.iter_start_states();
+    for state in one.iter_start_states() {
+        match others.next() {
+            Some(other) if is_same_state(state, other) => {}
+            _ => return false,
+        }
     }
-    for rule in definition.rules() {
-        let (id, name, span) = (rule.tok_id(), rule.name(), rule.name_span());
-        let (pattern, states, target) = (rule.re_str(), rule.start_states(), rule.target_state());
-        write!(
-            told,
-            "rule {id:?} {name:?} {span:?} {pattern:?} {states:?} {target:?}\n"
-        )?;
+    others.next().is_none()
+}
+
+/// Whether these rules are the same.
+fn are_same_rules(these: &[Rule<u32>], those: &[Rule<u32>]) -> bool {
+    for (one, other) in these.iter().zip(those.iter()) {
+        if !is_same_rule(one, other) {
+            return false;
+        }
     }
-    Ok(told)
+    these.len() == those.len()
 }
 
 /// Tells the faults.
-fn faults_told(alloc: Global, faults: &[LexBuildError]) -> Result<String, AllocError> {
+fn told(alloc: Global, faults: &[LexBuildError]) -> Result<String, AllocError> {
     let mut told = String::new(alloc);
     for fault in faults {
         let spans = fault.spans();
         write!(told, "{fault} {spans:?}\n")?;
     }
     Ok(told)
+}
+
+/// Whether these faults are the same.
+fn are_same_faults(
+    alloc: Global,
+    these: &[LexBuildError],
+    those: &[LexBuildError],
+) -> Result<bool, AllocError> {
+    let these = told(alloc, these)?;
+    let those = told(alloc, those)?;
+    Ok(these.as_str() == those.as_str())
 }
 
 /// Whether there are faults, each names a place, and each place is in the text.
@@ -63,35 +84,28 @@ fn are_placed(text: &str, faults: &[LexBuildError]) -> bool {
     !faults.is_empty()
 }
 
-/// What came of reading the text.
-fn reading_of(
-    alloc: Global,
-    text: &str,
-    built: &LexBuildResult<Definition>,
-) -> Result<Reading, AllocError> {
-    match built {
-        Ok(definition) => Ok(Reading {
-            faults: None,
-            are_placed: true,
-            told: told_of(alloc, definition)?,
-        }),
-        Err(faults) => Ok(Reading {
-            faults: Some(faults.len()),
-            are_placed: are_placed(text, faults.as_slice()),
-            told: faults_told(alloc, faults.as_slice())?,
-        }),
-    }
-}
-
 /// Reads the rule text.
 fn read(alloc: Global, rules: &RuleText) -> Result<LexBuildResult<Definition>, AllocError> {
     Definition::new_with_budget(alloc, rules.text.as_str(), rules.flags, Budget::new(0, 0))
 }
 
-/// What reading the rule text gives.
-fn read_again(alloc: Global, rules: &RuleText) -> Result<Reading, AllocError> {
-    let built = read(alloc, rules)?;
-    reading_of(alloc, rules.text.as_str(), &built)
+/// Compares what reading the rule text gave with what it gives again.
+fn compare_again(
+    alloc: Global,
+    rules: &RuleText,
+    built: &LexBuildResult<Definition>,
+    record: &mut Record,
+) -> Result<(), AllocError> {
+    let again = read(alloc, rules)?;
+    let is_same = match (built, &again) {
+        (Ok(one), Ok(other)) => {
+            have_same_states(one, other) && are_same_rules(one.rules(), other.rules())
+        }
+        (Err(these), Err(those)) => are_same_faults(alloc, these.as_slice(), those.as_slice())?,
+        _ => false,
+    };
+    record.law("read again", is_same);
+    Ok(())
 }
 
 /// Looks at a definition that was read, and at a run of the text.
@@ -102,36 +116,23 @@ fn compare_definition(
     text: &str,
     record: &mut Record,
 ) -> Result<(), AllocError> {
-    compare_rules(alloc, rules.text.as_str(), definition, record)?;
+    add(&mut record.tally.accepted, 1);
+    compare_rules(rules.text.as_str(), definition, record);
     let facts = facts_of(alloc, definition, text)?;
-    compare_names(alloc, definition, &facts, record)?;
-    compare_tiling(alloc, text, &facts, record)
+    compare_names(definition, &facts, record);
+    compare_tiling(text, &facts, record);
+    Ok(())
 }
 
-/// Compares two readings of the rule text.
-fn compare_readings(
-    alloc: Global,
-    first: &Reading,
-    again: &Reading,
-    record: &mut Record,
-) -> Result<(), AllocError> {
-    match first.faults {
-        Some(faults) => {
-            add(&mut record.tally.refused, 1);
-            add(&mut record.tally.faults, faults);
-        }
-        None => add(&mut record.tally.accepted, 1),
-    }
-    record.law(alloc, "faults have places in the text", first.are_placed)?;
-    record.same(
-        alloc,
-        "read again",
-        &[first.told.as_str()],
-        &[again.told.as_str()],
-    )
+/// Looks at the faults of a rule text.
+fn compare_faults(rules: &RuleText, faults: &[LexBuildError], record: &mut Record) {
+    add(&mut record.tally.refused, 1);
+    add(&mut record.tally.faults, faults.len());
+    let are_placed = are_placed(rules.text.as_str(), faults);
+    record.law("faults have places in the text", are_placed);
 }
 
-/// Reads the rule text twice, and where it gives a definition, looks at that and at a run of the text.
+/// Reads the rule text twice, and looks at its faults, or at the definition that it gives and at a run of the text.
 pub fn compare_reading(
     alloc: Global,
     rules: &RuleText,
@@ -139,11 +140,12 @@ pub fn compare_reading(
     record: &mut Record,
 ) -> Result<(), AllocError> {
     let built = read(alloc, rules)?;
-    let first = reading_of(alloc, rules.text.as_str(), &built)?;
-    let again = read_again(alloc, rules)?;
-    compare_readings(alloc, &first, &again, record)?;
+    compare_again(alloc, rules, &built, record)?;
     match &built {
         Ok(definition) => compare_definition(alloc, rules, definition, text, record),
-        Err(_) => Ok(()),
+        Err(faults) => {
+            compare_faults(rules, faults.as_slice(), record);
+            Ok(())
+        }
     }
 }

@@ -81,8 +81,9 @@ pub struct Record {
     pub tally: Tally,
     /// Which edit, or which byte, is being looked at.
     pub at: usize,
-    /// A line for each comparison that failed since they were taken last.
+    /// A line for each comparison that failed since they were taken last, as far as there was memory for it.
     differences: Vec<String>,
+    alloc: Global,
 }
 
 impl Record {
@@ -92,6 +93,7 @@ impl Record {
             tally: Tally::NONE,
             at: 0,
             differences: Vec::new(alloc),
+            alloc,
         }
     }
 
@@ -110,76 +112,71 @@ impl Record {
         add(&mut self.tally.compared, 1);
     }
 
-    /// Counts a comparison that failed.
-    fn add(&mut self, difference: String) -> Result<(), AllocError> {
+    /// Counts a comparison that failed. Without memory for its line it is counted alone.
+    fn add(&mut self, difference: Result<String, AllocError>) {
         self.count();
         add(&mut self.tally.differ, 1);
-        self.differences.push(difference)?;
-        Ok(())
+        if let Ok(difference) = difference {
+            let _ = self.differences.push(difference);
+        }
     }
 
     /// Compares what came with what must come.
-    pub fn same<T: PartialEq + Debug>(
-        &mut self,
-        alloc: Global,
-        law: &str,
-        expected: &[T],
-        got: &[T],
-    ) -> Result<(), AllocError> {
+    pub fn same<T: PartialEq + Debug>(&mut self, law: &str, expected: &[T], got: &[T]) {
         if expected == got {
             self.count();
-            return Ok(());
+        } else {
+            let at = self.at;
+            self.add(format!(in self.alloc; "{law} (at {at}): expected {expected:?}, got {got:?}"));
         }
-        let at = self.at;
-        self.add(format!(in alloc; "{law} (at {at}): expected {expected:?}, got {got:?}")?)
     }
 
     /// Takes down whether a law holds.
-    pub fn law(&mut self, alloc: Global, law: &str, holds: bool) -> Result<(), AllocError> {
+    pub fn law(&mut self, law: &str, holds: bool) {
         if holds {
             self.count();
-            return Ok(());
+        } else {
+            let at = self.at;
+            self.add(format!(in self.alloc; "{law} (at {at})"));
         }
-        let at = self.at;
-        self.add(format!(in alloc; "{law} (at {at})")?)
     }
 }
 
 /// Prints how much was tried, and how much differs.
 pub fn tell(rt: &HostRuntime, tally: &Tally) -> io::Result<()> {
-    println!(rt; "cases: {}", tally.cases)?;
+    let Tally {
+        cases,
+        accepted,
+        refused,
+        faults,
+        rules,
+        tables,
+        rows,
+        untabled,
+        untabled_mixed,
+        runs,
+        tiles,
+        lexemes,
+        errors,
+        places,
+        edits,
+        unfit,
+        tiles_after,
+        tiles_anew,
+        counted,
+        maps,
+        lacking,
+        unused,
+        compared,
+        differ,
+    } = *tally;
     println!(rt;
-        "rule texts: {} accepted, {} refused with {} faults",
-        tally.accepted, tally.refused, tally.faults
+        "cases: {cases}\nrule texts: {accepted} accepted, {refused} refused with {faults} faults\nrules: {rules}, in {tables} tables of {rows} rows\nrules without a table: {untabled}, with a small budget {untabled_mixed}"
     )?;
     println!(rt;
-        "rules: {}, in {} tables of {} rows",
-        tally.rules, tally.tables, tally.rows
+        "runs: {runs}, of {tiles} tiles, {lexemes} lexemes, {errors} errors\nplaces where tables and asking were compared: {places}\nedits of documents: {edits}, and {unfit} that don't fit\ntiles after edits: {tiles_after}, of which {tiles_anew} were cut anew"
     )?;
     println!(rt;
-        "rules without a table: {}, with a small budget {}",
-        tally.untabled, tally.untabled_mixed
-    )?;
-    println!(rt;
-        "runs: {}, of {} tiles, {} lexemes, {} errors",
-        tally.runs, tally.tiles, tally.lexemes, tally.errors
-    )?;
-    println!(rt;
-        "places where tables and asking were compared: {}",
-        tally.places
-    )?;
-    println!(rt;
-        "edits of documents: {}, and {} that don't fit",
-        tally.edits, tally.unfit
-    )?;
-    println!(rt;
-        "tiles after edits: {}, of which {} were cut anew",
-        tally.tiles_after, tally.tiles_anew
-    )?;
-    println!(rt; "lines and columns counted by hand: {}", tally.counted)?;
-    println!(rt;
-        "maps of token ids: {}, with {} names that no rule has, without {} that one has",
-        tally.maps, tally.lacking, tally.unused
-    )?;
-    println!(rt; "{} comparisons: {} differ", tally.compared, tally.differ)
+        "lines and columns counted by hand: {counted}\nmaps of token ids: {maps}, with {lacking} names that no rule has, without {unused} that one has\n{compared} comparisons: {differ} differ"
+    )
 }

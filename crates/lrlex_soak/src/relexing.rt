@@ -51,49 +51,33 @@ pub fn relexed<'d>(
 }
 
 /// Compares items, boundaries and pieces.
-pub fn compare_facts(
-    alloc: Global,
-    anew: &Facts<'_>,
-    got: &Facts<'_>,
-    record: &mut Record,
-) -> Result<(), AllocError> {
+pub fn compare_facts(anew: &Facts<'_>, got: &Facts<'_>, record: &mut Record) {
     record.same(
-        alloc,
         "items after an edit",
         anew.items.as_slice(),
         got.items.as_slice(),
-    )?;
+    );
     record.same(
-        alloc,
         "pieces after an edit",
         anew.pieces.as_slice(),
         got.pieces.as_slice(),
-    )?;
-    let texts = [anew.joined.as_str()];
-    record.same(alloc, "texts after an edit", &texts, &[got.joined.as_str()])
+    );
 }
 
 /// Compares a run after an edit with the run of the new text.
-pub fn compare_run(
-    alloc: Global,
-    anew: &Facts<'_>,
-    got: &Facts<'_>,
-    record: &mut Record,
-) -> Result<(), AllocError> {
-    compare_facts(alloc, anew, got, record)?;
+pub fn compare_run(anew: &Facts<'_>, got: &Facts<'_>, record: &mut Record) {
+    compare_facts(anew, got, record);
     let expected = anew.boundaries.as_slice();
     record.same(
-        alloc,
         "boundaries after an edit",
         expected,
         got.boundaries.as_slice(),
-    )?;
+    );
     let few = got.counts.asked <= anew.counts.asked && got.counts.lexed <= anew.counts.lexed;
-    record.law(alloc, "no more searches and tiles than anew", few)?;
+    record.law("no more searches and tiles than anew", few);
     record.same(
-        alloc,
         "tiles after an edit",
         &[anew.counts.tiles],
         &[got.counts.tiles],
-    )
+    );
 }

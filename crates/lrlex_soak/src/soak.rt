@@ -55,8 +55,8 @@ fn try_run(
     let text = text(alloc, chance, 100)?;
     let text = text.as_str();
     let facts = facts_of(alloc, definition, text)?;
-    compare_tiling(alloc, text, &facts, record)?;
-    compare_names(alloc, definition, &facts, record)?;
+    compare_tiling(text, &facts, record);
+    compare_names(definition, &facts, record);
     compare_lexer(alloc, definition, text, &facts, record)?;
     compare_mapping(alloc, chance, rules, definition, text, &facts, record)
 }

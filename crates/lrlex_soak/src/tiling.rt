@@ -1,7 +1,6 @@
 //! Laws of one run: its pieces, its items, its boundaries and its counts.
 use crate::facts::{Cut, Fact, Facts};
 use crate::record::{Record, add};
-use std::alloc::{AllocError, Global};
 
 /// Where the pieces end.
 fn end_of(pieces: &[Cut<'_>]) -> usize {
@@ -31,41 +30,43 @@ fn last_state(boundaries: &[Fact]) -> Option<usize> {
     }
 }
 
-/// What the items must be: the lexemes of the named pieces, each with its rule's place as its id, and then an error where
-/// the pieces end before the text does.
-fn items_expected(alloc: Global, text: &str, facts: &Facts<'_>) -> Result<Vec<Fact>, AllocError> {
-    let mut items = Vec::new(alloc);
+/// Whether the items are the lexemes of the named pieces, each with its rule's place as its id, and then an error where the
+/// pieces end before the text does.
+fn follow_pieces(text: &str, facts: &Facts<'_>) -> bool {
+    let mut items = facts.items.iter();
     for piece in &facts.pieces {
         if piece.name.is_some() {
-            items.push(Fact::Lexeme(piece.rule, piece.start, piece.end))?;
+            let expected = Fact::Lexeme(piece.rule, piece.start, piece.end);
+            match items.next() {
+                Some(item) if *item == expected => {}
+                _ => return false,
+            }
         }
     }
     let end = end_of(facts.pieces.as_slice());
-    if end < text.len() {
-        items.push(Fact::Fault(end, end, last_state(facts.boundaries.as_slice())))?;
+    if end >= text.len() {
+        return items.next().is_none();
     }
-    Ok(items)
+    let expected = Fact::Fault(end, end, last_state(facts.boundaries.as_slice()));
+    items.next() == Some(&expected) && items.next().is_none()
 }
 
-/// Where boundaries must stand: at 0 and behind each piece.
-fn places_expected(alloc: Global, pieces: &[Cut<'_>]) -> Result<Vec<usize>, AllocError> {
-    let mut places = Vec::new(alloc);
-    places.push(0)?;
-    for piece in pieces {
-        places.push(piece.end)?;
-    }
-    Ok(places)
-}
-
-/// Where boundaries stand.
-fn places_of(alloc: Global, boundaries: &[Fact]) -> Result<Vec<usize>, AllocError> {
-    let mut places = Vec::new(alloc);
+/// Whether boundaries stand at 0 and behind each piece.
+fn stand_between(boundaries: &[Fact], pieces: &[Cut<'_>]) -> bool {
+    let mut pieces = pieces.iter();
+    let mut expected = Some(0);
     for fact in boundaries {
         if let Fact::Boundary(place) = fact {
-            places.push(*place)?;
+            if expected != Some(*place) {
+                return false;
+            }
+            expected = match pieces.next() {
+                Some(piece) => Some(piece.end),
+                None => None,
+            };
         }
     }
-    Ok(places)
+    expected.is_none()
 }
 
 /// Counts the run, and what it has.
@@ -80,49 +81,18 @@ fn count(record: &mut Record, facts: &Facts<'_>) {
     }
 }
 
-/// Compares the items and the boundaries of a run with its pieces.
-fn compare_items(
-    alloc: Global,
-    text: &str,
-    facts: &Facts<'_>,
-    record: &mut Record,
-) -> Result<(), AllocError> {
-    let pieces = facts.pieces.as_slice();
-    let items = items_expected(alloc, text, facts)?;
-    record.same(
-        alloc,
-        "items by pieces",
-        items.as_slice(),
-        facts.items.as_slice(),
-    )?;
-    let expected = places_expected(alloc, pieces)?;
-    let places = places_of(alloc, facts.boundaries.as_slice())?;
-    record.same(
-        alloc,
-        "boundaries by pieces",
-        expected.as_slice(),
-        places.as_slice(),
-    )
-}
-
 /// Compares what a run of the text by a definition that was read answers with itself: all follows from its pieces.
-pub fn compare_tiling(
-    alloc: Global,
-    text: &str,
-    facts: &Facts<'_>,
-    record: &mut Record,
-) -> Result<(), AllocError> {
+pub fn compare_tiling(text: &str, facts: &Facts<'_>, record: &mut Record) {
     count(record, facts);
     let pieces = facts.pieces.as_slice();
-    let front = text.get(..end_of(pieces)).unwrap_or("no front");
-    record.law(alloc, "pieces follow one another", follow(pieces))?;
-    record.same(alloc, "pieces joined", &[front], &[facts.joined.as_str()])?;
-    compare_items(alloc, text, facts, record)?;
+    let boundaries = facts.boundaries.as_slice();
+    record.law("pieces follow one another", follow(pieces));
+    record.law("items by pieces", follow_pieces(text, facts));
+    record.law("boundaries by pieces", stand_between(boundaries, pieces));
     let counts = facts.counts;
     record.same(
-        alloc,
         "tiles and tiles cut",
         &[pieces.len(), pieces.len()],
         &[counts.tiles, counts.lexed],
-    )
+    );
 }

@@ -16,8 +16,9 @@ fn compare_at(
     let asking = answers.asking.as_slice();
     record.at = place;
     add(&mut record.tally.places, 1);
-    record.same(alloc, "by tables", asking, answers.tabled.as_slice())?;
-    record.same(alloc, "by few tables", asking, answers.mixed.as_slice())
+    record.same("by tables", asking, answers.tabled.as_slice());
+    record.same("by few tables", asking, answers.mixed.as_slice());
+    Ok(())
 }
 
 /// Compares the answers at each place of a text.

@@ -11,7 +11,7 @@ pub const USAGE: &str = "Usage: lrlex_soak [CASES] [SEED] [FIRST]";
 const CASES: u64 = 250;
 
 /// What the words say.
-#[derive(Clone, Copy, Debug)]
+#[derive(Clone, Copy)]
 pub struct Words {
     /// How many cases are tried.
     pub cases: u64,
