@@ -93,7 +93,7 @@ pub fn cuts_of<'d>(
             name: piece.name,
             start,
             end,
-            has_its_text: text.get(start..end).unwrap_or("") == piece.text,
+            has_its_text: text.get(start..end) == Some(piece.text),
         })?;
     }
     Ok(cuts)
