@@ -1,9 +1,10 @@
 //! The definition that a case describes.
 use crate::reading::{
-    RuleParts, Trouble, count_of, flags_of, list_in, parts_of, state_of, text_in,
+    RuleParts, Trouble, budget_in, count_of, flags_of, list_in, parts_of, state_of, text_in,
 };
 use lrlex::{
-    DefaultLexerTypes, LRNonStreamingLexerDef, LexBuildError, LexFlags, LexerDef, Rule, StartState,
+    Budget, DefaultLexerTypes, LRNonStreamingLexerDef, LexBuildError, LexFlags, LexerDef, Rule,
+    StartState,
 };
 use lrlex_base::Id;
 use serde_json::{Map, Value};
@@ -114,11 +115,33 @@ fn from_text<T: Id>(alloc: Global, rules: &str, flags: LexFlags) -> Result<Built
     }
 }
 
+/// Reads the definition from the rule text of a case, with tables under this budget.
+fn from_text_within(alloc: Global, case: &Value, budget: Budget) -> Result<Built<u32>, Trouble> {
+    let rules = text_in(case, "rules")?;
+    let flags = flags_of(case.get("flags").ok_or(Trouble::Malformed)?);
+    match Definition::<u32>::new_with_budget(alloc, rules, flags, budget)? {
+        Ok(definition) => Ok(Ok(definition)),
+        Err(faults) => Ok(Err(Refusal::Faulty(faults))),
+    }
+}
+
 /// Builds the definition of the case, from its parts where it has some, else from its rule text.
 pub fn build<T: Id>(alloc: Global, case: &Value) -> Result<Built<T>, Trouble> {
     let flags = flags_of(case.get("flags").ok_or(Trouble::Malformed)?);
     match case.get("from_rules") {
         Some(parts) => from_parts(alloc, parts, &flags),
         None => from_text(alloc, text_in(case, "rules")?, flags),
+    }
+}
+
+/// Builds the definition of a case with steps, with tables under its budgets.
+pub fn build_within(alloc: Global, case: &Value) -> Result<Built<u32>, Trouble> {
+    let built = match budget_in(case, "budget")? {
+        Some(budget) => from_text_within(alloc, case, budget)?,
+        None => build::<u32>(alloc, case)?,
+    };
+    match (built, budget_in(case, "again")?) {
+        (Ok(definition), Some(budget)) => Ok(Ok(definition.with_budget(alloc, budget)?)),
+        (built, _) => Ok(built),
     }
 }

@@ -1,20 +1,28 @@
-//! Replays cases: each line of standard input is one, with rules, an input and all that must come of them.
-//! Tells each difference on a line of its own, and then how many cases there were.
+//! Replays cases: each line of standard input is one, as JSON. Of a case that says all that must come of its rules and its
+//! input each difference is told, on a line of its own; of a case with steps all that comes of these is told (`steps`). The
+//! last line is how many cases there were.
 #![tactic(auto)]
 
 mod building;
+mod documents;
+mod facts;
 mod findings;
+mod lexers;
+mod lookups;
 mod reading;
 mod replay;
 mod showing;
+mod steps;
 
 use crate::findings::Findings;
 use crate::reading::Trouble;
 use crate::replay::replay;
+use crate::steps::tell_case;
 use serde_json::Value;
 use std::alloc::{AllocError, Global};
 use std::io;
 use std::io::{BufRead, BufReader};
+use std::process::ExitCode;
 
 /// How many cases were replayed, and with what end.
 #[derive(Clone, Copy)]
@@ -33,12 +41,9 @@ fn case_of(alloc: Global, line: &str) -> Result<Option<Value>, AllocError> {
     }
 }
 
-/// What replaying the case of a line found; none where the line isn't a case.
-fn replay_line(alloc: Global, line: &str) -> Result<Option<Findings>, AllocError> {
-    let Some(case) = case_of(alloc, line)? else {
-        return Ok(None);
-    };
-    match replay(alloc, &case) {
+/// What replaying a case found; none where it isn't one.
+fn findings_of(alloc: Global, case: &Value) -> Result<Option<Findings>, AllocError> {
+    match replay(alloc, case) {
         Ok(findings) => Ok(Some(findings)),
         Err(Trouble::Memory) => Err(AllocError),
         Err(Trouble::Malformed) => Ok(None),
@@ -65,15 +70,29 @@ fn tell_none(rt: &HostRuntime, tally: Tally) -> io::Result<Tally> {
     Ok(Tally { cases, ..tally })
 }
 
-/// Replays the case of a line, writes what differs, and counts it.
-fn count_line(rt: &HostRuntime, tally: Tally, line: &str) -> io::Result<Tally> {
-    match replay_line(rt.alloc(), line)? {
+/// Replays a case, writes what differs or what comes of its steps, and counts it.
+fn count_case(rt: &HostRuntime, tally: Tally, case: &Value) -> io::Result<Tally> {
+    if let Some(steps) = case.get("steps").and_then(Value::as_array) {
+        tell_case(rt, case, steps.as_slice())?;
+        let cases = tally.cases.saturating_add(1);
+        return Ok(Tally { cases, ..tally });
+    }
+    match findings_of(rt.alloc(), case)? {
         Some(findings) => tell(rt, tally, findings.differences()),
         None => tell_none(rt, tally),
     }
 }
 
-fn main(rt: HostRuntime) -> io::Result<()> {
+/// Replays the case of a line, if it has one.
+fn count_line(rt: &HostRuntime, tally: Tally, line: &str) -> io::Result<Tally> {
+    match case_of(rt.alloc(), line)? {
+        Some(case) => count_case(rt, tally, &case),
+        None => tell_none(rt, tally),
+    }
+}
+
+/// Replays the cases of standard input, and writes how many there were.
+fn replay_all(rt: &HostRuntime) -> io::Result<()> {
     let alloc = rt.alloc();
     let mut tally = Tally {
         cases: 0,
@@ -82,7 +101,7 @@ fn main(rt: HostRuntime) -> io::Result<()> {
     };
     for line in BufReader::new(alloc, rt.reader())?.lines(alloc) {
         let line = line?;
-        tally = count_line(&rt, tally, line.as_str())?;
+        tally = count_line(rt, tally, line.as_str())?;
     }
     let Tally {
         cases,
@@ -90,4 +109,17 @@ fn main(rt: HostRuntime) -> io::Result<()> {
         differ,
     } = tally;
     println!(rt; "{cases} cases: {compared} compared, {differ} differ")
+}
+
+fn main(rt: HostRuntime) -> ExitCode {
+    let Err(fault) = replay_all(&rt) else {
+        return ExitCode::SUCCESS;
+    };
+    // There is nowhere to tell of a fault of standard error.
+    let _ = if fault.kind() == io::ErrorKind::OutOfMemory {
+        eprintln!(rt; "Out of memory")
+    } else {
+        eprintln!(rt; "{fault}")
+    };
+    ExitCode::FAILURE
 }

@@ -1,8 +1,9 @@
 //! The parts of a case, read from JSON.
-use lrlex::{LexFlags, StartState, StartStateOperation, UNSPECIFIED_LEX_FLAGS};
+use lrlex::{Budget, LexFlags, StartState, StartStateOperation, UNSPECIFIED_LEX_FLAGS};
 use lrlex_base::Span;
 use serde_json::Value;
 use std::alloc::{AllocError, AllocFailed, Global};
+use std::io;
 
 /// Why a case can't be replayed.
 #[derive(Clone, Copy)]
@@ -17,11 +18,23 @@ impl From<AllocError> for Trouble {
     }
 }
 
+impl From<Trouble> for io::Error {
+    fn from(trouble: Trouble) -> io::Error {
+        match trouble {
+            Trouble::Memory => io::Error::from(io::ErrorKind::OutOfMemory),
+            Trouble::Malformed => io::Error::from(io::ErrorKind::InvalidData),
+        }
+    }
+}
+
 impl<T: Drop> From<AllocFailed<T>> for Trouble {
     fn from(_fault: AllocFailed<T>) -> Trouble {
         Trouble::Memory
     }
 }
+
+/// The bytes from the first number up to the second give way to the text.
+pub type Change<'v> = (usize, usize, &'v str);
 
 /// The parts of a rule beside its id.
 #[derive(Drop)]
@@ -36,6 +49,16 @@ pub struct RuleParts {
 /// The text that is this member, if it is one.
 fn str_in<'v>(value: &'v Value, member: &str) -> Option<&'v str> {
     value.get(member)?.as_str()
+}
+
+/// The text of a value.
+pub fn text_of(value: &Value) -> Result<&str, Trouble> {
+    value.as_str().ok_or(Trouble::Malformed)
+}
+
+/// The elements of a list.
+pub fn list_of(value: &Value) -> Result<&[Value], Trouble> {
+    elements_of(Some(value)).ok_or(Trouble::Malformed)
 }
 
 /// The text that is this member.
@@ -179,4 +202,43 @@ pub fn parts_of(alloc: Global, value: &Value) -> Result<RuleParts, Trouble> {
         start_states,
         target,
     })
+}
+
+/// The budget `[rows, work]` that is this member, if there is one.
+pub fn budget_in(value: &Value, member: &str) -> Result<Option<Budget>, Trouble> {
+    match elements_of(value.get(member)) {
+        None => Ok(None),
+        Some([rows, work]) => Ok(Some(Budget::new(count_of(rows)?, count_of(work)?))),
+        Some(_) => Err(Trouble::Malformed),
+    }
+}
+
+/// The edit `[from, to, text, ..]`.
+pub fn change_of(value: &Value) -> Result<Change<'_>, Trouble> {
+    match elements_of(Some(value)) {
+        Some([from, to, text, ..]) => {
+            let text = text_of(text)?;
+            Ok((count_of(from)?, count_of(to)?, text))
+        }
+        _ => Err(Trouble::Malformed),
+    }
+}
+
+/// The bytes of an edit `[from, to, text, bytes]`; none where they are left out.
+pub fn bytes_of(alloc: Global, value: &Value) -> Result<Vec<usize>, Trouble> {
+    match elements_of(Some(value)) {
+        Some([_, _, _, bytes]) => counts_of(alloc, elements_of(Some(bytes)).unwrap_or(&[])),
+        _ => Ok(Vec::new(alloc)),
+    }
+}
+
+/// The span `[start, end]`, or an empty one where its end is before its start.
+pub fn loose_span_of(value: &Value) -> Result<Span, Trouble> {
+    match elements_of(Some(value)) {
+        Some([start, end]) => {
+            let start = count_of(start)?;
+            Ok(Span::new(start, count_of(end)?.max(start)))
+        }
+        _ => Err(Trouble::Malformed),
+    }
 }

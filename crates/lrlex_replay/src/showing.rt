@@ -25,7 +25,7 @@ enum Item {
 
 /// A rule, with its id as a number.
 #[derive(Clone, Copy)]
-struct RuleSeen<'r> {
+pub struct RuleSeen<'r> {
     id: Option<u64>,
     name: Option<&'r str>,
     name_span: Span,
@@ -150,7 +150,8 @@ fn name_value(alloc: Global, name: Option<&str>) -> Result<Value, AllocError> {
     }
 }
 
-fn rule_value(alloc: Global, rule: RuleSeen<'_>) -> Result<Value, AllocError> {
+/// A rule, with all its fields.
+pub fn rule_value(alloc: Global, rule: RuleSeen<'_>) -> Result<Value, AllocError> {
     let mut map = Map::new(alloc);
     put(&mut map, alloc, "tok_id", Value::from(rule.id))?;
     put(&mut map, alloc, "name", name_value(alloc, rule.name)?)?;
@@ -171,7 +172,8 @@ fn rule_value(alloc: Global, rule: RuleSeen<'_>) -> Result<Value, AllocError> {
     Ok(Value::Object(map))
 }
 
-fn rule_seen<T: Id>(rule: &Rule<T>) -> RuleSeen<'_> {
+/// What a rule says, with its id as a number.
+pub fn rule_seen<T: Id>(rule: &Rule<T>) -> RuleSeen<'_> {
     let id = match rule.tok_id() {
         Some(id) => id.to_u64(),
         None => None,
@@ -277,11 +279,8 @@ pub fn places_value<T: Id>(
 }
 
 /// The names in their order.
-fn names_value(alloc: Global, names: &HashSet<&str>) -> Result<Value, AllocError> {
-    let mut sorted = Vec::new(alloc);
-    for name in names {
-        sorted.push(*name)?;
-    }
+fn sorted_value(alloc: Global, names: Vec<&str>) -> Result<Value, AllocError> {
+    let mut sorted = names;
     sorted.sort_unstable();
     let mut list = Vec::new(alloc);
     for name in sorted.as_slice() {
@@ -290,16 +289,46 @@ fn names_value(alloc: Global, names: &HashSet<&str>) -> Result<Value, AllocError
     Ok(Value::Array(list))
 }
 
+/// The names in their order, or null for none.
+fn names_value(alloc: Global, names: Option<HashSet<&str>>) -> Result<Value, AllocError> {
+    let Some(names) = names else {
+        return Ok(Value::Null);
+    };
+    let mut list = Vec::new(alloc);
+    for name in &names {
+        list.push(*name)?;
+    }
+    sorted_value(alloc, list)
+}
+
+/// The same of names of their own.
+fn own_names_value(alloc: Global, names: Option<HashSet<String>>) -> Result<Value, AllocError> {
+    let Some(names) = names else {
+        return Ok(Value::Null);
+    };
+    let mut list = Vec::new(alloc);
+    for name in &names {
+        list.push(name.as_str())?;
+    }
+    sorted_value(alloc, list)
+}
+
 fn spanned_value(alloc: Global, start: usize, end: usize, name: &str) -> Result<Value, AllocError> {
     let span = numbers_value(alloc, &[start, end])?;
     let name = text_value(alloc, name)?;
     Ok(Value::Array(vec![in alloc; name, span]?))
 }
 
-/// The names with their places, in the order of these, as `[name, span]`.
-fn all_spanned_value(alloc: Global, names: &HashSet<(String, Span)>) -> Result<Value, AllocError> {
+/// The names with their places, in the order of these, as `[name, span]`, or null for none.
+fn spanned_names_value(
+    alloc: Global,
+    names: Option<HashSet<(String, Span)>>,
+) -> Result<Value, AllocError> {
+    let Some(names) = names else {
+        return Ok(Value::Null);
+    };
     let mut sorted = Vec::new(alloc);
-    for (name, span) in names {
+    for (name, span) in &names {
         sorted.push((span.start(), span.end(), name.as_str()))?;
     }
     sorted.sort_unstable();
@@ -310,19 +339,22 @@ fn all_spanned_value(alloc: Global, names: &HashSet<(String, Span)>) -> Result<V
     Ok(Value::Array(list))
 }
 
-/// What setting token ids gave: the names without a rule, and the rules' names without an id; each null for none.
+/// What setting token ids gave: the names without a rule, and the rules' names without an id, with their places.
 pub fn sets_value(
     alloc: Global,
     sets: (Option<HashSet<&str>>, Option<HashSet<(String, Span)>>),
 ) -> Result<Value, AllocError> {
-    let (lacking, unused) = sets;
-    let lacking = match lacking {
-        Some(names) => names_value(alloc, &names)?,
-        None => Value::Null,
-    };
-    let unused = match unused {
-        Some(names) => all_spanned_value(alloc, &names)?,
-        None => Value::Null,
-    };
+    let lacking = names_value(alloc, sets.0)?;
+    let unused = spanned_names_value(alloc, sets.1)?;
+    Ok(Value::Array(vec![in alloc; lacking, unused]?))
+}
+
+/// The same without places.
+pub fn name_sets_value(
+    alloc: Global,
+    sets: (Option<HashSet<&str>>, Option<HashSet<String>>),
+) -> Result<Value, AllocError> {
+    let lacking = names_value(alloc, sets.0)?;
+    let unused = own_names_value(alloc, sets.1)?;
     Ok(Value::Array(vec![in alloc; lacking, unused]?))
 }

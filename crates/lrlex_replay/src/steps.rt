@@ -1,0 +1,248 @@
+//! Steps: what is done with the definition of a case, one thing after the other, and told.
+use crate::building::{Definition, Refusal, build_within};
+use crate::documents::tell_document;
+use crate::facts::{push_pieces, push_run};
+use crate::lexers::{tell_bytes, tell_items, tell_spans};
+use crate::lookups::{find, set_ids};
+use crate::reading::{Trouble, change_of, count_of, list_of, text_of};
+use crate::showing::{faults_value, rules_value, states_value};
+use lrlex::{Document, Edit, LexerDef};
+use lrlex_base::Span;
+use serde_json::Value;
+use std::alloc::{AllocError, Global};
+use std::fmt::Write;
+use std::io;
+
+/// Adds what the definition says.
+fn tell_definition(
+    alloc: Global,
+    out: &mut String,
+    definition: &Definition<u32>,
+) -> Result<(), AllocError> {
+    let (tables, rows) = (definition.tables(), definition.table_rows());
+    let asked = definition.asked_rules();
+    let states = states_value(alloc, definition.iter_start_states().as_slice())?;
+    let rules = rules_value(alloc, definition.rules())?;
+    Ok(write!(
+        out,
+        "\ntables [{tables},{rows},{asked}]\nstates {states}\nrules {rules}"
+    )?)
+}
+
+/// The texts after these edits, each of the text before it. It stops behind one that doesn't fit.
+fn texts_after(alloc: Global, text: &str, edits: &[Value]) -> Result<Vec<String>, Trouble> {
+    let mut texts = Vec::new(alloc);
+    texts.push(String::from_str(alloc, text)?)?;
+    for value in edits {
+        let edit = edit_of(value)?;
+        let before = match texts.last() {
+            Some(before) if edit.fits(before.as_str()) => before.as_str(),
+            _ => return Ok(texts),
+        };
+        let after = edit.apply(alloc, before)?;
+        texts.push(after)?;
+    }
+    Ok(texts)
+}
+
+/// The edit of a value.
+fn edit_of(value: &Value) -> Result<Edit<'_>, Trouble> {
+    let (from, to, put) = change_of(value)?;
+    Ok(Edit {
+        removed: Span::new(from, to.max(from)),
+        put,
+    })
+}
+
+/// Adds that an edit doesn't fit.
+fn tell_unfit(out: &mut String, edit: &Edit<'_>) -> Result<(), AllocError> {
+    let (from, to) = (edit.removed.start(), edit.removed.end());
+    Ok(write!(out, "\nunfit [{from},{to}]")?)
+}
+
+/// Adds what runs of these texts answer, the first anew and each other after the edit that makes it of the one before.
+fn tell_runs(
+    alloc: Global,
+    out: &mut String,
+    definition: &Definition<u32>,
+    texts: &[String],
+    edits: &[Value],
+) -> Result<(), Trouble> {
+    let Some(first) = texts.first() else {
+        return Ok(());
+    };
+    let mut run = definition.run(alloc, first.as_str())?;
+    push_run(alloc, out, &run)?;
+    let mut texts = texts.iter().skip(1);
+    for value in edits {
+        let edit = edit_of(value)?;
+        match texts.next() {
+            Some(text) if edit.gives(run.text(), text.as_str()) => {
+                run = run.relex(alloc, &edit, text.as_str())?;
+                push_run(alloc, out, &run)?;
+            }
+            _ => return Ok(tell_unfit(out, &edit)?),
+        }
+    }
+    Ok(())
+}
+
+/// Lexes a text, and again after each edit.
+fn lex(
+    alloc: Global,
+    out: &mut String,
+    definition: &Definition<u32>,
+    text: &Value,
+    edits: &Value,
+) -> Result<(), Trouble> {
+    let edits = list_of(edits)?;
+    let texts = texts_after(alloc, text_of(text)?, edits)?;
+    tell_runs(alloc, out, definition, texts.as_slice(), edits)
+}
+
+/// Edits a document of a text.
+fn edit_document(
+    alloc: Global,
+    out: &mut String,
+    definition: &Definition<u32>,
+    text: &Value,
+    edits: &Value,
+) -> Result<(), Trouble> {
+    let mut document = Document::new(alloc, definition, text_of(text)?)?;
+    tell_document(alloc, out, &mut document, list_of(edits)?)
+}
+
+/// Asks the lexer of a text.
+fn ask_lexer(
+    alloc: Global,
+    out: &mut String,
+    definition: &Definition<u32>,
+    input: &str,
+    spans: &Value,
+    bytes: &Value,
+) -> Result<(), Trouble> {
+    let lexer = definition.lexer(alloc, input)?;
+    tell_items(alloc, out, &lexer, input)?;
+    tell_spans(alloc, out, &lexer, input, list_of(spans)?)?;
+    tell_bytes(out, &lexer, list_of(bytes)?)
+}
+
+/// The same of the lexer that a run becomes.
+fn ask_run(
+    alloc: Global,
+    out: &mut String,
+    definition: &Definition<u32>,
+    input: &str,
+    spans: &Value,
+    bytes: &Value,
+) -> Result<(), Trouble> {
+    let run = definition.run(alloc, input)?;
+    let lexer = run.into_lexer(alloc)?;
+    tell_items(alloc, out, &lexer, input)?;
+    tell_spans(alloc, out, &lexer, input, list_of(spans)?)?;
+    tell_bytes(out, &lexer, list_of(bytes)?)
+}
+
+/// The pieces of a part of a text, by a run and by a document.
+fn cut_part(
+    alloc: Global,
+    out: &mut String,
+    definition: &Definition<u32>,
+    text: &str,
+    from: usize,
+    to: usize,
+) -> Result<(), AllocError> {
+    let run = definition.run(alloc, text)?;
+    let pieces = run.pieces_in(alloc, from, to)?;
+    push_pieces(alloc, out, text, pieces.as_slice())?;
+    let document = Document::new(alloc, definition, text)?;
+    let pieces = document.pieces_in(alloc, from, to)?;
+    push_pieces(alloc, out, text, pieces.as_slice())
+}
+
+/// Makes a step, and adds what comes of it.
+fn make(
+    alloc: Global,
+    out: &mut String,
+    definition: &mut Definition<u32>,
+    step: &[Value],
+) -> Result<(), Trouble> {
+    let name = step.first().and_then(Value::as_str);
+    match (name, step) {
+        (Some("definition"), [_]) => Ok(tell_definition(alloc, out, definition)?),
+        (Some("run"), [_, text, edits]) => lex(alloc, out, definition, text, edits),
+        (Some("document"), [_, text, edits]) => {
+            edit_document(alloc, out, definition, text, edits)
+        }
+        (Some("lexer"), [_, input, of_run, spans, bytes]) => {
+            let input = text_of(input)?;
+            if of_run.as_bool() == Some(true) {
+                ask_run(alloc, out, definition, input, spans, bytes)
+            } else {
+                ask_lexer(alloc, out, definition, input, spans, bytes)
+            }
+        }
+        (Some("part"), [_, text, from, to]) => {
+            let (from, to) = (count_of(from)?, count_of(to)?);
+            Ok(cut_part(alloc, out, definition, text_of(text)?, from, to)?)
+        }
+        (Some("ids"), [_, ids, spanned]) => set_ids(alloc, out, definition, ids, spanned),
+        (Some("find"), [_, ids, names]) => find(alloc, out, definition, ids, names),
+        _ => Err(Trouble::Malformed),
+    }
+}
+
+/// What is told of a step: its name, and then what comes of it.
+fn answer(
+    alloc: Global,
+    definition: &mut Definition<u32>,
+    step: &Value,
+) -> Result<String, Trouble> {
+    let step = list_of(step)?;
+    let name = step.first().unwrap_or(&Value::Null);
+    let mut out = format!(in alloc; "step {name}")?;
+    make(alloc, &mut out, definition, step)?;
+    Ok(out)
+}
+
+/// Makes the steps, and prints what is told of them. One that is out of memory is made once more.
+fn tell_steps(
+    rt: &HostRuntime,
+    definition: &mut Definition<u32>,
+    steps: &[Value],
+) -> io::Result<()> {
+    for step in steps {
+        let mut told = answer(rt.alloc(), definition, step);
+        if let Err(Trouble::Memory) = told {
+            println!(rt; "out_of_memory null")?;
+            told = answer(rt.alloc(), definition, step);
+        }
+        let told = told?;
+        println!(rt; "{told}")?;
+    }
+    Ok(())
+}
+
+/// Prints why a case has no definition.
+fn tell_refusal(rt: &HostRuntime, refusal: &Refusal) -> io::Result<()> {
+    match refusal {
+        Refusal::Faulty(faults) => {
+            let faults = faults_value(rt.alloc(), faults.as_slice())?;
+            println!(rt; "faults {faults}")
+        }
+        Refusal::Rule(place) => println!(rt; "rule_refused {place}"),
+    }
+}
+
+/// Builds the definition of a case with steps, makes these, and prints what comes of them.
+pub fn tell_case(rt: &HostRuntime, case: &Value, steps: &[Value]) -> io::Result<()> {
+    let id = case.get("id").unwrap_or(&Value::Null);
+    println!(rt; "case {id}")?;
+    match build_within(rt.alloc(), case)? {
+        Ok(definition) => {
+            let mut definition = definition;
+            tell_steps(rt, &mut definition, steps)
+        }
+        Err(refusal) => tell_refusal(rt, &refusal),
+    }
+}
