@@ -5,5 +5,6 @@ pub mod base;
 pub mod editing;
 pub mod lending;
 pub mod lexing;
+pub mod reporting;
 pub mod serving;
 pub mod tokens;

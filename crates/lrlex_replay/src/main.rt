@@ -4,6 +4,7 @@
 #![tactic(auto)]
 
 mod building;
+mod callers;
 mod documents;
 mod facts;
 mod findings;
@@ -11,6 +12,7 @@ mod lexers;
 mod lookups;
 mod reading;
 mod replay;
+mod reports;
 mod showing;
 mod steps;
 

@@ -67,7 +67,7 @@ pub fn text_in<'v>(value: &'v Value, member: &str) -> Result<&'v str, Trouble> {
 }
 
 /// The elements of the list, if the value is one.
-fn elements_of(value: Option<&Value>) -> Option<&[Value]> {
+pub fn elements_of(value: Option<&Value>) -> Option<&[Value]> {
     Some(value?.as_array()?.as_slice())
 }
 

@@ -1,5 +1,6 @@
 //! Steps: what is done with the definition of a case, one thing after the other, and told.
 use crate::building::{Definition, Refusal, build_within};
+use crate::callers::call;
 use crate::documents::tell_document;
 use crate::facts::{push_pieces, push_run};
 use crate::lexers::{tell_bytes, tell_items, tell_spans};
@@ -46,7 +47,7 @@ fn texts_after(alloc: Global, text: &str, edits: &[Value]) -> Result<Vec<String>
 }
 
 /// The edit of a value.
-fn edit_of(value: &Value) -> Result<Edit<'_>, Trouble> {
+pub fn edit_of(value: &Value) -> Result<Edit<'_>, Trouble> {
     let (from, to, put) = change_of(value)?;
     Ok(Edit {
         removed: Span::new(from, to.max(from)),
@@ -188,7 +189,7 @@ fn make(
         }
         (Some("ids"), [_, ids, spanned]) => set_ids(alloc, out, definition, ids, spanned),
         (Some("find"), [_, ids, names]) => find(alloc, out, definition, ids, names),
-        _ => Err(Trouble::Malformed),
+        _ => call(alloc, out, definition, name, step),
     }
 }
 

@@ -1,0 +1,24 @@
+//! For whoever shows people what is wrong with a rule text, or where lexing stops.
+use lrlex::{DefaultLexerTypes, LRNonStreamingLexerDef, LexerDef};
+use lrlex_report::{bad_byte_text, faults_text, stop_text_in};
+use std::alloc::{AllocError, Global};
+use std::str;
+
+/// What is wrong with the rule text, or where lexing the input stops, or nothing.
+pub fn complaints(alloc: Global, rules: &str, input: &str) -> Result<String, AllocError> {
+    match LRNonStreamingLexerDef::<DefaultLexerTypes<u32>>::from_str(alloc, rules)? {
+        Err(faults) => faults_text(alloc, "tokens.l", rules, &faults),
+        Ok(definition) => match definition.run(alloc, input)?.items().last() {
+            Some(Err(error)) => stop_text_in(alloc, &definition, "input.txt", input, error),
+            _ => Ok(String::new(alloc)),
+        },
+    }
+}
+
+/// The same of a rule file, which may not be text.
+pub fn complaints_of_file(alloc: Global, rules: &[u8], input: &str) -> Result<String, AllocError> {
+    match bad_byte_text(alloc, "tokens.l", rules)? {
+        Some(shown) => Ok(shown),
+        None => complaints(alloc, str::from_utf8(rules).unwrap(), input),
+    }
+}

@@ -1,0 +1,71 @@
+//! Steps that show people what is wrong, and where.
+use crate::facts::push_text;
+use crate::reading::{Trouble, count_of, list_of, loose_span_of, text_of};
+use lrlex::{DefaultLexerTypes, LRLexError, LRNonStreamingLexerDef, LexerDef, Span, StartStateId};
+use lrlex_callers::reporting::{complaints, complaints_of_file};
+use lrlex_report::{fault_text, place_text, stop_text};
+use serde_json::Value;
+use std::alloc::{AllocError, Global};
+
+/// The bytes of a list.
+fn bytes_of(alloc: Global, list: &[Value]) -> Result<Vec<u8>, Trouble> {
+    let mut bytes = Vec::new(alloc);
+    for value in list {
+        let byte = value.as_u64().and_then(|byte| u8::try_from(byte).ok());
+        bytes.push(byte.ok_or(Trouble::Malformed)?)?;
+    }
+    Ok(bytes)
+}
+
+/// What is shown of the first fault of a rule text; nothing where it has none.
+fn first_fault(alloc: Global, rules: &str) -> Result<String, AllocError> {
+    match LRNonStreamingLexerDef::<DefaultLexerTypes<u32>>::from_str(alloc, rules)? {
+        Ok(_) => Ok(String::new(alloc)),
+        Err(faults) => match faults.first() {
+            Some(fault) => fault_text(alloc, "tokens.l", rules, fault),
+            None => Ok(String::new(alloc)),
+        },
+    }
+}
+
+/// What is shown where lexing the text stops at this place, in this state.
+fn stop_at(alloc: Global, text: &str, place: usize, state: usize) -> Result<String, AllocError> {
+    let (span, state) = (Span::new(place, place), StartStateId::new(state));
+    let error = LRLexError::new_with_lexing_state(span, state);
+    stop_text(alloc, "f", text, &error)
+}
+
+/// What a step shows.
+fn shown(alloc: Global, name: Option<&str>, step: &[Value]) -> Result<String, Trouble> {
+    match (name, step) {
+        (Some("complaints"), [_, rules, input]) => {
+            Ok(complaints(alloc, text_of(rules)?, text_of(input)?)?)
+        }
+        (Some("complaints_of_file"), [_, rules, input]) => {
+            let rules = bytes_of(alloc, list_of(rules)?)?;
+            Ok(complaints_of_file(alloc, rules.as_slice(), text_of(input)?)?)
+        }
+        (Some("first_fault"), [_, rules]) => Ok(first_fault(alloc, text_of(rules)?)?),
+        (Some("place_text"), [_, text, span, message]) => {
+            let span = loose_span_of(span)?;
+            Ok(place_text(alloc, "f", text_of(text)?, span, text_of(message)?)?)
+        }
+        (Some("stop_text"), [_, text, place, state]) => {
+            let (place, state) = (count_of(place)?, count_of(state)?);
+            Ok(stop_at(alloc, text_of(text)?, place, state)?)
+        }
+        _ => Err(Trouble::Malformed),
+    }
+}
+
+/// Makes a step that shows something, and adds that, on a line.
+pub fn show(
+    alloc: Global,
+    out: &mut String,
+    name: Option<&str>,
+    step: &[Value],
+) -> Result<(), Trouble> {
+    let shown = shown(alloc, name, step)?;
+    out.push_str("\nshown ")?;
+    Ok(push_text(alloc, out, shown.as_str())?)
+}

@@ -1,0 +1,108 @@
+"""What people are shown of faults and of errors, against worked answers."""
+from driver import case, last_value, told
+
+# rule texts, and what is shown of their faults
+FAULTS = [
+    (
+        "%%\nab 'A'\nc 'C'\na+b 'A'\n",
+        "tokens.l:4:6: Rule name already exists\n4 | a+b 'A'\n  |      ^\n"
+        "tokens.l:2:5: first here\n2 | ab 'A'\n  |     ^\n",
+    ),
+    (
+        "%%\r\n漢 'AB'\r\nb\t'AB'\r\n😀c 'AB'",
+        "tokens.l:3:4: Rule name already exists\n3 | b\t'AB'\n  |  \t ^^\n"
+        "tokens.l:4:5: Rule name already exists\n4 | 😀c 'AB'\n  |      ^^\n"
+        "tokens.l:2:4: first here\n2 | 漢 'AB'\n  |     ^^\n",
+    ),
+    ("", "tokens.l:1:1: File ends prematurely\n1 | \n  | ^\n"),
+    ("%x A\n", "tokens.l:2:1: File ends prematurely\n2 | \n  | ^\n"),
+    ("%x INITIAL\n%%\n", "tokens.l:1:4: Start state already exists\n1 | %x INITIAL\n  |    ^^^^^^^\n"),
+    ("%%\na) 'A'\n", "tokens.l:2:1: Invalid regular expression: unopened group\n2 | a) 'A'\n  | ^\n"),
+    ("x\n%%\n", "tokens.l:1:1: Unknown declaration\n1 | x\n  | ^\n"),
+    (
+        "\ufeff%%\na 'A'\n",
+        "tokens.l:1:1: Unknown declaration: the text begins with a byte order mark (U+FEFF)\n1 | \ufeff%%\n  | ^\n",
+    ),
+    ("\n\ufeff%%\na 'A'\n", "tokens.l:2:1: Unknown declaration\n2 | \ufeff%%\n  | ^\n"),
+]
+
+# the rules by which inputs are lexed
+RULES = "%x TEXT\n%%\n[a漢語\\t\\n]+ 'A'\n\\[ <+TEXT>;\n<TEXT>b 'B'\n<TEXT>\\] <-TEXT>;\n"
+
+# inputs, and what is shown of where lexing them stops
+STOPS = [
+    ("aa[b]a", ""),
+    ("x", "input.txt:1:1: unexpected character 'x'\n1 | x\n  | ^\n"),
+    (
+        "a\n漢\ta語\x07a\n",
+        "input.txt:2:5: unexpected character '\\u{7}'\n2 | 漢\ta語\ufffda\n  |   \t   ^\n",
+    ),
+    ("a\na\r\n", "input.txt:2:2: unexpected character '\\r'\n2 | a\n  |  ^\n"),
+    ("aa[bba", "input.txt:1:6: unexpected character 'a' in start state TEXT\n1 | aa[bba\n  |      ^\n"),
+    (
+        "\ufeffa",
+        "input.txt:1:1: unexpected character '\ufeff': the text begins with a byte order mark (U+FEFF)\n1 | \ufeffa\n  | ^\n",
+    ),
+    ("a\ufeff", "input.txt:1:2: unexpected character '\ufeff'\n1 | a\ufeff\n  |  ^\n"),
+]
+
+# rule files, and what is shown of the bytes that aren't text or of the faults
+FILES = [
+    (b"\xff", "tokens.l:1:1: not UTF-8, byte 0xFF at offset 0\n1 | \n  | ^\n"),
+    (b"%%\na 'A'\n\xe6\xbc", "tokens.l:3:1: not UTF-8, byte 0xE6 at offset 9\n3 | \n  | ^\n"),
+    (b"a\xc0\xaf 'A'\n", "tokens.l:1:2: not UTF-8, byte 0xC0 at offset 1\n1 | a\n  |  ^\n"),
+    (b"\xe6\xbc\xa2\xed\xa0\x80", "tokens.l:1:2: not UTF-8, byte 0xED at offset 3\n1 | 漢\n  |   ^\n"),
+    (b"%%\n\ta\x80b\n\xff\n", "tokens.l:2:3: not UTF-8, byte 0x80 at offset 5\n2 | \ta\n  | \t ^\n"),
+    (b"", "tokens.l:1:1: File ends prematurely\n1 | \n  | ^\n"),
+    (b"%%\n\xe6\xbc\xa2 'A'\n", ""),
+]
+
+LINES = "1\n2\n3\n4\n5\n6\n7\n8\n9\n漢字 x\n"
+
+# spans of these lines, and what is shown of them
+SPANS = [
+    ([18, 21], "f:10:1: m\n10 | 漢字 x\n   | ^^\n"),
+    ([19, 20], "f:10:1: m\n10 | 漢字 x\n   | ^\n"),
+    ([21, 99], "f:10:2: m\n10 | 漢字 x\n   |   ^^^^\n"),
+    ([99, 99], "f:11:1: m\n11 | \n   | ^\n"),
+    ([0, 99], "f:1:1: m\n1 | 1\n  | ^\n"),
+]
+
+
+def are_shown(steps, wants):
+    """Each step shows what it must."""
+    for step, pairs, want in zip(steps, told([case([step], "%%\n") for step in steps]), wants):
+        got = last_value(pairs, "shown")
+        assert got == want, f"{step}: {got!r} for {want!r}"
+
+
+def faults_and_stops_are_shown():
+    are_shown([["complaints", rules, ""] for rules, _ in FAULTS], [shown for _, shown in FAULTS])
+    are_shown([["complaints", RULES, text] for text, _ in STOPS], [shown for _, shown in STOPS])
+
+
+def the_first_fault_alone_is_shown():
+    rules = "%%\na 'A'\nb\n<c>d ;\n"
+    are_shown([["first_fault", rules]], ["tokens.l:3:1: Rule is missing a space\n3 | b\n  | ^\n"])
+
+
+def bad_bytes_are_shown():
+    steps = [["complaints_of_file", list(data), ""] for data, _ in FILES]
+    are_shown(steps, [shown for _, shown in FILES])
+
+
+def any_span_is_shown():
+    are_shown([["place_text", LINES, span, "m"] for span, _ in SPANS], [shown for _, shown in SPANS])
+    are_shown([["stop_text", "a\r\n", 9, 7]], ["f:2:1: unexpected end of the text\n2 | \n  | ^\n"])
+
+
+def tests():
+    return [
+        (function.__name__, function)
+        for function in (
+            faults_and_stops_are_shown,
+            the_first_fault_alone_is_shown,
+            bad_bytes_are_shown,
+            any_span_is_shown,
+        )
+    ]
