@@ -81,9 +81,22 @@ def faults_and_stops_are_shown():
     are_shown([["complaints", RULES, text] for text, _ in STOPS], [shown for _, shown in STOPS])
 
 
+# rule texts, the text of the first fault alone, and what is shown of it
+FIRST = [
+    ("%%\na 'A'\nb\n<c>d ;\n", "Rule is missing a space", "tokens.l:3:1: Rule is missing a space\n3 | b\n  | ^\n"),
+    ("%%\na 'A'\n", "", ""),
+]
+
+
 def the_first_fault_alone_is_shown():
-    rules = "%%\na 'A'\nb\n<c>d ;\n"
-    are_shown([["first_fault", rules]], ["tokens.l:3:1: Rule is missing a space\n3 | b\n  | ^\n"])
+    for rules, text, shown in FIRST:
+        are_shown([["first_fault", rules]], [f"{text}\n{shown}" if text else ""])
+
+
+def a_refused_pattern_is_told_in_words_of_regex():
+    [pairs] = told([case([["first_fault", "%%\n( 'A'"]], "%%\n")])
+    text = last_value(pairs, "shown")
+    assert text.startswith("Invalid regular expression: "), text
 
 
 def bad_bytes_are_shown():
@@ -102,6 +115,7 @@ def tests():
         for function in (
             faults_and_stops_are_shown,
             the_first_fault_alone_is_shown,
+            a_refused_pattern_is_told_in_words_of_regex,
             bad_bytes_are_shown,
             any_span_is_shown,
         )

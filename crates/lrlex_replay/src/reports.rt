@@ -17,14 +17,16 @@ fn bytes_of(alloc: Global, list: &[Value]) -> Result<Vec<u8>, Trouble> {
     Ok(bytes)
 }
 
-/// What is shown of the first fault of a rule text; nothing where it has none.
+/// What is shown of the first fault of a rule text, behind its own text by `Display`; nothing where it has none.
 fn first_fault(alloc: Global, rules: &str) -> Result<String, AllocError> {
-    match LRNonStreamingLexerDef::<DefaultLexerTypes<u32>>::from_str(alloc, rules)? {
-        Ok(_) => Ok(String::new(alloc)),
-        Err(faults) => match faults.first() {
-            Some(fault) => fault_text(alloc, "tokens.l", rules, fault),
-            None => Ok(String::new(alloc)),
-        },
+    let built = LRNonStreamingLexerDef::<DefaultLexerTypes<u32>>::from_str(alloc, rules)?;
+    let faults = built.err();
+    match faults.as_ref().and_then(|faults| faults.first()) {
+        Some(fault) => {
+            let shown = fault_text(alloc, "tokens.l", rules, fault)?;
+            format!(in alloc; "{fault}\n{shown}")
+        }
+        None => Ok(String::new(alloc)),
     }
 }
 
