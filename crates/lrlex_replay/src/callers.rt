@@ -136,12 +136,13 @@ fn tell_edit(out: &mut String, edit: &Edit<'_>, old: &str, new: &str) -> Result<
 
 /// Makes a step of a caller, and adds what comes of it.
 pub fn call(
-    alloc: Global,
+    rt: &HostRuntime,
     out: &mut String,
     definition: &mut Definition<u32>,
     name: Option<&str>,
     step: &[Value],
 ) -> Result<(), Trouble> {
+    let alloc = rt.alloc();
     match (name, step) {
         (Some("words"), [_, text]) => {
             let words = words(alloc, definition, text_of(text)?)?;
@@ -172,6 +173,6 @@ pub fn call(
         (Some("edit"), [_, old, edit, new]) => {
             Ok(tell_edit(out, &edit_of(edit)?, text_of(old)?, text_of(new)?)?)
         }
-        _ => show(alloc, out, name, step),
+        _ => show(rt, out, name, step),
     }
 }

@@ -6,6 +6,7 @@
 mod building;
 mod callers;
 mod documents;
+mod engines;
 mod facts;
 mod findings;
 mod lexers;
@@ -15,6 +16,7 @@ mod replay;
 mod reports;
 mod showing;
 mod steps;
+mod writers;
 
 use crate::findings::Findings;
 use crate::reading::Trouble;

@@ -1,4 +1,5 @@
 //! Steps that show people what is wrong, and where.
+use crate::engines::drive;
 use crate::facts::push_text;
 use crate::reading::{Trouble, count_of, list_of, loose_span_of, text_of};
 use lrlex::{DefaultLexerTypes, LRLexError, LRNonStreamingLexerDef, LexerDef, Span, StartStateId};
@@ -37,37 +38,42 @@ fn stop_at(alloc: Global, text: &str, place: usize, state: usize) -> Result<Stri
     stop_text(alloc, "f", text, &error)
 }
 
-/// What a step shows.
-fn shown(alloc: Global, name: Option<&str>, step: &[Value]) -> Result<String, Trouble> {
-    match (name, step) {
+/// What a step shows; none where it is another.
+fn shown(alloc: Global, name: Option<&str>, step: &[Value]) -> Result<Option<String>, Trouble> {
+    let shown = match (name, step) {
         (Some("complaints"), [_, rules, input]) => {
-            Ok(complaints(alloc, text_of(rules)?, text_of(input)?)?)
+            complaints(alloc, text_of(rules)?, text_of(input)?)?
         }
         (Some("complaints_of_file"), [_, rules, input]) => {
             let rules = bytes_of(alloc, list_of(rules)?)?;
-            Ok(complaints_of_file(alloc, rules.as_slice(), text_of(input)?)?)
+            complaints_of_file(alloc, rules.as_slice(), text_of(input)?)?
         }
-        (Some("first_fault"), [_, rules]) => Ok(first_fault(alloc, text_of(rules)?)?),
+        (Some("first_fault"), [_, rules]) => first_fault(alloc, text_of(rules)?)?,
         (Some("place_text"), [_, text, span, message]) => {
             let span = loose_span_of(span)?;
-            Ok(place_text(alloc, "f", text_of(text)?, span, text_of(message)?)?)
+            place_text(alloc, "f", text_of(text)?, span, text_of(message)?)?
         }
         (Some("stop_text"), [_, text, place, state]) => {
             let (place, state) = (count_of(place)?, count_of(state)?);
-            Ok(stop_at(alloc, text_of(text)?, place, state)?)
+            stop_at(alloc, text_of(text)?, place, state)?
         }
-        _ => Err(Trouble::Malformed),
-    }
+        _ => return Ok(None),
+    };
+    Ok(Some(shown))
 }
 
-/// Makes a step that shows something, and adds that, on a line.
+/// Makes a step that shows something, and adds that, on a line, or one of the engine.
 pub fn show(
-    alloc: Global,
+    rt: &HostRuntime,
     out: &mut String,
     name: Option<&str>,
     step: &[Value],
 ) -> Result<(), Trouble> {
-    let shown = shown(alloc, name, step)?;
-    out.push_str("\nshown ")?;
-    Ok(push_text(alloc, out, shown.as_str())?)
+    match shown(rt.alloc(), name, step)? {
+        Some(shown) => {
+            out.push_str("\nshown ")?;
+            Ok(push_text(rt.alloc(), out, shown.as_str())?)
+        }
+        None => drive(rt, out, name, step),
+    }
 }

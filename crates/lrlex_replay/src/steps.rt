@@ -163,11 +163,12 @@ fn cut_part(
 
 /// Makes a step, and adds what comes of it.
 fn make(
-    alloc: Global,
+    rt: &HostRuntime,
     out: &mut String,
     definition: &mut Definition<u32>,
     step: &[Value],
 ) -> Result<(), Trouble> {
+    let alloc = rt.alloc();
     let name = step.first().and_then(Value::as_str);
     match (name, step) {
         (Some("definition"), [_]) => Ok(tell_definition(alloc, out, definition)?),
@@ -189,20 +190,20 @@ fn make(
         }
         (Some("ids"), [_, ids, spanned]) => set_ids(alloc, out, definition, ids, spanned),
         (Some("find"), [_, ids, names]) => find(alloc, out, definition, ids, names),
-        _ => call(alloc, out, definition, name, step),
+        _ => call(rt, out, definition, name, step),
     }
 }
 
 /// What is told of a step: its name, and then what comes of it.
 fn answer(
-    alloc: Global,
+    rt: &HostRuntime,
     definition: &mut Definition<u32>,
     step: &Value,
 ) -> Result<String, Trouble> {
     let step = list_of(step)?;
     let name = step.first().unwrap_or(&Value::Null);
-    let mut out = format!(in alloc; "step {name}")?;
-    make(alloc, &mut out, definition, step)?;
+    let mut out = format!(in rt.alloc(); "step {name}")?;
+    make(rt, &mut out, definition, step)?;
     Ok(out)
 }
 
@@ -213,10 +214,10 @@ fn tell_steps(
     steps: &[Value],
 ) -> io::Result<()> {
     for step in steps {
-        let mut told = answer(rt.alloc(), definition, step);
+        let mut told = answer(rt, definition, step);
         if let Err(Trouble::Memory) = told {
             println!(rt; "out_of_memory null")?;
-            told = answer(rt.alloc(), definition, step);
+            told = answer(rt, definition, step);
         }
         let told = told?;
         println!(rt; "{told}")?;
