@@ -65,12 +65,12 @@ def a_definition_is_free_again_after_its_run():
 def callers_that_highlight_and_show_a_part():
     whole = [["ID", "ab"], ["", " "], ["", "#c"], ["", "\n"], ["ID", "d"]]
     same(one(["highlighted", "ab #c\nd"], "words", LINES), whole, "highlighted")
-    same(one(["visible", "ab #c\nd", 4, 7], "words", LINES), whole[2:], "visible")
+    same(one(["visible", "ab #c\nd", [4, 7]], "words", LINES), whole[2:], "visible")
 
 
 def a_caller_that_types():
     for text, at, keys, want in TYPED:
-        same(one(["typed", text, at, keys], "typed", LINES), want, keys)
+        same(one(["typed", text, [at, at, keys]], "typed", LINES), want, keys)
 
 
 def ranges_of_the_language_server_protocol():

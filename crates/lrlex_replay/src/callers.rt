@@ -1,11 +1,12 @@
 //! Steps that make what the callers of `lrlex_callers` make, and what edits are.
 use crate::building::Definition;
+use crate::documents::Edited;
 use crate::facts::{push_items, push_text};
-use crate::reading::{Trouble, count_of, elements_of, list_of, loose_span_of, text_of};
+use crate::lexers::{LexerOf, items_of};
+use crate::reading::{Trouble, change_of, elements_of, list_of, loose_span_of, text_of};
 use crate::reports::show;
 use crate::steps::edit_of;
-use lrlex::{DefaultLexerTypes, Document, Edit, EditError, LRNonStreamingLexer, LexerDef, Span};
-use lrlex_base::Lexer;
+use lrlex::{Document, Edit, EditError, LexerDef};
 use lrlex_callers::editing::{highlighted, typed, visible};
 use lrlex_callers::lending::lexed_and_replaced;
 use lrlex_callers::lexing::{lexer_after, words};
@@ -29,41 +30,80 @@ fn push_words(alloc: Global, out: &mut String, words: &[(&str, &str)]) -> Result
     out.push_str("]")
 }
 
+/// Adds the lexemes of a text, by name and text.
+fn tell_words(
+    alloc: Global,
+    out: &mut String,
+    definition: &Definition<u32>,
+    text: &Value,
+) -> Result<(), Trouble> {
+    let words = words(alloc, definition, text_of(text)?)?;
+    Ok(push_words(alloc, out, words.as_slice())?)
+}
+
+/// Adds the whole of a text as it was cut.
+fn highlight(
+    alloc: Global,
+    out: &mut String,
+    definition: &Definition<u32>,
+    text: &Value,
+) -> Result<(), Trouble> {
+    let parts = highlighted(alloc, definition, text_of(text)?)?;
+    Ok(push_words(alloc, out, parts.as_slice())?)
+}
+
+/// A document of the text.
+fn document_of<'d>(
+    alloc: Global,
+    definition: &'d Definition<u32>,
+    text: &Value,
+) -> Result<Edited<'d>, Trouble> {
+    Ok(Document::new(alloc, definition, text_of(text)?)?)
+}
+
 /// Adds the part of a document of the text that a window shows.
 fn show_part(
     alloc: Global,
     out: &mut String,
     definition: &Definition<u32>,
-    text: &str,
-    from: usize,
-    to: usize,
-) -> Result<(), AllocError> {
-    let document = Document::new(alloc, definition, text)?;
-    let parts = visible(alloc, &document, from, to)?;
-    push_words(alloc, out, parts.as_slice())
+    text: &Value,
+    span: &Value,
+) -> Result<(), Trouble> {
+    let span = loose_span_of(span)?;
+    let document = document_of(alloc, definition, text)?;
+    let parts = visible(alloc, &document, span.start(), span.end())?;
+    Ok(push_words(alloc, out, parts.as_slice())?)
 }
 
-/// Types keys in a document of the text, and adds where that ends; null where they don't fit.
-fn type_keys(
-    alloc: Global,
+/// Adds where typing ended; null where the keys don't fit.
+fn push_typed(
     out: &mut String,
-    definition: &Definition<u32>,
-    text: &str,
-    at: usize,
-    keys: &str,
+    typed: Result<(usize, usize), EditError>,
 ) -> Result<(), AllocError> {
-    let mut document = Document::new(alloc, definition, text)?;
-    match typed(alloc, &mut document, at, keys) {
+    match typed {
         Ok((line, column)) => Ok(write!(out, "\ntyped [{line},{column}]")?),
         Err(EditError::DoesNotFit) => out.push_str("\ntyped null"),
         Err(EditError::OutOfMemory) => Err(AllocError),
     }
 }
 
+/// Types the keys of an edit `[at, at, keys]` in a document of the text.
+fn type_keys(
+    alloc: Global,
+    out: &mut String,
+    definition: &Definition<u32>,
+    text: &Value,
+    edit: &Value,
+) -> Result<(), Trouble> {
+    let (at, _, keys) = change_of(edit)?;
+    let mut document = document_of(alloc, definition, text)?;
+    Ok(push_typed(out, typed(alloc, &mut document, at, keys))?)
+}
+
 /// The edits of a list, each beside the text that it makes.
-fn edits_of(alloc: Global, list: &[Value]) -> Result<Vec<(Edit<'_>, &str)>, Trouble> {
+fn edits_of(alloc: Global, list: &Value) -> Result<Vec<(Edit<'_>, &str)>, Trouble> {
     let mut edits = Vec::new(alloc);
-    for value in list {
+    for value in list_of(list)? {
         match elements_of(Some(value)) {
             Some([_, _, _, text]) => edits.push((edit_of(value)?, text_of(text)?))?,
             _ => return Err(Trouble::Malformed),
@@ -73,15 +113,8 @@ fn edits_of(alloc: Global, list: &[Value]) -> Result<Vec<(Edit<'_>, &str)>, Trou
 }
 
 /// Adds the items of a lexer, on a line.
-fn push_lexed(
-    alloc: Global,
-    out: &mut String,
-    lexer: &LRNonStreamingLexer<'_, '_, DefaultLexerTypes<u32>>,
-) -> Result<(), AllocError> {
-    let mut items = Vec::new(alloc);
-    for item in lexer.iter() {
-        items.push(item)?;
-    }
+fn push_lexed(alloc: Global, out: &mut String, lexer: &LexerOf<'_, '_>) -> Result<(), AllocError> {
+    let items = items_of(alloc, lexer)?;
     push_items(out, items.as_slice())
 }
 
@@ -90,13 +123,21 @@ fn keep_run(
     alloc: Global,
     out: &mut String,
     definition: &Definition<u32>,
-    text: &str,
-    list: &[Value],
+    text: &Value,
+    list: &Value,
 ) -> Result<(), Trouble> {
     let edits = edits_of(alloc, list)?;
-    match lexer_after(alloc, definition, text, edits.as_slice())? {
+    match lexer_after(alloc, definition, text_of(text)?, edits.as_slice())? {
         Some(lexer) => Ok(push_lexed(alloc, out, &lexer)?),
         None => Ok(out.push_str("\nitems null")?),
+    }
+}
+
+/// The definition of a rule text without faults.
+fn defined(alloc: Global, rules: &Value) -> Result<Definition<u32>, Trouble> {
+    match Definition::<u32>::from_str(alloc, text_of(rules)?)? {
+        Ok(definition) => Ok(definition),
+        Err(_) => Err(Trouble::Malformed),
     }
 }
 
@@ -105,12 +146,11 @@ fn replace(
     alloc: Global,
     out: &mut String,
     definition: &mut Definition<u32>,
-    text: &str,
-    rules: &str,
+    text: &Value,
+    rules: &Value,
 ) -> Result<(), Trouble> {
-    let Ok(other) = Definition::<u32>::from_str(alloc, rules)? else {
-        return Err(Trouble::Malformed);
-    };
+    let text = text_of(text)?;
+    let other = defined(alloc, rules)?;
     let tiles = lexed_and_replaced(alloc, definition, other, text)?;
     Ok(write!(out, "\ntiles {tiles}")?)
 }
@@ -120,16 +160,18 @@ fn tell_range(
     alloc: Global,
     out: &mut String,
     definition: &Definition<u32>,
-    text: &str,
-    span: Span,
-) -> Result<(), AllocError> {
-    let document = Document::new(alloc, definition, text)?;
+    text: &Value,
+    span: &Value,
+) -> Result<(), Trouble> {
+    let span = loose_span_of(span)?;
+    let document = document_of(alloc, definition, text)?;
     let ((line, units), (end_line, end_units)) = range_of(&document, span);
     Ok(write!(out, "\nrange [[{line},{units}],[{end_line},{end_units}]]")?)
 }
 
 /// Adds whether an edit fits a text, and whether it makes the other of it.
-fn tell_edit(out: &mut String, edit: &Edit<'_>, old: &str, new: &str) -> Result<(), AllocError> {
+fn tell_edit(out: &mut String, old: &Value, edit: &Value, new: &Value) -> Result<(), Trouble> {
+    let (edit, old, new) = (edit_of(edit)?, text_of(old)?, text_of(new)?);
     let (fits, gives) = (edit.fits(old), edit.gives(old, new));
     Ok(write!(out, "\nfits [{fits},{gives}]")?)
 }
@@ -144,35 +186,14 @@ pub fn call(
 ) -> Result<(), Trouble> {
     let alloc = rt.alloc();
     match (name, step) {
-        (Some("words"), [_, text]) => {
-            let words = words(alloc, definition, text_of(text)?)?;
-            Ok(push_words(alloc, out, words.as_slice())?)
-        }
-        (Some("highlighted"), [_, text]) => {
-            let parts = highlighted(alloc, definition, text_of(text)?)?;
-            Ok(push_words(alloc, out, parts.as_slice())?)
-        }
-        (Some("visible"), [_, text, from, to]) => {
-            let (from, to) = (count_of(from)?, count_of(to)?);
-            Ok(show_part(alloc, out, definition, text_of(text)?, from, to)?)
-        }
-        (Some("typed"), [_, text, at, keys]) => {
-            let (at, keys) = (count_of(at)?, text_of(keys)?);
-            Ok(type_keys(alloc, out, definition, text_of(text)?, at, keys)?)
-        }
-        (Some("after"), [_, text, edits]) => {
-            keep_run(alloc, out, definition, text_of(text)?, list_of(edits)?)
-        }
-        (Some("replaced"), [_, text, rules]) => {
-            replace(alloc, out, definition, text_of(text)?, text_of(rules)?)
-        }
-        (Some("range"), [_, text, span]) => {
-            let span = loose_span_of(span)?;
-            Ok(tell_range(alloc, out, definition, text_of(text)?, span)?)
-        }
-        (Some("edit"), [_, old, edit, new]) => {
-            Ok(tell_edit(out, &edit_of(edit)?, text_of(old)?, text_of(new)?)?)
-        }
+        (Some("words"), [_, text]) => tell_words(alloc, out, definition, text),
+        (Some("highlighted"), [_, text]) => highlight(alloc, out, definition, text),
+        (Some("visible"), [_, text, span]) => show_part(alloc, out, definition, text, span),
+        (Some("typed"), [_, text, edit]) => type_keys(alloc, out, definition, text, edit),
+        (Some("after"), [_, text, edits]) => keep_run(alloc, out, definition, text, edits),
+        (Some("replaced"), [_, text, rules]) => replace(alloc, out, definition, text, rules),
+        (Some("range"), [_, text, span]) => tell_range(alloc, out, definition, text, span),
+        (Some("edit"), [_, old, edit, new]) => tell_edit(out, old, edit, new),
         _ => show(rt, out, name, step),
     }
 }

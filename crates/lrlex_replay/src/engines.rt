@@ -2,7 +2,7 @@
 use crate::reading::{Trouble, text_of};
 use crate::steps::edit_of;
 use crate::writers::BrokenWriter;
-use lrlex::{DefaultLexerTypes, LRNonStreamingLexerDef, LexerDef, UNSPECIFIED_LEX_FLAGS};
+use lrlex::{DefaultLexerTypes, Edit, LRNonStreamingLexerDef, LexerDef, UNSPECIFIED_LEX_FLAGS};
 use lrlex_cli::engine::{Ended, EngineFault, report, run, run_edited};
 use lrlex_cli::program;
 use serde_json::Value;
@@ -39,7 +39,12 @@ fn came_of_run(ended: &Result<Ended, EngineFault>) -> Result<Came, AllocError> {
 }
 
 /// Adds what a call came to, and what its writer has then, on a line.
-fn push_came(out: &mut String, came: Came, writer: &BrokenWriter) -> Result<(), AllocError> {
+fn push_came(
+    out: &mut String,
+    came: Result<Came, AllocError>,
+    writer: &BrokenWriter,
+) -> Result<(), AllocError> {
+    let came = came?;
     let ((calls, flushes), held) = (writer.counts(), writer.held());
     Ok(write!(out, "\nengine [\"{came:?}\",{held:?},{calls},{flushes}]")?)
 }
@@ -48,40 +53,48 @@ fn push_came(out: &mut String, came: Came, writer: &BrokenWriter) -> Result<(), 
 fn run_engine(
     alloc: Global,
     out: &mut String,
-    rules: &str,
-    input: &str,
+    rules: &Value,
+    input: &Value,
     writer: &Value,
 ) -> Result<(), Trouble> {
+    let (flags, rules, input) = (UNSPECIFIED_LEX_FLAGS, text_of(rules)?, text_of(input)?);
     let mut writer = BrokenWriter::of_value(alloc, writer)?;
-    let flags = UNSPECIFIED_LEX_FLAGS;
     let ended = run::<DefaultLexerTypes<u32>, _>(alloc, rules, flags, input, &mut writer);
-    Ok(push_came(out, came_of_run(&ended)?, &writer)?)
+    Ok(push_came(out, came_of_run(&ended), &writer)?)
+}
+
+/// What a run on the new text, which the edit makes of the old one, came to.
+fn ran_edited(
+    alloc: Global,
+    rules: &str,
+    texts: (&str, &str),
+    edit: &Edit<'_>,
+    writer: &mut BrokenWriter,
+) -> Result<Came, Trouble> {
+    let (flags, (old, new)) = (UNSPECIFIED_LEX_FLAGS, texts);
+    if !edit.gives(old, new) {
+        return Err(Trouble::Malformed);
+    }
+    let ended = run_edited::<DefaultLexerTypes<u32>, _>(
+        alloc, rules, flags, old, edit, new, writer,
+    );
+    Ok(came_of_run(&ended)?)
 }
 
 /// Runs the engine on the new text, which the edit makes of the old one.
 fn run_engine_edited(
     alloc: Global,
     out: &mut String,
-    rules: &str,
-    texts: (&str, &str),
+    rules: &Value,
+    texts: (&Value, &Value),
     edit: &Value,
     writer: &Value,
 ) -> Result<(), Trouble> {
+    let (rules, texts) = (text_of(rules)?, (text_of(texts.0)?, text_of(texts.1)?));
+    let edit = edit_of(edit)?;
     let mut writer = BrokenWriter::of_value(alloc, writer)?;
-    let (flags, edit, (old, new)) = (UNSPECIFIED_LEX_FLAGS, edit_of(edit)?, texts);
-    if !edit.gives(old, new) {
-        return Err(Trouble::Malformed);
-    }
-    let ended = run_edited::<DefaultLexerTypes<u32>, _>(
-        alloc,
-        rules,
-        flags,
-        old,
-        &edit,
-        new,
-        &mut writer,
-    );
-    Ok(push_came(out, came_of_run(&ended)?, &writer)?)
+    let came = ran_edited(alloc, rules, texts, &edit, &mut writer)?;
+    Ok(push_came(out, Ok(came), &writer)?)
 }
 
 /// What reporting the faults of the rule text came to; reporting none where it has none.
@@ -101,11 +114,12 @@ fn reported(alloc: Global, rules: &str, writer: &mut BrokenWriter) -> Result<Cam
 fn report_faults(
     alloc: Global,
     out: &mut String,
-    rules: &str,
+    rules: &Value,
     writer: &Value,
 ) -> Result<(), Trouble> {
+    let rules = text_of(rules)?;
     let mut writer = BrokenWriter::of_value(alloc, writer)?;
-    let came = reported(alloc, rules, &mut writer)?;
+    let came = reported(alloc, rules, &mut writer);
     Ok(push_came(out, came, &writer)?)
 }
 
@@ -113,11 +127,13 @@ fn report_faults(
 fn serve(
     rt: &HostRuntime,
     out: &mut String,
-    stdin: &str,
-    writers: (&Value, &Value),
+    stdin: &Value,
+    lines: &Value,
+    told: &Value,
 ) -> Result<(), Trouble> {
-    let mut lines = BrokenWriter::of_value(rt.alloc(), writers.0)?;
-    let mut told = BrokenWriter::of_value(rt.alloc(), writers.1)?;
+    let stdin = text_of(stdin)?;
+    let mut lines = BrokenWriter::of_value(rt.alloc(), lines)?;
+    let mut told = BrokenWriter::of_value(rt.alloc(), told)?;
     let status = program::serve(rt, &["lrlex"], &mut stdin.as_bytes(), &mut lines, &mut told);
     let ((_, flushes), held, said) = (lines.counts(), lines.held(), told.held());
     Ok(write!(out, "\nserved [{status},{held:?},{said:?},{flushes}]")?)
@@ -133,18 +149,13 @@ pub fn drive(
     let alloc = rt.alloc();
     match (name, step) {
         (Some("engine"), [_, rules, input, writer]) => {
-            run_engine(alloc, out, text_of(rules)?, text_of(input)?, writer)
+            run_engine(alloc, out, rules, input, writer)
         }
         (Some("engine_edited"), [_, rules, old, edit, new, writer]) => {
-            let (rules, texts) = (text_of(rules)?, (text_of(old)?, text_of(new)?));
-            run_engine_edited(alloc, out, rules, texts, edit, writer)
+            run_engine_edited(alloc, out, rules, (old, new), edit, writer)
         }
-        (Some("engine_report"), [_, rules, writer]) => {
-            report_faults(alloc, out, text_of(rules)?, writer)
-        }
-        (Some("served"), [_, stdin, lines, told]) => {
-            serve(rt, out, text_of(stdin)?, (lines, told))
-        }
+        (Some("engine_report"), [_, rules, writer]) => report_faults(alloc, out, rules, writer),
+        (Some("served"), [_, stdin, lines, told]) => serve(rt, out, stdin, lines, told),
         _ => Err(Trouble::Malformed),
     }
 }

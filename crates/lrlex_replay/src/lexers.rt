@@ -16,6 +16,9 @@ pub type LexerOf<'lexer, 'input> = LRNonStreamingLexer<'lexer, 'input, DefaultLe
 /// Line and column.
 type Place = (usize, usize);
 
+/// Spans and bytes that a lexer is asked about.
+pub type Asked<'v> = (&'v [Value], &'v [Value]);
+
 /// What a lexer tells of a span that fits its input: its text, its lines, and where its ends are.
 type Fitting<'t> = (&'t str, &'t str, (Place, Place));
 
@@ -84,8 +87,13 @@ fn push_told(
     out.push_str("]")
 }
 
+/// The items of a lexer.
+pub fn items_of(alloc: Global, lexer: &LexerOf<'_, '_>) -> Result<Vec<Item>, AllocError> {
+    lexer.iter().collect(alloc)
+}
+
 /// Adds the items of the lexer of this input, and what it tells of each.
-pub fn tell_items(
+fn tell_items(
     alloc: Global,
     out: &mut String,
     lexer: &LexerOf<'_, '_>,
@@ -93,10 +101,7 @@ pub fn tell_items(
 ) -> Result<(), AllocError>
     requires { lexer_text lexer.now ≡ input.now }
 {
-    let mut items = Vec::new(alloc);
-    for item in lexer.iter() {
-        items.push(item)?;
-    }
+    let items = items_of(alloc, lexer)?;
     push_items(out, items.as_slice())?;
     for item in &items {
         let span = span_of(item);
@@ -106,7 +111,7 @@ pub fn tell_items(
 }
 
 /// Adds what the lexer of this input tells of these spans.
-pub fn tell_spans(
+fn tell_spans(
     alloc: Global,
     out: &mut String,
     lexer: &LexerOf<'_, '_>,
@@ -123,15 +128,26 @@ pub fn tell_spans(
 }
 
 /// Adds the places of these bytes, each on a line.
-pub fn tell_bytes(
-    out: &mut String,
-    lexer: &LexerOf<'_, '_>,
-    bytes: &[Value],
-) -> Result<(), Trouble> {
+fn tell_bytes(out: &mut String, lexer: &LexerOf<'_, '_>, bytes: &[Value]) -> Result<(), Trouble> {
     for value in bytes {
         out.push_str("\nplace [")?;
         push_place(out, lexer, count_of(value)?)?;
         out.push_str("]")?;
     }
     Ok(())
+}
+
+/// Adds what the lexer of this input tells of its items, and of these spans and bytes.
+pub fn tell_lexer(
+    alloc: Global,
+    out: &mut String,
+    lexer: &LexerOf<'_, '_>,
+    input: &str,
+    asked: Asked<'_>,
+) -> Result<(), Trouble>
+    requires { lexer_text lexer.now ≡ input.now }
+{
+    tell_items(alloc, out, lexer, input)?;
+    tell_spans(alloc, out, lexer, input, asked.0)?;
+    tell_bytes(out, lexer, asked.1)
 }

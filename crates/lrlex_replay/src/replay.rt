@@ -1,9 +1,13 @@
 //! Does what a case says and compares what comes of it.
+ghost use Rattle.std.specs.Prelude.{◌≡◌};
+ghost use Rattle.lrlex.specs.Lexers.{lexer_text};
+
 use crate::building::{Definition, Refusal, build, ids_of};
 use crate::findings::Findings;
 use crate::reading::{Trouble, text_in};
 use crate::showing::{
-    faults_value, items_value, places_value, rules_value, sets_value, states_value,
+    Ends, Item, LexerOver, faults_value, items_seen, items_value, places_seen, places_value,
+    rules_value, sets_value, states_value,
 };
 use lrlex::{Budget, LexerDef};
 use lrlex_base::Id;
@@ -49,27 +53,46 @@ fn compare_counts(
     findings.compare_most(alloc, case, "asked_max", asked)
 }
 
+/// The items of the lexer of the input, and their places.
+#[derive(Drop)]
+struct ItemsSeen {
+    items: Vec<Item>,
+    places: Vec<Option<Ends>>,
+}
+
+/// The items and the places of this lexer, which is that of the input.
+fn seen<T: Id>(
+    alloc: Global,
+    lexer: &LexerOver<'_, '_, T>,
+    input: &str,
+) -> Result<ItemsSeen, AllocError>
+    requires { lexer_text lexer.now ≡ input.now }
+{
+    let items = items_seen(alloc, lexer)?;
+    let places = places_seen(alloc, lexer, items.as_slice(), input)?;
+    Ok(ItemsSeen { items, places })
+}
+
 /// The items and the places of the lexer of the input.
 fn lexed<T: Id>(
     alloc: Global,
     definition: &Definition<T>,
     input: &str,
-) -> Result<(Value, Value), AllocError> {
+) -> Result<ItemsSeen, AllocError> {
     let lexer = definition.lexer(alloc, input)?;
-    let items = items_value(alloc, &lexer)?;
-    let places = places_value(alloc, &lexer, input)?;
-    Ok((items, places))
+    seen(alloc, &lexer, input)
 }
 
 /// Compares the items and the places of a lexer.
 fn compare_lexed(
     alloc: Global,
     case: &Value,
-    lexed: (Value, Value),
+    lexed: &ItemsSeen,
     findings: &mut Findings,
 ) -> Result<(), Trouble> {
-    let (items, places) = lexed;
+    let items = items_value(alloc, lexed.items.as_slice())?;
     findings.compare(alloc, case, "items", items)?;
+    let places = places_value(alloc, lexed.places.as_slice())?;
     findings.compare(alloc, case, "linecols", places)
 }
 
@@ -81,7 +104,8 @@ fn compare_run<T: Id>(
     findings: &mut Findings,
 ) -> Result<(), Trouble> {
     let input = text_in(case, "input")?;
-    compare_lexed(alloc, case, lexed(alloc, definition, input)?, findings)?;
+    let lexed = lexed(alloc, definition, input)?;
+    compare_lexed(alloc, case, &lexed, findings)?;
     compare_counts(alloc, case, counts_of(alloc, definition, input)?, findings)
 }
 

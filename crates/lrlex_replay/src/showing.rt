@@ -14,9 +14,12 @@ use std::collections::HashSet;
 /// Line and column.
 type Place = (usize, usize);
 
+/// Both ends of a span.
+pub type Ends = (Place, Place);
+
 /// An item of a run, as plain numbers.
 #[derive(Clone, Copy)]
-enum Item {
+pub enum Item {
     /// A lexeme: its id and its span.
     Lexeme(Option<u64>, Span),
     /// An error: its span, and the state in which no rule matched.
@@ -35,7 +38,7 @@ pub struct RuleSeen<'r> {
 }
 
 /// A lexer with ids of this type.
-type LexerOver<'lexer, 'input, T> = LRNonStreamingLexer<'lexer, 'input, DefaultLexerTypes<T>>;
+pub type LexerOver<'lexer, 'input, T> = LRNonStreamingLexer<'lexer, 'input, DefaultLexerTypes<T>>;
 
 fn kind_name(kind: &LexErrorKind) -> &'static str {
     match kind {
@@ -226,20 +229,29 @@ fn item_value(alloc: Global, item: Item) -> Result<Value, AllocError> {
     Ok(Value::Array(list))
 }
 
-/// The items of a lexer, as `["lex", id, start, length]` or `["err", place, state]`.
-pub fn items_value<T: Id>(
+/// The items of a lexer, as plain data.
+pub fn items_seen<T: Id>(
     alloc: Global,
     lexer: &LexerOver<'_, '_, T>,
-) -> Result<Value, AllocError> {
-    let mut list = Vec::new(alloc);
+) -> Result<Vec<Item>, AllocError> {
+    let mut items = Vec::new(alloc);
     for item in lexer.iter() {
-        list.push(item_value(alloc, item_seen(&item))?)?;
+        items.push(item_seen(&item))?;
+    }
+    Ok(items)
+}
+
+/// Items, as `["lex", id, start, length]` or `["err", place, state]`.
+pub fn items_value(alloc: Global, items: &[Item]) -> Result<Value, AllocError> {
+    let mut list = Vec::new(alloc);
+    for item in items {
+        list.push(item_value(alloc, *item)?)?;
     }
     Ok(Value::Array(list))
 }
 
 /// Line and column of both ends, or null for none.
-fn ends_value(alloc: Global, ends: Option<(Place, Place)>) -> Result<Value, AllocError> {
+fn ends_value(alloc: Global, ends: Option<Ends>) -> Result<Value, AllocError> {
     let Some(((line, column), (end_line, end_column))) = ends else {
         return Ok(Value::Null);
     };
@@ -249,7 +261,7 @@ fn ends_value(alloc: Global, ends: Option<(Place, Place)>) -> Result<Value, Allo
 }
 
 /// Line and column of both ends of a span of the lexer of this input; none where the span doesn't fit it.
-fn ends_of<T: Id>(lexer: &LexerOver<'_, '_, T>, span: Span, input: &str) -> Option<(Place, Place)>
+fn ends_of<T: Id>(lexer: &LexerOver<'_, '_, T>, span: Span, input: &str) -> Option<Ends>
     requires { lexer_text lexer.now ≡ input.now }
 {
     if span.fits(input) {
@@ -259,21 +271,28 @@ fn ends_of<T: Id>(lexer: &LexerOver<'_, '_, T>, span: Span, input: &str) -> Opti
     }
 }
 
-/// Line and column of both ends of each item's span, of the lexer of this input; null where a span doesn't fit it.
-pub fn places_value<T: Id>(
+/// Line and column of both ends of each item's span, of the lexer of this input; none where a span doesn't fit it.
+pub fn places_seen<T: Id>(
     alloc: Global,
     lexer: &LexerOver<'_, '_, T>,
+    items: &[Item],
     input: &str,
-) -> Result<Value, AllocError>
+) -> Result<Vec<Option<Ends>>, AllocError>
     requires { lexer_text lexer.now ≡ input.now }
 {
+    let mut places = Vec::new(alloc);
+    for item in items {
+        let (Item::Lexeme(_, span) | Item::Error(span, _)) = *item;
+        places.push(ends_of(lexer, span, input))?;
+    }
+    Ok(places)
+}
+
+/// Lines and columns of both ends of spans; null for none.
+pub fn places_value(alloc: Global, places: &[Option<Ends>]) -> Result<Value, AllocError> {
     let mut list = Vec::new(alloc);
-    for item in lexer.iter() {
-        let span = match item {
-            Ok(lexeme) => lexeme.span(),
-            Err(error) => error.span(),
-        };
-        list.push(ends_value(alloc, ends_of(lexer, span, input))?)?;
+    for ends in places {
+        list.push(ends_value(alloc, *ends)?)?;
     }
     Ok(Value::Array(list))
 }

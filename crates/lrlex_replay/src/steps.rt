@@ -2,8 +2,8 @@
 use crate::building::{Definition, Refusal, build_within};
 use crate::callers::call;
 use crate::documents::tell_document;
-use crate::facts::{push_pieces, push_run};
-use crate::lexers::{tell_bytes, tell_items, tell_spans};
+use crate::facts::{Run, push_pieces, push_run};
+use crate::lexers::{Asked, tell_lexer};
 use crate::lookups::{find, set_ids};
 use crate::reading::{Trouble, change_of, count_of, list_of, text_of};
 use crate::showing::{faults_value, rules_value, states_value};
@@ -14,20 +14,33 @@ use std::alloc::{AllocError, Global};
 use std::fmt::Write;
 use std::io;
 
+/// Adds how many tables the definition has, how many rows these have, and how many rules have none.
+fn tell_tables(out: &mut String, definition: &Definition<u32>) -> Result<(), AllocError> {
+    let (tables, rows) = (definition.tables(), definition.table_rows());
+    let asked = definition.asked_rules();
+    Ok(write!(out, "\ntables [{tables},{rows},{asked}]")?)
+}
+
+/// Adds the start states and the rules.
+fn tell_parts(
+    alloc: Global,
+    out: &mut String,
+    definition: &Definition<u32>,
+) -> Result<(), AllocError> {
+    let states = states_value(alloc, definition.iter_start_states().as_slice())?;
+    write!(out, "\nstates {states}")?;
+    let rules = rules_value(alloc, definition.rules())?;
+    Ok(write!(out, "\nrules {rules}")?)
+}
+
 /// Adds what the definition says.
 fn tell_definition(
     alloc: Global,
     out: &mut String,
     definition: &Definition<u32>,
-) -> Result<(), AllocError> {
-    let (tables, rows) = (definition.tables(), definition.table_rows());
-    let asked = definition.asked_rules();
-    let states = states_value(alloc, definition.iter_start_states().as_slice())?;
-    let rules = rules_value(alloc, definition.rules())?;
-    Ok(write!(
-        out,
-        "\ntables [{tables},{rows},{asked}]\nstates {states}\nrules {rules}"
-    )?)
+) -> Result<(), Trouble> {
+    tell_tables(out, definition)?;
+    Ok(tell_parts(alloc, out, definition)?)
 }
 
 /// The texts after these edits, each of the text before it. It stops behind one that doesn't fit.
@@ -61,6 +74,22 @@ fn tell_unfit(out: &mut String, edit: &Edit<'_>) -> Result<(), AllocError> {
     Ok(write!(out, "\nunfit [{from},{to}]")?)
 }
 
+/// Lexes again after the edit, which makes the text, and adds what the new run answers.
+fn lex_again<'d, 't>(
+    alloc: Global,
+    out: &mut String,
+    run: &Run<'d, 't>,
+    edit: &Edit<'_>,
+    text: &'t str,
+) -> Result<Run<'d, 't>, Trouble> {
+    if !edit.gives(run.text(), text) {
+        return Err(Trouble::Malformed);
+    }
+    let again = run.relex(alloc, edit, text)?;
+    push_run(alloc, out, &again)?;
+    Ok(again)
+}
+
 /// Adds what runs of these texts answer, the first anew and each other after the edit that makes it of the one before.
 fn tell_runs(
     alloc: Global,
@@ -69,26 +98,18 @@ fn tell_runs(
     texts: &[String],
     edits: &[Value],
 ) -> Result<(), Trouble> {
-    let Some(first) = texts.first() else {
+    let Some((first, texts)) = texts.split_first() else {
         return Ok(());
     };
     let mut run = definition.run(alloc, first.as_str())?;
     push_run(alloc, out, &run)?;
-    let mut texts = texts.iter().skip(1);
-    for value in edits {
-        let edit = edit_of(value)?;
-        match texts.next() {
-            Some(text) if edit.gives(run.text(), text.as_str()) => {
-                run = run.relex(alloc, &edit, text.as_str())?;
-                push_run(alloc, out, &run)?;
-            }
-            _ => return Ok(tell_unfit(out, &edit)?),
-        }
+    for (text, edit) in texts.iter().zip(edits.iter()) {
+        run = lex_again(alloc, out, &run, &edit_of(edit)?, text.as_str())?;
     }
     Ok(())
 }
 
-/// Lexes a text, and again after each edit.
+/// Lexes a text, and again after each edit, up to one that doesn't fit.
 fn lex(
     alloc: Global,
     out: &mut String,
@@ -96,9 +117,13 @@ fn lex(
     text: &Value,
     edits: &Value,
 ) -> Result<(), Trouble> {
-    let edits = list_of(edits)?;
-    let texts = texts_after(alloc, text_of(text)?, edits)?;
-    tell_runs(alloc, out, definition, texts.as_slice(), edits)
+    let (text, edits) = (text_of(text)?, list_of(edits)?);
+    let texts = texts_after(alloc, text, edits)?;
+    tell_runs(alloc, out, definition, texts.as_slice(), edits)?;
+    match edits.get(texts.len() - 1) {
+        Some(edit) => Ok(tell_unfit(out, &edit_of(edit)?)?),
+        None => Ok(()),
+    }
 }
 
 /// Edits a document of a text.
@@ -109,39 +134,71 @@ fn edit_document(
     text: &Value,
     edits: &Value,
 ) -> Result<(), Trouble> {
-    let mut document = Document::new(alloc, definition, text_of(text)?)?;
-    tell_document(alloc, out, &mut document, list_of(edits)?)
+    let (text, edits) = (text_of(text)?, list_of(edits)?);
+    let mut document = Document::new(alloc, definition, text)?;
+    tell_document(alloc, out, &mut document, edits)
 }
 
-/// Asks the lexer of a text.
+/// Asks the lexer of a text, or that of its run.
 fn ask_lexer(
     alloc: Global,
     out: &mut String,
     definition: &Definition<u32>,
     input: &str,
-    spans: &Value,
-    bytes: &Value,
+    of_run: bool,
+    asked: Asked<'_>,
 ) -> Result<(), Trouble> {
-    let lexer = definition.lexer(alloc, input)?;
-    tell_items(alloc, out, &lexer, input)?;
-    tell_spans(alloc, out, &lexer, input, list_of(spans)?)?;
-    tell_bytes(out, &lexer, list_of(bytes)?)
+    let lexer = if of_run {
+        definition.run(alloc, input)?.into_lexer(alloc)?
+    } else {
+        definition.lexer(alloc, input)?
+    };
+    tell_lexer(alloc, out, &lexer, input, asked)
 }
 
-/// The same of the lexer that a run becomes.
-fn ask_run(
+/// Asks the lexer of a text about its items, about spans and about bytes.
+fn ask(
     alloc: Global,
     out: &mut String,
     definition: &Definition<u32>,
-    input: &str,
-    spans: &Value,
-    bytes: &Value,
+    step: [&Value; 4],
 ) -> Result<(), Trouble> {
-    let run = definition.run(alloc, input)?;
-    let lexer = run.into_lexer(alloc)?;
-    tell_items(alloc, out, &lexer, input)?;
-    tell_spans(alloc, out, &lexer, input, list_of(spans)?)?;
-    tell_bytes(out, &lexer, list_of(bytes)?)
+    let [input, of_run, spans, bytes] = step;
+    let (input, asked) = (text_of(input)?, (list_of(spans)?, list_of(bytes)?));
+    ask_lexer(
+        alloc,
+        out,
+        definition,
+        input,
+        of_run.as_bool() == Some(true),
+        asked,
+    )
+}
+
+/// The pieces of a part of a text, by a run.
+fn cut_run(
+    alloc: Global,
+    out: &mut String,
+    definition: &Definition<u32>,
+    text: &str,
+    ends: (usize, usize),
+) -> Result<(), AllocError> {
+    let run = definition.run(alloc, text)?;
+    let pieces = run.pieces_in(alloc, ends.0, ends.1)?;
+    push_pieces(alloc, out, text, pieces.as_slice())
+}
+
+/// The same by a document.
+fn cut_document(
+    alloc: Global,
+    out: &mut String,
+    definition: &Definition<u32>,
+    text: &str,
+    ends: (usize, usize),
+) -> Result<(), AllocError> {
+    let document = Document::new(alloc, definition, text)?;
+    let pieces = document.pieces_in(alloc, ends.0, ends.1)?;
+    push_pieces(alloc, out, text, pieces.as_slice())
 }
 
 /// The pieces of a part of a text, by a run and by a document.
@@ -149,16 +206,13 @@ fn cut_part(
     alloc: Global,
     out: &mut String,
     definition: &Definition<u32>,
-    text: &str,
-    from: usize,
-    to: usize,
-) -> Result<(), AllocError> {
-    let run = definition.run(alloc, text)?;
-    let pieces = run.pieces_in(alloc, from, to)?;
-    push_pieces(alloc, out, text, pieces.as_slice())?;
-    let document = Document::new(alloc, definition, text)?;
-    let pieces = document.pieces_in(alloc, from, to)?;
-    push_pieces(alloc, out, text, pieces.as_slice())
+    text: &Value,
+    from: &Value,
+    to: &Value,
+) -> Result<(), Trouble> {
+    let (text, ends) = (text_of(text)?, (count_of(from)?, count_of(to)?));
+    cut_run(alloc, out, definition, text, ends)?;
+    Ok(cut_document(alloc, out, definition, text, ends)?)
 }
 
 /// Makes a step, and adds what comes of it.
@@ -171,23 +225,13 @@ fn make(
     let alloc = rt.alloc();
     let name = step.first().and_then(Value::as_str);
     match (name, step) {
-        (Some("definition"), [_]) => Ok(tell_definition(alloc, out, definition)?),
+        (Some("definition"), [_]) => tell_definition(alloc, out, definition),
         (Some("run"), [_, text, edits]) => lex(alloc, out, definition, text, edits),
-        (Some("document"), [_, text, edits]) => {
-            edit_document(alloc, out, definition, text, edits)
-        }
+        (Some("document"), [_, text, edits]) => edit_document(alloc, out, definition, text, edits),
         (Some("lexer"), [_, input, of_run, spans, bytes]) => {
-            let input = text_of(input)?;
-            if of_run.as_bool() == Some(true) {
-                ask_run(alloc, out, definition, input, spans, bytes)
-            } else {
-                ask_lexer(alloc, out, definition, input, spans, bytes)
-            }
+            ask(alloc, out, definition, [input, of_run, spans, bytes])
         }
-        (Some("part"), [_, text, from, to]) => {
-            let (from, to) = (count_of(from)?, count_of(to)?);
-            Ok(cut_part(alloc, out, definition, text_of(text)?, from, to)?)
-        }
+        (Some("part"), [_, text, from, to]) => cut_part(alloc, out, definition, text, from, to),
         (Some("ids"), [_, ids, spanned]) => set_ids(alloc, out, definition, ids, spanned),
         (Some("find"), [_, ids, names]) => find(alloc, out, definition, ids, names),
         _ => call(rt, out, definition, name, step),
