@@ -30,8 +30,7 @@ class Run:
         counts, items, boundaries, ahead, pieces = lines
         self.counts = value(counts, b"run")
         self.items, self.boundaries = raw(items, b"items"), raw(boundaries, b"boundaries")
-        self.pieces = raw(pieces, b"pieces")
-        raw(ahead, b"ahead")
+        self.ahead, self.pieces = raw(ahead, b"ahead"), raw(pieces, b"pieces")
 
 
 def runs_of(lines):
@@ -81,17 +80,30 @@ def counts_by(pieces, items, boundaries):
     return [len(pieces), len(items), max(entries), entries[-1], len(pieces)]
 
 
+def look_further(data, places, ahead):
+    """Whether there is one look a boundary, and each goes as far as the one before or further, up to the text's end at most.
+
+    The end counts as one more byte, and 255 stands for more bytes.
+    """
+    ends = [place + over for place, over in zip(places, ahead)]
+    known = [end for end, over in zip(ends, ahead) if over < 255]
+    return len(ahead) == len(places) and ends[0] == 0 and known == sorted(known) and known[-1] <= len(data) + 1
+
+
 def compare_tiling(text, run, rules, record):
     """Compares what a run of the text by a definition that was read answers with itself: all follows from its pieces."""
     data = text.encode()
-    pieces, items, boundaries = json.loads(b",".join([b"[" + run.pieces, run.items, run.boundaries + b"]"]).decode())
+    lists = b",".join([run.pieces, run.items, run.boundaries, run.ahead])
+    pieces, items, boundaries, ahead = json.loads(b"[" + lists + b"]")
     record.add("runs")
     record.add("tiles", run.counts[0])
     record.add("errors", sum(item[0] == "err" for item in items))
     record.add("lexemes", sum(item[0] == "lex" for item in items))
     record.law("pieces follow one another", follow(pieces), f": {pieces}")
     record.same("items by pieces", items_by_pieces(data, pieces, boundaries), items)
-    record.same("boundaries by pieces", places_by_pieces(pieces), [place for place, _ in boundaries])
+    places = [place for place, _ in boundaries]
+    record.same("boundaries by pieces", places_by_pieces(pieces), places)
+    record.law("looks go on", look_further(data, places, ahead), f": {places}, {ahead}")
     record.same("counts by pieces", counts_by(pieces, items, boundaries), run.counts[:5])
     record.same("names of pieces", [rules[piece[0]]["name"] for piece in pieces], [piece[3] for piece in pieces])
 

@@ -1,15 +1,20 @@
-"""Runs programs whose requests for memory are refused in turn, and says how they met it."""
+"""Runs two programs whose requests for memory are refused in turn, and says how they met it. ../refuse-memory starts it."""
 import json
 import multiprocessing
 import os
 import shlex
+import shutil
 import subprocess
+import sys
+import tempfile
 from collections import Counter
 
 from calls import CALLS
 from driver import TOP, one_line, program
 
 EXAMPLES = os.path.join(TOP, "examples")
+
+ENGINE = os.path.join(TOP, "crates", "lrlex_program", "out", "lrlex_program")
 
 OUT_OF_MEMORY = b"Out of memory\n"
 
@@ -84,7 +89,7 @@ class Told(Run):
     def begins(self, lines, rest):
         """Whether these lines are the first of all. Where all is refused, an answer that memory ran out may be the last."""
         at = self.first_other(lines)
-        return at == len(lines) or (rest and lines[at:] == [b"out_of_memory null"] and self.lines[at].startswith(b"step "))
+        return at == len(lines) or (rest and lines[at:] == [b"out_of_memory null"] and self.line(at).startswith(b"step "))
 
     def again(self, lines):
         """Whether these are all lines, but for an answer that memory ran out, and what was lent as it was."""
@@ -98,14 +103,18 @@ class Told(Run):
                 return at
         return min(len(lines), len(self.lines))
 
+    def line(self, at):
+        """The line at this place, empty behind the last."""
+        return self.lines[at] if at < len(self.lines) else b""
+
     def lent(self, at):
         """The lines that tell of what was lent to the call of this line: of a document that is edited, and of rules.
 
         A step as a whole is lent a definition that it doesn't change.
         """
-        if self.lines[at].startswith(b"edit "):
+        if self.line(at).startswith(b"edit "):
             return self.last(at, b"document ", 4)
-        return self.last(at, b"rules ", 1) if self.lines[at].startswith(b"ids ") else []
+        return self.last(at, b"rules ", 1) if self.line(at).startswith(b"ids ") else []
 
     def last(self, at, key, count):
         """So many lines from the last with this key before the place on."""
@@ -133,8 +142,8 @@ def first_difference(got, want):
     return f"{len(got)} lines in place of {len(want)}"
 
 
-def examples(engine):
-    """The runs that examples/list has, by this program."""
+def examples():
+    """The runs that examples/list has."""
     path, runs = os.devnull, []
     for line in read(os.path.join(EXAMPLES, "list")).decode().splitlines():
         words = shlex.split(line, comments=True)
@@ -142,7 +151,7 @@ def examples(engine):
             path = words[0][len("input="):] or os.devnull
         elif words and words[0] == "check":
             name, status, *rest = words[1:]
-            runs.append(Example(name, int(status), [engine, *rest], os.path.join(EXAMPLES, path)))
+            runs.append(Example(name, int(status), [ENGINE, *rest], os.path.join(EXAMPLES, path)))
     return runs
 
 
@@ -200,3 +209,33 @@ def refuse(what, runs, library, scratch):
         flush=True,
     )
     return passed
+
+
+def wanting():
+    """Why it can't be tried. None where it can."""
+    if shutil.which("cc") is None:
+        return "there is no cc"
+    if not os.access(ENGINE, os.X_OK):
+        return "./lrlex hasn't built the program yet"
+    if not os.access(program(), os.X_OK):
+        return "rt run hasn't built crates/lrlex_replay yet"
+    return None
+
+
+def main():
+    """Refuses memory to both programs."""
+    why = wanting()
+    if why:
+        print(f"refused memory: skipped, {why}")
+        return 2
+    with tempfile.TemporaryDirectory() as scratch:
+        library = os.path.join(scratch, "refuse.so")
+        source = os.path.join(TOP, "tools", "refuse_memory.c")
+        subprocess.run(["cc", "-O2", "-shared", "-fPIC", "-o", library, source, "-ldl"], check=True)
+        of_examples = refuse("examples", examples(), library, scratch)
+        of_calls = refuse("cases with calls", calls(scratch), library, scratch)
+    return 0 if of_examples and of_calls else 1
+
+
+if __name__ == "__main__":
+    sys.exit(main())
