@@ -71,6 +71,7 @@ def the_same_by_tables_and_by_asking():
         same(want[0] is None, False, rules)
         for pairs in others:
             same(last_run(pairs, not edits), want, rules)
+    return f"{len(BOTH_WAYS)} rows"
 
 
 # How often the edits are made one after another, a text and the edits.
@@ -107,6 +108,7 @@ def chains_of_edits():
         same(len(again), len(edits), rules)
         for run, pairs, after in zip(again, others, texts):
             is_as_anew(run, runs_of(pairs)[0], after)
+    return f"{len(CHAINS)} rows"
 
 
 # An edit, two texts, whether it fits the first, and whether it makes the second of it.
@@ -127,6 +129,7 @@ def edits_that_fit_and_what_they_make():
         same(values(pairs, "unfit"), [] if fits else [list(edit[:2])], old)
         same(last_value(pairs, "text"), edited(old, edit) if fits else old, old)
         same(fits and last_value(pairs, "text") == new, makes, old)
+    return f"{len(FITTING)} rows"
 
 
 def state_rule(state, count, moves):
@@ -152,6 +155,7 @@ def small_states_share_the_rows():
     for rows, want in SHARED:
         pairs = told([case_of(within(rules, rows, WORK), ["definition"])])[0]
         same(last_value(pairs, "tables"), want, rows)
+    return f"{len(SHARED)} rows"
 
 
 def four_thousand_states_with_a_rule_each():

@@ -85,6 +85,7 @@ def documents_after_their_edits():
         # It is what lexing the text anew gives.
         same(last_value(pairs, "items"), last_value(run, "items"), name)
         same(last_value(pairs, "pieces"), last_value(run, "pieces"), name)
+    return f"{len(DOCUMENTS)} rows"
 
 
 # Places at which a key is typed.
@@ -98,6 +99,7 @@ def a_key_in_a_long_document_cuts_few_tiles_anew():
         same(values(pairs, "edit"), [True], key)
         anew = last_value(pairs, "document")[1]
         same(max(anew, 3), 3, key)
+    return f"{len(KEYS)} rows"
 
 
 # A text, bytes of it, spans, and the place and the position of each byte, and the text of each span. Positions count from 0, in
@@ -135,6 +137,7 @@ def places_positions_and_texts_at_any_number():
             same(places_text(values(pairs, "place")), places, text)
             of_spans = values(pairs, "told")[len(last_value(pairs, "items")):]
             same("".join(f" <{of_span[2]}>" for of_span in of_spans), texts, text)
+    return f"{len(AT_ANY_NUMBER)} rows"
 
 
 LETTERS = [part(0, "A", 0, 1, "a")]
@@ -174,6 +177,7 @@ def pieces_of_a_part():
         # by a run and by a document
         got = [pieces_text(pieces, text) for pieces in values(pairs, "pieces")]
         same(got, [want, want], name)
+    return f"{len(PARTS)} rows"
 
 
 def tests():

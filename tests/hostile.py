@@ -70,6 +70,7 @@ LONG = [
 def long_texts():
     for head, part, count, tail, want in LONG:
         same(read_text(repeated(head, part, count, tail)), want, part)
+    return f"{len(LONG)} rows"
 
 
 def names(head, before, count, behind, named=True):
@@ -150,6 +151,7 @@ MANY = [
 def many_names():
     for row, texts, wants in MANY:
         same(read_text("".join(texts)), ", ".join(words for want in wants for words in want), row)
+    return f"{len(MANY)} rows"
 
 
 def tests():

@@ -26,6 +26,7 @@ def look_ups_give_the_first():
         same(found[0], token, rules)
         same("" if found[1] is None else rule_text(found[1]), want, rules)
         same(found[2], name, rules)
+    return f"{len(BY_ID)} rows"
 
 
 # A name, and the pattern of the rule that is found.
@@ -37,6 +38,7 @@ def look_ups_by_name():
     pairs = told([case_of(read(THREE), ["find", [], names])])[0]
     got = [(name, rule and rule["re_str"]) for name, rule in values(pairs, "by_name")]
     same(got, BY_NAME, THREE)
+    return f"{len(BY_NAME)} rows"
 
 
 ONE = [part(4, "A", 2, 1, "a)|(b", [1, "Pop"])]
@@ -69,6 +71,7 @@ def two_rules_of_one_name():
     same(values(pairs, "ids"), [sets for _, _, sets, _ in IDS], "two rules A")
     got = [rules_text(rules) for rules in values(pairs, "rules")]
     same(got, [rules for _, _, _, rules in IDS], "two rules A")
+    return f"{len(IDS)} rows"
 
 
 def tests():

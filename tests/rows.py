@@ -246,34 +246,36 @@ def case_of_row(row):
 
 
 def hold(rows):
-    """All these rows hold."""
+    """All these rows hold. Gives how many they are."""
     for row, pairs in zip(rows, told([case_of_row(row) for row in rows])):
         holds(row, pairs)
+    return f"{len(rows)} rows"
 
 
 def runs_after_an_edit():
-    hold(AFTER_AN_EDIT)
+    return hold(AFTER_AN_EDIT)
 
 
 def tiles_cut_anew():
-    hold(CUT_ANEW)
+    return hold(CUT_ANEW)
 
 
 def searches_of_rules_without_a_table():
-    hold(SEARCHED)
+    return hold(SEARCHED)
 
 
 def which_rules_have_a_table():
-    hold(TABLES)
+    return hold(TABLES)
 
 
 def long_looks_in_vain():
-    hold(IN_VAIN)
+    return hold(IN_VAIN)
 
 
 def a_million_pushes_and_twenty_million_tiles():
     for row in LONG:
         hold([row])
+    return f"{len(LONG)} rows"
 
 
 def tests():

@@ -59,6 +59,7 @@ def lines_and_columns_of_lexemes():
     for rules, text, want in PLACES:
         for pairs in lexers(rules, text, []):
             same(places_text(pairs), want, text)
+    return f"{len(PLACES)} rows"
 
 
 def letters(count):
@@ -96,6 +97,7 @@ def whole_lines_of_many():
     said = [words for count in range(71) for words in said_of_line(count)]
     for pairs in lexers(STEP_RULES, staircase(71), SPANS):
         same(places_text(pairs), ", ".join(said + SAID_OF_SPANS), "a staircase")
+    return f"{len(said)} lexemes, {len(SPANS)} spans"
 
 
 def a_span_past_the_text_fits_nothing():
