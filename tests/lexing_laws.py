@@ -1,0 +1,367 @@
+"""Laws that hold of all rule texts, texts, edits and maps of ids, and that need no expected answers."""
+import json
+
+from places import counted, fits, told
+from trials import IDS
+
+
+def raw(line, key):
+    """The value of the line with this key, as it stands there."""
+    found, _, value = line.partition(b" ")
+    if found != key:
+        raise AssertionError(f"{found!r} in place of {key!r}")
+    return value
+
+
+def value(line, key):
+    """The value of the line with this key."""
+    return json.loads(raw(line, key).decode())
+
+
+def values(lines, key):
+    """The values of the lines, which all have this key."""
+    return json.loads("[" + b",".join(raw(line, key) for line in lines).decode() + "]")
+
+
+class Run:
+    """What a run answers, as it stands in its five lines."""
+
+    def __init__(self, lines):
+        counts, items, boundaries, ahead, pieces = lines
+        self.counts = value(counts, b"run")
+        self.items, self.boundaries = raw(items, b"items"), raw(boundaries, b"boundaries")
+        self.ahead, self.pieces = raw(ahead, b"ahead"), raw(pieces, b"pieces")
+
+
+def runs_of(lines):
+    """The runs of these lines."""
+    return [Run(lines[at:at + 5]) for at in range(0, len(lines), 5)]
+
+
+def one_run(lines):
+    """The one run of these lines."""
+    (run,) = runs_of(lines)
+    return run
+
+
+# A run by itself
+
+
+def follow(pieces):
+    """Whether the pieces follow one another from 0, none of them empty, each with its text."""
+    end = 0
+    for piece in pieces:
+        if len(piece) != 4 or piece[1] != end or piece[2] <= 0:
+            return False
+        end += piece[2]
+    return True
+
+
+def items_by_pieces(data, pieces, boundaries):
+    """The lexemes of the named pieces, each with its rule's place as its id, and an error where the pieces end before the text.
+
+    The error's state is that on top of the last boundary's stack.
+    """
+    items = [["lex", rule, start, length] for rule, start, length, name in pieces if name is not None]
+    end = pieces[-1][1] + pieces[-1][2] if pieces else 0
+    if end < len(data):
+        items.append(["err", end, boundaries[-1][1][-1][1]])
+    return items
+
+
+def places_by_pieces(pieces):
+    """The places of the boundaries: 0, and behind each piece."""
+    return [0] + [start + length for _, start, length, _ in pieces]
+
+
+def counts_by(pieces, items, boundaries):
+    """Tiles, items, the most entries of a stack and those of the last; tiles that were cut anew, which are all."""
+    entries = [len(stack) for _, stack in boundaries]
+    return [len(pieces), len(items), max(entries), entries[-1], len(pieces)]
+
+
+def look_further(data, places, ahead):
+    """Whether there is one look a boundary, and each goes as far as the one before or further, up to the text's end at most.
+
+    The end counts as one more byte, and 255 stands for more bytes.
+    """
+    ends = [place + over for place, over in zip(places, ahead)]
+    known = [end for end, over in zip(ends, ahead) if over < 255]
+    return len(ahead) == len(places) and ends[0] == 0 and known == sorted(known) and known[-1] <= len(data) + 1
+
+
+def compare_tiling(text, run, rules, record):
+    """Compares what a run of the text by a definition that was read answers with itself: all follows from its pieces."""
+    data = text.encode()
+    lists = b",".join([run.pieces, run.items, run.boundaries, run.ahead])
+    pieces, items, boundaries, ahead = json.loads(b"[" + lists + b"]")
+    record.add("runs")
+    record.add("tiles", run.counts[0])
+    record.add("errors", sum(item[0] == "err" for item in items))
+    record.add("lexemes", sum(item[0] == "lex" for item in items))
+    record.law("pieces follow one another", follow(pieces), f": {pieces}")
+    record.same("items by pieces", items_by_pieces(data, pieces, boundaries), items)
+    places = [place for place, _ in boundaries]
+    record.same("boundaries by pieces", places_by_pieces(pieces), places)
+    record.law("looks go on", look_further(data, places, ahead), f": {places}, {ahead}")
+    record.same("counts by pieces", counts_by(pieces, items, boundaries), run.counts[:5])
+    record.same("names of pieces", [rules[piece[0]]["name"] for piece in pieces], [piece[3] for piece in pieces])
+
+
+# A rule text
+
+
+def find(rules, member, wanted):
+    """The first rule whose member is this; none where that is none."""
+    return next((rule for rule in rules if wanted is not None and rule[member] == wanted), None)
+
+
+def name_of(rules, token):
+    """The name of the first named rule with the id."""
+    named = [rule["name"] for rule in rules if rule["tok_id"] == token and rule["name"] is not None]
+    return named[0] if named else None
+
+
+def compare_finds(rules, lines, record):
+    """Compares look-ups with the rules."""
+    by_id = values([line for line in lines if line.startswith(b"by_id ")], b"by_id")
+    by_name = values(lines[len(by_id):], b"by_name")
+    want = [[token, find(rules, "tok_id", token), name_of(rules, token)] for token, _, _ in by_id]
+    record.same("look-ups by id", want, by_id)
+    record.same("look-ups by name", [[name, find(rules, "name", name)] for name, _ in by_name], by_name)
+    record.law("look-ups are as many as were asked for", len(by_id) == len(IDS) and len(by_id) + len(by_name) == len(lines))
+
+
+def compare_rules(text, rules, record):
+    """Compares the ids of the rules that were read with their places, and their names with one another and with the text."""
+    data = text.encode()
+    named = [rule for rule in rules if rule["name"] is not None]
+    names = [rule["name"] for rule in named]
+    record.same("ids are places", list(range(len(rules))), [rule["tok_id"] for rule in rules])
+    record.law("names are distinct", len(set(names)) == len(names), f": {names}")
+    stand = [data[slice(*rule["name_span"])].decode(errors="replace") for rule in named]
+    record.same("names stand in the rule text", names, stand)
+
+
+def compare_faults(text, line, record):
+    """Looks at the faults of a rule text: each names places, and each place is in the text."""
+    data, faults = text.encode(), value(line, b"faults")
+    placed = [bool(fault["spans"]) and all(fits(data, *span) for span in fault["spans"]) for fault in faults]
+    record.add("refused")
+    record.add("faults", len(faults))
+    record.law("faults have places in the text", placed and all(placed), f": {faults}")
+
+
+def compare_reading(reading, first, again, record):
+    """Looks at what reading a rule text gave, and compares it with what it gives again."""
+    text = reading.first.rules.text
+    if first[None]:
+        record.same("read again", first[None], again[None])
+        return compare_faults(text, first[None][0], record)
+    record.add("accepted")
+    record.same("read again", first["definition"], again.get("definition"))
+    tables, _, rules = first["definition"]
+    rules = value(rules, b"rules")
+    record.same("each rule is asked", [0, 0, len(rules)], value(tables, b"tables"))
+    compare_rules(text, rules, record)
+    compare_finds(rules, first["find"], record)
+    compare_tiling(reading.text, one_run(first["run"]), rules, record)
+
+
+# Ways of finding winners
+
+
+def compare_ways(trial, answers, record):
+    """What wins by tables is what wins by asking each rule, at each place of a text."""
+    asking = answers["asking"]
+    for name, lines in asking.items():
+        if isinstance(name, tuple) and name[0] == "from":
+            record.at = name[1]
+            record.add("places")
+            for way in ["tabled", "mixed"]:
+                # all but the counts and how far the tiles looked
+                got = answers[way][name]
+                want = lines[1:3] + lines[4:]
+                record.same(f"{way} and asking", want, got[1:3] + got[4:])
+    record.at = None
+
+
+def count_sizes(rules, answers, record):
+    """Counts the rules and their tables."""
+    tables, rows, untabled = value(answers["tabled"]["definition"][0], b"tables")
+    record.add("rules", len(rules))
+    record.add("tables", tables)
+    record.add("rows", rows)
+    record.add("untabled", untabled)
+    record.add("untabled_mixed", value(answers["mixed"]["definition"][0], b"tables")[2])
+
+
+# A lexer, and a part of a text
+
+
+def compare_lexer(trial, lines, run, record):
+    """A lexer has the items of a run, and tells texts, lines and places of these, of any spans and of any bytes."""
+    data = trial.run_text.encode()
+    record.same("items of a lexer", run.items, raw(lines[0], b"items"))
+    spans = [item_span(item) for item in json.loads(run.items)] + trial.spans
+    record.add("counted", len(spans) + len(trial.bytes))
+    got = values(lines[1:len(spans) + 1], b"told")
+    record.same("what a lexer tells", [told(data, *span) for span in spans], got)
+    got = values(lines[len(spans) + 1:], b"place")
+    record.same("places of a lexer", [counted(data, byte) for byte in trial.bytes], got)
+
+
+def item_span(item):
+    """Where an item starts and ends."""
+    return [item[2], item[2] + item[3]] if item[0] == "lex" else [item[1], item[1]]
+
+
+def compare_part(trial, lines, run, record):
+    """The pieces of a part, by a run and by a document, are those of the run that have a byte in it."""
+    start, end = trial.part
+    pieces = [piece for piece in json.loads(run.pieces) if start < end and piece[1] < end and piece[1] + piece[2] > start]
+    record.same("pieces of a part", [pieces, pieces], values(lines, b"pieces"))
+
+
+# Edits
+
+
+class Shown:
+    """What a document shows, as it stands in its four lines."""
+
+    def __init__(self, lines):
+        self.lines = lines
+        counts, text, items, pieces = lines
+        self.tiles, self.lexed, self.asked = value(counts, b"document")
+        self.text, self.items, self.pieces = value(text, b"text"), raw(items, b"items"), raw(pieces, b"pieces")
+
+
+def compare_places(step, line, record):
+    """Compares the places that a document tells with those that are counted by hand."""
+    record.add("counted", len(step.bytes))
+    expected = [counted(step.after, byte) for byte in step.bytes]
+    record.same("places after an edit", expected, value(line, b"places"))
+
+
+def compare_shown(shown, text, anew, record):
+    """A document shows its text and what lexing it anew gives."""
+    record.same("text of a document", text, shown.text)
+    record.same("items of a document", anew.items, shown.items)
+    record.same("pieces of a document", anew.pieces, shown.pieces)
+    record.same("tiles of a document", anew.counts[0], shown.tiles)
+
+
+def compare_relexed(shown, anew, again, record):
+    """A run after an edit is that of its text anew, and took no more; the document's counts are its counts."""
+    record.same("items after an edit", anew.items, again.items)
+    record.same("pieces after an edit", anew.pieces, again.pieces)
+    record.same("boundaries after an edit", anew.boundaries, again.boundaries)
+    record.same("counts after an edit", anew.counts[:4], again.counts[:4])
+    few = again.counts[4] <= anew.counts[4] and again.counts[5] <= anew.counts[5]
+    record.law("no more searches and tiles than anew", few, f": {anew.counts}, {again.counts}")
+    counts = [again.counts[0], again.counts[4], again.counts[5]]
+    record.same("counts of a document", counts, [shown.tiles, shown.lexed, shown.asked])
+
+
+def compare_unfit(before, shown, record):
+    """An edit that doesn't fit changes nothing."""
+    record.add("unfit")
+    record.same("a document after no edit", before.lines, shown.lines)
+
+
+def compare_edits(trial, answers, record):
+    """Compares a document and a run after each edit with the run of the new text."""
+    lines = answers["document"]
+    runs = iter(runs_of(answers["edited runs"]))
+    before, anew = Shown(lines[:4]), one_run(answers["anew", None])
+    compare_shown(before, trial.edit_text, anew, record)
+    compare_relexed(before, anew, next(runs), record)
+    for number, step in enumerate(trial.edits):
+        record.at = number
+        fit, *four, places = lines[4 + 6 * number:10 + 6 * number]
+        shown = Shown(four)
+        record.same("whether an edit fits", step.fits, value(fit, b"edit"))
+        if step.fits:
+            anew = one_run(answers["anew", number])
+            record.add("edits")
+            record.add("tiles_after", shown.tiles)
+            record.add("tiles_anew", shown.lexed)
+            compare_shown(shown, step.after.decode(), anew, record)
+            compare_relexed(shown, anew, next(runs), record)
+        else:
+            compare_unfit(before, shown, record)
+        compare_places(step, places, record)
+        before = shown
+    record.at = None
+    record.law("no more runs than edits", next(runs, None) is None and len(lines) == 4 + 6 * len(trial.edits))
+
+
+# Token ids from a map
+
+
+def sets_by(rules, ids, spanned):
+    """The names of the map that no rule has, and those of rules that the map lacks; none where there are none."""
+    names = [rule["name"] for rule in rules]
+    lacking = sorted(name for name in ids if name not in names)
+    unused = [rule for rule in rules if rule["name"] is not None and rule["name"] not in ids]
+    if spanned:
+        unused = [[rule["name"], rule["name_span"]] for rule in unused]
+    else:
+        unused = sorted(rule["name"] for rule in unused)
+    return [lacking or None, unused or None]
+
+
+def rules_by(rules, ids):
+    """The rules, each named one with the map's id."""
+    return [{**rule, "tok_id": ids.get(rule["name"]) if rule["name"] is not None else rule["tok_id"]} for rule in rules]
+
+
+def items_by_map(run, ids):
+    """The items once the ids are the map's: the lexemes of the named pieces up to one whose name has no id."""
+    items = []
+    for _, start, length, name in json.loads(run.pieces):
+        if name is not None and name not in ids:
+            return items + [["err", start, None]]
+        if name is not None:
+            items.append(["lex", ids[name], start, length])
+    return items + [item for item in json.loads(run.items)[-1:] if item[0] == "err"]
+
+
+def compare_mapping(trial, rules, answers, run, record):
+    """Compares what setting ids tells, and what comes of it, with the run before."""
+    (line,) = answers["ids"]
+    sets = sets_by(rules, trial.ids, trial.spanned)
+    record.add("maps")
+    record.add("lacking", len(sets[0] or []))
+    record.add("unused", len(sets[1] or []))
+    record.same("names without a counterpart", sets, value(line, b"ids"))
+    mapped = rules_by(rules, trial.ids)
+    record.same("rules by a map", mapped, value(answers["mapped definition"][2], b"rules"))
+    compare_finds(mapped, answers["mapped find"], record)
+    after = one_run(answers["mapped run"])
+    record.same("items by a map", items_by_map(run, trial.ids), json.loads(after.items))
+
+
+# All of a case
+
+
+def compare_trial(trial, answers, record):
+    """Holds to the laws what came of a case: for each of its definitions, the lines of each step."""
+    answers = list(answers)
+    ways = dict(zip(["tabled", "mixed"], answers[-2:]), asking=answers[0])
+    record.add("cases")
+    for reading, first, again in zip(trial.readings, answers[::2], answers[1::2]):
+        compare_reading(reading, first, again, record)
+    if any(way[None] for way in ways.values()):
+        return record.law("all ways refuse the rule text", all(way[None] for way in ways.values()))
+    rules = value(ways["asking"]["definition"][2], b"rules")
+    record.same("rules by each way", 1, len({tuple(way["definition"][1:]) for way in ways.values()}))
+    count_sizes(rules, ways, record)
+    compare_ways(trial, ways, record)
+    asked = ways[trial.run_way]
+    run = one_run(asked["one run"])
+    compare_tiling(trial.run_text, run, rules, record)
+    compare_lexer(trial, asked["lexer"], run, record)
+    compare_part(trial, asked["part"], run, record)
+    compare_edits(trial, ways[trial.edit_way], record)
+    compare_mapping(trial, rules, ways["asking"], run, record)

@@ -1,0 +1,165 @@
+"""What is tried in one case of the laws: a rule text, texts, edits and a map by chance, and the steps that ask all of it."""
+from chance import Chance
+from driver import case
+from made import UNKNOWN, any_ids, rule_text, steps, text, with_mistake
+
+# How many mistakes are made in each rule text, by themselves.
+MISTAKES = 4
+
+# How the definitions are made that find winners in different ways: each rule is asked; by tables, as far as the usual budget
+# goes; and by tables later, as far as a small budget goes.
+WAYS = {
+    "asking": {"budget": [0, 0]},
+    "tabled": {},
+    "mixed": {"budget": [0, 0], "again": [20, 1_000_000]},
+}
+
+# Ids that are looked for; no rule has the last ones.
+IDS = list(range(12))
+
+
+def any_way(chance):
+    """One of the ways, mostly that by the usual tables."""
+    return {0: "asking", 1: "mixed"}.get(chance.below(6), "tabled")
+
+
+def any_span(chance, most):
+    """Two numbers below this."""
+    return [chance.below(most), chance.below(most)]
+
+
+def places_of(text):
+    """The bytes at which the characters of a text begin."""
+    places, at = [], 0
+    for c in text:
+        places.append(at)
+        at += len(c.encode())
+    return places
+
+
+class Steps:
+    """The steps of one definition, each under a name by which its lines are found."""
+
+    def __init__(self, rules, way):
+        self.rules, self.way, self.names, self.steps = rules, way, [], []
+
+    def ask(self, name, *step):
+        """Adds a step."""
+        self.names.append(name)
+        self.steps.append(list(step))
+
+    def case(self):
+        """The case of these steps."""
+        return case(self.steps, self.rules.text, self.rules.flags, **WAYS[self.way])
+
+    def answers(self, lines):
+        """The lines of each step by its name. Those before the first step, as faults, stand under None."""
+        parts = [[]]
+        for line in lines:
+            if line.startswith(b"step "):
+                parts.append([])
+            else:
+                parts[-1].append(line)
+        if len(parts) not in (1, len(self.names) + 1):
+            raise AssertionError(f"{len(parts) - 1} of {len(self.names)} steps were made")
+        return dict(zip([None, *self.names], parts))
+
+
+def definition_of(rules, way):
+    """Asks what the definition of a rule text is."""
+    asked = Steps(rules, way)
+    asked.ask("definition", "definition")
+    return asked
+
+
+def reading(rules, text, looked_for):
+    """Asks what a rule text gives, a run of a text, and look-ups."""
+    asked = definition_of(rules, "asking")
+    asked.ask("run", "run", text, [])
+    asked.ask("find", "find", IDS, looked_for)
+    return asked
+
+
+class Reading:
+    """What a rule text gives with a run of a text, and what it gives again."""
+
+    def __init__(self, first, text):
+        self.first, self.text = first, text
+        self.again = definition_of(first.rules, "asking")
+
+
+class Trial:
+    """The case with this number."""
+
+    def __init__(self, seed, number, edits):
+        chance = Chance(seed, number)
+        self.seed, self.number = seed, number
+        self.rules = rule_text(chance)
+        self.read_text = text(chance, 40)
+        self.short = text(chance, 40)
+        self.run_way = any_way(chance)
+        self.run_text = text(chance, 100)
+        self.ids = any_ids(chance, self.rules.names)
+        self.edit_way = any_way(chance)
+        self.edit_text = text(chance, chance.below(180) + 20)
+        self.edits = steps(chance, self.edit_text, edits)
+        self.mistakes = [(with_mistake(chance, self.rules), text(chance, 40)) for _ in range(MISTAKES)]
+        self.choose(chance)
+        self.ask()
+
+    def choose(self, chance):
+        """Which spans, bytes and parts are asked for, and by which calls."""
+        most = len(self.run_text.encode()) + 4
+        self.spans = [any_span(chance, most) for _ in range(3)]
+        self.bytes = any_span(chance, most)
+        self.part = any_span(chance, most)
+        self.of_run = chance.one_in(2)
+        self.spanned = chance.one_in(2)
+
+    def ask(self):
+        """Makes the steps of each definition."""
+        looked_for = [name for name in self.rules.names if name is not None] + UNKNOWN
+        self.ways = {way: definition_of(self.rules, way) for way in ["tabled", "mixed"]}
+        self.ways["asking"] = reading(self.rules, self.read_text, looked_for)
+        for asked in self.ways.values():
+            self.ask_places(asked)
+        self.ask_run(self.ways[self.run_way])
+        self.ask_edits(self.ways[self.edit_way])
+        self.ask_mapping(self.ways["asking"])
+        self.readings = [Reading(self.ways["asking"], self.read_text)]
+        for rules, read_text in self.mistakes:
+            self.readings.append(Reading(reading(rules, read_text, ["R0", "R1", "ALL", ""]), read_text))
+
+    def ask_places(self, asked):
+        """Asks for a run from each place of the short text on."""
+        data = self.short.encode()
+        for place in places_of(self.short):
+            asked.ask(("from", place), "run", data[place:].decode(), [])
+
+    def ask_run(self, asked):
+        """Asks for a run, a lexer and a part of a text."""
+        asked.ask("one run", "run", self.run_text, [])
+        asked.ask("lexer", "lexer", self.run_text, self.of_run, self.spans, self.bytes)
+        asked.ask("part", "part", self.run_text, *self.part)
+
+    def ask_edits(self, asked):
+        """Asks for a document and runs through the edits, and for a run of each of the texts after them."""
+        asked.ask("document", "document", self.edit_text, [step.as_list() for step in self.edits])
+        made = [step.as_list()[:3] for step in self.edits if step.fits]
+        asked.ask("edited runs", "run", self.edit_text, made)
+        asked.ask(("anew", None), "run", self.edit_text, [])
+        for number, step in enumerate(self.edits):
+            if step.fits:
+                asked.ask(("anew", number), "run", step.after.decode(), [])
+
+    def ask_mapping(self, asked):
+        """Sets the ids of the map, and asks for the definition, a run and look-ups once more."""
+        asked.ask("ids", "ids", self.ids, self.spanned)
+        asked.ask("mapped definition", "definition")
+        asked.ask("mapped run", "run", self.run_text, [])
+        asked.ask("mapped find", "find", IDS, [])
+
+    def asked(self):
+        """All steps, of each definition by itself."""
+        readings = [asked for reading in self.readings for asked in (reading.first, reading.again)]
+        return readings + [self.ways["tabled"], self.ways["mixed"]]
