@@ -165,11 +165,10 @@ impl<'lexer, 'input, L: LexerTypes<LexErrorT = LRLexError>> LexRun<'lexer, 'inpu
             (definition_of L.StorageT.number self.entry.definition)
             (lexer_text lexer) (items_by L.StorageT.number L.LexemeT.seen (lexer_items lexer))) }
     {
-        let LexRun { text, items, .. } = self;
-        let input = Input::new(alloc, text)?;
+        let input = Input::new(alloc, self.text)?;
         Ok(LRNonStreamingLexer {
             input,
-            lexemes: items,
+            lexemes: self.lexed.into_items(),
             phantom: PhantomData,
         })
     }
