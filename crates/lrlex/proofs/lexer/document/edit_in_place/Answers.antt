@@ -1,4 +1,4 @@
-use Rattle.std.proofs.Common.{◌≡◌, ◌+◌, ◌∙◌, ap, ap₂, arith, length, refl, slice_range, subst, sym, IsCharBoundary}
+use Rattle.std.proofs.Common.{◌≡◌, ◌+◌, ◌∙◌, ap, ap₂, length, refl, slice_range, subst, sym}
 use Rattle.std.specs.String.{string_bytes}
 use Rattle.lrlex_base.specs.Edits.{edited}
 use Rattle.lrlex_base.specs.Spans.{span}
