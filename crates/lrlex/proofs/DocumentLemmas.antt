@@ -1,43 +1,35 @@
--- Edits that fit: they are refused for want of memory alone, and can be undone. What is as it was before them.
-use Rattle.std.proofs.Common.{◌≡◌, ℕ, ◌+◌, ◌-◌, ◌≤◌, List, ◌++◌, Result, Ok, Err, IfErr, length, take, drop, slice_range, refl, sym, ap, ap₂, ◌∙◌, subst, arith, append_assoc, length-append, take-append-drop, IsCharBoundary, IsUtf8}
+-- Edits that fit, and that they can be undone. What is known of a text after an edit, or after its refusal.
+use Rattle.std.proofs.Common.{◌≡◌, ℕ, ◌+◌, ◌-◌, List, ◌++◌, Result, Ok, Err, OnOk, OnErr, length, take, drop, slice_range, refl, sym, ap, ap₂, ◌∙◌, subst, arith, append_assoc, length-append, take-append-drop, IsCharBoundary, IsUtf8}
 use Rattle.std.proofs.lemmas.List.{drop-drop, drop_at, length-take-le, take_at}
 use Rattle.std.proofs.lemmas.Str.{IsCharBoundary-at_seam, IsUtf8-append, IsUtf8-drop}
-use Rattle.std.specs.Prelude.{◌↔◌, IsErrAnd}
 use Rattle.lrlex_base.specs.Edits.{edited}
-use Rattle.lrlex_base.specs.Spans.{Fits, span}
-use Rattle.lrlex_base.specs.declared.spans.Span.{Span as TheSpan}
 use Rattle.lrlex_base.specs.Places.{AreBreaksOf, Breaks}
 use Rattle.lrlex_base.specs.Seen.{Seen}
+use Rattle.lrlex_base.specs.Spans.{Fits, Span, span}
+use Rattle.lrlex_base.specs.declared.spans.Span.{Span as TheSpan}
 use Rattle.lrlex_boundaries.specs.Boundaries.{Boundary}
+use Rattle.std.specs.String.{string_bytes}
+use Rattle.lrlex.specs.Asked.{asks_by}
+use Rattle.lrlex.specs.Editing.{IsLexedBy, WasEdited, WasLeft}
+use Rattle.lrlex.specs.ItemLaws.{HaveLaws}
 use Rattle.lrlex.specs.Kept.{LooksAhead}
 use Rattle.lrlex.specs.Nearest.{FitsAt}
-use Rattle.lrlex.specs.Ran.{Ran, ran}
 use Rattle.lrlex.specs.Reach.{IsRun}
-use Rattle.lrlex.specs.Views.{definition_of, items_by}
+use Rattle.lrlex.specs.Relexed.{AreCountsOf}
+use Rattle.lrlex.specs.Views.{definition_by, items_by}
 use Rattle.lrlex.specs.declared.errors.LRLexError.{LRLexError}
-use Rattle.lrlex.specs.declared.lexer.definition.LRNonStreamingLexerDef.{LRNonStreamingLexerDef}
-use Rattle.lrlex.specs.declared.lexer.document.EditError.{EditError}
-use Rattle.lrlex.specs.declared.lexer.document.EditError.TheVariants.{DoesNotFit, OutOfMemory}
+use Rattle.lrlex.specs.declared.lexer.definition.RuleTable.{RuleTable}
+use Rattle.lrlex.specs.declared.lexer.document.LexedText.{LexedText}
+use Rattle.lrlex.proofs.InPlaceLemmas.{counts_moved}
+use Rattle.lrlex.proofs.ItemLemmas.{have_laws}
 
-pub refused_by_memory : {A : Type 0} (r : Result A EditError) (text : List ℕ) (from to : ℕ) → IsErrAnd r (λ e. e ≡ OutOfMemory) → from ≤ to →
-    (s : TheSpan) → s.start ≡ from → s.end ≡ to → Fits text s → IfErr r (λ e. e ≡ DoesNotFit ↔ ¬ (FitsAt text from to))
-refused_by_memory (Ok x) text from to h le s a b fits = tt
-refused_by_memory (Err e) text from to h le s a b fits = (
-  λ is. cc,
-  λ un. absurd (un (record {
-    in_order = le;
-    begins = subst (IsCharBoundary text) a fits.0;
-    ends = subst (IsCharBoundary text) b fits.1;
-  })),
-)
-
--- a span that fits
-pub fits_at : (text : List ℕ) (from to : ℕ) → from ≤ to → (s : TheSpan) → s.start ≡ from → s.end ≡ to → Fits text s → FitsAt text from to
-fits_at text from to le s a b fits = record { in_order = le; begins = subst (IsCharBoundary text) a fits.0; ends = subst (IsCharBoundary text) b fits.1 }
-
--- where it fits, memory is what was missing
-pub refused_fitting : (e : EditError) (text : List ℕ) (from to : ℕ) → e ≡ OutOfMemory → FitsAt text from to → (e ≡ DoesNotFit ↔ ¬ (FitsAt text from to))
-refused_fitting e text from to h fits = (λ is. cc, λ un. absurd (un fits))
+-- a span that fits, by the numbers of its ends
+pub span_fits : (text : List ℕ) (s : TheSpan) (from to : ℕ) → from ≡ s.start → to ≡ s.end → Fits text s → FitsAt text from to
+span_fits text s from to a b fits = record {
+  in_order = omega (arith, a, b, s.in_order);
+  begins = subst (IsCharBoundary text) (sym a) fits.0;
+  ends = subst (IsCharBoundary text) (sym b) fits.1;
+}
 
 module _ (was put : List ℕ) (from to : ℕ) (fits : FitsAt was from to) where
   front_len : length (take from was) ≡ from
@@ -71,12 +63,28 @@ module _ (was put : List ℕ) (from to : ℕ) (fits : FitsAt was from to) where
 
 -- ---- what is as it was
 
-pub still_known : {L X S E P Q : Type 0} (number : S → ℕ) (seen : X → Seen S) (d : LRNonStreamingLexerDef L X S E P Q) (breaks : Breaks) (text text' : List ℕ) (found found' : List (Result X LRLexError))
-    (bounds bounds' : List Boundary) (numbers numbers' : List ℕ) → text' ≡ text → found' ≡ found → bounds' ≡ bounds → numbers' ≡ numbers →
-    AreBreaksOf text breaks × ∥ LooksAhead (definition_of number d) text bounds numbers ∥₁ × ∥ IsRun (definition_of number d) text (items_by number seen found) bounds ∥₁ →
-    AreBreaksOf text' breaks × ∥ LooksAhead (definition_of number d) text' bounds' numbers' ∥₁ × ∥ IsRun (definition_of number d) text' (items_by number seen found') bounds' ∥₁
-still_known number seen d breaks text text' found found' bounds bounds' numbers numbers' is_text is_found is_bounds is_numbers h = rw (is_text, is_found, is_bounds, is_numbers) h
+still_known : {S X : Type 0} (number : S → ℕ) (seen : X → Seen S) (d : RuleTable S) (breaks breaks' : Breaks) (text text' : List ℕ) (found found' : List (Result X LRLexError))
+    (bounds bounds' : List Boundary) (numbers numbers' : List ℕ) → breaks' ≡ breaks → text' ≡ text → found' ≡ found → bounds' ≡ bounds → numbers' ≡ numbers →
+    AreBreaksOf text breaks × ∥ LooksAhead (definition_by number d) text bounds numbers ∥₁ × ∥ IsRun (definition_by number d) text (items_by number seen found) bounds ∥₁ →
+    AreBreaksOf text' breaks' × ∥ LooksAhead (definition_by number d) text' bounds' numbers' ∥₁ × ∥ IsRun (definition_by number d) text' (items_by number seen found') bounds' ∥₁
+still_known number seen d breaks breaks' text text' found found' bounds bounds' numbers numbers' is_breaks is_text is_found is_bounds is_numbers h = rw (is_breaks, is_text, is_found, is_bounds, is_numbers) h
 
-pub still_same : {D X : Type 0} (d : D) (text text' : List ℕ) (found found' : List (Result X LRLexError)) (bounds bounds' : List Boundary) (numbers numbers' : List ℕ) (asked anew : ℕ) (v : Ran D X) →
-    text' ≡ text → found' ≡ found → bounds' ≡ bounds → numbers' ≡ numbers → ran d text found bounds numbers asked anew ≡ v → ran d text' found' bounds' numbers' asked anew ≡ v
-still_same d text text' found found' bounds bounds' numbers numbers' asked anew v is_text is_found is_bounds is_numbers h = rw (is_text, is_found, is_bounds, is_numbers) h
+-- ---- what an edit leaves, and its refusal
+
+module _ {S X : Type 0} (number : S → ℕ) (seen : X → Seen S) (d : RuleTable S) (removed : Span) (put : List ℕ) (old new : LexedText X) where
+  pub still_lexed : {A E : Type 0} (r : Result A E) → OnOk r (WasEdited number seen d removed put old new) → OnErr r (WasLeft old new) → IsLexedBy number seen d old → IsLexedBy number seen d new
+  still_lexed (Ok x) made kept known = (made.breaks, ∣ made.looks ∣₁, ∣ made.run ∣₁)
+  still_lexed (Err e) made kept known =
+      still_known number seen d old.newlines new.newlines (string_bytes old.text) (string_bytes new.text) old.lexed.items.items new.lexed.items.items old.lexed.boundaries new.lexed.boundaries
+      old.lexed.ahead.items new.lexed.ahead.items kept.newlines kept.text kept.found.items kept.found.boundaries kept.found.ahead known
+
+  pub edited_laws : {A E : Type 0} (r : Result A E) → OnOk r (WasEdited number seen d removed put old new) →
+      OnOk r (HaveLaws (definition_by number d) (string_bytes new.text) (items_by number seen new.lexed.items.items) new.lexed.boundaries)
+  edited_laws (Ok x) made = have_laws _ _ _ _ made.run
+  edited_laws (Err e) made = tt
+
+  pub edited_counts : {A E : Type 0} (r : Result A E) (bounds : List Boundary) (numbers : List ℕ) → OnOk r (WasEdited number seen d removed put old new) →
+      old.lexed.boundaries ≡ bounds → old.lexed.ahead.items ≡ numbers →
+      OnOk r (AreCountsOf (definition_by number d) (asks_by d (string_bytes new.text)) bounds numbers removed put (string_bytes new.text) new.lexed.boundaries new.lexed.asked new.lexed.anew)
+  edited_counts (Ok x) bounds numbers made is_bounds is_numbers = counts_moved (asks_by d) is_bounds is_numbers refl refl made.counts
+  edited_counts (Err e) bounds numbers made is_bounds is_numbers = tt

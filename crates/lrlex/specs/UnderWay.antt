@@ -52,6 +52,14 @@ pub record HasFinished {X : Type 0} (p : Progress X) (cut : ℕ) (r : Lexed X) :
   pub ahead : r.ahead.items ≡ p.ahead.items
   pub anew : r.anew ≡ cut
 
+-- the same was found, at the same cost
+pub record HasSame {X : Type 0} (old new : Lexed X) : Type 0 where
+  pub items : new.items.items ≡ old.items.items
+  pub boundaries : new.boundaries ≡ old.boundaries
+  pub ahead : new.ahead.items ≡ old.ahead.items
+  pub asked : new.asked ≡ old.asked
+  pub anew : new.anew ≡ old.anew
+
 -- All old boundaries before the cursor stand before the place, as it was before the edit; where a meeting was found, the one at
 -- the cursor stands there, with the same stack.
 pub record TellsMeeting (old : List Boundary) (removed : Span) (put : List ℕ) (at : ℕ) (entries : List (ℕ × ℕ)) (next : ℕ) (found : Bool) : Type 0 where

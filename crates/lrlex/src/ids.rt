@@ -8,14 +8,17 @@ ghost use Rattle.lrlex.specs.Ids.{is_named, ids_of, with_own_id, is_lacking, is_
 
 use crate::lexer::RuleTable;
 use crate::names::have_own_ids;
-use lrlex_base::{Id, Span};
+use lrlex_base::{Id, Numbered, Span};
 use lrlex_rules::Rule;
 use std::alloc::{AllocError, Global};
 use std::collections::{HashMap, HashSet};
 use std::hash::Hash;
 
 /// The names of the rules.
-fn names_of<'r, S: Id>(alloc: Global, rules: &'r [Rule<S>]) -> Result<HashSet<&'r str>, AllocError>
+fn names_of<'r, S: Numbered>(
+    alloc: Global,
+    rules: &'r [Rule<S>],
+) -> Result<HashSet<&'r str>, AllocError>
     ensures { IfOk result (λ names. (name : List ℕ)
         → contains_by (λ k. bytes_eq name k.now) names
         ≡ list_any (is_named name) (map (as_rule S.number) rules.now)) }
@@ -37,7 +40,7 @@ fn unless_empty<K: Eq + Hash + Drop>(names: HashSet<K>) -> Option<HashSet<K>>
 }
 
 /// The names of the map that no rule has.
-pub(crate) fn names_without_rule<'a, S: Id>(
+pub(crate) fn names_without_rule<'a, S: Numbered>(
     alloc: Global,
     rules: &[Rule<S>],
     ids: &HashMap<&'a str, S>,
@@ -56,7 +59,7 @@ pub(crate) fn names_without_rule<'a, S: Id>(
 }
 
 /// The names of rules that the map lacks.
-pub(crate) fn names_without_id<'a, S: Id>(
+pub(crate) fn names_without_id<'a, S: Numbered>(
     alloc: Global,
     rules: &[Rule<S>],
     ids: &HashMap<&'a str, S>,
@@ -76,7 +79,7 @@ pub(crate) fn names_without_id<'a, S: Id>(
 }
 
 /// The names of rules that the map lacks, each with its place.
-pub(crate) fn places_without_id<'a, S: Id>(
+pub(crate) fn places_without_id<'a, S: Numbered>(
     alloc: Global,
     rules: &[Rule<S>],
     ids: &HashMap<&'a str, S>,
@@ -96,7 +99,7 @@ pub(crate) fn places_without_id<'a, S: Id>(
 }
 
 /// The map's id for the rule's name, or none. An unnamed rule keeps its own.
-fn own_id<'a, S: Id>(rule: &Rule<S>, ids: &HashMap<&'a str, S>) -> Option<S>
+fn own_id<'a, S: Numbered>(rule: &Rule<S>, ids: &HashMap<&'a str, S>) -> Option<S>
     ensures { option_map S.number result ≡ (with_own_id (ids_of S.number ids.now)
         (as_rule S.number rule.now)).id }
 {
@@ -107,7 +110,7 @@ fn own_id<'a, S: Id>(rule: &Rule<S>, ids: &HashMap<&'a str, S>) -> Option<S>
 }
 
 /// Gives each named rule the map's id for its name, or none.
-pub(crate) fn take_ids<'a, S: Id>(rules: &mut [Rule<S>], ids: &HashMap<&'a str, S>)
+pub(crate) fn take_ids<'a, S: Numbered>(rules: &mut [Rule<S>], ids: &HashMap<&'a str, S>)
     ensures { map (as_rule S.number) rules.new
         ≡ map (with_own_id (ids_of S.number ids.now)) (map (as_rule S.number) rules.old) }
 {

@@ -4,7 +4,7 @@ ghost use Rattle.std.specs.Option.{option_copied};
 ghost use Rattle.lrlex_rules.specs.Parts.{as_rule};
 ghost use Rattle.lrlex.specs.Ids.{has_id, is_named, rule_with_id, rule_named};
 
-use lrlex_base::Id;
+use lrlex_base::{Id, Numbered};
 use lrlex_rules::Rule;
 
 fn has_id<S: Id>(rule: &Rule<S>, id: S) -> bool
@@ -16,7 +16,7 @@ fn has_id<S: Id>(rule: &Rule<S>, id: S) -> bool
     }
 }
 
-fn is_named<S: Id>(rule: &Rule<S>, name: &str) -> bool
+fn is_named<S: Numbered>(rule: &Rule<S>, name: &str) -> bool
     ensures { result ≡ is_named name.now (as_rule S.number rule.now) }
 {
     match rule.name() {
@@ -33,7 +33,7 @@ pub(crate) fn first_with_id<S: Id>(rules: &[Rule<S>], id: S) -> Option<&Rule<S>>
 }
 
 /// The first of the rules with the name.
-pub(crate) fn first_named<'r, S: Id>(rules: &'r [Rule<S>], name: &str) -> Option<&'r Rule<S>>
+pub(crate) fn first_named<'r, S: Numbered>(rules: &'r [Rule<S>], name: &str) -> Option<&'r Rule<S>>
     ensures { option_copied result ≡ rule_named S.number rules.now name.now }
 {
     rules.iter().find(|rule| is_named(*rule, name))

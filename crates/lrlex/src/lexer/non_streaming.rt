@@ -165,11 +165,12 @@ impl<'lexer, 'input, L: LexerTypes<LexErrorT = LRLexError>> LexRun<'lexer, 'inpu
             (definition_of L.StorageT.number self.entry.definition)
             (lexer_text lexer) (items_by L.StorageT.number L.LexemeT.seen (lexer_items lexer))) }
     {
-        let LexRun { text, items, .. } = self;
+        let LexRun { text, lexed, .. } = self;
+        let lexemes = lexed.into_items();
         let input = Input::new(alloc, text)?;
         Ok(LRNonStreamingLexer {
             input,
-            lexemes: items,
+            lexemes,
             phantom: PhantomData,
         })
     }

@@ -162,7 +162,12 @@ impl<'lexer, 'input, L: LexerTypes<LexErrorT = LRLexError>> LexRun<'lexer, 'inpu
             (definition_of L.StorageT.number self.now.definition) self.now.text
             self.now.boundaries pieces.items) }
     {
-        pieces_of(alloc, &self.definition.table, self.text, &self.boundaries)
+        pieces_of(
+            alloc,
+            &self.definition.table,
+            self.text,
+            &self.lexed.boundaries,
+        )
     }
 
     /// The pieces that have a byte in `from..to`, in order, such as those of the lines that an editor shows. Each is whole: the
@@ -183,7 +188,7 @@ impl<'lexer, 'input, L: LexerTypes<LexErrorT = LRLexError>> LexRun<'lexer, 'inpu
             alloc,
             &self.definition.table,
             self.text,
-            &self.boundaries,
+            &self.lexed.boundaries,
             from,
             to,
         )

@@ -14,17 +14,17 @@ ghost use Rattle.lrlex.specs.Asked.{asks_by};
 ghost use Rattle.lrlex.specs.Ran.{IsRunOf, HasItemLaws};
 ghost use Rattle.lrlex.specs.Relexed.{AreCountsOf, WasRelexed};
 ghost use Rattle.lrlex.specs.Views.{definition_by, items_by, item_of};
-ghost use Rattle.lrlex.specs.UnderWay.{HasCutAnew, IsEditOf, IsPutBehind, IsPutBetween, TellsMeeting};
+ghost use Rattle.lrlex.specs.UnderWay.{HasCutAnew, HasSame, IsEditOf, IsPutBehind, IsPutBetween, TellsMeeting};
 
 use crate::errors::LRLexError;
 use crate::lexer::definition::RuleTable;
 use crate::lexer::lexing::{Progress, advance};
 use crate::lexer::resuming::{append_raised, last_safe, resume, up_to};
-use crate::lexer::run::LexRun;
+use crate::lexer::run::{LexRun, Lexed};
 use crate::lexer::searching::Searcher;
 use lrlex_base::{Edit, LexError, Lexeme, LexerTypes, Numbered, Span};
 use lrlex_boundaries::Boundaries;
-use lrlex_boundaries::room::{copied, splice};
+use lrlex_boundaries::room::splice;
 use std::alloc::{AllocError, Global};
 
 /// The item once what stood at `from` stands at `to`.
@@ -353,46 +353,74 @@ fn put_between<S: Numbered, X: Lexeme<S>>(
     Ok(())
 }
 
-/// Lexes the text after an edit in place, and answers how many searches that needed and how many tiles it cut anew. What
-/// stands before these stays, and what follows is moved. After a refusal all is what it was.
+/// Lexes the text after an edit in place, and answers how many searches that needed and how many tiles it cut anew, which the run
+/// has yet to be told. What stands before these stays, and what follows is moved. After a refusal all is what it was.
 pub(crate) fn relex_in_place<S: Numbered, X: Lexeme<S>>(
     alloc: Global,
     table: &RuleTable<S>,
-    items: &mut Vec<Result<X, LRLexError>>,
-    boundaries: &mut Boundaries,
-    ahead: &mut Vec<u8>,
+    lexed: &mut Lexed<X>,
     edit: &Edit<'_>,
     new: &str,
 ) -> Result<(u128, usize), AllocError>
-    requires known { IsEditOf S.number X.seen table.now items.old.items
-        boundaries.old ahead.old.items edit.now.removed edit.now.put.now new.now }
+    requires known { IsEditOf S.number X.seen table.now lexed.old.items.items
+        lexed.old.boundaries lexed.old.ahead.items edit.now.removed edit.now.put.now new.now }
     ensures run { OnOk result (IsRun (definition_by S.number table.now) new.now
-        (items_by S.number X.seen items.new.items) boundaries.new) }
+        (items_by S.number X.seen lexed.new.items.items) lexed.new.boundaries) }
     ensures looks { OnOk result (LooksAhead (definition_by S.number table.now)
-        new.now boundaries.new ahead.new.items) }
+        new.now lexed.new.boundaries lexed.new.ahead.items) }
     ensures counts { IfOk result (λ n. AreCountsOf (definition_by S.number table.now)
-        (asks_by table.now new.now) boundaries.old ahead.old.items (as_span edit.now.removed)
-        edit.now.put.now new.now boundaries.new n.0 n.1) }
-    ensures kept { OnErr result ((items.new.items ≡ items.old.items)
-        × (boundaries.new ≡ boundaries.old) × (ahead.new.items ≡ ahead.old.items)) }
+        (asks_by table.now new.now) lexed.old.boundaries lexed.old.ahead.items
+        (as_span edit.now.removed) edit.now.put.now new.now lexed.new.boundaries n.0 n.1) }
+    ensures kept { OnErr result (HasSame lexed.old lexed.new) }
 {
     if !table.is_state(0) {
         return Ok((0, 0));
     }
-    boundaries.tidy(alloc)?;
+    lexed.boundaries.tidy(alloc)?;
     let old = Old {
-        items: items.as_slice(),
-        boundaries: &*boundaries,
-        ahead: ahead.as_slice(),
+        items: lexed.items.as_slice(),
+        boundaries: &lexed.boundaries,
+        ahead: lexed.ahead.as_slice(),
     };
     let anew = cut_anew(alloc, table, &old, edit, new)?;
     let asked = anew.progress.asked;
-    let lexed = anew.progress.boundaries.len() - 1;
+    let cut = anew.progress.boundaries.len() - 1;
+    let Lexed {
+        items,
+        boundaries,
+        ahead,
+        ..
+    } = lexed;
     match anew.met {
         Some(met) => put_between::<S, X>(items, boundaries, ahead, anew, met)?,
         None => put_behind(items, boundaries, ahead, &anew)?,
     }
-    Ok((asked, lexed))
+    Ok((asked, cut))
+}
+
+/// What lexing the text after an edit gives. The old run stays what it is.
+fn relexed<S: Numbered, X: Lexeme<S>>(
+    alloc: Global,
+    table: &RuleTable<S>,
+    old: &Lexed<X>,
+    edit: &Edit<'_>,
+    new: &str,
+) -> Result<Lexed<X>, AllocError>
+    requires known { IsEditOf S.number X.seen table.now old.now.items.items
+        old.now.boundaries old.now.ahead.items edit.now.removed edit.now.put.now new.now }
+    ensures run { IfOk result (λ r. IsRun (definition_by S.number table.now) new.now
+        (items_by S.number X.seen r.items.items) r.boundaries) }
+    ensures looks { IfOk result (λ r. LooksAhead (definition_by S.number table.now)
+        new.now r.boundaries r.ahead.items) }
+    ensures counts { IfOk result (λ r. AreCountsOf (definition_by S.number table.now)
+        (asks_by table.now new.now) old.now.boundaries old.now.ahead.items
+        (as_span edit.now.removed) edit.now.put.now new.now r.boundaries r.asked r.anew) }
+{
+    let mut lexed = old.copied(alloc)?;
+    let (asked, anew) = relex_in_place(alloc, table, &mut lexed, edit, new)?;
+    lexed.asked = asked;
+    lexed.anew = anew;
+    Ok(lexed)
 }
 
 impl<'lexer, L: LexerTypes<LexErrorT = LRLexError>> LexRun<'lexer, '_, L> {
@@ -416,26 +444,11 @@ impl<'lexer, L: LexerTypes<LexErrorT = LRLexError>> LexRun<'lexer, '_, L> {
         ensures counts { IfOk result (WasRelexed L.StorageT.number self.now.boundaries
             self.now.ahead (as_span edit.now.removed) edit.now.put.now) }
     {
-        let mut items = copied(alloc, &self.items)?;
-        let mut boundaries = self.boundaries.copied(alloc)?;
-        let mut ahead = copied(alloc, &self.ahead)?;
-        let (asked, anew) = relex_in_place(
-            alloc,
-            &self.definition.table,
-            &mut items,
-            &mut boundaries,
-            &mut ahead,
-            edit,
-            new,
-        )?;
+        let lexed = relexed(alloc, &self.definition.table, &self.lexed, edit, new)?;
         Ok(LexRun {
             definition: self.definition,
             text: new,
-            items,
-            boundaries,
-            asked,
-            ahead,
-            anew,
+            lexed,
         })
     }
 }

@@ -16,6 +16,7 @@ use crate::lexer::lexing::{Progress, advance, begin, give_error};
 use crate::lexer::searching::Searcher;
 use lrlex_base::{Lexeme, LexerTypes, Numbered};
 use lrlex_boundaries::Boundaries;
+use lrlex_boundaries::room::copied;
 use std::alloc::{AllocError, Global};
 use std::marker::Model;
 
@@ -24,13 +25,7 @@ use std::marker::Model;
 pub struct LexRun<'lexer, 'input, L: LexerTypes<LexErrorT = LRLexError>> {
     pub(crate) definition: &'lexer LRNonStreamingLexerDef<L>,
     pub(crate) text: &'input str,
-    pub(crate) items: Vec<Result<L::LexemeT, LRLexError>>,
-    pub(crate) boundaries: Boundaries,
-    pub(crate) asked: u128,
-    /// For each boundary, how many bytes past its place the tiles before it looked. 255 stands for more.
-    pub(crate) ahead: Vec<u8>,
-    /// How many tiles were cut anew.
-    pub(crate) anew: usize,
+    pub(crate) lexed: Lexed<L::LexemeT>,
 }
 
 impl<'lexer, 'input, L: LexerTypes<LexErrorT = LRLexError>> Model for LexRun<'lexer, 'input, L> {
@@ -50,15 +45,15 @@ impl<'lexer, 'input, L: LexerTypes<LexErrorT = LRLexError>> Model for LexRun<'le
     ghost view = { λ r. record {
       definition = r.definition.now;
       text = r.text.now;
-      items = r.items.items;
-      boundaries = r.boundaries;
-      ahead = r.ahead.items;
-      asked = r.asked;
-      anew = r.anew;
+      items = r.lexed.items.items;
+      boundaries = r.lexed.boundaries;
+      ahead = r.lexed.ahead.items;
+      asked = r.lexed.asked;
+      anew = r.lexed.anew;
     } };
 
-    ghost invariant = { λ r. ∥ LooksAhead (definition_of L.StorageT.number r.definition.now) r.text.now r.boundaries r.ahead.items ∥₁
-        × ∥ IsRun (definition_of L.StorageT.number r.definition.now) r.text.now (items_by L.StorageT.number L.LexemeT.seen r.items.items) r.boundaries ∥₁ };
+    ghost invariant = { λ r. ∥ LooksAhead (definition_of L.StorageT.number r.definition.now) r.text.now r.lexed.boundaries r.lexed.ahead.items ∥₁
+        × ∥ IsRun (definition_of L.StorageT.number r.definition.now) r.text.now (items_by L.StorageT.number L.LexemeT.seen r.lexed.items.items) r.lexed.boundaries ∥₁ };
 }
 
 impl<'lexer, 'input, L: LexerTypes<LexErrorT = LRLexError>> LexRun<'lexer, 'input, L> {
@@ -66,7 +61,7 @@ impl<'lexer, 'input, L: LexerTypes<LexErrorT = LRLexError>> LexRun<'lexer, 'inpu
     pub fn items(&self) -> &[Result<L::LexemeT, LRLexError>]
         ensures { result.now ≡ self.now.items }
     {
-        &self.items
+        &self.lexed.items
     }
 
     /// The text that was lexed.
@@ -87,35 +82,35 @@ impl<'lexer, 'input, L: LexerTypes<LexErrorT = LRLexError>> LexRun<'lexer, 'inpu
     pub fn tiles(&self) -> usize
         ensures { result ≡ length self.now.boundaries - 1 }
     {
-        self.boundaries.len().saturating_sub(1)
+        self.lexed.boundaries.len().saturating_sub(1)
     }
 
     /// How many searches the call that made this run needed.
     pub fn asked(&self) -> u128
         ensures { result ≡ self.now.asked }
     {
-        self.asked
+        self.lexed.asked
     }
 
     /// How many tiles the call that made this run cut anew. It took over the others.
     pub fn lexed(&self) -> usize
         ensures { result ≡ self.now.anew }
     {
-        self.anew
+        self.lexed.anew
     }
 
     /// The greatest number of entries of a boundary's stack.
     pub fn entries_peak(&self) -> usize
         ensures { result ≡ most_entries self.now.boundaries }
     {
-        self.boundaries.peak()
+        self.lexed.boundaries.peak()
     }
 
     /// One more than the tiles, or 0 without a state 0.
     pub fn boundaries(&self) -> usize
         ensures { result ≡ length self.now.boundaries }
     {
-        self.boundaries.len()
+        self.lexed.boundaries.len()
     }
 
     /// Where the boundary stands.
@@ -123,7 +118,7 @@ impl<'lexer, 'input, L: LexerTypes<LexErrorT = LRLexError>> LexRun<'lexer, 'inpu
         requires { index < length self.now.boundaries }
         ensures { result ≡ (boundary_at self.now.boundaries index).place }
     {
-        self.boundaries.place(index)
+        self.lexed.boundaries.place(index)
     }
 
     /// How many bytes past the boundary's place the tiles before it looked. 255 stands for more.
@@ -131,7 +126,7 @@ impl<'lexer, 'input, L: LexerTypes<LexErrorT = LRLexError>> LexRun<'lexer, 'inpu
         requires { index < length self.now.boundaries }
         ensures { result ≡ slice_index self.now.ahead index }
     {
-        self.ahead[index]
+        self.lexed.ahead[index]
     }
 
     /// The boundary's stack from bottom to top, as entries: each a count of equal neighbours and their state.
@@ -140,7 +135,7 @@ impl<'lexer, 'input, L: LexerTypes<LexErrorT = LRLexError>> LexRun<'lexer, 'inpu
         ensures stack { result.now ≡ (boundary_at self.now.boundaries index).entries }
         ensures entries { AreEntries result.now }
     {
-        self.boundaries.stack(index)
+        self.lexed.boundaries.stack(index)
     }
 }
 
@@ -150,8 +145,36 @@ pub(crate) struct Lexed<X> {
     pub(crate) items: Vec<Result<X, LRLexError>>,
     pub(crate) boundaries: Boundaries,
     pub(crate) asked: u128,
+    /// For each boundary, how many bytes past its place the tiles before it looked. 255 stands for more.
     pub(crate) ahead: Vec<u8>,
+    /// How many tiles were cut anew.
     pub(crate) anew: usize,
+}
+
+impl<X: Copy> Lexed<X> {
+    ghost use Rattle.lrlex.specs.UnderWay.{HasSame};
+
+    /// A copy of it.
+    pub(crate) fn copied(&self, alloc: Global) -> Result<Lexed<X>, AllocError>
+        ensures { IfOk result (HasSame self.now) }
+    {
+        Ok(Lexed {
+            items: copied(alloc, &self.items)?,
+            boundaries: self.boundaries.copied(alloc)?,
+            asked: self.asked,
+            ahead: copied(alloc, &self.ahead)?,
+            anew: self.anew,
+        })
+    }
+}
+
+impl<X> Lexed<X> {
+    /// The items alone.
+    pub(crate) fn into_items(self) -> Vec<Result<X, LRLexError>>
+        ensures { result.items ≡ self.items.items }
+    {
+        self.items
+    }
 }
 
 /// Without a state 0: an error alone.
@@ -250,21 +273,11 @@ impl<L: LexerTypes<LexErrorT = LRLexError>> LRNonStreamingLexerDef<L> {
         ensures exact { IfOk result (λ r. r.asked ≡ asks self.now text.now r.boundaries) }
         ensures lexed { IfOk result (λ r. r.anew ≡ length r.boundaries - 1) }
     {
-        let Lexed {
-            items,
-            boundaries,
-            asked,
-            ahead,
-            anew,
-        } = lex(alloc, &self.table, text)?;
+        let lexed = lex(alloc, &self.table, text)?;
         Ok(LexRun {
             definition: self,
             text,
-            items,
-            boundaries,
-            asked,
-            ahead,
-            anew,
+            lexed,
         })
     }
 }

@@ -12,7 +12,7 @@ use Rattle.lrlex.proofs.ids.names_of.Goals.{in-Some+in_ok-insert, in_default}
 
 pub loop-rule-preserved : goal.loop-rule-preserved
 loop-rule-preserved g c = λ name.
-    let number = g.S.Id.number in
+    let number = g.S.Numbered.number in
     let r = c.rule-item.result in
     let before = list_any (is_named name) (map (as_rule number) (take c.loop-rule.rule-index c.args.rules.now)) in
     let more = named_more number (is_named name) c.args.rules.now c.loop-rule.rule-index r (omega (arith, c.loop-rule-test.true, c.loop-rule.auto.rule-index-end)) c.rule-item.is in
@@ -31,4 +31,4 @@ loop-rule-preserved g c = λ name.
 pub returns : goal.returns
 returns g c = λ name.
     c.loop-rule.invariant name
-    ∙ ap (λ rs. list_any (is_named name) (map (as_rule g.S.Id.number) rs)) (take_all c.loop-rule.rule-index c.args.rules.now (omega (arith, c.loop-rule-test.false)))
+    ∙ ap (λ rs. list_any (is_named name) (map (as_rule g.S.Numbered.number) rs)) (take_all c.loop-rule.rule-index c.args.rules.now (omega (arith, c.loop-rule-test.false)))

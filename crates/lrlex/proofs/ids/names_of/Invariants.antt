@@ -9,4 +9,4 @@ use Rattle.lrlex.proofs.ids.names_of.Given as goal
 -- the set has the names of the rules so far
 abbrev pub invariant-loop-rule : goal.invariant-loop-rule
 invariant-loop-rule g l =
-    (name : List ℕ) → contains_by (λ k. bytes_eq name k.now) l.names ≡ list_any (is_named name) (map (as_rule g.S.Id.number) (take l.rule-index l.rules))
+    (name : List ℕ) → contains_by (λ k. bytes_eq name k.now) l.names ≡ list_any (is_named name) (map (as_rule g.S.Numbered.number) (take l.rule-index l.rules))

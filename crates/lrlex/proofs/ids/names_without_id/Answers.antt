@@ -13,7 +13,7 @@ use Rattle.lrlex.proofs.ids.names_without_id.Goals.{in-Some+then-not-contains_ke
 
 pub loop-rule-preserved : goal.loop-rule-preserved
 loop-rule-preserved g c = λ name.
-    let number = g.S.Id.number in
+    let number = g.S.Numbered.number in
     let r = as_rule number c.rule-item.result in
     let before = list_any (is_named name) (map (as_rule number) (take c.loop-rule.rule-index c.args.rules.now)) in
     let has = is_some (ids_of number c.args.ids.now name) in
@@ -45,4 +45,4 @@ pub returns : goal.returns
 returns g c =
     holds_texts _ c.loop-rule.unused c.unless_empty.result c.unless_empty.ensures (λ name.
     c.loop-rule.invariant name
-    ∙ ap (λ rs. is_unused (ids_of g.S.Id.number c.args.ids.now) (map (as_rule g.S.Id.number) rs) name) (take_all c.loop-rule.rule-index c.args.rules.now (omega (arith, c.loop-rule-test.false))))
+    ∙ ap (λ rs. is_unused (ids_of g.S.Numbered.number c.args.ids.now) (map (as_rule g.S.Numbered.number) rs) name) (take_all c.loop-rule.rule-index c.args.rules.now (omega (arith, c.loop-rule-test.false))))

@@ -7,4 +7,4 @@ use Rattle.lrlex.proofs.ids.names_without_id.Given as goal
 -- the set has the names so far that the map lacks
 abbrev pub invariant-loop-rule : goal.invariant-loop-rule
 invariant-loop-rule g l =
-    (name : List ℕ) → contains_text l.unused name ≡ is_unused (ids_of g.S.Id.number l.ids) (map (as_rule g.S.Id.number) (take l.rule-index l.rules)) name
+    (name : List ℕ) → contains_text l.unused name ≡ is_unused (ids_of g.S.Numbered.number l.ids) (map (as_rule g.S.Numbered.number) (take l.rule-index l.rules)) name

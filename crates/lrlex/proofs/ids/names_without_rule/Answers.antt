@@ -17,7 +17,7 @@ use Rattle.lrlex.proofs.ids.names_without_rule.Goals as goal
 
 pub loop-name-preserved-in_ok-insert : goal.loop-name-preserved-in_ok-insert
 loop-name-preserved-in_ok-insert g c = λ name.
-    let rules = map (as_rule g.S.Id.number) c.args.rules.now in
+    let rules = map (as_rule g.S.Numbered.number) c.args.rules.now in
     let own = c.in-Some.name.now.now in
     let before = list_any (λ k. bytes_eq name k.now.now) c.loop-name.yielded in
     let named = list_any (is_named name) rules in
@@ -28,7 +28,7 @@ loop-name-preserved-in_ok-insert g c = λ name.
 
 pub loop-name-preserved : goal.loop-name-preserved
 loop-name-preserved g c = λ name.
-    let rules = map (as_rule g.S.Id.number) c.args.rules.now in
+    let rules = map (as_rule g.S.Numbered.number) c.args.rules.now in
     let own = c.in-Some.name.now.now in
     let before = list_any (λ k. bytes_eq name k.now.now) c.loop-name.yielded in
     let named = list_any (is_named name) rules in
@@ -42,6 +42,6 @@ returns g c =
     let all = iter_end deref (keys ids) c.loop-name.yielded c.into_iter-name-iterator.result c.loop-name.name-iterator c.next.new.self c.next.result (c.into_iter-name-iterator.ensures.into_iter_gives ∙ c.keys-name-items.ensures.rest) c.loop-name.yielded_by c.in-None.is c.next.ensures.steps in
     holds_names _ c.loop-name.lacking c.unless_empty.result c.unless_empty.ensures (λ name.
     c.loop-name.invariant name
-    ∙ ap (λ b. b && not (list_any (is_named name) (map (as_rule g.S.Id.number) c.args.rules.now)))
+    ∙ ap (λ b. b && not (list_any (is_named name) (map (as_rule g.S.Numbered.number) c.args.rules.now)))
     (sym (list_any-map deref (λ k. bytes_eq name k.now) c.loop-name.yielded) ∙ ap (list_any (λ k. bytes_eq name k.now)) all.0
-    ∙ sym (is_some-lookup (λ k. bytes_eq name k.now) ids.entries) ∙ sym (some_of g.S.Id.number (get_by (λ k. bytes_eq name k.now) ids))))
+    ∙ sym (is_some-lookup (λ k. bytes_eq name k.now) ids.entries) ∙ sym (some_of g.S.Numbered.number (get_by (λ k. bytes_eq name k.now) ids))))

@@ -10,4 +10,4 @@ use Rattle.lrlex.proofs.ids.names_without_rule.Given as goal
 abbrev pub invariant-loop-name : goal.invariant-loop-name
 invariant-loop-name g l =
     (name : List ℕ) → contains_by (λ k. bytes_eq name k.now) l.lacking
-    ≡ (list_any (λ k. bytes_eq name k.now.now) l.yielded && not (list_any (is_named name) (map (as_rule g.S.Id.number) l.rules)))
+    ≡ (list_any (λ k. bytes_eq name k.now.now) l.yielded && not (list_any (is_named name) (map (as_rule g.S.Numbered.number) l.rules)))

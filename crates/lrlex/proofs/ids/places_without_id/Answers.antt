@@ -13,7 +13,7 @@ use Rattle.lrlex.proofs.ids.places_without_id.Goals.{in-Some+then-not-contains_k
 
 pub loop-rule-preserved : goal.loop-rule-preserved
 loop-rule-preserved g c = λ name place.
-    let number = g.S.Id.number in
+    let number = g.S.Numbered.number in
     let r = as_rule number c.rule-item.result in
     let before = list_any (is_named_at name place) (map (as_rule number) (take c.loop-rule.rule-index c.args.rules.now)) in
     let has = is_some (ids_of number c.args.ids.now name) in
@@ -48,4 +48,4 @@ pub returns : goal.returns
 returns g c =
     holds_places _ c.loop-rule.unused c.unless_empty.result c.unless_empty.ensures (λ name place.
     c.loop-rule.invariant name place
-    ∙ ap (λ rs. is_unused_at (ids_of g.S.Id.number c.args.ids.now) (map (as_rule g.S.Id.number) rs) name place) (take_all c.loop-rule.rule-index c.args.rules.now (omega (arith, c.loop-rule-test.false))))
+    ∙ ap (λ rs. is_unused_at (ids_of g.S.Numbered.number c.args.ids.now) (map (as_rule g.S.Numbered.number) rs) name place) (take_all c.loop-rule.rule-index c.args.rules.now (omega (arith, c.loop-rule-test.false))))

@@ -9,4 +9,4 @@ use Rattle.lrlex.proofs.ids.places_without_id.Given as goal
 abbrev pub invariant-loop-rule : goal.invariant-loop-rule
 invariant-loop-rule g l =
     (name : List ℕ) (place : Span) → contains_by (is_key_at name place) l.unused
-    ≡ is_unused_at (ids_of g.S.Id.number l.ids) (map (as_rule g.S.Id.number) (take l.rule-index l.rules)) name place
+    ≡ is_unused_at (ids_of g.S.Numbered.number l.ids) (map (as_rule g.S.Numbered.number) (take l.rule-index l.rules)) name place

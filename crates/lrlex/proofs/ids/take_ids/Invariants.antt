@@ -6,5 +6,5 @@ use Rattle.lrlex.proofs.ids.take_ids.Given as goal
 -- the rules so far have their ids, and the others are as they were
 abbrev pub invariant-loop-rule : goal.invariant-loop-rule
 invariant-loop-rule g l =
-    let views = map (as_rule g.S.Id.number) l.initial.rules in
-    map (as_rule g.S.Id.number) l.rules ≡ map (with_own_id (ids_of g.S.Id.number l.ids)) (take l.rule-index views) ++ drop l.rule-index views
+    let views = map (as_rule g.S.Numbered.number) l.initial.rules in
+    map (as_rule g.S.Numbered.number) l.rules ≡ map (with_own_id (ids_of g.S.Numbered.number l.ids)) (take l.rule-index views) ++ drop l.rule-index views

@@ -10,12 +10,12 @@ pub pieces_in-requires : goal.pieces_in-requires
 pieces_in-requires g c =
     let s = c.self.inside in
     let d = definition_of g.L.StorageT.Id.number s.definition.now in
-    let found = items_by g.L.StorageT.Id.number g.L.LexemeT.Lexeme.seen s.items.items in
-    (found, subst (λ text. IsRun d text found s.boundaries) (sym c.deref.ensures) (known_run d _ found s.boundaries c.self.invariant.2))
+    let found = items_by g.L.StorageT.Id.number g.L.LexemeT.Lexeme.seen s.held.lexed.items.items in
+    (found, subst (λ text. IsRun d text found s.held.lexed.boundaries) (sym c.deref.ensures) (known_run d _ found s.held.lexed.boundaries c.self.invariant.2))
 
 pub returns : goal.returns
 returns g c =
     let s = c.self.inside in
     let d = definition_of g.L.StorageT.Id.number s.definition.now in
     subst (λ (v : Ran _ _). IfOk c.pieces_in.result (λ pieces. ArePiecesIn (definition_of g.L.StorageT.Id.number v.definition) v.text v.boundaries c.args.from c.args.to pieces.items)) c.self.view_is
-    (subst (λ text. IfOk c.pieces_in.result (λ pieces. ArePiecesIn d text s.boundaries c.args.from c.args.to pieces.items)) c.deref.ensures c.pieces_in.ensures)
+    (subst (λ text. IfOk c.pieces_in.result (λ pieces. ArePiecesIn d text s.held.lexed.boundaries c.args.from c.args.to pieces.items)) c.deref.ensures c.pieces_in.ensures)

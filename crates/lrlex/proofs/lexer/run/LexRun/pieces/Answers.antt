@@ -8,8 +8,8 @@ use Rattle.lrlex.proofs.lexer.run.LexRun.pieces.Goals as goal
 pub pieces_of-requires : goal.pieces_of-requires
 pieces_of-requires g c =
     let s = c.self.inside in
-    let found = items_by g.L.StorageT.Id.number g.L.LexemeT.Lexeme.seen s.items.items in
-    (found, known_run (definition_of g.L.StorageT.Id.number s.definition.now) s.text.now found s.boundaries c.self.invariant.1)
+    let found = items_by g.L.StorageT.Id.number g.L.LexemeT.Lexeme.seen s.lexed.items.items in
+    (found, known_run (definition_of g.L.StorageT.Id.number s.definition.now) s.text.now found s.lexed.boundaries c.self.invariant.1)
 
 pub returns : goal.returns
 returns g c =

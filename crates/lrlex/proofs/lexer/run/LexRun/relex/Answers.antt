@@ -1,4 +1,4 @@
-use Rattle.std.proofs.Common.{◌∙◌, ap, refl, sym}
+use Rattle.std.proofs.Common.{ap, refl, sym}
 use Rattle.lrlex.specs.Asked.{asks_by}
 use Rattle.lrlex.specs.Ran.{Ran}
 use Rattle.lrlex.proofs.InPlaceLemmas.{counts_moved}
@@ -6,9 +6,8 @@ use Rattle.lrlex.proofs.ItemLemmas.{have_laws}
 use Rattle.lrlex.proofs.lexer.run.LexRun.relex.Goals as goal
 
 pub returns-clause-laws : goal.returns-clause-laws
-returns-clause-laws g c = have_laws _ _ _ _ (rw (sym c.self.view_is) c.in_ok-asked.ensures.run)
+returns-clause-laws g c = have_laws _ _ _ _ (rw (sym c.self.view_is) c.in_ok-lexed.ensures.run)
 
 pub returns-clause-counts : goal.returns-clause-counts
 returns-clause-counts g c =
-    counts_moved (asks_by c.self.inside.definition.now.table) (c.in_ok-boundaries.ensures ∙ ap (λ (v : Ran _ _). v.boundaries) c.self.view_is)
-    (c.in_ok-ahead.ensures ∙ c.deref-2.ensures.value ∙ ap (λ (v : Ran _ _). v.ahead) c.self.view_is) refl refl c.in_ok-asked.ensures.counts
+    counts_moved (asks_by c.self.inside.definition.now.table) (ap (λ (v : Ran _ _). v.boundaries) c.self.view_is) (ap (λ (v : Ran _ _). v.ahead) c.self.view_is) refl refl c.in_ok-lexed.ensures.counts
