@@ -1,12 +1,12 @@
 //! A run borrows its definition, so that nothing changes the definition under it.
-use lrlex::{LRLexError, LRNonStreamingLexerDef, LexerTypes};
+use lrlex::{DefaultLexerTypes, LRNonStreamingLexerDef};
 use std::alloc::{AllocError, Global};
 
 /// Lexes a text, lets the run go, and puts another definition in the place of its own. How many tiles the run had.
-pub fn lexed_and_replaced<L: LexerTypes<LexErrorT = LRLexError>>(
+pub fn lexed_and_replaced(
     alloc: Global,
-    definition: &mut LRNonStreamingLexerDef<L>,
-    other: LRNonStreamingLexerDef<L>,
+    definition: &mut LRNonStreamingLexerDef<DefaultLexerTypes<u32>>,
+    other: LRNonStreamingLexerDef<DefaultLexerTypes<u32>>,
     text: &str,
 ) -> Result<usize, AllocError> {
     let run = definition.run(alloc, text)?;
