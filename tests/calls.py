@@ -58,11 +58,11 @@ def rules(tokens=range(7)):
 class Lexed:
     """A text, and what lexing it by the rules gives: lexemes by id, start and end; tiles by rule, start and end.
 
-    `deep` are the first of the boundaries at which TEXT is on top, and the first behind them.
+    `deep` are the first of the boundaries at which TEXT is on top, and the first behind them; `lines` are what the engine writes.
     """
 
-    def __init__(self, text, lexemes, tiles, deep):
-        self.text, self.lexemes, self.tiles, self.deep = text, lexemes, tiles, deep
+    def __init__(self, text, lexemes, tiles, deep, lines):
+        self.text, self.lexemes, self.tiles, self.deep, self.lines = text, lexemes, tiles, deep, lines
 
     def items(self):
         """The items, as they are told."""
@@ -110,6 +110,7 @@ OLD = Lexed(
         (0, 0, 2), (6, 2, 3), (2, 3, 5), (6, 5, 6), (3, 6, 7), (4, 7, 10), (5, 10, 11), (6, 11, 12), (1, 12, 14), (6, 14, 15),
     ],
     (5, 7),
+    "NAME ab\nNUMBER 12\nPART x y\nLAST 34\n",
 )
 
 # What stands at bytes 3..5 of the old text gives way to this.
@@ -123,6 +124,7 @@ NEW = Lexed(
         (1, 14, 16), (6, 16, 17),
     ],
     (7, 9),
+    "NAME ab\nNAME cd\nNUMBER 5\nPART x y\nLAST 34\n",
 )
 
 # A rule text with faults: its last line is behind all that can be read.
@@ -133,6 +135,11 @@ FAULTS = [
     {"kind": "DuplicateName", "spans": [[18, 19], [24, 25]]},
     {"kind": "RegexError", "spans": [[27, 27]]},
 ]
+
+# These faults, told.
+REPORT = (
+    "1:4: Start state already exists, again at 2:4\n4:4: Rule name already exists, again at 5:4\n6:1: Invalid regular expression\n"
+)
 
 # So many `a` that walks which look for a `b` in vain are kept in mind.
 MANY = 400
@@ -154,6 +161,11 @@ def definition(asked, tokens=range(7)):
     return [("tables", [ANY, ANY, asked]), ("states", STATES), ("rules", rules(tokens))]
 
 
+def engine(came, lines):
+    """The line of a call of the engine, which wrote these lines."""
+    return [("engine", [came, list(lines.encode()), ANY, 0])]
+
+
 def by_id(token, name):
     """The line of a look-up by id."""
     return ("by_id", [token, rules()[token] if token < 7 else None, name])
@@ -173,6 +185,11 @@ REFUSED = {"from_rules": {"states": STATES, "rules": rules()[:2] + [rule(2, ("X"
 IN_VAIN = {"rules": "%%\na 'A'\na*b 'B'\n"}
 
 FOUND = [by_id(1, "LAST"), by_id(3, None), by_id(7, None), by_name("PART", 4), by_name("MORE", None)]
+
+NONE = {"rules": "%%\n"}
+
+# A writer that takes all and never fails.
+PAGE = [1_000, 0, "never"]
 
 DEFINITION, LEX_OLD = ["definition"], ["run", OLD.text, []]
 
@@ -225,5 +242,17 @@ CALLS = [
     Call(
         "Document::new, edit, pieces", TEXT, [["document", OLD.text, [[3, 5, PUT], [3, 7, "12"]]]],
         [OLD.document() + [("edit", True)] + NEW.document() + [("edit", True)] + OLD.document()],
+    ),
+    Call(
+        "engine::run", NONE, [["engine", RULES, OLD.text, PAGE]],
+        [engine("Lexed", OLD.lines)],
+    ),
+    Call(
+        "engine::run_edited", NONE, [["engine_edited", RULES, OLD.text, [3, 5, PUT], NEW.text, PAGE]],
+        [engine("Lexed", NEW.lines)],
+    ),
+    Call(
+        "engine::report", NONE, [["engine_report", FAULTY, PAGE]],
+        [engine("Reported", REPORT)],
     ),
 ]
