@@ -95,7 +95,7 @@ class Told(Run):
         """Whether these are all lines, but for an answer that memory ran out, and what was lent as it was."""
         at = self.first_other(lines)
         behind = self.lines[at:]
-        if behind and is_full(lines[at], behind[0]):
+        if behind and at < len(lines) and is_full(lines[at], behind[0]):
             return lines[at + 1:] == behind[1:]
         return lines[at:] == [b"out_of_memory null"] + self.lent(at) + behind
 
