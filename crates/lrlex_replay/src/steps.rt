@@ -120,7 +120,7 @@ fn lex(
     let (text, edits) = (text_of(text)?, list_of(edits)?);
     let texts = texts_after(alloc, text, edits)?;
     tell_runs(alloc, out, definition, texts.as_slice(), edits)?;
-    match edits.get(texts.len() - 1) {
+    match edits.get(texts.len().saturating_sub(1)) {
         Some(edit) => Ok(tell_unfit(out, &edit_of(edit)?)?),
         None => Ok(()),
     }
