@@ -162,7 +162,9 @@ def compare_reading(reading, first, again, record):
     record.same("read again", first["definition"], again.get("definition"))
     tables, _, rules = first["definition"]
     rules = value(rules, b"rules")
-    record.same("each rule is asked", [0, 0, len(rules)], value(tables, b"tables"))
+    made, rows, asked = value(tables, b"tables")
+    # counted in each list of rules, so once or more
+    record.law("each rule is asked", (made, rows) == (0, 0) and asked >= len(rules))
     compare_rules(text, rules, record)
     compare_finds(rules, first["find"], record)
     compare_tiling(reading.text, one_run(first["run"]), rules, record)
