@@ -69,23 +69,47 @@ pub fn find(
     Ok(())
 }
 
-/// Sets token ids. What that tells, with the places of names or without.
-fn sets_of(
+/// Adds that memory was refused, and the rules as they are then.
+fn push_refused(
     alloc: Global,
-    definition: &mut Definition<u32>,
-    ids: &HashMap<&str, u32>,
-    spanned: bool,
-) -> Result<Value, AllocError> {
-    if spanned {
-        let sets = definition.set_rule_ids_spanned(alloc, ids)?;
-        sets_value(alloc, sets)
-    } else {
-        let sets = definition.set_rule_ids(alloc, ids)?;
-        name_sets_value(alloc, sets)
-    }
+    out: &mut String,
+    definition: &Definition<u32>,
+) -> Result<(), AllocError> {
+    let rules = rules_value(alloc, definition.rules())?;
+    Ok(write!(out, "\nout_of_memory null\nrules {rules}")?)
 }
 
-/// Sets token ids; where memory is refused, adds the rules as they are then, and sets them once more.
+/// Sets token ids, once more where memory is refused. What that tells, with the places of names.
+fn set_spanned(
+    alloc: Global,
+    out: &mut String,
+    definition: &mut Definition<u32>,
+    ids: &HashMap<&str, u32>,
+) -> Result<Value, AllocError> {
+    let mut sets = definition.set_rule_ids_spanned(alloc, ids);
+    if sets.is_err() {
+        push_refused(alloc, out, definition)?;
+        sets = definition.set_rule_ids_spanned(alloc, ids);
+    }
+    sets_value(alloc, sets?)
+}
+
+/// The same without places.
+fn set_named(
+    alloc: Global,
+    out: &mut String,
+    definition: &mut Definition<u32>,
+    ids: &HashMap<&str, u32>,
+) -> Result<Value, AllocError> {
+    let mut sets = definition.set_rule_ids(alloc, ids);
+    if sets.is_err() {
+        push_refused(alloc, out, definition)?;
+        sets = definition.set_rule_ids(alloc, ids);
+    }
+    name_sets_value(alloc, sets?)
+}
+
+/// Sets token ids, and adds what that tells, on a line.
 pub fn set_ids(
     alloc: Global,
     out: &mut String,
@@ -95,13 +119,10 @@ pub fn set_ids(
 ) -> Result<(), Trouble> {
     let members = ids.as_object().ok_or(Trouble::Malformed)?;
     let ids = ids_of::<u32>(alloc, members)?;
-    let spanned = spanned.as_bool() == Some(true);
-    let mut sets = sets_of(alloc, definition, &ids, spanned);
-    if let Err(AllocError) = sets {
-        let rules = rules_value(alloc, definition.rules())?;
-        write!(out, "\nout_of_memory null\nrules {rules}")?;
-        sets = sets_of(alloc, definition, &ids, spanned);
-    }
-    let sets = sets?;
+    let sets = if spanned.as_bool() == Some(true) {
+        set_spanned(alloc, out, definition, &ids)?
+    } else {
+        set_named(alloc, out, definition, &ids)?
+    };
     Ok(write!(out, "\nids {sets}")?)
 }
