@@ -152,6 +152,19 @@ def compare_faults(text, line, record):
     record.law("faults have places in the text", placed and all(placed), f": {faults}")
 
 
+def active_in(state, rules):
+    """The places of the rules that are active in a start state."""
+    number, _, exclusive, _ = state
+    return tuple(
+        place for place, rule in enumerate(rules) if number in rule["start_states"] or not (rule["start_states"] or exclusive)
+    )
+
+
+def all_active(states, rules):
+    """How many rules are active in all start states. States with the same active rules count once."""
+    return sum(len(places) for places in {active_in(state, rules) for state in states})
+
+
 def compare_reading(reading, first, again, record):
     """Looks at what reading a rule text gave, and compares it with what it gives again."""
     text = reading.first.rules.text
@@ -160,11 +173,9 @@ def compare_reading(reading, first, again, record):
         return compare_faults(text, first[None][0], record)
     record.add("accepted")
     record.same("read again", first["definition"], again.get("definition"))
-    tables, _, rules = first["definition"]
-    rules = value(rules, b"rules")
-    made, rows, asked = value(tables, b"tables")
-    # counted in each list of rules, so once or more
-    record.law("each rule is asked", (made, rows) == (0, 0) and asked >= len(rules))
+    tables, states, rules = first["definition"]
+    states, rules = value(states, b"states"), value(rules, b"rules")
+    record.same("each rule is asked", [0, 0, all_active(states, rules)], value(tables, b"tables"))
     compare_rules(text, rules, record)
     compare_finds(rules, first["find"], record)
     compare_tiling(reading.text, one_run(first["run"]), rules, record)
