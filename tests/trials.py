@@ -6,6 +6,9 @@ from made import UNKNOWN, any_ids, rule_text, steps, text, with_mistake
 # How many mistakes are made in each rule text, by themselves.
 MISTAKES = 4
 
+# How many characters a text has at the most that is lexed from each of its places on.
+SHORT = 20
+
 # How the definitions are made that find winners in different ways: each rule is asked; by tables, as far as the usual budget
 # goes; and by tables later, as far as a small budget goes.
 WAYS = {
@@ -28,13 +31,13 @@ def any_span(chance, most):
     return [chance.below(most), chance.below(most)]
 
 
-def places_of(text):
-    """The bytes at which the characters of a text begin."""
-    places, at = [], 0
-    for c in text:
-        places.append(at)
+def tails_of(text):
+    """The text from each of its characters on, each with the byte at which that begins."""
+    tails, at = [], 0
+    for number, c in enumerate(text):
+        tails.append((at, text[number:]))
         at += len(c.encode())
-    return places
+    return tails
 
 
 class Steps:
@@ -96,7 +99,7 @@ class Trial:
         self.seed, self.number = seed, number
         self.rules = rule_text(chance)
         self.read_text = text(chance, 40)
-        self.short = text(chance, 40)
+        self.short = text(chance, 40)[:SHORT]
         self.run_way = any_way(chance)
         self.run_text = text(chance, 100)
         self.ids = any_ids(chance, self.rules.names)
@@ -132,9 +135,8 @@ class Trial:
 
     def ask_places(self, asked):
         """Asks for a run from each place of the short text on."""
-        data = self.short.encode()
-        for place in places_of(self.short):
-            asked.ask(("from", place), "run", data[place:].decode(), [])
+        for place, tail in tails_of(self.short):
+            asked.ask(("from", place), "run", tail, [])
 
     def ask_run(self, asked):
         """Asks for a run, a lexer and a part of a text."""
