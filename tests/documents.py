@@ -130,6 +130,8 @@ def places_text(places):
 def places_positions_and_texts_at_any_number():
     for text, at, spans, places, texts in AT_ANY_NUMBER:
         document = ["document", text, [(0, 0, "", at)]]
+        [pairs] = told([case_of(read(FACES), ["texts", text, spans])])
+        same("".join(f" <{part}>" for part in last_value(pairs, "texts")), texts, text)
         lexers = [["lexer", text, of_run, spans, at] for of_run in [False, True]]
         pairs, *others = told([case_of(read(FACES), step) for step in [document, *lexers]])
         same(places_text(last_value(pairs, "places")), places, text)

@@ -45,9 +45,10 @@ ONE = [part(4, "A", 2, 1, "a)|(b", [1, "Pop"])]
 
 
 def parts_are_kept_as_handed_in():
-    pairs = told([case_of(of_parts(ONE, True), ["definition"])])[0]
+    pairs = told([case_of(of_parts(ONE, True), ["definition"], ["flags"])])[0]
     same(last_value(pairs, "rules"), ONE, "a rule")
     same(last_value(pairs, "states"), [[0, "INITIAL", False, [0, 0]]], "a start state")
+    same(last_value(pairs, "default_flags"), True, "flags")
 
 
 # Two rules named A, of which the second stands at 2..3.

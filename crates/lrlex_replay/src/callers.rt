@@ -1,4 +1,4 @@
-//! Steps that make what the callers of `lrlex_callers` make, and what edits are.
+//! Steps that make what the callers of `lrlex_callers` make, and small questions to documents, definitions and edits.
 use crate::building::Definition;
 use crate::documents::Edited;
 use crate::facts::{push_items, push_text};
@@ -6,7 +6,7 @@ use crate::lexers::{LexerOf, items_of};
 use crate::reading::{Trouble, change_of, elements_of, list_of, loose_span_of, text_of};
 use crate::reports::show;
 use crate::steps::edit_of;
-use lrlex::{Document, Edit, EditError, LexerDef};
+use lrlex::{DEFAULT_LEX_FLAGS, Document, Edit, EditError, LexerDef};
 use lrlex_callers::editing::{highlighted, typed, visible};
 use lrlex_callers::lending::lexed_and_replaced;
 use lrlex_callers::lexing::{lexer_after, words};
@@ -176,6 +176,36 @@ fn tell_edit(out: &mut String, old: &Value, edit: &Value, new: &Value) -> Result
     Ok(write!(out, "\nfits [{fits},{gives}]")?)
 }
 
+/// Adds the texts that a document of the text has at these spans, on a line.
+fn tell_texts(
+    alloc: Global,
+    out: &mut String,
+    definition: &Definition<u32>,
+    text: &Value,
+    spans: &Value,
+) -> Result<(), Trouble> {
+    let spans = list_of(spans)?;
+    let document = document_of(alloc, definition, text)?;
+    out.push_str("\ntexts [")?;
+    let mut between = "";
+    for span in spans {
+        out.push_str(between)?;
+        push_text(alloc, out, document.text_of(loose_span_of(span)?))?;
+        between = ",";
+    }
+    Ok(out.push_str("]")?)
+}
+
+/// Adds whether the definition's flags are the default ones; null where it has none.
+fn tell_flags(out: &mut String, definition: &Definition<u32>) -> Result<(), Trouble> {
+    let told = match definition.lex_flags() {
+        Some(flags) if *flags == DEFAULT_LEX_FLAGS => "true",
+        Some(_) => "false",
+        None => "null",
+    };
+    Ok(write!(out, "\ndefault_flags {told}")?)
+}
+
 /// Makes a step of a caller, and adds what comes of it.
 pub fn call(
     rt: &HostRuntime,
@@ -192,6 +222,8 @@ pub fn call(
         (Some("typed"), [_, text, edit]) => type_keys(alloc, out, definition, text, edit),
         (Some("after"), [_, text, edits]) => keep_run(alloc, out, definition, text, edits),
         (Some("replaced"), [_, text, rules]) => replace(alloc, out, definition, text, rules),
+        (Some("texts"), [_, text, spans]) => tell_texts(alloc, out, definition, text, spans),
+        (Some("flags"), [_]) => tell_flags(out, definition),
         (Some("range"), [_, text, span]) => tell_range(alloc, out, definition, text, span),
         (Some("edit"), [_, old, edit, new]) => tell_edit(out, old, edit, new),
         _ => show(rt, out, name, step),
