@@ -8,7 +8,7 @@ use lrlex::{
 };
 use lrlex_base::Id;
 use serde_json::{Map, Value};
-use std::alloc::Global;
+use std::alloc::{AllocError, Global};
 use std::collections::HashMap;
 
 /// The definition that cases build, with ids of this type.
@@ -43,23 +43,20 @@ pub fn ids_of<'v, T: Id>(
     Ok(ids)
 }
 
-/// The rule, or none where its pattern is refused.
+/// The rule of these parts, or none where its pattern is refused.
 fn rule_of<T: Id>(
     alloc: Global,
-    value: &Value,
+    id: Option<T>,
+    parts: RuleParts,
     flags: &LexFlags,
-) -> Result<Option<Rule<T>>, Trouble> {
-    let id = match value.get("tok_id") {
-        Some(number) if number.is_u64() => Some(id_of::<T>(number)?),
-        _ => None,
-    };
+) -> Result<Option<Rule<T>>, AllocError> {
     let RuleParts {
         name,
         name_span,
         re_str,
         start_states,
         target,
-    } = parts_of(alloc, value)?;
+    } = parts;
     let made = Rule::new(
         alloc,
         id,
@@ -73,6 +70,14 @@ fn rule_of<T: Id>(
     Ok(made.ok())
 }
 
+/// The id of a rule, if it has one.
+fn rule_id_of<T: Id>(value: &Value) -> Result<Option<T>, Trouble> {
+    match value.get("tok_id") {
+        Some(number) if number.is_u64() => Ok(Some(id_of::<T>(number)?)),
+        _ => Ok(None),
+    }
+}
+
 /// The rules, or the place of the first that is refused.
 fn rules_of<T: Id>(
     alloc: Global,
@@ -81,7 +86,8 @@ fn rules_of<T: Id>(
 ) -> Result<Result<Vec<Rule<T>>, usize>, Trouble> {
     let mut rules = Vec::new(alloc);
     for (place, value) in list.iter().enumerate() {
-        match rule_of::<T>(alloc, value, flags)? {
+        let id = rule_id_of::<T>(value)?;
+        match rule_of(alloc, id, parts_of(alloc, value)?, flags)? {
             Some(rule) => rules.push(rule)?,
             None => return Ok(Err(place)),
         }

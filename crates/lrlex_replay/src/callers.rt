@@ -1,11 +1,12 @@
 //! Steps that make what the callers of `lrlex_callers` make, and small questions to documents, definitions and edits.
 use crate::building::Definition;
 use crate::documents::Edited;
-use crate::facts::{push_items, push_text};
+use crate::facts::tell_items;
 use crate::lexers::{LexerOf, items_of};
 use crate::reading::{Trouble, change_of, elements_of, list_of, loose_span_of, text_of};
 use crate::reports::show;
 use crate::steps::edit_of;
+use crate::told::Told;
 use lrlex::{DEFAULT_LEX_FLAGS, Document, Edit, EditError, LexerDef};
 use lrlex_callers::editing::{highlighted, typed, visible};
 use lrlex_callers::lending::lexed_and_replaced;
@@ -13,43 +14,32 @@ use lrlex_callers::lexing::{lexer_after, words};
 use lrlex_callers::serving::range_of;
 use serde_json::Value;
 use std::alloc::{AllocError, Global};
-use std::fmt::Write;
 
-/// Adds pairs of a name and a text, on a line.
-fn push_words(alloc: Global, out: &mut String, words: &[(&str, &str)]) -> Result<(), AllocError> {
-    out.push_str("\nwords [")?;
-    let mut between = "[";
-    for (name, text) in words {
-        out.push_str(between)?;
-        push_text(alloc, out, name)?;
-        out.push_str(",")?;
-        push_text(alloc, out, text)?;
-        out.push_str("]")?;
-        between = ",[";
+/// Tells pairs of a name and a text.
+fn tell_pairs(told: &mut Told, pairs: &[(&str, &str)]) {
+    told.key("words");
+    told.open("[");
+    for (name, text) in pairs {
+        told.open("[");
+        told.text(name);
+        told.text(text);
+        told.close("]");
     }
-    out.push_str("]")
+    told.close("]");
 }
 
-/// Adds the lexemes of a text, by name and text.
-fn tell_words(
-    alloc: Global,
-    out: &mut String,
-    definition: &Definition<u32>,
-    text: &Value,
-) -> Result<(), Trouble> {
-    let words = words(alloc, definition, text_of(text)?)?;
-    Ok(push_words(alloc, out, words.as_slice())?)
+/// Tells the lexemes of a text, by name and text.
+fn tell_words(told: &mut Told, definition: &Definition<u32>, text: &Value) -> Result<(), Trouble> {
+    let words = words(told.alloc(), definition, text_of(text)?)?;
+    tell_pairs(told, words.as_slice());
+    Ok(())
 }
 
-/// Adds the whole of a text as it was cut.
-fn highlight(
-    alloc: Global,
-    out: &mut String,
-    definition: &Definition<u32>,
-    text: &Value,
-) -> Result<(), Trouble> {
-    let parts = highlighted(alloc, definition, text_of(text)?)?;
-    Ok(push_words(alloc, out, parts.as_slice())?)
+/// Tells the whole of a text as it was cut.
+fn highlight(told: &mut Told, definition: &Definition<u32>, text: &Value) -> Result<(), Trouble> {
+    let parts = highlighted(told.alloc(), definition, text_of(text)?)?;
+    tell_pairs(told, parts.as_slice());
+    Ok(())
 }
 
 /// A document of the text.
@@ -61,43 +51,43 @@ fn document_of<'d>(
     Ok(Document::new(alloc, definition, text_of(text)?)?)
 }
 
-/// Adds the part of a document of the text that a window shows.
+/// Tells the part of a document of the text that a window shows.
 fn show_part(
-    alloc: Global,
-    out: &mut String,
+    told: &mut Told,
     definition: &Definition<u32>,
     text: &Value,
     span: &Value,
 ) -> Result<(), Trouble> {
     let span = loose_span_of(span)?;
+    let alloc = told.alloc();
     let document = document_of(alloc, definition, text)?;
     let parts = visible(alloc, &document, span.start(), span.end())?;
-    Ok(push_words(alloc, out, parts.as_slice())?)
+    tell_pairs(told, parts.as_slice());
+    Ok(())
 }
 
-/// Adds where typing ended; null where the keys don't fit.
-fn push_typed(
-    out: &mut String,
-    typed: Result<(usize, usize), EditError>,
-) -> Result<(), AllocError> {
+/// Tells where typing ended; null where the keys don't fit.
+fn tell_typed(told: &mut Told, typed: Result<(usize, usize), EditError>) -> Result<(), AllocError> {
+    told.key("typed");
     match typed {
-        Ok((line, column)) => Ok(write!(out, "\ntyped [{line},{column}]")?),
-        Err(EditError::DoesNotFit) => out.push_str("\ntyped null"),
-        Err(EditError::OutOfMemory) => Err(AllocError),
+        Ok((line, column)) => told.numbers(&[line, column]),
+        Err(EditError::DoesNotFit) => told.null(),
+        Err(EditError::OutOfMemory) => return Err(AllocError),
     }
+    Ok(())
 }
 
 /// Types the keys of an edit `[at, at, keys]` in a document of the text.
 fn type_keys(
-    alloc: Global,
-    out: &mut String,
+    told: &mut Told,
     definition: &Definition<u32>,
     text: &Value,
     edit: &Value,
 ) -> Result<(), Trouble> {
     let (at, _, keys) = change_of(edit)?;
+    let alloc = told.alloc();
     let mut document = document_of(alloc, definition, text)?;
-    Ok(push_typed(out, typed(alloc, &mut document, at, keys))?)
+    Ok(tell_typed(told, typed(alloc, &mut document, at, keys))?)
 }
 
 /// The edits of a list, each beside the text that it makes.
@@ -112,25 +102,30 @@ fn edits_of(alloc: Global, list: &Value) -> Result<Vec<(Edit<'_>, &str)>, Troubl
     Ok(edits)
 }
 
-/// Adds the items of a lexer, on a line.
-fn push_lexed(alloc: Global, out: &mut String, lexer: &LexerOf<'_, '_>) -> Result<(), AllocError> {
-    let items = items_of(alloc, lexer)?;
-    push_items(out, items.as_slice())
+/// Tells the items of a lexer.
+fn tell_lexed(told: &mut Told, lexer: &LexerOf<'_, '_>) -> Result<(), AllocError> {
+    let items = items_of(told.alloc(), lexer)?;
+    tell_items(told, items.as_slice());
+    Ok(())
 }
 
-/// Takes a run through edits, and adds the items of its lexer; null where an edit doesn't make its text.
+/// Takes a run through edits, and tells the items of its lexer; null where an edit doesn't make its text.
 fn keep_run(
-    alloc: Global,
-    out: &mut String,
+    told: &mut Told,
     definition: &Definition<u32>,
     text: &Value,
     list: &Value,
 ) -> Result<(), Trouble> {
+    let alloc = told.alloc();
     let edits = edits_of(alloc, list)?;
     match lexer_after(alloc, definition, text_of(text)?, edits.as_slice())? {
-        Some(lexer) => Ok(push_lexed(alloc, out, &lexer)?),
-        None => Ok(out.push_str("\nitems null")?),
+        Some(lexer) => tell_lexed(told, &lexer)?,
+        None => {
+            told.key("items");
+            told.null();
+        }
     }
+    Ok(())
 }
 
 /// The definition of a rule text without faults.
@@ -141,91 +136,99 @@ fn defined(alloc: Global, rules: &Value) -> Result<Definition<u32>, Trouble> {
     }
 }
 
-/// Lexes a text, and puts the definition of another rule text in the place of this one. Adds how many tiles the text had.
+/// Lexes a text, and puts the definition of another rule text in the place of this one. Tells how many tiles the text had.
 fn replace(
-    alloc: Global,
-    out: &mut String,
+    told: &mut Told,
     definition: &mut Definition<u32>,
     text: &Value,
     rules: &Value,
 ) -> Result<(), Trouble> {
     let text = text_of(text)?;
+    let alloc = told.alloc();
     let other = defined(alloc, rules)?;
-    let tiles = lexed_and_replaced(alloc, definition, other, text)?;
-    Ok(write!(out, "\ntiles {tiles}")?)
+    told.key("tiles");
+    told.number(lexed_and_replaced(alloc, definition, other, text)?);
+    Ok(())
 }
 
-/// Adds where a span of a document of the text begins and ends, as the Language Server Protocol counts.
+/// Tells where a span of a document of the text begins and ends, as the Language Server Protocol counts.
 fn tell_range(
-    alloc: Global,
-    out: &mut String,
+    told: &mut Told,
     definition: &Definition<u32>,
     text: &Value,
     span: &Value,
 ) -> Result<(), Trouble> {
     let span = loose_span_of(span)?;
-    let document = document_of(alloc, definition, text)?;
-    let ((line, units), (end_line, end_units)) = range_of(&document, span);
-    Ok(write!(out, "\nrange [[{line},{units}],[{end_line},{end_units}]]")?)
+    let document = document_of(told.alloc(), definition, text)?;
+    let (start, end) = range_of(&document, span);
+    told.key("range");
+    told.open("[");
+    told.numbers(&[start.0, start.1]);
+    told.numbers(&[end.0, end.1]);
+    told.close("]");
+    Ok(())
 }
 
-/// Adds whether an edit fits a text, and whether it makes the other of it.
-fn tell_edit(out: &mut String, old: &Value, edit: &Value, new: &Value) -> Result<(), Trouble> {
+/// Tells whether an edit fits a text, and whether it makes the other of it.
+fn tell_edit(told: &mut Told, old: &Value, edit: &Value, new: &Value) -> Result<(), Trouble> {
     let (edit, old, new) = (edit_of(edit)?, text_of(old)?, text_of(new)?);
-    let (fits, gives) = (edit.fits(old), edit.gives(old, new));
-    Ok(write!(out, "\nfits [{fits},{gives}]")?)
+    told.key("fits");
+    told.open("[");
+    told.truth(edit.fits(old));
+    told.truth(edit.gives(old, new));
+    told.close("]");
+    Ok(())
 }
 
-/// Adds the texts that a document of the text has at these spans, on a line.
+/// Tells the texts that a document of the text has at these spans.
 fn tell_texts(
-    alloc: Global,
-    out: &mut String,
+    told: &mut Told,
     definition: &Definition<u32>,
     text: &Value,
     spans: &Value,
 ) -> Result<(), Trouble> {
     let spans = list_of(spans)?;
-    let document = document_of(alloc, definition, text)?;
-    out.push_str("\ntexts [")?;
-    let mut between = "";
+    let document = document_of(told.alloc(), definition, text)?;
+    told.key("texts");
+    told.open("[");
     for span in spans {
-        out.push_str(between)?;
-        push_text(alloc, out, document.text_of(loose_span_of(span)?))?;
-        between = ",";
+        told.text(document.text_of(loose_span_of(span)?));
     }
-    Ok(out.push_str("]")?)
+    told.close("]");
+    Ok(())
 }
 
-/// Adds whether the definition's flags are the default ones; null where it has none.
-fn tell_flags(out: &mut String, definition: &Definition<u32>) -> Result<(), Trouble> {
-    let told = match definition.lex_flags() {
-        Some(flags) if *flags == DEFAULT_LEX_FLAGS => "true",
-        Some(_) => "false",
-        None => "null",
-    };
-    Ok(write!(out, "\ndefault_flags {told}")?)
+/// Tells whether the definition's flags are the default ones; null where it has none.
+fn tell_flags(told: &mut Told, definition: &Definition<u32>) {
+    told.key("default_flags");
+    match definition.lex_flags() {
+        Some(flags) => told.truth(*flags == DEFAULT_LEX_FLAGS),
+        None => told.null(),
+    }
 }
 
-/// Makes a step of a caller, and adds what comes of it.
+/// Makes a step of a caller, and tells what comes of it.
 pub fn call(
     rt: &HostRuntime,
-    out: &mut String,
+    told: &mut Told,
     definition: &mut Definition<u32>,
     name: Option<&str>,
     step: &[Value],
 ) -> Result<(), Trouble> {
-    let alloc = rt.alloc();
     match (name, step) {
-        (Some("words"), [_, text]) => tell_words(alloc, out, definition, text),
-        (Some("highlighted"), [_, text]) => highlight(alloc, out, definition, text),
-        (Some("visible"), [_, text, span]) => show_part(alloc, out, definition, text, span),
-        (Some("typed"), [_, text, edit]) => type_keys(alloc, out, definition, text, edit),
-        (Some("after"), [_, text, edits]) => keep_run(alloc, out, definition, text, edits),
-        (Some("replaced"), [_, text, rules]) => replace(alloc, out, definition, text, rules),
-        (Some("texts"), [_, text, spans]) => tell_texts(alloc, out, definition, text, spans),
-        (Some("flags"), [_]) => tell_flags(out, definition),
-        (Some("range"), [_, text, span]) => tell_range(alloc, out, definition, text, span),
-        (Some("edit"), [_, old, edit, new]) => tell_edit(out, old, edit, new),
-        _ => show(rt, out, name, step),
+        (Some("words"), [_, text]) => tell_words(told, definition, text),
+        (Some("highlighted"), [_, text]) => highlight(told, definition, text),
+        (Some("visible"), [_, text, span]) => show_part(told, definition, text, span),
+        (Some("typed"), [_, text, edit]) => type_keys(told, definition, text, edit),
+        (Some("after"), [_, text, edits]) => keep_run(told, definition, text, edits),
+        (Some("replaced"), [_, text, rules]) => replace(told, definition, text, rules),
+        (Some("texts"), [_, text, spans]) => tell_texts(told, definition, text, spans),
+        (Some("flags"), [_]) => {
+            tell_flags(told, definition);
+            Ok(())
+        }
+        (Some("range"), [_, text, span]) => tell_range(told, definition, text, span),
+        (Some("edit"), [_, old, edit, new]) => tell_edit(told, old, edit, new),
+        _ => show(rt, told, name, step),
     }
 }

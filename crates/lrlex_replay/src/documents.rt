@@ -1,36 +1,44 @@
 //! What a document shows, at first and after each of its edits.
-use crate::facts::{push_items, push_pieces, push_text};
+use crate::facts::tell_items;
 use crate::reading::{Change, Trouble, bytes_of, change_of};
+use crate::runs::{most_of, tell_pieces};
+use crate::told::Told;
 use lrlex::{DefaultLexerTypes, Document, EditError};
 use serde_json::Value;
 use std::alloc::{AllocError, Global};
-use std::fmt::Write;
 
 /// A document of a definition with ids of type `u32`.
 pub type Edited<'d> = Document<'d, DefaultLexerTypes<u32>>;
 
-/// Adds what a document shows: its counts, its text, its items and its pieces.
-fn push_shown(alloc: Global, out: &mut String, document: &Edited<'_>) -> Result<(), AllocError> {
-    let (tiles, lexed, asked) = (document.tiles(), document.lexed(), document.asked());
-    write!(out, "\ndocument [{tiles},{lexed},{asked}]\ntext ")?;
-    push_text(alloc, out, document.text())?;
-    push_items(out, document.items())?;
-    let pieces = document.pieces(alloc)?;
-    push_pieces(alloc, out, document.text(), pieces.as_slice())
+/// Tells what a document shows: its counts, its text, its items and its pieces.
+fn tell_shown(told: &mut Told, document: &Edited<'_>) -> Result<(), AllocError> {
+    told.key("document");
+    told.numbers(&[
+        document.tiles(),
+        document.lexed(),
+        most_of(document.asked()),
+    ]);
+    told.key("text");
+    told.text(document.text());
+    tell_items(told, document.items());
+    let pieces = document.pieces(told.alloc())?;
+    tell_pieces(told, document.text(), pieces.as_slice());
+    Ok(())
 }
 
-/// Makes an edit; where memory is refused, adds what the document shows then, and makes it once more. Whether it fits.
+/// Makes an edit; where memory is refused, tells what the document shows then, and makes it once more. Whether it fits.
 fn make(
     alloc: Global,
-    out: &mut String,
+    told: &mut Told,
     document: &mut Edited<'_>,
     change: Change<'_>,
 ) -> Result<bool, AllocError> {
     let (from, to, put) = change;
     let mut made = document.edit(alloc, from, to, put);
     if let Err(EditError::OutOfMemory) = made {
-        out.push_str("\nout_of_memory null")?;
-        push_shown(alloc, out, document)?;
+        told.key("out_of_memory");
+        told.null();
+        tell_shown(told, document)?;
         made = document.edit(alloc, from, to, put);
     }
     match made {
@@ -40,55 +48,53 @@ fn make(
     }
 }
 
-/// Adds line and column before a byte, as `place` and as `position` count them.
-fn push_place(
-    out: &mut String,
-    between: &str,
-    document: &Edited<'_>,
-    byte: usize,
-) -> Result<(), AllocError> {
+/// Tells line and column before a byte, as `place` and as `position` count them.
+fn tell_place(told: &mut Told, document: &Edited<'_>, byte: usize) {
     let ((line, column), (above, units)) = (document.place(byte), document.position(byte));
-    Ok(write!(out, "{between}[[{line},{column}],[{above},{units}]]")?)
+    told.open("[");
+    told.numbers(&[line, column]);
+    told.numbers(&[above, units]);
+    told.close("]");
 }
 
-/// Adds the places of these bytes, on a line.
-fn push_places(out: &mut String, document: &Edited<'_>, bytes: &[usize]) -> Result<(), AllocError> {
-    out.push_str("\nplaces [")?;
-    let mut between = "";
+/// Tells the places of these bytes.
+fn tell_places(told: &mut Told, document: &Edited<'_>, bytes: &[usize]) {
+    told.key("places");
+    told.open("[");
     for byte in bytes {
-        push_place(out, between, document, *byte)?;
-        between = ",";
+        tell_place(told, document, *byte);
     }
-    out.push_str("]")
+    told.close("]");
 }
 
-/// Makes the edit of a value, and adds what comes of it.
+/// Makes the edit of a value, and tells what comes of it.
 fn tell_edit(
     alloc: Global,
-    out: &mut String,
+    told: &mut Told,
     document: &mut Edited<'_>,
     value: &Value,
 ) -> Result<(), Trouble> {
-    let made = make(alloc, out, document, change_of(value)?)?;
-    write!(out, "\nedit {made}")?;
-    push_shown(alloc, out, document)?;
+    let made = make(alloc, told, document, change_of(value)?)?;
+    told.key("edit");
+    told.truth(made);
+    tell_shown(told, document)?;
     let bytes = bytes_of(alloc, value)?;
-    if bytes.is_empty() {
-        return Ok(());
+    if !bytes.is_empty() {
+        tell_places(told, document, bytes.as_slice());
     }
-    Ok(push_places(out, document, bytes.as_slice())?)
+    Ok(())
 }
 
 /// Tells a document, and again after each edit.
 pub fn tell_document(
     alloc: Global,
-    out: &mut String,
+    told: &mut Told,
     document: &mut Edited<'_>,
     edits: &[Value],
 ) -> Result<(), Trouble> {
-    push_shown(alloc, out, document)?;
+    tell_shown(told, document)?;
     for edit in edits {
-        tell_edit(alloc, out, document, edit)?;
+        tell_edit(alloc, told, document, edit)?;
     }
     Ok(())
 }

@@ -1,17 +1,17 @@
 //! Steps of the engine and of the program, over writers that break.
 use crate::reading::{Trouble, text_of};
 use crate::steps::edit_of;
+use crate::told::Told;
 use crate::writers::BrokenWriter;
 use lrlex::{DefaultLexerTypes, Edit, LRNonStreamingLexerDef, LexerDef, UNSPECIFIED_LEX_FLAGS};
 use lrlex_cli::engine::{Ended, EngineFault, report, run, run_edited};
 use lrlex_cli::program;
 use serde_json::Value;
 use std::alloc::{AllocError, Global};
-use std::fmt::Write;
 use std::io::ErrorKind;
 
 /// What a call came to.
-#[derive(Clone, Copy, Debug)]
+#[derive(Clone, Copy)]
 enum Came {
     Lexed,
     Stopped,
@@ -38,21 +38,44 @@ fn came_of_run(ended: &Result<Ended, EngineFault>) -> Result<Came, AllocError> {
     }
 }
 
-/// Adds what a call came to, and what its writer has then, on a line.
-fn push_came(
-    out: &mut String,
-    came: Result<Came, AllocError>,
-    writer: &BrokenWriter,
-) -> Result<(), AllocError> {
-    let came = came?;
-    let ((calls, flushes), held) = (writer.counts(), writer.held());
-    Ok(write!(out, "\nengine [\"{came:?}\",{held:?},{calls},{flushes}]")?)
+/// What a call came to, in a word.
+fn word_of(came: Came) -> &'static str {
+    match came {
+        Came::Lexed => "Lexed",
+        Came::Stopped => "Stopped",
+        Came::Refused => "Refused",
+        Came::Reported => "Reported",
+        Came::Failed(ErrorKind::WriteZero) => "Failed(WriteZero)",
+        Came::Failed(ErrorKind::Interrupted) => "Failed(Interrupted)",
+        Came::Failed(_) => "Failed(Other)",
+    }
+}
+
+/// Tells the bytes that a writer holds.
+fn tell_held(told: &mut Told, writer: &BrokenWriter) {
+    told.open("[");
+    for byte in writer.held() {
+        told.number(*byte as usize);
+    }
+    told.close("]");
+}
+
+/// Tells what a call came to, and what its writer has then.
+fn tell_came(told: &mut Told, came: Came, writer: &BrokenWriter) {
+    let (calls, flushes) = writer.counts();
+    told.key("engine");
+    told.open("[");
+    told.text(word_of(came));
+    tell_held(told, writer);
+    told.number(calls as usize);
+    told.number(flushes as usize);
+    told.close("]");
 }
 
 /// Runs the engine.
 fn run_engine(
     alloc: Global,
-    out: &mut String,
+    told: &mut Told,
     rules: &Value,
     input: &Value,
     writer: &Value,
@@ -60,7 +83,8 @@ fn run_engine(
     let (flags, rules, input) = (UNSPECIFIED_LEX_FLAGS, text_of(rules)?, text_of(input)?);
     let mut writer = BrokenWriter::of_value(alloc, writer)?;
     let ended = run::<DefaultLexerTypes<u32>, _>(alloc, rules, flags, input, &mut writer);
-    Ok(push_came(out, came_of_run(&ended), &writer)?)
+    tell_came(told, came_of_run(&ended)?, &writer);
+    Ok(())
 }
 
 /// What a run on the new text, which the edit makes of the old one, came to.
@@ -84,7 +108,7 @@ fn ran_edited(
 /// Runs the engine on the new text, which the edit makes of the old one.
 fn run_engine_edited(
     alloc: Global,
-    out: &mut String,
+    told: &mut Told,
     rules: &Value,
     texts: (&Value, &Value),
     edit: &Value,
@@ -94,7 +118,8 @@ fn run_engine_edited(
     let edit = edit_of(edit)?;
     let mut writer = BrokenWriter::of_value(alloc, writer)?;
     let came = ran_edited(alloc, rules, texts, &edit, &mut writer)?;
-    Ok(push_came(out, Ok(came), &writer)?)
+    tell_came(told, came, &writer);
+    Ok(())
 }
 
 /// What reporting the faults of the rule text came to; reporting none where it has none.
@@ -113,49 +138,62 @@ fn reported(alloc: Global, rules: &str, writer: &mut BrokenWriter) -> Result<Cam
 /// Reports the faults of the rule text.
 fn report_faults(
     alloc: Global,
-    out: &mut String,
+    told: &mut Told,
     rules: &Value,
     writer: &Value,
 ) -> Result<(), Trouble> {
     let rules = text_of(rules)?;
     let mut writer = BrokenWriter::of_value(alloc, writer)?;
-    let came = reported(alloc, rules, &mut writer);
-    Ok(push_came(out, came, &writer)?)
+    let came = reported(alloc, rules, &mut writer)?;
+    tell_came(told, came, &writer);
+    Ok(())
 }
 
-/// Serves both texts of standard input, and adds the status and what both writers have then.
+/// Serves both texts of standard input, and tells the status and what both writers have then.
 fn serve(
     rt: &HostRuntime,
-    out: &mut String,
+    told: &mut Told,
     stdin: &Value,
     lines: &Value,
-    told: &Value,
+    faults: &Value,
 ) -> Result<(), Trouble> {
     let stdin = text_of(stdin)?;
     let mut lines = BrokenWriter::of_value(rt.alloc(), lines)?;
-    let mut told = BrokenWriter::of_value(rt.alloc(), told)?;
-    let status = program::serve(rt, &["lrlex"], &mut stdin.as_bytes(), &mut lines, &mut told);
-    let ((_, flushes), held, said) = (lines.counts(), lines.held(), told.held());
-    Ok(write!(out, "\nserved [{status},{held:?},{said:?},{flushes}]")?)
+    let mut faults = BrokenWriter::of_value(rt.alloc(), faults)?;
+    let status = program::serve(
+        rt,
+        &["lrlex"],
+        &mut stdin.as_bytes(),
+        &mut lines,
+        &mut faults,
+    );
+    told.key("served");
+    told.open("[");
+    told.number(status as usize);
+    tell_held(told, &lines);
+    tell_held(told, &faults);
+    told.number(lines.counts().1 as usize);
+    told.close("]");
+    Ok(())
 }
 
-/// Makes a step of the engine or of the program, and adds what comes of it.
+/// Makes a step of the engine or of the program, and tells what comes of it.
 pub fn drive(
     rt: &HostRuntime,
-    out: &mut String,
+    told: &mut Told,
     name: Option<&str>,
     step: &[Value],
 ) -> Result<(), Trouble> {
     let alloc = rt.alloc();
     match (name, step) {
         (Some("engine"), [_, rules, input, writer]) => {
-            run_engine(alloc, out, rules, input, writer)
+            run_engine(alloc, told, rules, input, writer)
         }
         (Some("engine_edited"), [_, rules, old, edit, new, writer]) => {
-            run_engine_edited(alloc, out, rules, (old, new), edit, writer)
+            run_engine_edited(alloc, told, rules, (old, new), edit, writer)
         }
-        (Some("engine_report"), [_, rules, writer]) => report_faults(alloc, out, rules, writer),
-        (Some("served"), [_, stdin, lines, told]) => serve(rt, out, stdin, lines, told),
+        (Some("engine_report"), [_, rules, writer]) => report_faults(alloc, told, rules, writer),
+        (Some("served"), [_, stdin, lines, faults]) => serve(rt, told, stdin, lines, faults),
         _ => Err(Trouble::Malformed),
     }
 }

@@ -1,164 +1,315 @@
-//! What runs, lexers and documents answer, as lines of JSON that are added to a text.
-use lrlex::{DefaultLexeme, DefaultLexerTypes, LRLexError, LexRun, Piece};
-use lrlex_base::{LexError, Lexeme};
+//! What definitions say, lexemes and errors, and what setting token ids gives.
+use crate::building::Refusal;
+use crate::told::Told;
+use lrlex::{
+    DefaultLexeme, LRLexError, LexBuildError, LexErrorKind, Rule, StartState, StartStateOperation,
+};
+use lrlex_base::{Id, LexError, Lexeme, Span, Spanned};
 use serde_json::Value;
-use std::alloc::{AllocError, Global};
-use std::fmt::Write;
+use std::alloc::AllocError;
+use std::collections::HashSet;
 
-/// A run of a definition with ids of type `u32`.
-pub type Run<'lexer, 'input> = LexRun<'lexer, 'input, DefaultLexerTypes<u32>>;
-
-/// A lexeme or an error.
-pub type Item = Result<DefaultLexeme<u32>, LRLexError>;
-
-/// Lists of a run of so many tiles or more are left out.
-const MANY_TILES: usize = 1_000;
-
-/// Adds a text.
-pub fn push_text(alloc: Global, out: &mut String, text: &str) -> Result<(), AllocError> {
-    let text = Value::String(String::from_str(alloc, text)?);
-    Ok(write!(out, "{text}")?)
+/// A lexeme or an error, as plain numbers.
+#[derive(Clone, Copy)]
+pub enum Item {
+    /// A lexeme: its id and its span.
+    Lexeme(u64, Span),
+    /// An error: its span, and the state in which no rule matched.
+    Error(Span, Option<usize>),
 }
 
-/// Adds a name, or null for none.
-pub fn push_name(alloc: Global, out: &mut String, name: Option<&str>) -> Result<(), AllocError> {
-    match name {
-        Some(name) => push_text(alloc, out, name),
-        None => out.push_str("null"),
+/// A rule, with its id as a number.
+#[derive(Clone, Copy)]
+pub struct RuleSeen<'r> {
+    id: Option<u64>,
+    name: Option<&'r str>,
+    name_span: Span,
+    re_str: &'r str,
+    start_states: &'r [usize],
+    target: Option<(usize, StartStateOperation)>,
+}
+
+/// What setting token ids gave: the names without a rule, and the rules' names without an id, with their places.
+pub type Sets<'n> = (Option<HashSet<&'n str>>, Option<HashSet<(String, Span)>>);
+
+/// The same without places.
+pub type NameSets<'n> = (Option<HashSet<&'n str>>, Option<HashSet<String>>);
+
+fn kind_name(kind: &LexErrorKind) -> &'static str {
+    match kind {
+        LexErrorKind::PrematureEnd => "PrematureEnd",
+        LexErrorKind::RoutinesNotSupported => "RoutinesNotSupported",
+        LexErrorKind::UnknownDeclaration => "UnknownDeclaration",
+        LexErrorKind::MissingSpace => "MissingSpace",
+        LexErrorKind::InvalidName => "InvalidName",
+        LexErrorKind::UnknownStartState => "UnknownStartState",
+        LexErrorKind::DuplicateStartState => "DuplicateStartState",
+        LexErrorKind::InvalidStartState => "InvalidStartState",
+        LexErrorKind::InvalidStartStateName => "InvalidStartStateName",
+        LexErrorKind::DuplicateName => "DuplicateName",
+        LexErrorKind::RegexError(_) => "RegexError",
+        LexErrorKind::VerbatimNotSupported => "VerbatimNotSupported",
+        LexErrorKind::TooManyRules => "TooManyRules",
     }
 }
 
-/// Adds a lexeme or an error: `["lex", id, start, length]` or `["err", place, state]`.
-fn push_item(out: &mut String, between: &str, item: &Item) -> Result<(), AllocError> {
+/// Tells a fault, by its kind and its spans.
+fn tell_fault(told: &mut Told, fault: &LexBuildError) {
+    told.open("{");
+    told.member("kind");
+    told.text(kind_name(fault.kind()));
+    told.member("spans");
+    told.open("[");
+    for span in fault.spans() {
+        told.span(*span);
+    }
+    told.close("]");
+    told.close("}");
+}
+
+/// Tells the faults.
+fn tell_faults(told: &mut Told, faults: &[LexBuildError]) {
+    told.key("faults");
+    told.open("[");
+    for fault in faults {
+        tell_fault(told, fault);
+    }
+    told.close("]");
+}
+
+/// Tells why there is no definition.
+pub fn tell_refusal(told: &mut Told, refusal: &Refusal) {
+    match refusal {
+        Refusal::Faulty(faults) => tell_faults(told, faults.as_slice()),
+        Refusal::Rule(place) => {
+            told.key("rule_refused");
+            told.number(*place);
+        }
+    }
+}
+
+/// Tells a start state: `[id, name, exclusive, span]`.
+fn tell_state(told: &mut Told, state: &StartState) {
+    told.open("[");
+    told.number(state.id());
+    told.text(state.name());
+    told.truth(state.exclusive());
+    told.span(state.name_span());
+    told.close("]");
+}
+
+/// Tells the start states.
+pub fn tell_states(told: &mut Told, states: &[StartState]) {
+    told.key("states");
+    told.open("[");
+    for state in states {
+        tell_state(told, state);
+    }
+    told.close("]");
+}
+
+fn operation_name(operation: StartStateOperation) -> &'static str {
+    match operation {
+        StartStateOperation::ReplaceStack => "ReplaceStack",
+        StartStateOperation::Push => "Push",
+        StartStateOperation::Pop => "Pop",
+    }
+}
+
+/// Tells what a rule does to the stack: `[id, operation]`, or null.
+fn tell_target(told: &mut Told, target: Option<(usize, StartStateOperation)>) {
+    match target {
+        Some((state, operation)) => {
+            told.open("[");
+            told.number(state);
+            told.text(operation_name(operation));
+            told.close("]");
+        }
+        None => told.null(),
+    }
+}
+
+/// Tells a rule, with all its fields.
+pub fn tell_rule(told: &mut Told, rule: RuleSeen<'_>) {
+    told.open("{");
+    told.member("tok_id");
+    told.value(&Value::from(rule.id));
+    told.member("name");
+    told.name(rule.name);
+    told.member("name_span");
+    told.span(rule.name_span);
+    told.member("re_str");
+    told.text(rule.re_str);
+    told.member("start_states");
+    told.numbers(rule.start_states);
+    told.member("target");
+    tell_target(told, rule.target);
+    told.close("}");
+}
+
+/// What a rule says, with its id as a number.
+pub fn rule_seen<T: Id>(rule: &Rule<T>) -> RuleSeen<'_> {
+    let id = match rule.tok_id() {
+        Some(id) => id.to_u64(),
+        None => None,
+    };
+    RuleSeen {
+        id,
+        name: rule.name(),
+        name_span: rule.name_span(),
+        re_str: rule.re_str(),
+        start_states: rule.start_states(),
+        target: rule.target_state(),
+    }
+}
+
+/// Tells the rules.
+pub fn tell_rules<T: Id>(told: &mut Told, rules: &[Rule<T>]) {
+    told.key("rules");
+    told.open("[");
+    for rule in rules {
+        tell_rule(told, rule_seen(rule));
+    }
+    told.close("]");
+}
+
+/// A lexeme or an error, as plain numbers.
+pub fn item_seen<T: Id>(item: &Result<DefaultLexeme<T>, LRLexError>) -> Item {
     match item {
-        Ok(lexeme) => {
-            let (id, span) = (lexeme.tok_id(), lexeme.span());
-            let (start, len) = (span.start(), span.len());
-            Ok(write!(out, "{between}[\"lex\",{id},{start},{len}]")?)
-        }
+        Ok(lexeme) => Item::Lexeme(lexeme.tok_id().to_u64().unwrap_or(u64::MAX), lexeme.span()),
         Err(error) => {
-            let place = error.span().start();
-            match error.lexing_state() {
-                Some(state) => {
-                    let state = state.id();
-                    Ok(write!(out, "{between}[\"err\",{place},{state}]")?)
-                }
-                None => Ok(write!(out, "{between}[\"err\",{place},null]")?),
-            }
+            let state = match error.lexing_state() {
+                Some(state) => Some(state.id()),
+                None => None,
+            };
+            Item::Error(error.span(), state)
         }
     }
 }
 
-/// Adds the items, on a line.
-pub fn push_items(out: &mut String, items: &[Item]) -> Result<(), AllocError> {
-    out.push_str("\nitems [")?;
-    let mut between = "";
+impl Item {
+    /// Where it stands.
+    pub fn span(self) -> Span {
+        let (Item::Lexeme(_, span) | Item::Error(span, _)) = self;
+        span
+    }
+}
+
+/// Tells a lexeme or an error: `["lex", id, start, length]` or `["err", place, state]`.
+pub fn tell_item(told: &mut Told, item: Item) {
+    told.open("[");
+    match item {
+        Item::Lexeme(id, span) => {
+            told.text("lex");
+            told.value(&Value::from(id));
+            told.number(span.start());
+            told.number(span.len());
+        }
+        Item::Error(span, state) => {
+            told.text("err");
+            told.number(span.start());
+            told.value(&Value::from(state));
+        }
+    }
+    told.close("]");
+}
+
+/// Tells lexemes and errors.
+pub fn tell_items(told: &mut Told, items: &[Result<DefaultLexeme<u32>, LRLexError>]) {
+    told.key("items");
+    told.open("[");
     for item in items {
-        push_item(out, between, item)?;
-        between = ",";
+        tell_item(told, item_seen(item));
     }
-    out.push_str("]")
+    told.close("]");
 }
 
-/// Adds a boundary: `[place, [[count, state], ..]]`.
-fn push_boundary(
-    out: &mut String,
-    between: &str,
-    place: usize,
-    stack: &[(usize, usize)],
-) -> Result<(), AllocError> {
-    write!(out, "{between}[{place},[")?;
-    let mut between = "";
-    for (count, state) in stack {
-        write!(out, "{between}[{count},{state}]")?;
-        between = ",";
+/// Tells these names in their order.
+fn tell_sorted(told: &mut Told, names: Vec<&str>) {
+    let mut names = names;
+    names.sort_unstable();
+    told.open("[");
+    for name in names.as_slice() {
+        told.text(name);
     }
-    out.push_str("]]")
+    told.close("]");
 }
 
-/// Adds the boundaries of a run, on a line.
-fn push_boundaries(out: &mut String, run: &Run<'_, '_>) -> Result<(), AllocError> {
-    out.push_str("\nboundaries [")?;
-    let mut between = "";
-    for index in 0..run.boundaries() {
-        push_boundary(out, between, run.place(index), run.stack(index))?;
-        between = ",";
-    }
-    out.push_str("]")
-}
-
-/// Adds how far past each boundary the tiles before it looked, on a line.
-fn push_ahead(out: &mut String, run: &Run<'_, '_>) -> Result<(), AllocError> {
-    out.push_str("\nahead [")?;
-    let mut between = "";
-    for index in 0..run.boundaries() {
-        let ahead = run.ahead(index);
-        write!(out, "{between}{ahead}")?;
-        between = ",";
-    }
-    out.push_str("]")
-}
-
-/// Adds a piece of the text: `[rule, start, length, name]`, and more where its text isn't what the text has there.
-fn push_piece(
-    alloc: Global,
-    out: &mut String,
-    text: &str,
-    piece: &Piece<'_, '_>,
-) -> Result<(), AllocError> {
-    let (rule, start, len) = (piece.rule, piece.span.start(), piece.span.len());
-    write!(out, "[{rule},{start},{len},")?;
-    push_name(alloc, out, piece.name)?;
-    if text.get(start..piece.span.end()) == Some(piece.text) {
-        out.push_str("]")
-    } else {
-        out.push_str(",\"wrong text\"]")
-    }
-}
-
-/// Adds these pieces of the text, on a line.
-pub fn push_pieces(
-    alloc: Global,
-    out: &mut String,
-    text: &str,
-    pieces: &[Piece<'_, '_>],
-) -> Result<(), AllocError> {
-    out.push_str("\npieces [")?;
-    let mut between = "";
-    for piece in pieces {
-        out.push_str(between)?;
-        push_piece(alloc, out, text, piece)?;
-        between = ",";
-    }
-    out.push_str("]")
-}
-
-/// How many entries the stack of a run's last boundary has.
-fn last_entries(run: &Run<'_, '_>) -> usize {
-    let boundaries = run.boundaries();
-    if boundaries == 0 {
-        0
-    } else {
-        run.stack(boundaries - 1).len()
-    }
-}
-
-/// Adds what a run counts, on a line.
-fn push_counts(out: &mut String, run: &Run<'_, '_>) -> Result<(), AllocError> {
-    let (tiles, items, peak) = (run.tiles(), run.items().len(), run.entries_peak());
-    let (last, lexed, asked) = (last_entries(run), run.lexed(), run.asked());
-    Ok(write!(out, "\nrun [{tiles},{items},{peak},{last},{lexed},{asked}]")?)
-}
-
-/// Adds what a run answers: its counts, and its lists where they aren't long.
-pub fn push_run(alloc: Global, out: &mut String, run: &Run<'_, '_>) -> Result<(), AllocError> {
-    push_counts(out, run)?;
-    if run.tiles() >= MANY_TILES {
+/// Tells the names in their order, or null for none.
+fn tell_names(told: &mut Told, names: &Option<HashSet<&str>>) -> Result<(), AllocError> {
+    let Some(names) = names else {
+        told.null();
         return Ok(());
+    };
+    let mut list = Vec::new(told.alloc());
+    for name in names {
+        list.push(*name)?;
     }
-    push_items(out, run.items())?;
-    push_boundaries(out, run)?;
-    push_ahead(out, run)?;
-    let pieces = run.pieces(alloc)?;
-    push_pieces(alloc, out, run.text(), pieces.as_slice())
+    tell_sorted(told, list);
+    Ok(())
+}
+
+/// The same of names of their own.
+fn tell_own_names(told: &mut Told, names: &Option<HashSet<String>>) -> Result<(), AllocError> {
+    let Some(names) = names else {
+        told.null();
+        return Ok(());
+    };
+    let mut list = Vec::new(told.alloc());
+    for name in names {
+        list.push(name.as_str())?;
+    }
+    tell_sorted(told, list);
+    Ok(())
+}
+
+/// Tells these names with their places, in the order of these: `[name, span]`.
+fn tell_placed(told: &mut Told, names: Vec<(usize, usize, &str)>) {
+    let mut names = names;
+    names.sort_unstable();
+    told.open("[");
+    for (start, end, name) in names.as_slice() {
+        told.open("[");
+        told.text(name);
+        told.numbers(&[*start, *end]);
+        told.close("]");
+    }
+    told.close("]");
+}
+
+/// Tells the names with their places, in the order of these, or null for none.
+fn tell_spanned_names(
+    told: &mut Told,
+    names: &Option<HashSet<(String, Span)>>,
+) -> Result<(), AllocError> {
+    let Some(names) = names else {
+        told.null();
+        return Ok(());
+    };
+    let mut list = Vec::new(told.alloc());
+    for (name, span) in names {
+        list.push((span.start(), span.end(), name.as_str()))?;
+    }
+    tell_placed(told, list);
+    Ok(())
+}
+
+/// Tells what setting token ids gave.
+pub fn tell_sets(told: &mut Told, key: &str, sets: &Sets<'_>) -> Result<(), AllocError> {
+    told.key(key);
+    told.open("[");
+    tell_names(told, &sets.0)?;
+    tell_spanned_names(told, &sets.1)?;
+    told.close("]");
+    Ok(())
+}
+
+/// The same without places.
+pub fn tell_name_sets(told: &mut Told, key: &str, sets: &NameSets<'_>) -> Result<(), AllocError> {
+    told.key(key);
+    told.open("[");
+    tell_names(told, &sets.0)?;
+    tell_own_names(told, &sets.1)?;
+    told.close("]");
+    Ok(())
 }

@@ -23,6 +23,23 @@ fn line_of(alloc: Global, case: &Value, field: &str, got: &Value) -> Result<Stri
     }
 }
 
+/// Whether the first is a number that the second isn't below.
+fn is_at_most(count: &Value, most: &Value) -> bool {
+    match (count.as_u64(), most.as_u64()) {
+        (Some(count), Some(most)) => count <= most,
+        _ => false,
+    }
+}
+
+/// The value of a text of JSON.
+pub fn value_of(alloc: Global, text: &str) -> Result<Value, Trouble> {
+    match Value::from_str(alloc, text) {
+        Ok(value) => Ok(value),
+        Err(fault) if fault.is_memory() => Err(Trouble::Memory),
+        Err(_) => Err(Trouble::Malformed),
+    }
+}
+
 impl Findings {
     /// No differences yet.
     pub fn new(alloc: Global) -> Findings {
@@ -36,46 +53,32 @@ impl Findings {
         self.differences.as_slice()
     }
 
-    /// Adds the field of the case as one that differs.
-    fn add(
+    /// Compares what came with the field of the case's expectation; a count `asked_max` may be less than it.
+    fn compare(
         &mut self,
         alloc: Global,
         case: &Value,
         field: &str,
         got: &Value,
-    ) -> Result<(), Trouble> {
-        self.differences.push(line_of(alloc, case, field, got)?)?;
+    ) -> Result<(), AllocError> {
+        let fits = match expected_of(case, field) {
+            Some(most) if field == "asked_max" => is_at_most(got, most),
+            Some(expected) => expected == got,
+            None => false,
+        };
+        if !fits {
+            self.differences.push(line_of(alloc, case, field, got)?)?;
+        }
         Ok(())
     }
 
-    /// Compares what came with the field of the case's expectation.
-    pub fn compare(
-        &mut self,
-        alloc: Global,
-        case: &Value,
-        field: &str,
-        got: Value,
-    ) -> Result<(), Trouble> {
-        match expected_of(case, field) {
-            Some(expected) if *expected == got => Ok(()),
-            _ => self.add(alloc, case, field, &got),
-        }
-    }
-
-    /// Compares a count with the greatest that the case allows.
-    pub fn compare_most(
-        &mut self,
-        alloc: Global,
-        case: &Value,
-        field: &str,
-        got: u128,
-    ) -> Result<(), Trouble> {
-        match expected_of(case, field).and_then(Value::as_u64) {
-            Some(most) if got <= most as u128 => Ok(()),
-            _ => {
-                let got = Value::from(u64::try_from(got).unwrap_or(u64::MAX));
-                self.add(alloc, case, field, &got)
+    /// Compares what came, lines of a field, a blank and its value, with the case's expectation.
+    pub fn compare_all(&mut self, alloc: Global, case: &Value, told: &str) -> Result<(), Trouble> {
+        for line in told.lines() {
+            if let Some((field, got)) = line.split_once(' ') {
+                self.compare(alloc, case, field, &value_of(alloc, got)?)?;
             }
         }
+        Ok(())
     }
 }

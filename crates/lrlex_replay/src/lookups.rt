@@ -1,19 +1,18 @@
 //! Look-ups by id and by name, and token ids that are set.
 use crate::building::{Definition, ids_of};
-use crate::facts::{push_name, push_text};
+use crate::facts::{rule_seen, tell_name_sets, tell_rule, tell_rules, tell_sets};
 use crate::reading::{Trouble, list_of, text_of};
-use crate::showing::{name_sets_value, rule_seen, rule_value, rules_value, sets_value};
+use crate::told::Told;
 use lrlex::{LexerDef, Rule};
 use serde_json::Value;
 use std::alloc::{AllocError, Global};
 use std::collections::HashMap;
-use std::fmt::Write;
 
-/// The rule that was found, or null.
-fn found_value(alloc: Global, found: Option<&Rule<u32>>) -> Result<Value, AllocError> {
+/// Tells the rule that was found, or null.
+fn tell_found(told: &mut Told, found: Option<&Rule<u32>>) {
     match found {
-        Some(rule) => rule_value(alloc, rule_seen(rule)),
-        None => Ok(Value::Null),
+        Some(rule) => tell_rule(told, rule_seen(rule)),
+        None => told.null(),
     }
 }
 
@@ -25,104 +24,93 @@ fn rule_by_id(definition: &Definition<u32>, id: u32) -> Option<&Rule<u32>> {
     }
 }
 
-/// Adds the rule with this id, and what lexemes of the id are called, on a line.
-fn push_by_id(
-    alloc: Global,
-    out: &mut String,
-    definition: &Definition<u32>,
-    id: u32,
-) -> Result<(), AllocError> {
-    let found = found_value(alloc, rule_by_id(definition, id))?;
-    write!(out, "\nby_id [{id},{found},")?;
-    push_name(alloc, out, definition.name_of(id))?;
-    out.push_str("]")
+/// Tells the rule with this id, and what lexemes of the id are called.
+fn tell_by_id(told: &mut Told, definition: &Definition<u32>, id: u32) {
+    told.key("by_id");
+    told.open("[");
+    told.number(id as usize);
+    tell_found(told, rule_by_id(definition, id));
+    told.name(definition.name_of(id));
+    told.close("]");
 }
 
-/// Adds the rule with this name, on a line.
-fn push_by_name(
-    alloc: Global,
-    out: &mut String,
-    definition: &Definition<u32>,
-    name: &str,
-) -> Result<(), AllocError> {
-    let found = found_value(alloc, definition.get_rule_by_name(name))?;
-    out.push_str("\nby_name [")?;
-    push_text(alloc, out, name)?;
-    Ok(write!(out, ",{found}]")?)
+/// Tells the rule with this name.
+fn tell_by_name(told: &mut Told, definition: &Definition<u32>, name: &str) {
+    told.key("by_name");
+    told.open("[");
+    told.text(name);
+    tell_found(told, definition.get_rule_by_name(name));
+    told.close("]");
 }
 
 /// Looks these ids and names up.
 pub fn find(
-    alloc: Global,
-    out: &mut String,
+    told: &mut Told,
     definition: &Definition<u32>,
     ids: &Value,
     names: &Value,
 ) -> Result<(), Trouble> {
     for id in list_of(ids)? {
         let id = id.as_u64().and_then(|id| u32::try_from(id).ok());
-        push_by_id(alloc, out, definition, id.ok_or(Trouble::Malformed)?)?;
+        tell_by_id(told, definition, id.ok_or(Trouble::Malformed)?);
     }
     for name in list_of(names)? {
-        push_by_name(alloc, out, definition, text_of(name)?)?;
+        tell_by_name(told, definition, text_of(name)?);
     }
     Ok(())
 }
 
-/// Adds that memory was refused, and the rules as they are then.
-fn push_refused(
-    alloc: Global,
-    out: &mut String,
-    definition: &Definition<u32>,
-) -> Result<(), AllocError> {
-    let rules = rules_value(alloc, definition.rules())?;
-    Ok(write!(out, "\nout_of_memory null\nrules {rules}")?)
+/// Tells that memory was refused, and the rules as they are then.
+fn tell_refused(told: &mut Told, definition: &Definition<u32>) {
+    told.key("out_of_memory");
+    told.null();
+    tell_rules(told, definition.rules());
 }
 
-/// Sets token ids, once more where memory is refused. What that tells, with the places of names.
+/// Sets token ids, once more where memory is refused, and tells what that gives, with the places of names.
 fn set_spanned(
     alloc: Global,
-    out: &mut String,
+    told: &mut Told,
     definition: &mut Definition<u32>,
     ids: &HashMap<&str, u32>,
-) -> Result<Value, AllocError> {
+) -> Result<(), AllocError> {
     let mut sets = definition.set_rule_ids_spanned(alloc, ids);
     if sets.is_err() {
-        push_refused(alloc, out, definition)?;
+        tell_refused(told, definition);
         sets = definition.set_rule_ids_spanned(alloc, ids);
     }
-    sets_value(alloc, sets?)
+    tell_sets(told, "ids", &sets?)
 }
 
 /// The same without places.
 fn set_named(
     alloc: Global,
-    out: &mut String,
+    told: &mut Told,
     definition: &mut Definition<u32>,
     ids: &HashMap<&str, u32>,
-) -> Result<Value, AllocError> {
+) -> Result<(), AllocError> {
     let mut sets = definition.set_rule_ids(alloc, ids);
     if sets.is_err() {
-        push_refused(alloc, out, definition)?;
+        tell_refused(told, definition);
         sets = definition.set_rule_ids(alloc, ids);
     }
-    name_sets_value(alloc, sets?)
+    tell_name_sets(told, "ids", &sets?)
 }
 
-/// Sets token ids, and adds what that tells, on a line.
+/// Sets token ids, and tells what that gives.
 pub fn set_ids(
-    alloc: Global,
-    out: &mut String,
+    told: &mut Told,
     definition: &mut Definition<u32>,
     ids: &Value,
     spanned: &Value,
 ) -> Result<(), Trouble> {
+    let alloc = told.alloc();
     let members = ids.as_object().ok_or(Trouble::Malformed)?;
     let ids = ids_of::<u32>(alloc, members)?;
-    let sets = if spanned.as_bool() == Some(true) {
-        set_spanned(alloc, out, definition, &ids)?
+    let set = if spanned.as_bool() == Some(true) {
+        set_spanned(alloc, told, definition, &ids)
     } else {
-        set_named(alloc, out, definition, &ids)?
+        set_named(alloc, told, definition, &ids)
     };
-    Ok(write!(out, "\nids {sets}")?)
+    Ok(set?)
 }

@@ -14,11 +14,12 @@ mod lookups;
 mod reading;
 mod replay;
 mod reports;
-mod showing;
+mod runs;
 mod steps;
+mod told;
 mod writers;
 
-use crate::findings::Findings;
+use crate::findings::{Findings, value_of};
 use crate::reading::Trouble;
 use crate::replay::replay;
 use crate::steps::tell_case;
@@ -38,10 +39,10 @@ struct Tally {
 
 /// The case of a line; none where the line isn't JSON.
 fn case_of(alloc: Global, line: &str) -> Result<Option<Value>, AllocError> {
-    match Value::from_str(alloc, line) {
+    match value_of(alloc, line) {
         Ok(case) => Ok(Some(case)),
-        Err(fault) if fault.is_memory() => Err(AllocError),
-        Err(_) => Ok(None),
+        Err(Trouble::Memory) => Err(AllocError),
+        Err(Trouble::Malformed) => Ok(None),
     }
 }
 

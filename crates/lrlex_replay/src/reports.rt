@@ -1,7 +1,7 @@
 //! Steps that show people what is wrong, and where.
 use crate::engines::drive;
-use crate::facts::push_text;
 use crate::reading::{Trouble, count_of, list_of, loose_span_of, text_of};
+use crate::told::Told;
 use lrlex::{
     DefaultLexerTypes, LRLexError, LRNonStreamingLexerDef, LexBuildError, LexerDef, Span,
     StartStateId,
@@ -62,17 +62,6 @@ fn shown_of_stop(
     Ok(stop_text(alloc, "f", text_of(text)?, &error)?)
 }
 
-/// Adds what is shown, on a line.
-fn push_shown(
-    alloc: Global,
-    out: &mut String,
-    shown: Result<String, Trouble>,
-) -> Result<(), Trouble> {
-    let shown = shown?;
-    out.push_str("\nshown ")?;
-    Ok(push_text(alloc, out, shown.as_str())?)
-}
-
 /// What is wrong with a rule text, or where lexing the input stops.
 fn shown_of_text(alloc: Global, rules: &Value, input: &Value) -> Result<String, Trouble> {
     Ok(complaints(alloc, text_of(rules)?, text_of(input)?)?)
@@ -83,10 +72,10 @@ fn shown_first(alloc: Global, rules: &Value) -> Result<String, Trouble> {
     Ok(first_fault(alloc, text_of(rules)?)?)
 }
 
-/// Makes a step that shows something, and adds that, on a line, or one of the engine.
+/// Makes a step that shows something, and tells that, or one of the engine.
 pub fn show(
     rt: &HostRuntime,
-    out: &mut String,
+    told: &mut Told,
     name: Option<&str>,
     step: &[Value],
 ) -> Result<(), Trouble> {
@@ -97,7 +86,10 @@ pub fn show(
         (Some("first_fault"), [_, rules]) => shown_first(alloc, rules),
         (Some("place_text"), [_, text, span, message]) => shown_at(alloc, text, span, message),
         (Some("stop_text"), [_, text, place, state]) => shown_of_stop(alloc, text, place, state),
-        _ => return drive(rt, out, name, step),
+        _ => return drive(rt, told, name, step),
     };
-    push_shown(alloc, out, shown)
+    let shown = shown?;
+    told.key("shown");
+    told.text(&shown);
+    Ok(())
 }

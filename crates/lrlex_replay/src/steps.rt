@@ -2,45 +2,28 @@
 use crate::building::{Definition, Refusal, build_within};
 use crate::callers::call;
 use crate::documents::tell_document;
-use crate::facts::{Run, push_pieces, push_run};
+use crate::facts::tell_refusal;
 use crate::lexers::{Asked, tell_lexer};
 use crate::lookups::{find, set_ids};
 use crate::reading::{Trouble, change_of, count_of, list_of, text_of};
-use crate::showing::{faults_value, rules_value, states_value};
+use crate::replay::tell_parts;
+use crate::runs::{Run, tell_pieces, tell_run};
+use crate::told::Told;
 use lrlex::{Document, Edit, LexerDef};
 use lrlex_base::Span;
 use serde_json::Value;
 use std::alloc::{AllocError, Global};
-use std::fmt::Write;
 use std::io;
 
-/// Adds how many tables the definition has, how many rows these have, and how many rules have none.
-fn tell_tables(out: &mut String, definition: &Definition<u32>) -> Result<(), AllocError> {
-    let (tables, rows) = (definition.tables(), definition.table_rows());
-    let asked = definition.asked_rules();
-    Ok(write!(out, "\ntables [{tables},{rows},{asked}]")?)
-}
-
-/// Adds the start states and the rules.
-fn tell_parts(
-    alloc: Global,
-    out: &mut String,
-    definition: &Definition<u32>,
-) -> Result<(), AllocError> {
-    let states = states_value(alloc, definition.iter_start_states().as_slice())?;
-    write!(out, "\nstates {states}")?;
-    let rules = rules_value(alloc, definition.rules())?;
-    Ok(write!(out, "\nrules {rules}")?)
-}
-
-/// Adds what the definition says.
-fn tell_definition(
-    alloc: Global,
-    out: &mut String,
-    definition: &Definition<u32>,
-) -> Result<(), Trouble> {
-    tell_tables(out, definition)?;
-    Ok(tell_parts(alloc, out, definition)?)
+/// Tells how many tables the definition has, how many rows these have, and how many rules have none, and then what it says.
+fn tell_definition(told: &mut Told, definition: &Definition<u32>) {
+    told.key("tables");
+    told.numbers(&[
+        definition.tables(),
+        definition.table_rows(),
+        definition.asked_rules(),
+    ]);
+    tell_parts(told, definition);
 }
 
 /// The texts after these edits, each of the text before it. It stops behind one that doesn't fit.
@@ -68,16 +51,9 @@ pub fn edit_of(value: &Value) -> Result<Edit<'_>, Trouble> {
     })
 }
 
-/// Adds that an edit doesn't fit.
-fn tell_unfit(out: &mut String, edit: &Edit<'_>) -> Result<(), AllocError> {
-    let (from, to) = (edit.removed.start(), edit.removed.end());
-    Ok(write!(out, "\nunfit [{from},{to}]")?)
-}
-
-/// Lexes again after the edit, which makes the text, and adds what the new run answers.
+/// Lexes again after the edit, which makes the text, and tells what the new run answers.
 fn lex_again<'d, 't>(
-    alloc: Global,
-    out: &mut String,
+    told: &mut Told,
     run: &Run<'d, 't>,
     edit: &Edit<'_>,
     text: &'t str,
@@ -85,15 +61,14 @@ fn lex_again<'d, 't>(
     if !edit.gives(run.text(), text) {
         return Err(Trouble::Malformed);
     }
-    let again = run.relex(alloc, edit, text)?;
-    push_run(alloc, out, &again)?;
+    let again = run.relex(told.alloc(), edit, text)?;
+    tell_run(told, &again)?;
     Ok(again)
 }
 
-/// Adds what runs of these texts answer, the first anew and each other after the edit that makes it of the one before.
+/// Tells what runs of these texts answer, the first anew and each other after the edit that makes it of the one before.
 fn tell_runs(
-    alloc: Global,
-    out: &mut String,
+    told: &mut Told,
     definition: &Definition<u32>,
     texts: &[String],
     edits: &[Value],
@@ -101,73 +76,68 @@ fn tell_runs(
     let Some((first, texts)) = texts.split_first() else {
         return Ok(());
     };
-    let mut run = definition.run(alloc, first.as_str())?;
-    push_run(alloc, out, &run)?;
+    let mut run = definition.run(told.alloc(), first.as_str())?;
+    tell_run(told, &run)?;
     for (text, edit) in texts.iter().zip(edits.iter()) {
-        run = lex_again(alloc, out, &run, &edit_of(edit)?, text.as_str())?;
+        run = lex_again(told, &run, &edit_of(edit)?, text.as_str())?;
     }
     Ok(())
 }
 
 /// Lexes a text, and again after each edit, up to one that doesn't fit.
 fn lex(
-    alloc: Global,
-    out: &mut String,
+    told: &mut Told,
     definition: &Definition<u32>,
     text: &Value,
     edits: &Value,
 ) -> Result<(), Trouble> {
     let (text, edits) = (text_of(text)?, list_of(edits)?);
-    let texts = texts_after(alloc, text, edits)?;
-    tell_runs(alloc, out, definition, texts.as_slice(), edits)?;
-    match edits.get(texts.len().saturating_sub(1)) {
-        Some(edit) => Ok(tell_unfit(out, &edit_of(edit)?)?),
-        None => Ok(()),
+    let texts = texts_after(told.alloc(), text, edits)?;
+    tell_runs(told, definition, texts.as_slice(), edits)?;
+    if let Some(edit) = edits.get(texts.len().saturating_sub(1)) {
+        let removed = edit_of(edit)?.removed;
+        told.key("unfit");
+        told.span(removed);
     }
+    Ok(())
 }
 
 /// Edits a document of a text.
 fn edit_document(
-    alloc: Global,
-    out: &mut String,
+    told: &mut Told,
     definition: &Definition<u32>,
     text: &Value,
     edits: &Value,
 ) -> Result<(), Trouble> {
     let (text, edits) = (text_of(text)?, list_of(edits)?);
+    let alloc = told.alloc();
     let mut document = Document::new(alloc, definition, text)?;
-    tell_document(alloc, out, &mut document, edits)
+    tell_document(alloc, told, &mut document, edits)
 }
 
 /// Asks the lexer of a text, or that of its run.
 fn ask_lexer(
-    alloc: Global,
-    out: &mut String,
+    told: &mut Told,
     definition: &Definition<u32>,
     input: &str,
     of_run: bool,
     asked: Asked<'_>,
 ) -> Result<(), Trouble> {
+    let alloc = told.alloc();
     let lexer = if of_run {
         definition.run(alloc, input)?.into_lexer(alloc)?
     } else {
         definition.lexer(alloc, input)?
     };
-    tell_lexer(alloc, out, &lexer, input, asked)
+    tell_lexer(told, &lexer, input, asked)
 }
 
 /// Asks the lexer of a text about its items, about spans and about bytes.
-fn ask(
-    alloc: Global,
-    out: &mut String,
-    definition: &Definition<u32>,
-    step: [&Value; 4],
-) -> Result<(), Trouble> {
+fn ask(told: &mut Told, definition: &Definition<u32>, step: [&Value; 4]) -> Result<(), Trouble> {
     let [input, of_run, spans, bytes] = step;
     let (input, asked) = (text_of(input)?, (list_of(spans)?, list_of(bytes)?));
     ask_lexer(
-        alloc,
-        out,
+        told,
         definition,
         input,
         of_run.as_bool() == Some(true),
@@ -177,64 +147,67 @@ fn ask(
 
 /// The pieces of a part of a text, by a run.
 fn cut_run(
-    alloc: Global,
-    out: &mut String,
+    told: &mut Told,
     definition: &Definition<u32>,
     text: &str,
     ends: (usize, usize),
 ) -> Result<(), AllocError> {
+    let alloc = told.alloc();
     let run = definition.run(alloc, text)?;
     let pieces = run.pieces_in(alloc, ends.0, ends.1)?;
-    push_pieces(alloc, out, text, pieces.as_slice())
+    tell_pieces(told, text, pieces.as_slice());
+    Ok(())
 }
 
 /// The same by a document.
 fn cut_document(
-    alloc: Global,
-    out: &mut String,
+    told: &mut Told,
     definition: &Definition<u32>,
     text: &str,
     ends: (usize, usize),
 ) -> Result<(), AllocError> {
+    let alloc = told.alloc();
     let document = Document::new(alloc, definition, text)?;
     let pieces = document.pieces_in(alloc, ends.0, ends.1)?;
-    push_pieces(alloc, out, text, pieces.as_slice())
+    tell_pieces(told, text, pieces.as_slice());
+    Ok(())
 }
 
 /// The pieces of a part of a text, by a run and by a document.
 fn cut_part(
-    alloc: Global,
-    out: &mut String,
+    told: &mut Told,
     definition: &Definition<u32>,
     text: &Value,
     from: &Value,
     to: &Value,
 ) -> Result<(), Trouble> {
     let (text, ends) = (text_of(text)?, (count_of(from)?, count_of(to)?));
-    cut_run(alloc, out, definition, text, ends)?;
-    Ok(cut_document(alloc, out, definition, text, ends)?)
+    cut_run(told, definition, text, ends)?;
+    Ok(cut_document(told, definition, text, ends)?)
 }
 
-/// Makes a step, and adds what comes of it.
+/// Makes a step, and tells what comes of it.
 fn make(
     rt: &HostRuntime,
-    out: &mut String,
+    told: &mut Told,
     definition: &mut Definition<u32>,
     step: &[Value],
 ) -> Result<(), Trouble> {
-    let alloc = rt.alloc();
     let name = step.first().and_then(Value::as_str);
     match (name, step) {
-        (Some("definition"), [_]) => tell_definition(alloc, out, definition),
-        (Some("run"), [_, text, edits]) => lex(alloc, out, definition, text, edits),
-        (Some("document"), [_, text, edits]) => edit_document(alloc, out, definition, text, edits),
-        (Some("lexer"), [_, input, of_run, spans, bytes]) => {
-            ask(alloc, out, definition, [input, of_run, spans, bytes])
+        (Some("definition"), [_]) => {
+            tell_definition(told, definition);
+            Ok(())
         }
-        (Some("part"), [_, text, from, to]) => cut_part(alloc, out, definition, text, from, to),
-        (Some("ids"), [_, ids, spanned]) => set_ids(alloc, out, definition, ids, spanned),
-        (Some("find"), [_, ids, names]) => find(alloc, out, definition, ids, names),
-        _ => call(rt, out, definition, name, step),
+        (Some("run"), [_, text, edits]) => lex(told, definition, text, edits),
+        (Some("document"), [_, text, edits]) => edit_document(told, definition, text, edits),
+        (Some("lexer"), [_, input, of_run, spans, bytes]) => {
+            ask(told, definition, [input, of_run, spans, bytes])
+        }
+        (Some("part"), [_, text, from, to]) => cut_part(told, definition, text, from, to),
+        (Some("ids"), [_, ids, spanned]) => set_ids(told, definition, ids, spanned),
+        (Some("find"), [_, ids, names]) => find(told, definition, ids, names),
+        _ => call(rt, told, definition, name, step),
     }
 }
 
@@ -245,10 +218,11 @@ fn answer(
     step: &Value,
 ) -> Result<String, Trouble> {
     let step = list_of(step)?;
-    let name = step.first().unwrap_or(&Value::Null);
-    let mut out = format!(in rt.alloc(); "step {name}")?;
-    make(rt, &mut out, definition, step)?;
-    Ok(out)
+    let mut told = Told::new(rt.alloc());
+    told.key("step");
+    told.value(step.first().unwrap_or(&Value::Null));
+    make(rt, &mut told, definition, step)?;
+    Ok(told.lines()?)
 }
 
 /// Makes the steps, and prints what is told of them. One that is out of memory is made once more.
@@ -269,26 +243,34 @@ fn tell_steps(
     Ok(())
 }
 
-/// Prints why a case has no definition.
-fn tell_refusal(rt: &HostRuntime, refusal: &Refusal) -> io::Result<()> {
-    match refusal {
-        Refusal::Faulty(faults) => {
-            let faults = faults_value(rt.alloc(), faults.as_slice())?;
-            println!(rt; "faults {faults}")
-        }
-        Refusal::Rule(place) => println!(rt; "rule_refused {place}"),
+/// What is told of a case before its steps: its id, and why it has no definition, if so.
+fn introduction(
+    alloc: Global,
+    case: &Value,
+    refusal: Option<&Refusal>,
+) -> Result<String, AllocError> {
+    let mut told = Told::new(alloc);
+    told.key("case");
+    told.value(case.get("id").unwrap_or(&Value::Null));
+    if let Some(refusal) = refusal {
+        tell_refusal(&mut told, refusal);
     }
+    told.lines()
 }
 
 /// Builds the definition of a case with steps, makes these, and prints what comes of them.
 pub fn tell_case(rt: &HostRuntime, case: &Value, steps: &[Value]) -> io::Result<()> {
-    let id = case.get("id").unwrap_or(&Value::Null);
-    println!(rt; "case {id}")?;
-    match build_within(rt.alloc(), case)? {
+    let alloc = rt.alloc();
+    match build_within(alloc, case)? {
         Ok(definition) => {
             let mut definition = definition;
+            let told = introduction(alloc, case, None)?;
+            println!(rt; "{told}")?;
             tell_steps(rt, &mut definition, steps)
         }
-        Err(refusal) => tell_refusal(rt, &refusal),
+        Err(refusal) => {
+            let told = introduction(alloc, case, Some(&refusal))?;
+            println!(rt; "{told}")
+        }
     }
 }

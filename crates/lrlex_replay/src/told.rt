@@ -1,0 +1,149 @@
+//! What is told of a case: lines of a key, a blank and a value, as JSON.
+use lrlex_base::Span;
+use serde_json::Value;
+use std::alloc::{AllocError, Global};
+use std::fmt::Write;
+
+/// Lines to which one value after the other is added. Once memory is refused some of them lack, which `lines` tells: so whoever
+/// adds need not ask.
+#[derive(Drop)]
+pub struct Told {
+    alloc: Global,
+    lines: String,
+    /// What stands before the next value: nothing at the beginning of a line, of a list and behind a member's name.
+    between: &'static str,
+    is_refused: bool,
+}
+
+impl Told {
+    /// No lines yet.
+    pub fn new(alloc: Global) -> Told {
+        Told {
+            alloc,
+            lines: String::new(alloc),
+            between: "",
+            is_refused: false,
+        }
+    }
+
+    /// What its memory comes from.
+    pub fn alloc(&self) -> Global {
+        self.alloc
+    }
+
+    /// The lines, if memory was never refused.
+    pub fn lines(self) -> Result<String, AllocError> {
+        if self.is_refused {
+            Err(AllocError)
+        } else {
+            Ok(self.lines)
+        }
+    }
+
+    /// Notes whether something was added.
+    fn note(&mut self, added: Result<(), AllocError>) {
+        if added.is_err() {
+            self.is_refused = true;
+        }
+    }
+
+    /// Adds a text as it stands.
+    fn add(&mut self, text: &str) {
+        let added = self.lines.push_str(text);
+        self.note(added);
+    }
+
+    /// Adds a value that is shown as JSON.
+    fn put(&mut self, value: &str) {
+        let between = self.between;
+        self.add(between);
+        self.add(value);
+        self.between = ",";
+    }
+
+    /// Begins a line.
+    pub fn key(&mut self, key: &str) {
+        if !self.lines.is_empty() {
+            self.add("\n");
+        }
+        self.add(key);
+        self.add(" ");
+        self.between = "";
+    }
+
+    /// Opens a list or an object, by its bracket.
+    pub fn open(&mut self, bracket: &str) {
+        self.put(bracket);
+        self.between = "";
+    }
+
+    /// Closes it.
+    pub fn close(&mut self, bracket: &str) {
+        self.add(bracket);
+        self.between = ",";
+    }
+
+    /// Begins a member of an object.
+    pub fn member(&mut self, name: &str) {
+        self.put("\"");
+        self.add(name);
+        self.add("\":");
+        self.between = "";
+    }
+
+    /// Adds null.
+    pub fn null(&mut self) {
+        self.put("null");
+    }
+
+    /// Adds true or false.
+    pub fn truth(&mut self, is_true: bool) {
+        self.put(if is_true { "true" } else { "false" });
+    }
+
+    /// Adds a number.
+    pub fn number(&mut self, number: usize) {
+        let between = self.between;
+        let added = write!(self.lines, "{between}{number}");
+        self.is_refused = self.is_refused || added.is_err();
+        self.between = ",";
+    }
+
+    /// Adds a list of numbers.
+    pub fn numbers(&mut self, numbers: &[usize]) {
+        self.open("[");
+        for number in numbers {
+            self.number(*number);
+        }
+        self.close("]");
+    }
+
+    /// Adds both ends of a span, as a list.
+    pub fn span(&mut self, span: Span) {
+        self.numbers(&[span.start(), span.end()]);
+    }
+
+    /// Adds a value.
+    pub fn value(&mut self, value: &Value) {
+        let between = self.between;
+        let added = write!(self.lines, "{between}{value}");
+        self.is_refused = self.is_refused || added.is_err();
+        self.between = ",";
+    }
+
+    /// Adds a text.
+    pub fn text(&mut self, text: &str) {
+        match String::from_str(self.alloc, text) {
+            Ok(text) => self.value(&Value::String(text)),
+            Err(_) => self.is_refused = true,
+        }
+    }
+
+    /// Adds a name, or null for none.
+    pub fn name(&mut self, name: Option<&str>) {
+        match name {
+            Some(name) => self.text(name),
+            None => self.null(),
+        }
+    }
+}
