@@ -103,6 +103,11 @@ def lines_of(log):
         return it.read().splitlines()
 
 
+def is_there(name, said):
+    """Whether rt ci has proved the library, or has it of an earlier run."""
+    return any(line == f"rt: {name} proved" or line.startswith(f"rt: {name} is kept: ") for line in said)
+
+
 def has_ended(said):
     """Whether rt ci has come to its end."""
     return any(ENDED.match(line) for line in said)
@@ -111,7 +116,7 @@ def has_ended(said):
 def tried_beside(edits, listed, log):
     """The same while rt ci is at work."""
     below = libraries_below(listed[edits[0][0]], listed)
-    while not has_ended(said := lines_of(log)) and any(f"rt: {name} proved" not in said for name in below):
+    while not has_ended(said := lines_of(log)) and not all(is_there(name, said) for name in below):
         time.sleep(2)
     found = tried(edits, listed)
     if has_ended(said) or all(is_refused for is_refused, _ in found):

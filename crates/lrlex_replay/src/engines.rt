@@ -47,6 +47,7 @@ fn word_of(came: Came) -> &'static str {
         Came::Reported => "Reported",
         Came::Failed(ErrorKind::WriteZero) => "Failed(WriteZero)",
         Came::Failed(ErrorKind::Interrupted) => "Failed(Interrupted)",
+        Came::Failed(ErrorKind::OutOfMemory) => "Failed(OutOfMemory)",
         Came::Failed(_) => "Failed(Other)",
     }
 }
