@@ -48,7 +48,8 @@ fn word_of(came: Came) -> &'static str {
         Came::Failed(ErrorKind::WriteZero) => "Failed(WriteZero)",
         Came::Failed(ErrorKind::Interrupted) => "Failed(Interrupted)",
         Came::Failed(ErrorKind::OutOfMemory) => "Failed(OutOfMemory)",
-        Came::Failed(_) => "Failed(Other)",
+        Came::Failed(ErrorKind::Other) => "Failed(Other)",
+        Came::Failed(_) => "Failed(another kind)",
     }
 }
 
