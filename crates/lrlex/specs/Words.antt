@@ -4,6 +4,7 @@ pub use Rattle.lrlex_base.specs.Places.{place_of, line_of, column_of}
 pub use Rattle.lrlex_base.specs.Edits.{edited}
 pub use Rattle.lrlex_base.specs.declared.edits.Edit.{Edit}
 pub use Rattle.lrlex_base.specs.Seen.{Seen}
+pub use Rattle.lrlex_base.specs.Lexemes.{lexeme_seen}
 pub use Rattle.lrlex_base.specs.Items.{items_left}
 pub use Rattle.lrlex_rules.specs.Definition.{Definition, Rule, StartState}
 pub use Rattle.lrlex_rules.specs.Parts.{RuleParts, as_rule, as_state}

@@ -13,19 +13,8 @@ mod words;
 use crate::faults::Fault;
 use crate::measure::{build, tell_run};
 use crate::words::{USAGE, read};
-use std::alloc::{AllocError, Global};
 use std::process::ExitCode;
 use std::{env, fs, io};
-
-/// The words, copied.
-fn words_given(rt: &HostRuntime, alloc: Global) -> io::Result<Vec<String>> {
-    Ok(env::args(rt)?.collect(alloc)?)
-}
-
-/// The same words, borrowed.
-fn borrowed(alloc: Global, words: &[String]) -> Result<Vec<&str>, AllocError> {
-    words.iter().map(|word| word.as_str()).collect(alloc)
-}
 
 /// The text of a file, or this fault where it can't be read.
 fn text_at(rt: &HostRuntime, path: &str, fault: Fault) -> Result<String, Fault> {
@@ -37,7 +26,7 @@ fn text_at(rt: &HostRuntime, path: &str, fault: Fault) -> Result<String, Fault> 
 }
 
 /// Builds the definition, and measures what the words ask for.
-fn measured(rt: &HostRuntime, words: &[&str]) -> Result<(), Fault> {
+fn measured(rt: &HostRuntime, words: &[String]) -> Result<(), Fault> {
     let given = read(rt.alloc(), words)?;
     let rules = text_at(rt, given.rules.as_str(), Fault::CannotReadRules)?;
     let input = text_at(rt, given.input.as_str(), Fault::CannotReadInput)?;
@@ -53,8 +42,7 @@ fn measured(rt: &HostRuntime, words: &[&str]) -> Result<(), Fault> {
 
 /// Does all that the program does. With no words it only prints its usage.
 fn served(rt: &HostRuntime) -> Result<(), Fault> {
-    let owned = words_given(rt, rt.alloc())?;
-    let words = borrowed(rt.alloc(), owned.as_slice())?;
+    let words: Vec<String> = env::args(rt)?.collect(rt.alloc())?;
     if words.len() < 2 {
         println!(rt; "{USAGE}")?;
         return Ok(());

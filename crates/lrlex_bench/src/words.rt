@@ -74,7 +74,7 @@ fn words_of(alloc: Global, matches: &ArgMatches<'_>) -> Result<Words, Fault> {
 }
 
 /// Reads the words, the program's own name first.
-pub fn read(alloc: Global, words: &[&str]) -> Result<Words, Fault> {
+pub fn read(alloc: Global, words: &[String]) -> Result<Words, Fault> {
     match command(alloc)?.try_get_matches_from(words) {
         Ok(matches) => words_of(alloc, &matches),
         Err(error) if error.kind() == ErrorKind::OutOfMemory => Err(Fault::Memory),

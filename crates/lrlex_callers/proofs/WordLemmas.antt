@@ -10,6 +10,10 @@ use Rattle.lrlex.specs.Tiling.{Lexeme}
 use Rattle.lrlex.specs.Ids.{name_of}
 use Rattle.lrlex_callers.specs.Lexing.{word_of}
 
+-- the number that an id of type `u32` stands for
+abbrev pub number : ℕ → ℕ
+number n = n
+
 -- ---- names
 
 -- the text behind a reference, or behind another

@@ -16,7 +16,7 @@ use Rattle.lrlex_rules.specs.Answer.{seen, settings, refused_by, as_faults}
 use Rattle.lrlex.specs.Tiling.{Tile, Item, Lexeme, Error, End, Done, NoMatch, NoId, NoTarget, items, tile_items, lexeme_of}
 use Rattle.lrlex_base.specs.Seen.{Seen}
 use Rattle.lrlex.specs.Views.{item_of, items_by}
-use Rattle.lrlex_cli.specs.Engine.{Request, Lexing, lines_in, IsEngineRun, EndsWriting}
+use Rattle.lrlex_cli.specs.Engine.{Request, Lexing, lines_in, IsEngineRun, EndsWriting, EndsLexing}
 use Rattle.lrlex_cli.specs.Lines.{lines}
 use Rattle.lrlex_cli.specs.Writing.{AppendsFront}
 use Rattle.lrlex_cli.specs.declared.engine.Ended.{Ended}
@@ -101,3 +101,33 @@ ran number see view q built def xs bounds rules old new r is says initial run sa
     let text = ap (λ (rs : List Rule). lines rs q.input (items_by number see xs)) same ∙ ap (λ (is : List Item). lines (view def).rules q.input is) l.items_are in
     let ends = errors_seen number see xs ∙ ap (λ (is : List Item). list_any is_error is) l.items_are ∙ error_at_end (view def) 0 l.cut l.end in
     ended q x old new r _ _ text ends wrote
+
+-- A run has found items, and their lines were written.
+pub lexing_ends : {S X : Type 0} (number : S → ℕ) (see : X → Seen S) (d : Definition) (text : List ℕ)
+    (xs : List (Result X LRLexError)) (bounds : List Boundary) (old new : Option (List ℕ)) (r : Result Ended EngineFault)
+    → IsRun d text (items_by number see xs) bounds
+    → EndsWriting old new r (lines d.rules text (items_by number see xs)) (list_any (λ x. is_err x) xs)
+    → EndsLexing number see d text old new r
+lexing_ends number see d text xs bounds old new (Ok x) run wrote = (xs, bounds, run, wrote)
+lexing_ends number see d text xs bounds old new (Err Memory) run wrote = wrote
+lexing_ends number see d text xs bounds old new (Err (Write e)) run wrote = (xs, bounds, run, wrote)
+
+-- for want of memory nothing was written of a run
+pub lexing_without_memory : {S X : Type 0} (number : S → ℕ) (see : X → Seen S) (d : Definition) (text : List ℕ)
+    (bytes : Option (List ℕ)) (r : Result Ended EngineFault) → IsErrAnd r (λ e. e ≡ Memory) → EndsLexing number see d text bytes bytes r
+lexing_without_memory number see d text bytes (Ok x) h = absurd h
+lexing_without_memory number see d text bytes (Err Memory) h = kept bytes
+lexing_without_memory number see d text bytes (Err (Write e)) h = cc
+
+-- Lexing by the definition that the rule text says ends as a run does.
+pub lexing_runs : {D S X : Type 0} (number : S → ℕ) (see : X → Seen S) (view : D → Definition)
+    (q : Request) (built : Result D (Vec LexBuildError Global)) (def : D)
+    (old new : Option (List ℕ)) (r : Result Ended EngineFault)
+    → built ≡ Ok def → seen view as_faults built ≡ outcome (settings q.flags q.greatest (refused_by built)) q.rules
+    → IfOk built (λ d. is_state (view d) 0 ≡ true) → EndsLexing number see (view def) q.input old new r
+    → IsEngineRun q old new r
+lexing_runs number see view q built def old new (Ok x) is says initial h =
+    ran number see view q built def h.0 h.1 (view def).rules old new (Ok x) is says initial h.2 refl h.3
+lexing_runs number see view q built def old new (Err Memory) is says initial h = h
+lexing_runs number see view q built def old new (Err (Write e)) is says initial h =
+    ran number see view q built def h.0 h.1 (view def).rules old new (Err (Write e)) is says initial h.2 refl h.3

@@ -3,7 +3,7 @@ ghost use Rattle.std.specs.Prelude.{◌≡◌, All, is_err};
 ghost use Rattle.std.specs.List.{list_any};
 ghost use Rattle.lrlex_base.specs.Spans.{Fits, as_span};
 ghost use Rattle.lrlex_base.specs.Edits.{edited};
-ghost use Rattle.lrlex_cli.specs.Engine.{IsEngineRun, EndsWriting, IsReport};
+ghost use Rattle.lrlex_cli.specs.Engine.{IsEngineRun, EndsWriting, EndsLexing, IsReport};
 ghost use Rattle.lrlex_cli.specs.Lines.{lines};
 ghost use Rattle.lrlex_cli.specs.declared.engine.EngineFault.TheVariants.{Memory};
 ghost use Rattle.lrlex_rules.specs.Faults.{IsPlaced};
@@ -82,6 +82,38 @@ fn write_items<L: LexerTypes<LexErrorT = LRLexError>, W: Write>(
     }
 }
 
+/// Lexes the input and writes the lines of what is found.
+fn write_lexed<L: LexerTypes<LexErrorT = LRLexError>, W: Write>(
+    alloc: Global,
+    definition: &LRNonStreamingLexerDef<L>,
+    input: &str,
+    out: &mut W,
+) -> Result<Ended, EngineFault>
+    ensures { EndsLexing L.StorageT.number L.LexemeT.seen (definition_of L.StorageT.number definition.now) input.now
+        (W.contents out.old) (W.contents out.new) result }
+{
+    let lexed = definition.run(alloc, input)?;
+    write_items::<L, W>(alloc, definition, input, lexed.items(), out)
+}
+
+/// Lexes the old text and then again after the edit, and writes the lines of what is found in the new one.
+fn write_relexed<L: LexerTypes<LexErrorT = LRLexError>, W: Write>(
+    alloc: Global,
+    definition: &LRNonStreamingLexerDef<L>,
+    old: &str,
+    edit: &Edit<'_>,
+    new: &str,
+    out: &mut W,
+) -> Result<Ended, EngineFault>
+    requires fits { Fits old.now edit.now.removed }
+    requires gives { new.now ≡ edited old.now (as_span edit.now.removed) edit.now.put.now }
+    ensures { EndsLexing L.StorageT.number L.LexemeT.seen (definition_of L.StorageT.number definition.now) new.now
+        (W.contents out.old) (W.contents out.new) result }
+{
+    let lexed = definition.run(alloc, old)?.relex(alloc, edit, new)?;
+    write_items::<L, W>(alloc, definition, new, lexed.items(), out)
+}
+
 /// Builds a lexer of the rule text, lexes the input and writes a line an item, which ends by U+000A.
 /// A lexeme's line is its rule's name, a blank and the matched text; an error's is its text.
 ///
@@ -97,13 +129,10 @@ pub fn run<L: LexerTypes<LexErrorT = LRLexError>, W: Write>(
         (record { greatest = L.StorageT.greatest; flags = flags; rules = rules.now; input = input.now })
         (W.contents out.old) (W.contents out.new) result }
 {
-    let built = LRNonStreamingLexerDef::<L>::new_with_options(alloc, rules, flags)?;
-    let definition = match built {
-        Ok(definition) => definition,
-        Err(faults) => return Ok(Ended::Refused(faults)),
-    };
-    let lexed = definition.run(alloc, input)?;
-    write_items::<L, W>(alloc, &definition, input, lexed.items(), out)
+    match LRNonStreamingLexerDef::<L>::new_with_options(alloc, rules, flags)? {
+        Ok(definition) => write_lexed::<L, W>(alloc, &definition, input, out),
+        Err(faults) => Ok(Ended::Refused(faults)),
+    }
 }
 
 /// Answers and writes what `run` does for the new text, by lexing the old text and then again after the edit.
@@ -126,11 +155,7 @@ pub fn run_edited<L: LexerTypes<LexErrorT = LRLexError>, W: Write>(
         (W.contents out.old) (W.contents out.new) result }
 {
     match LRNonStreamingLexerDef::<L>::new_with_options(alloc, rules, flags)? {
-        Ok(definition) => {
-            let before = definition.run(alloc, old)?;
-            let lexed = before.relex(alloc, edit, new)?;
-            write_items::<L, W>(alloc, &definition, new, lexed.items(), out)
-        }
+        Ok(definition) => write_relexed::<L, W>(alloc, &definition, old, edit, new, out),
         Err(faults) => Ok(Ended::Refused(faults)),
     }
 }

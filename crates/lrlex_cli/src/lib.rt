@@ -1,12 +1,10 @@
 //! What the program `lrlex` does, over any writer, reader and files.
 #![tactic(auto)]
 
-mod command;
 pub mod engine;
 mod lines;
 pub mod program;
 mod report;
-mod texts;
 pub mod words;
 mod writing;
 

@@ -3,12 +3,12 @@ ghost use Rattle.std.specs.Prelude.{◌≡◌};
 ghost use Rattle.lrlex_cli.specs.Engine.{HasPlacedFaults};
 
 use crate::engine::{Ended, EngineFault};
-use crate::texts::{TextFault, read_text, split, text_at};
 use crate::words::WordsFault;
 use crate::writing::write_bytes;
 use crate::{engine, words};
 use lrlex::{DefaultLexerTypes, LexFlags, UNSPECIFIED_LEX_FLAGS};
 use lrlex_base::{Edit, Span};
+use lrlex_words::{TextFault, read_text, split, text_at};
 use std::alloc::Global;
 use std::io::{Read, Write};
 use std::rt::Files;
@@ -69,6 +69,14 @@ pub fn refuse<E: Write>(fault: Fault<'_>, err: &mut E) -> u8
         Fault::BadEdit => say(err, &["Bad edit\n"]),
     }
     1
+}
+
+/// Answers the status, or refuses the fault.
+fn answered<E: Write>(status: Result<u8, Fault<'_>>, err: &mut E) -> u8 {
+    match status {
+        Ok(status) => status,
+        Err(fault) => refuse(fault, err),
+    }
 }
 
 /// Flushes what was written, and answers the status: 0 where the whole text was lexed.
@@ -161,6 +169,25 @@ fn serve_input<R: AllocGlobal, I: Read, W: Write, E: Write>(
     lex(rt.alloc(), rules, UNSPECIFIED_LEX_FLAGS, input, out, err)
 }
 
+/// Lexes by the texts that the words name, the rule text read first.
+fn serve_files<'w, R: Files + AllocGlobal, I: Read, W: Write, E: Write>(
+    rt: &R,
+    words: &'w words::Words,
+    stdin: &mut I,
+    out: &mut W,
+    err: &mut E,
+) -> Result<u8, Fault<'w>> {
+    let path = words.rules.as_str();
+    let rules = text_at(rt, path, stdin).map_err(|fault| Fault::of_text(path, fault))?;
+    let path = words.input.as_str();
+    let input = text_at(rt, path, stdin).map_err(|fault| Fault::of_text(path, fault))?;
+    let (rules, input) = (rules.as_str(), input.as_str());
+    match &words.edit {
+        Some(edit) => lex_edited(rt.alloc(), rules, words.flags, input, edit, out, err),
+        None => lex(rt.alloc(), rules, words.flags, input, out, err),
+    }
+}
+
 /// Does all that the program does, and answers the status: 0 where the whole text was lexed and what was written is
 /// flushed, and otherwise 1. `words` are the program's, its own name first.
 ///
@@ -177,33 +204,11 @@ pub fn serve<R: Files + AllocGlobal, I: Read, W: Write, E: Write>(
     err: &mut E,
 ) -> u8 {
     if words.len() < 2 {
-        return match serve_input(rt, stdin, out, err) {
-            Ok(status) => status,
-            Err(fault) => refuse(fault, err),
-        };
+        return answered(serve_input(rt, stdin, out, err), err);
     }
-    let read = match words::read(rt.alloc(), words) {
-        Ok(read) => read,
-        Err(WordsFault::Memory) => return refuse(Fault::Memory, err),
-        Err(WordsFault::Refused) => return refuse(Fault::Usage, err),
-    };
-    let rules_path = read.rules.as_str();
-    let rules = match text_at(rt, rules_path, stdin) {
-        Ok(rules) => rules,
-        Err(fault) => return refuse(Fault::of_text(rules_path, fault), err),
-    };
-    let input_path = read.input.as_str();
-    let input = match text_at(rt, input_path, stdin) {
-        Ok(input) => input,
-        Err(fault) => return refuse(Fault::of_text(input_path, fault), err),
-    };
-    let (rules, input) = (rules.as_str(), input.as_str());
-    let status = match &read.edit {
-        Some(edit) => lex_edited(rt.alloc(), rules, read.flags, input, edit, out, err),
-        None => lex(rt.alloc(), rules, read.flags, input, out, err),
-    };
-    match status {
-        Ok(status) => status,
-        Err(fault) => refuse(fault, err),
+    match words::read(rt.alloc(), words) {
+        Ok(read) => answered(serve_files(rt, &read, stdin, out, err), err),
+        Err(WordsFault::Memory) => refuse(Fault::Memory, err),
+        Err(WordsFault::Refused) => refuse(Fault::Usage, err),
     }
 }

@@ -22,16 +22,6 @@ type Types = DefaultLexerTypes<u32>;
 /// What stands between both texts on standard input.
 const BETWEEN: &str = "\n----\n";
 
-/// The words, copied.
-fn words_given(rt: &HostRuntime, alloc: Global) -> io::Result<Vec<String>> {
-    Ok(env::args(rt)?.collect(alloc)?)
-}
-
-/// The same words, borrowed.
-fn borrowed(alloc: Global, words: &[String]) -> Result<Vec<&str>, AllocError> {
-    words.iter().map(|word| word.as_str()).collect(alloc)
-}
-
 /// The place, in bytes, up to which the text was lexed.
 fn end_of(run: &LexRun<'_, '_, Types>) -> usize {
     if run.boundaries() > 0 {
@@ -92,7 +82,7 @@ fn text_at(rt: &HostRuntime, path: &str, fault: Fault) -> Result<String, Fault> 
 }
 
 /// Shows the file that the words name.
-fn show_files(rt: &HostRuntime, words: &[&str]) -> Result<(), Fault> {
+fn show_files(rt: &HostRuntime, words: &[String]) -> Result<(), Fault> {
     let given = read(rt.alloc(), words)?;
     let rules = text_at(rt, given.rules.as_str(), Fault::CannotReadRules)?;
     let input = text_at(rt, given.input.as_str(), Fault::CannotReadInput)?;
@@ -122,8 +112,7 @@ fn show_input(rt: &HostRuntime) -> Result<(), Fault> {
 
 /// Does all that the program does.
 fn served(rt: &HostRuntime) -> Result<(), Fault> {
-    let owned = words_given(rt, rt.alloc())?;
-    let words = borrowed(rt.alloc(), owned.as_slice())?;
+    let words: Vec<String> = env::args(rt)?.collect(rt.alloc())?;
     if words.len() < 2 {
         show_input(rt)
     } else {

@@ -1,17 +1,17 @@
 //! Steps that make what the callers of `lrlex_callers` make, and small questions to documents, definitions and edits.
 use crate::building::Definition;
 use crate::documents::Edited;
-use crate::facts::tell_items;
+use crate::items::tell_items;
 use crate::lexers::{LexerOf, items_of};
-use crate::reading::{Trouble, change_of, elements_of, list_of, loose_span_of, text_of};
 use crate::reports::show;
 use crate::steps::edit_of;
-use crate::told::Told;
 use lrlex::{DEFAULT_LEX_FLAGS, Document, Edit, EditError, LexerDef};
 use lrlex_callers::editing::{highlighted, typed, visible};
 use lrlex_callers::lending::lexed_and_replaced;
 use lrlex_callers::lexing::{lexer_after, words};
 use lrlex_callers::serving::range_of;
+use lrlex_cases::reading::{Trouble, change_of, elements_of, list_of, loose_span_of, text_of};
+use lrlex_cases::told::Told;
 use serde_json::Value;
 use std::alloc::{AllocError, Global};
 

@@ -1,9 +1,9 @@
 //! What a document shows, at first and after each of its edits.
-use crate::facts::tell_items;
-use crate::reading::{Change, Trouble, bytes_of, change_of};
+use crate::items::tell_items;
 use crate::runs::{most_of, tell_pieces};
-use crate::told::Told;
 use lrlex::{DefaultLexerTypes, Document, EditError};
+use lrlex_cases::reading::{Change, Trouble, bytes_of, change_of};
+use lrlex_cases::told::Told;
 use serde_json::Value;
 use std::alloc::{AllocError, Global};
 

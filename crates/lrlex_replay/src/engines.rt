@@ -1,9 +1,9 @@
 //! Steps of the engine and of the program, over writers that break.
-use crate::reading::{Trouble, text_of};
 use crate::steps::edit_of;
-use crate::told::Told;
-use crate::writers::BrokenWriter;
 use lrlex::{DefaultLexerTypes, Edit, LRNonStreamingLexerDef, LexerDef, UNSPECIFIED_LEX_FLAGS};
+use lrlex_cases::reading::{Trouble, text_of};
+use lrlex_cases::told::Told;
+use lrlex_cases::writers::BrokenWriter;
 use lrlex_cli::engine::{Ended, EngineFault, report, run, run_edited};
 use lrlex_cli::program;
 use serde_json::Value;

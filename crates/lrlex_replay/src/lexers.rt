@@ -2,11 +2,11 @@
 ghost use Rattle.std.specs.Prelude.{◌≡◌};
 ghost use Rattle.lrlex.specs.Lexers.{lexer_text};
 
-use crate::facts::{item_seen, tell_items};
-use crate::reading::{Trouble, count_of, loose_span_of};
-use crate::told::Told;
+use crate::items::{item_seen, tell_items};
 use lrlex::{DefaultLexeme, DefaultLexerTypes, LRLexError, LRNonStreamingLexer};
 use lrlex_base::{Lexer, NonStreamingLexer, Span};
+use lrlex_cases::reading::{Trouble, count_of, loose_span_of};
+use lrlex_cases::told::Told;
 use serde_json::Value;
 use std::alloc::{AllocError, Global};
 

@@ -1,9 +1,10 @@
 //! Look-ups by id and by name, and token ids that are set.
-use crate::building::{Definition, ids_of};
-use crate::facts::{rule_seen, tell_name_sets, tell_rule, tell_rules, tell_sets};
-use crate::reading::{Trouble, list_of, text_of};
-use crate::told::Told;
+use crate::building::Definition;
 use lrlex::{LexerDef, Rule};
+use lrlex_cases::facts::{rule_seen, tell_name_sets, tell_rule, tell_rules, tell_sets};
+use lrlex_cases::parts::{id_of, ids_of};
+use lrlex_cases::reading::{Trouble, list_of, text_of};
+use lrlex_cases::told::Told;
 use serde_json::Value;
 use std::alloc::{AllocError, Global};
 use std::collections::HashMap;
@@ -51,8 +52,7 @@ pub fn find(
     names: &Value,
 ) -> Result<(), Trouble> {
     for id in list_of(ids)? {
-        let id = id.as_u64().and_then(|id| u32::try_from(id).ok());
-        tell_by_id(told, definition, id.ok_or(Trouble::Malformed)?);
+        tell_by_id(told, definition, id_of(id)?);
     }
     for name in list_of(names)? {
         tell_by_name(told, definition, text_of(name)?);
@@ -106,7 +106,7 @@ pub fn set_ids(
 ) -> Result<(), Trouble> {
     let alloc = told.alloc();
     let members = ids.as_object().ok_or(Trouble::Malformed)?;
-    let ids = ids_of::<u32>(alloc, members)?;
+    let ids = ids_of(alloc, members)?;
     let set = if spanned.as_bool() == Some(true) {
         set_spanned(alloc, told, definition, &ids)
     } else {

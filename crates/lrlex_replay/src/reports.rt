@@ -1,12 +1,12 @@
 //! Steps that show people what is wrong, and where.
 use crate::engines::drive;
-use crate::reading::{Trouble, count_of, list_of, loose_span_of, text_of};
-use crate::told::Told;
 use lrlex::{
     DefaultLexerTypes, LRLexError, LRNonStreamingLexerDef, LexBuildError, LexerDef, Span,
     StartStateId,
 };
 use lrlex_callers::reporting::{complaints, complaints_of_file};
+use lrlex_cases::reading::{Trouble, count_of, list_of, loose_span_of, text_of};
+use lrlex_cases::told::Told;
 use lrlex_report::{fault_text, place_text, stop_text};
 use serde_json::Value;
 use std::alloc::{AllocError, Global};

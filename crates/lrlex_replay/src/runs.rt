@@ -1,7 +1,7 @@
 //! What runs answer.
-use crate::facts::tell_items;
-use crate::told::Told;
+use crate::items::tell_items;
 use lrlex::{DefaultLexerTypes, LexRun, Piece};
+use lrlex_cases::told::Told;
 use std::alloc::AllocError;
 
 /// A run of a definition with ids of type `u32`.

@@ -1,16 +1,16 @@
 //! Steps: what is done with the definition of a case, one thing after the other, and told.
-use crate::building::{Definition, Refusal, build_within};
+use crate::building::{Definition, build_within};
 use crate::callers::call;
 use crate::documents::tell_document;
-use crate::facts::tell_refusal;
 use crate::lexers::{Asked, tell_lexer};
 use crate::lookups::{find, set_ids};
-use crate::reading::{Trouble, change_of, count_of, list_of, text_of};
 use crate::replay::tell_parts;
 use crate::runs::{Run, tell_pieces, tell_run};
-use crate::told::Told;
 use lrlex::{Document, Edit, LexerDef};
 use lrlex_base::Span;
+use lrlex_cases::facts::{Refusal, tell_refusal};
+use lrlex_cases::reading::{Trouble, change_of, count_of, list_of, text_of};
+use lrlex_cases::told::Told;
 use serde_json::Value;
 use std::alloc::{AllocError, Global};
 use std::io;

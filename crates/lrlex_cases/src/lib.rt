@@ -1,0 +1,10 @@
+//! The cases that `lrlex_replay` replays, as JSON: reading their parts, telling what comes of them, and comparing that with what
+//! they expect. Nothing here lexes.
+#![tactic(auto)]
+
+pub mod facts;
+pub mod findings;
+pub mod parts;
+pub mod reading;
+pub mod told;
+pub mod writers;

@@ -1,0 +1,29 @@
+//! Lexemes and errors of `lrlex`, as facts.
+use lrlex::{DefaultLexeme, LRLexError};
+use lrlex_base::{Id, LexError, Lexeme};
+use lrlex_cases::facts::{Item, tell_item};
+use lrlex_cases::told::Told;
+
+/// A lexeme or an error, as plain numbers.
+pub fn item_seen<T: Id>(item: &Result<DefaultLexeme<T>, LRLexError>) -> Item {
+    match item {
+        Ok(lexeme) => Item::Lexeme(lexeme.tok_id().to_u64().unwrap_or(u64::MAX), lexeme.span()),
+        Err(error) => {
+            let state = match error.lexing_state() {
+                Some(state) => Some(state.id()),
+                None => None,
+            };
+            Item::Error(error.span(), state)
+        }
+    }
+}
+
+/// Tells lexemes and errors.
+pub fn tell_items(told: &mut Told, items: &[Result<DefaultLexeme<u32>, LRLexError>]) {
+    told.key("items");
+    told.open("[");
+    for item in items {
+        tell_item(told, item_seen(item));
+    }
+    told.close("]");
+}

@@ -1,0 +1,3 @@
+pub mod CommandLemmas
+pub mod NumberLemmas
+pub mod SplitLemmas
