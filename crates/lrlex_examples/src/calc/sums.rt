@@ -1,5 +1,6 @@
 //! Works out a line.
-use crate::grammar::{CLOSE, Definition, MINUS, NUMBER, OPEN, OVER, PLUS, TIMES};
+use crate::calc::grammar::{CLOSE, MINUS, NUMBER, OPEN, OVER, PLUS, TIMES};
+use crate::rules::Definition;
 use lrlex::{LexError, Lexeme, Lexer};
 use std::alloc::{AllocError, AllocFailed, Global};
 

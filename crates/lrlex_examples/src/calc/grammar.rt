@@ -1,9 +1,8 @@
 //! The grammar's tokens with their ids, and the rules that cut a line into them.
-use lrlex::{DefaultLexerTypes, LRNonStreamingLexerDef, LexerDef};
+use crate::rules::Definition;
+use lrlex::LexerDef;
 use std::alloc::{AllocError, Global};
 use std::collections::HashMap;
-
-pub type Definition = LRNonStreamingLexerDef<DefaultLexerTypes<u32>>;
 
 pub const NUMBER: u32 = 3;
 
@@ -30,7 +29,8 @@ const TOKENS: [(&str, u32); 7] = [
     (")", CLOSE),
 ];
 
-const RULES: &str = r#"%%
+/// The rules that cut a line.
+pub const RULES: &str = r#"%%
 [0-9]+ 'number'
 \+ '+'
 \- '-'
@@ -53,15 +53,9 @@ fn ids_of(
     Ok(ids)
 }
 
-/// The rules, with the grammar's ids. None where one has a token that the other lacks.
-pub fn definition_by(alloc: Global) -> Result<Option<Definition>, AllocError> {
-    let Ok(mut definition) = Definition::from_str(alloc, RULES)? else {
-        return Ok(None);
-    };
+/// Gives the rules the grammar's ids. Whether neither has a token that the other lacks.
+pub fn give_ids(alloc: Global, definition: &mut Definition) -> Result<bool, AllocError> {
     let ids = ids_of(alloc, &TOKENS)?;
     let (lacking, unused) = definition.set_rule_ids(alloc, &ids)?;
-    if lacking.is_some() || unused.is_some() {
-        return Ok(None);
-    }
-    Ok(Some(definition))
+    Ok(lacking.is_none() && unused.is_none())
 }

@@ -1,18 +1,15 @@
-//! Shows token ids that come from a grammar, by `set_rule_ids`, and errors with a caret: `lrlex_calc < LINES` works out each
-//! line, of whole numbers, `+ - * /` and parentheses. What waits for its right side is held on a stack of its own, so that
-//! no line is nested too deep, and a result that is too large for 64 bits is told.
-#![tactic(auto)]
-
+//! Shows token ids that come from a grammar, by `set_rule_ids`, and errors with a caret: `lrlex_examples calc < LINES` works
+//! out each line, of whole numbers, `+ - * /` and parentheses. What waits for its right side is held on a stack of its own, so
+//! that no line is nested too deep, and a result that is too large for 64 bits is told.
 mod grammar;
 mod sums;
-mod words;
 
-use crate::grammar::{Definition, definition_by};
-use crate::sums::{Failure, value_of};
-use crate::words::command;
+use crate::rules::{Definition, definition_of};
+use grammar::{RULES, give_ids};
 use std::alloc::{AllocError, Global};
+use std::io;
 use std::process::ExitCode;
-use std::{env, io};
+use sums::{Failure, value_of};
 
 /// What brings a caret under the column, which counts from 1: a tab under each tab, and else spaces.
 fn indent_to(alloc: Global, line: &str, column: usize) -> Result<String, AllocError> {
@@ -49,30 +46,28 @@ fn serve_line(
     }
 }
 
-/// Works out each line of standard input that isn't blank.
-fn serve(rt: &HostRuntime) -> io::Result<ExitCode> {
-    let Some(definition) = definition_by(rt.alloc())? else {
-        eprintln!(rt; "The rules and the grammar differ")?;
-        return Ok(ExitCode::FAILURE);
-    };
-    let text = io::read_to_string(rt.alloc(), rt.reader())?;
+/// Works out each line that isn't blank.
+fn serve_lines(rt: &HostRuntime, definition: &Definition, text: &str) -> io::Result<()> {
     let mut number: usize = 0;
-    for line in text.as_str().lines() {
+    for line in text.lines() {
         number = number.saturating_add(1);
         if !line.trim().is_empty() {
-            serve_line(rt, &definition, number, line)?;
+            serve_line(rt, definition, number, line)?;
         }
     }
-    Ok(ExitCode::SUCCESS)
+    Ok(())
 }
 
-fn main(rt: HostRuntime) -> io::Result<ExitCode> {
-    let words: Vec<String> = env::args(&rt)?.collect(rt.alloc())?;
-    match command(rt.alloc()).try_get_matches_from(words.as_slice()) {
-        Ok(_) => serve(&rt),
-        Err(told) => {
-            told.print(&rt)?;
-            Ok(ExitCode::from(if told.use_stderr() { 2 } else { 0 }))
-        }
+/// Works out each line of standard input.
+pub fn serve(rt: &HostRuntime) -> io::Result<ExitCode> {
+    let Some(mut definition) = definition_of(rt, RULES)? else {
+        return Ok(ExitCode::FAILURE);
+    };
+    if !give_ids(rt.alloc(), &mut definition)? {
+        eprintln!(rt; "The rules and the grammar differ")?;
+        return Ok(ExitCode::FAILURE);
     }
+    let text = io::read_to_string(rt.alloc(), rt.reader())?;
+    serve_lines(rt, &definition, text.as_str())?;
+    Ok(ExitCode::SUCCESS)
 }

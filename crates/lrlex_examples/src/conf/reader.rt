@@ -1,13 +1,7 @@
 //! Reads the tokens of a configuration.
-use lrlex::{
-    DefaultLexeme, DefaultLexerTypes, LRLexError, LRNonStreamingLexer, LRNonStreamingLexerDef,
-    LexError, Lexeme, Lexer,
-};
+use crate::rules::{Definition, Types};
+use lrlex::{DefaultLexeme, LRLexError, LRNonStreamingLexer, LexError, Lexeme, Lexer};
 use std::alloc::{AllocError, AllocFailed, Global};
-
-type Types = DefaultLexerTypes<u32>;
-
-type Definition = LRNonStreamingLexerDef<Types>;
 
 /// Where a configuration is wrong, and why.
 #[derive(Clone, Copy)]

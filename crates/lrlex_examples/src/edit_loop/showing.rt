@@ -1,8 +1,7 @@
 //! What a document says, as lines.
-use lrlex::{DefaultLexeme, DefaultLexerTypes, Document, LRLexError, LexError, Lexeme};
+use crate::rules::Types;
+use lrlex::{DefaultLexeme, Document, LRLexError, LexError, Lexeme};
 use std::io;
-
-type Types = DefaultLexerTypes<u32>;
 
 /// A lexeme: its place, its name and its text.
 fn show_lexeme(

@@ -1,5 +1,5 @@
 //! How pieces are marked: for a terminal, or as a page of HTML.
-use crate::classes::Class;
+use crate::highlight::classes::Class;
 use std::alloc::AllocError;
 
 /// The marks of a text.

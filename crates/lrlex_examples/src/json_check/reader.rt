@@ -1,14 +1,8 @@
 //! Reads the tokens by the grammar of JSON.
-use crate::tokens::{Token, token_named};
-use lrlex::{
-    DefaultLexeme, DefaultLexerTypes, LRLexError, LRNonStreamingLexer, LRNonStreamingLexerDef,
-    LexError, Lexeme, Lexer, Span,
-};
+use crate::json_check::tokens::{Token, token_named};
+use crate::rules::{Definition, Types};
+use lrlex::{DefaultLexeme, LRLexError, LRNonStreamingLexer, LexError, Lexeme, Lexer, Span};
 use std::alloc::{AllocError, Global};
-
-type Types = DefaultLexerTypes<u32>;
-
-type Definition = LRNonStreamingLexerDef<Types>;
 
 /// What is open round a place.
 #[derive(Clone, Copy)]
