@@ -1,4 +1,1 @@
-pub mod MarkLemmas
-pub mod PlaceLemmas
-pub mod FaultLemmas
 pub mod StateLemmas

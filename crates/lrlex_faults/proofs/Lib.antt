@@ -1,0 +1,3 @@
+pub mod MarkLemmas
+pub mod PlaceLemmas
+pub mod FaultLemmas

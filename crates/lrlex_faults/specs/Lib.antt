@@ -1,0 +1,5 @@
+pub mod Encoding
+pub mod FaultTexts
+pub mod Marks
+pub mod PlaceTexts
+pub mod Reasons
