@@ -120,7 +120,7 @@ def words():
         assert all(f"  {name} ".encode() in out for name in names) and (err, status) == (b"", 0), f"--help: {out!r}"
         for name in names:
             out, err, status = come(program, [name, "--help"])
-            assert f"Usage: lrlex_examples {name}".encode() in out and (err, status) == (b"", 0), f"{name}: {out!r} {err!r}"
+            assert f"Usage: {os.path.basename(program)} {name}".encode() in out and (err, status) == (b"", 0), f"{name}: {out!r} {err!r}"
         for given in REFUSED:
             out, err, status = come(program, given)
             assert out == b"" and b"lrlex_examples" in err and status == 2, f"{given}: {out!r} {err!r} {status}"
