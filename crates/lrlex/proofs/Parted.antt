@@ -7,12 +7,12 @@ use Rattle.lrlex_rules.specs.Definition.{StartState}
 use Rattle.lrlex_rules.specs.Declaration.{initial}
 use Rattle.lrlex_rules.specs.Builder.{as_definition}
 use Rattle.lrlex_rules.specs.declared.parser.builder.RuleFile.{RuleFile}
-use Rattle.lrlex.specs.Views.{definition_of}
-use Rattle.lrlex.specs.declared.lexer.definition.LRNonStreamingLexerDef.{LRNonStreamingLexerDef}
+use Rattle.lrlex.specs.Views.{definition_by}
+use Rattle.lrlex.specs.declared.lexer.definition.RuleTable.{RuleTable}
 
-pub definition_of-parts : {L X S E P Q : Type 0} (number : S → ℕ) (d : LRNonStreamingLexerDef L X S E P Q) (file : RuleFile S) →
-    d.table.rules ≡ file.rules → d.table.start_states ≡ file.states → d.table.flags ≡ file.flags → definition_of number d ≡ as_definition number file
-definition_of-parts number d file rules states flags = rw (rules, states, flags) refl
+pub definition_by-parts : {S : Type 0} (number : S → ℕ) (t : RuleTable S) (file : RuleFile S) →
+    t.rules ≡ file.rules → t.start_states ≡ file.states → t.flags ≡ file.flags → definition_by number t ≡ as_definition number file
+definition_by-parts number t file rules states flags = rw (rules, states, flags) refl
 
 -- where the state that each rule file begins with stands first, a state has the id 0
 pub has_initial : (states : List StartState) → slice_get states 0 ≡ Some initial → list_any (λ s. s.id == 0) states ≡ true
@@ -20,6 +20,6 @@ has_initial [] h = cc
 has_initial (s ∷ more) h = subst (λ (x : StartState). list_any (λ y. y.id == 0) (x ∷ more) ≡ true) (sym (same_Some _ _ h)) refl
 
 -- the same parts make the same definition
-pub same_definition : {L X S E P Q : Type 0} (number : S → ℕ) (a b : LRNonStreamingLexerDef L X S E P Q) → a.table.rules ≡ b.table.rules → a.table.start_states ≡ b.table.start_states → a.table.flags ≡ b.table.flags →
-    definition_of number a ≡ definition_of number b
+pub same_definition : {S : Type 0} (number : S → ℕ) (a b : RuleTable S) → a.rules ≡ b.rules → a.start_states ≡ b.start_states → a.flags ≡ b.flags →
+    definition_by number a ≡ definition_by number b
 same_definition number a b rules states flags = simp (rules, states, flags)

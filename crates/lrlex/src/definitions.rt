@@ -1,13 +1,11 @@
 ghost use Rattle.std.specs.Prelude.{◌≡◌, IfOk};
 ghost use Rattle.lrlex_rules.specs.Answer.{IsAnswer, AreOwnRefusals};
 
-use crate::ids::{names_without_id, names_without_rule, places_without_id};
-use crate::lexer::{LRNonStreamingLexerDef, usual_budget};
+use crate::lexer::{LRNonStreamingLexerDef, RuleTable, usual_budget};
 use crate::lookups::{first_named, first_with_id};
 use lrlex_base::{Id, LexerTypes, Span};
 use lrlex_rules::{
-    DEFAULT_LEX_FLAGS, LexBuildResult, LexFlags, Rule, RuleFile, StartState, UNSPECIFIED_LEX_FLAGS,
-    read_rules,
+    DEFAULT_LEX_FLAGS, LexBuildResult, LexFlags, Rule, StartState, UNSPECIFIED_LEX_FLAGS,
 };
 use lrlex_table::Budget;
 use std::alloc::{AllocError, Global};
@@ -152,7 +150,9 @@ impl<L: LexerTypes> LexerDef<L> for LRNonStreamingLexerDef<L> {
         ensures flags { IfOk result (λ d. (definition_of L.StorageT.number d).flags
             ≡ DEFAULT_LEX_FLAGS) }
     {
-        LRNonStreamingLexerDef::of_parts(alloc, start_states, rules, DEFAULT_LEX_FLAGS)
+        let flags = DEFAULT_LEX_FLAGS;
+        let table = RuleTable::made(alloc, start_states, rules, flags, usual_budget())?;
+        Ok(LRNonStreamingLexerDef { table })
     }
 
     fn from_str(
@@ -186,10 +186,7 @@ impl<L: LexerTypes> LexerDef<L> for LRNonStreamingLexerDef<L> {
         alloc: Global,
         ids: &HashMap<&'a str, L::StorageT>,
     ) -> Result<(Option<HashSet<&'a str>>, Option<HashSet<String>>), AllocError> {
-        let lacking = names_without_rule(alloc, self.table.rules.as_slice(), ids)?;
-        let unused = names_without_id(alloc, self.table.rules.as_slice(), ids)?;
-        self.table.take_ids(ids);
-        Ok((lacking, unused))
+        Ok(self.table.set_ids(alloc, ids)?)
     }
 
     fn set_rule_ids_spanned<'a>(
@@ -197,10 +194,7 @@ impl<L: LexerTypes> LexerDef<L> for LRNonStreamingLexerDef<L> {
         alloc: Global,
         ids: &HashMap<&'a str, L::StorageT>,
     ) -> Result<(Option<HashSet<&'a str>>, Option<HashSet<(String, Span)>>), AllocError> {
-        let lacking = names_without_rule(alloc, self.table.rules.as_slice(), ids)?;
-        let unused = places_without_id(alloc, self.table.rules.as_slice(), ids)?;
-        self.table.take_ids(ids);
-        Ok((lacking, unused))
+        Ok(self.table.set_ids_spanned(alloc, ids)?)
     }
 
     fn iter_rules(&self) -> Iter<'_, Rule<L::StorageT>> {
@@ -256,18 +250,8 @@ impl<L: LexerTypes> LRNonStreamingLexerDef<L> {
         ensures initial { IfOk result (λ built. IfOk built
             (λ d. is_state (definition_of L.StorageT.number d) 0 ≡ true)) }
     {
-        match read_rules::<L::StorageT>(alloc, text, flags)? {
-            Ok(file) => {
-                let RuleFile {
-                    states,
-                    rules,
-                    flags,
-                } = file;
-                let definition = LRNonStreamingLexerDef::within_budget(
-                    alloc, states, rules, flags, budget,
-                )?;
-                Ok(Ok(definition))
-            }
+        match RuleTable::read(alloc, text, flags, budget)? {
+            Ok(table) => Ok(Ok(LRNonStreamingLexerDef { table })),
             Err(faults) => Ok(Err(faults)),
         }
     }

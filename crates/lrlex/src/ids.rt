@@ -8,7 +8,7 @@ ghost use Rattle.lrlex.specs.Ids.{is_named, ids_of, with_own_id, is_lacking, is_
 
 use crate::lexer::RuleTable;
 use crate::names::have_own_ids;
-use lrlex_base::{Id, Numbered, Span};
+use lrlex_base::{Numbered, Span};
 use lrlex_rules::Rule;
 use std::alloc::{AllocError, Global};
 use std::collections::{HashMap, HashSet};
@@ -40,7 +40,7 @@ fn unless_empty<K: Eq + Hash + Drop>(names: HashSet<K>) -> Option<HashSet<K>>
 }
 
 /// The names of the map that no rule has.
-pub(crate) fn names_without_rule<'a, S: Numbered>(
+fn names_without_rule<'a, S: Numbered>(
     alloc: Global,
     rules: &[Rule<S>],
     ids: &HashMap<&'a str, S>,
@@ -59,7 +59,7 @@ pub(crate) fn names_without_rule<'a, S: Numbered>(
 }
 
 /// The names of rules that the map lacks.
-pub(crate) fn names_without_id<'a, S: Numbered>(
+fn names_without_id<'a, S: Numbered>(
     alloc: Global,
     rules: &[Rule<S>],
     ids: &HashMap<&'a str, S>,
@@ -79,7 +79,7 @@ pub(crate) fn names_without_id<'a, S: Numbered>(
 }
 
 /// The names of rules that the map lacks, each with its place.
-pub(crate) fn places_without_id<'a, S: Numbered>(
+fn places_without_id<'a, S: Numbered>(
     alloc: Global,
     rules: &[Rule<S>],
     ids: &HashMap<&'a str, S>,
@@ -110,7 +110,7 @@ fn own_id<'a, S: Numbered>(rule: &Rule<S>, ids: &HashMap<&'a str, S>) -> Option<
 }
 
 /// Gives each named rule the map's id for its name, or none.
-pub(crate) fn take_ids<'a, S: Numbered>(rules: &mut [Rule<S>], ids: &HashMap<&'a str, S>)
+fn take_ids<'a, S: Numbered>(rules: &mut [Rule<S>], ids: &HashMap<&'a str, S>)
     ensures { map (as_rule S.number) rules.new
         ≡ map (with_own_id (ids_of S.number ids.now)) (map (as_rule S.number) rules.old) }
 {
@@ -120,11 +120,11 @@ pub(crate) fn take_ids<'a, S: Numbered>(rules: &mut [Rule<S>], ids: &HashMap<&'a
     }
 }
 
-impl<S: Id> RuleTable<S> {
-    ghost use Rattle.std.specs.Prelude.{map};
+impl<S: Numbered> RuleTable<S> {
+    ghost use Rattle.std.specs.Prelude.{map, OnOk, OnErr};
 
     /// Gives each named rule the map's id for its name, or none.
-    pub(crate) fn take_ids<'a>(&mut self, ids: &HashMap<&'a str, S>)
+    fn take_ids<'a>(&mut self, ids: &HashMap<&'a str, S>)
         ensures rules { map (as_rule S.number) self.new.rules.items
             ≡ map (with_own_id (ids_of S.number ids.now))
             (map (as_rule S.number) self.old.rules.items) }
@@ -133,5 +133,50 @@ impl<S: Id> RuleTable<S> {
     {
         take_ids(self.rules.as_mut_slice(), ids);
         self.own_ids = have_own_ids(&self.rules);
+    }
+    /// The same, and answers the map's names that no rule has, and the names of rules that the map lacks.
+    pub(crate) fn set_ids<'a>(
+        &mut self,
+        alloc: Global,
+        ids: &HashMap<&'a str, S>,
+    ) -> Result<(Option<HashSet<&'a str>>, Option<HashSet<String>>), AllocError>
+        ensures rules { OnOk result (map (as_rule S.number) self.new.rules.items
+            ≡ map (with_own_id (ids_of S.number ids.now))
+            (map (as_rule S.number) self.old.rules.items)) }
+        ensures states { self.new.start_states ≡ self.old.start_states }
+        ensures flags { self.new.flags ≡ self.old.flags }
+        ensures lacking { IfOk result (λ sets. HoldsNames (is_lacking (ids_of S.number ids.now)
+            (map (as_rule S.number) self.old.rules.items)) sets.0) }
+        ensures unused { IfOk result (λ sets. HoldsTexts (is_unused (ids_of S.number ids.now)
+            (map (as_rule S.number) self.old.rules.items)) sets.1) }
+        ensures unchanged { OnErr result (self.new ≡ self.old) }
+    {
+        let lacking = names_without_rule(alloc, self.rules.as_slice(), ids)?;
+        let unused = names_without_id(alloc, self.rules.as_slice(), ids)?;
+        self.take_ids(ids);
+        Ok((lacking, unused))
+    }
+
+    /// The same, and answers the map's names that no rule has, and the names of rules that the map lacks, each with its place.
+    pub(crate) fn set_ids_spanned<'a>(
+        &mut self,
+        alloc: Global,
+        ids: &HashMap<&'a str, S>,
+    ) -> Result<(Option<HashSet<&'a str>>, Option<HashSet<(String, Span)>>), AllocError>
+        ensures rules { OnOk result (map (as_rule S.number) self.new.rules.items
+            ≡ map (with_own_id (ids_of S.number ids.now))
+            (map (as_rule S.number) self.old.rules.items)) }
+        ensures states { self.new.start_states ≡ self.old.start_states }
+        ensures flags { self.new.flags ≡ self.old.flags }
+        ensures lacking { IfOk result (λ sets. HoldsNames (is_lacking (ids_of S.number ids.now)
+            (map (as_rule S.number) self.old.rules.items)) sets.0) }
+        ensures unused { IfOk result (λ sets. HoldsPlaces (is_unused_at (ids_of S.number ids.now)
+            (map (as_rule S.number) self.old.rules.items)) sets.1) }
+        ensures unchanged { OnErr result (self.new ≡ self.old) }
+    {
+        let lacking = names_without_rule(alloc, self.rules.as_slice(), ids)?;
+        let unused = places_without_id(alloc, self.rules.as_slice(), ids)?;
+        self.take_ids(ids);
+        Ok((lacking, unused))
     }
 }

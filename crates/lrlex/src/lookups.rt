@@ -4,14 +4,14 @@ ghost use Rattle.std.specs.Option.{option_copied};
 ghost use Rattle.lrlex_rules.specs.Parts.{as_rule};
 ghost use Rattle.lrlex.specs.Ids.{has_id, is_named, rule_with_id, rule_named};
 
-use lrlex_base::{Id, Numbered};
+use lrlex_base::Numbered;
 use lrlex_rules::Rule;
 
-fn has_id<S: Id>(rule: &Rule<S>, id: S) -> bool
+fn has_id<S: Numbered>(rule: &Rule<S>, id: S) -> bool
     ensures { result ≡ has_id (S.number id) (as_rule S.number rule.now) }
 {
     match rule.tok_id() {
-        Some(own) => own == id,
+        Some(own) => own.is(id),
         None => false,
     }
 }
@@ -26,7 +26,7 @@ fn is_named<S: Numbered>(rule: &Rule<S>, name: &str) -> bool
 }
 
 /// The first of the rules with the id.
-pub(crate) fn first_with_id<S: Id>(rules: &[Rule<S>], id: S) -> Option<&Rule<S>>
+pub(crate) fn first_with_id<S: Numbered>(rules: &[Rule<S>], id: S) -> Option<&Rule<S>>
     ensures { option_copied result ≡ rule_with_id S.number rules.now (S.number id) }
 {
     rules.iter().find(|rule| has_id(*rule, id))

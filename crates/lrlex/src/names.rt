@@ -5,21 +5,21 @@ ghost use Rattle.std.specs.Option.{option_copied};
 ghost use Rattle.lrlex_rules.specs.Parts.{as_rule};
 ghost use Rattle.lrlex.specs.Ids.{gives, name_of, HasOwnId, HaveDistinctIds};
 
-use lrlex_base::Id;
+use lrlex_base::Numbered;
 use lrlex_rules::Rule;
 
 /// Whether the rule has a name and this id.
-fn gives<S: Id>(rule: &Rule<S>, id: S) -> bool
+fn gives<S: Numbered>(rule: &Rule<S>, id: S) -> bool
     ensures { result ≡ gives (S.number id) (as_rule S.number rule.now) }
 {
     match rule.tok_id() {
-        Some(found) => found == id && rule.name().is_some(),
+        Some(found) => found.is(id) && rule.name().is_some(),
         None => false,
     }
 }
 
 /// The first such rule.
-fn first_with<S: Id>(rules: &[Rule<S>], id: S) -> Option<&Rule<S>>
+fn first_with<S: Numbered>(rules: &[Rule<S>], id: S) -> Option<&Rule<S>>
     ensures { option_copied result ≡ find (λ r. gives (S.number id) (as_rule S.number r))
         rules.now }
 {
@@ -27,12 +27,12 @@ fn first_with<S: Id>(rules: &[Rule<S>], id: S) -> Option<&Rule<S>>
 }
 
 /// Whether the rule's id, if it has one, is this place.
-fn has_own_id<S: Id>(rule: &Rule<S>, place: usize) -> bool
+fn has_own_id<S: Numbered>(rule: &Rule<S>, place: usize) -> bool
     ensures { IsTrue result → HasOwnId S.number rule.now place }
 {
     match rule.tok_id() {
-        Some(id) => match S::from_count(place) {
-            Some(own) => own == id,
+        Some(id) => match S::of_count(place) {
+            Some(own) => own.is(id),
             None => false,
         },
         None => true,
@@ -40,7 +40,7 @@ fn has_own_id<S: Id>(rule: &Rule<S>, place: usize) -> bool
 }
 
 /// Whether the id of each rule that has one is its place.
-pub(crate) fn have_own_ids<S: Id>(rules: &[Rule<S>]) -> bool
+pub(crate) fn have_own_ids<S: Numbered>(rules: &[Rule<S>]) -> bool
     ensures { IsTrue result → HaveDistinctIds rules.now }
 {
     'rules: for index in 0..rules.len() {
@@ -52,17 +52,17 @@ pub(crate) fn have_own_ids<S: Id>(rules: &[Rule<S>]) -> bool
 }
 
 /// The rule at the place that the id stands for, if it has a name and this id. No other rule has this id.
-fn rule_at<S: Id>(rules: &[Rule<S>], id: S) -> Option<&Rule<S>>
+fn rule_at<S: Numbered>(rules: &[Rule<S>], id: S) -> Option<&Rule<S>>
     requires { HaveDistinctIds rules.now }
     ensures { IfSome result (λ rule. Some rule.now
         ≡ find (λ r. gives (S.number id) (as_rule S.number r)) rules.now) }
 {
-    let rule = rules.get(id.to_usize()?)?;
+    let rule = rules.get(id.as_count()?)?;
     if gives(rule, id) { Some(rule) } else { None }
 }
 
 /// The first rule with a name and this id. Where ids are places, one rule is looked at.
-fn rule_of<S: Id>(rules: &[Rule<S>], own_ids: bool, id: S) -> Option<&Rule<S>>
+fn rule_of<S: Numbered>(rules: &[Rule<S>], own_ids: bool, id: S) -> Option<&Rule<S>>
     requires { IsTrue own_ids → HaveDistinctIds rules.now }
     ensures { option_copied result ≡ find (λ r. gives (S.number id) (as_rule S.number r))
         rules.now }
@@ -76,7 +76,7 @@ fn rule_of<S: Id>(rules: &[Rule<S>], own_ids: bool, id: S) -> Option<&Rule<S>>
 }
 
 /// Its name.
-pub(crate) fn name_of<S: Id>(rules: &[Rule<S>], own_ids: bool, id: S) -> Option<&str>
+pub(crate) fn name_of<S: Numbered>(rules: &[Rule<S>], own_ids: bool, id: S) -> Option<&str>
     requires { IsTrue own_ids → HaveDistinctIds rules.now }
     ensures { option_map (λ t. t.now) result ≡ name_of (map (as_rule S.number) rules.now)
         (S.number id) }

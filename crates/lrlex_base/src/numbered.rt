@@ -1,4 +1,4 @@
-ghost use Rattle.std.specs.Prelude.{◌≡◌, ◌<◌, ◌↔◌, ℕ, IfSome, IsNone};
+ghost use Rattle.std.specs.Prelude.{◌≡◌, ◌<◌, ◌↔◌, ℕ, IfSome, IsNone, IsTrue};
 
 use crate::ids::Id;
 
@@ -15,6 +15,17 @@ pub trait Numbered: Copy {
     fn of_count(n: usize) -> Option<Self>
         ensures value { IfSome result (λ it. number it ≡ n) }
         ensures none { IsNone result ↔ (greatest < n) };
+
+    /// Whether both stand for the same number.
+    fn is(self, other: Self) -> bool
+        ensures { IsTrue result ↔ (number self ≡ number other) };
+
+    /// Its number as a count; none where no count is it.
+    fn as_count(self) -> Option<usize>
+        ensures { IfSome result (λ n. number self ≡ n) };
+
+    // Two are the same exactly where their numbers are.
+    ghost same_law: { (a b : Self) → number a ≡ number b → a ≡ b };
 }
 
 impl<S: Id> Numbered for S {
@@ -25,4 +36,19 @@ impl<S: Id> Numbered for S {
     fn of_count(n: usize) -> Option<S> {
         S::from_count(n)
     }
+
+    fn is(self, other: S) -> bool {
+        self == other
+    }
+
+    fn as_count(self) -> Option<usize> {
+        let n = self.to_usize()?;
+        if S::from_count(n)? == self {
+            Some(n)
+        } else {
+            None
+        }
+    }
+
+    ghost same_law = { S.same_law };
 }

@@ -6,10 +6,10 @@ ghost use Rattle.lrlex.specs.Ids.{HaveDistinctIds};
 
 use crate::lexer::active::{are_placed, has_state, position_of};
 use crate::lexer::lists::lists_for;
-use crate::lexer::tables::tables_for;
+use crate::lexer::tables::{count_of_asked, count_of_rows, count_of_tables, tables_for};
 use crate::names::{have_own_ids, name_of};
 use lrlex_base::{LexerTypes, Numbered};
-use lrlex_rules::{LexFlags, Rule, StartState};
+use lrlex_rules::{LexBuildResult, LexFlags, Rule, RuleFile, StartState, read_rules};
 use lrlex_table::{Budget, Tables};
 use std::alloc::{AllocError, Global};
 
@@ -80,6 +80,73 @@ impl<S: Copy> RuleTable<S> {
     }
 }
 
+impl<S: Numbered> RuleTable<S> {
+    ghost use Rattle.std.specs.Prelude.{IfOk, IfErr};
+    ghost use Rattle.lrlex_rules.specs.Answer.{IsAnswer, AreOwnRefusals};
+    ghost use Rattle.lrlex_rules.specs.Faults.{IsPlaced};
+    ghost use Rattle.lrlex_rules.specs.Laws.{IsLawful};
+    ghost use Rattle.lrlex.specs.Views.{definition_by};
+
+    /// Of these start states, rules and flags, in order, with tables that cost no more than this.
+    pub(crate) fn made(
+        alloc: Global,
+        start_states: Vec<StartState>,
+        rules: Vec<Rule<S>>,
+        flags: LexFlags,
+        budget: Budget,
+    ) -> Result<Self, AllocError>
+        ensures rules { IfOk result (λ t. t.rules ≡ rules) }
+        ensures states { IfOk result (λ t. t.start_states ≡ start_states) }
+        ensures flags { IfOk result (λ t. t.flags ≡ flags) }
+    {
+        let own_ids = have_own_ids(&rules);
+        RuleTable::of_parts(alloc, start_states, rules, flags, own_ids, budget)
+    }
+
+    /// That of a rule text, with tables that cost no more than this. The inner `Err` has each fault of the text.
+    pub(crate) fn read(
+        alloc: Global,
+        text: &str,
+        flags: LexFlags,
+        budget: Budget,
+    ) -> Result<LexBuildResult<Self>, AllocError>
+        ensures answer { IfOk result (IsAnswer (definition_by S.number) flags S.greatest
+            text.now) }
+        ensures refusals { IfOk result (AreOwnRefusals flags S.greatest text.now) }
+        ensures placed { IfOk result (λ built. IfErr built
+            (λ faults. All (IsPlaced text.now) faults.items)) }
+        ensures lawful { IfOk result (λ built. IfOk built
+            (λ t. IsLawful text.now (definition_by S.number t))) }
+        ensures initial { IfOk result (λ built. IfOk built
+            (λ t. is_state (definition_by S.number t) 0 ≡ true)) }
+    {
+        match read_rules::<S>(alloc, text, flags)? {
+            Ok(file) => {
+                let RuleFile {
+                    states,
+                    rules,
+                    flags,
+                } = file;
+                Ok(Ok(RuleTable::made(alloc, states, rules, flags, budget)?))
+            }
+            Err(faults) => Ok(Err(faults)),
+        }
+    }
+
+    /// The same, with tables that cost no more than this.
+    fn within(self, alloc: Global, budget: Budget) -> Result<Self, AllocError>
+        ensures { IfOk result (λ t. definition_by S.number t ≡ definition_by S.number self) }
+    {
+        let RuleTable {
+            rules,
+            start_states,
+            flags,
+            ..
+        } = self;
+        Ok(RuleTable::made(alloc, start_states, rules, flags, budget)?)
+    }
+}
+
 /// The rules that are active in a start state, as places, and their tables.
 #[derive(Clone, Copy)]
 pub(crate) struct RulesIn<'d> {
@@ -102,56 +169,14 @@ impl<L: LexerTypes> LRNonStreamingLexerDef<L> {
     ghost use Rattle.lrlex.specs.StateTables.{count_of_tables, count_of_rows, count_of_asked};
     ghost use Rattle.lrlex.specs.Ids.{name_of};
 
-    /// Just these start states, rules and flags, in order.
-    pub(crate) fn of_parts(
-        alloc: Global,
-        start_states: Vec<StartState>,
-        rules: Vec<Rule<L::StorageT>>,
-        flags: LexFlags,
-    ) -> Result<Self, AllocError>
-        ensures rules { IfOk result (λ d. d.table.rules ≡ rules) }
-        ensures states { IfOk result (λ d. d.table.start_states ≡ start_states) }
-        ensures flags { IfOk result (λ d. d.table.flags ≡ flags) }
-    {
-        Self::within_budget(alloc, start_states, rules, flags, usual_budget())
-    }
-
-    /// The same, with tables that cost no more than this.
-    pub(crate) fn within_budget(
-        alloc: Global,
-        start_states: Vec<StartState>,
-        rules: Vec<Rule<L::StorageT>>,
-        flags: LexFlags,
-        budget: Budget,
-    ) -> Result<Self, AllocError>
-        ensures rules { IfOk result (λ d. d.table.rules ≡ rules) }
-        ensures states { IfOk result (λ d. d.table.start_states ≡ start_states) }
-        ensures flags { IfOk result (λ d. d.table.flags ≡ flags) }
-    {
-        let own_ids = have_own_ids(&rules);
-        let table = RuleTable::of_parts(alloc, start_states, rules, flags, own_ids, budget)?;
-        Ok(LRNonStreamingLexerDef { table })
-    }
-
     /// The same definition, with tables that cost no more than this. Under a budget of nothing each rule is asked by
     /// itself. No answer changes. `new_with_budget` makes such a definition at once.
     pub fn with_budget(self, alloc: Global, budget: Budget) -> Result<Self, AllocError>
         ensures { IfOk result (λ d. definition_of L.StorageT.number d
             ≡ definition_of L.StorageT.number self) }
     {
-        let LRNonStreamingLexerDef { table } = self;
-        let RuleTable {
-            rules,
-            start_states,
-            flags,
-            own_ids: _,
-            placed: _,
-            lists: _,
-            tables: _,
-            list_at: _,
-        } = table;
-        let definition = Self::within_budget(alloc, start_states, rules, flags, budget)?;
-        Ok(definition)
+        let table = self.table.within(alloc, budget)?;
+        Ok(LRNonStreamingLexerDef { table })
     }
 
     /// The name of the first rule that has a name and this id: what a lexeme with the id is called. Where each id is its
@@ -168,11 +193,7 @@ impl<L: LexerTypes> LRNonStreamingLexerDef<L> {
         ensures { count_of_tables (definition_tables self.now) < 2 ^ 64
             → result ≡ count_of_tables (definition_tables self.now) }
     {
-        let mut tables = 0usize;
-        'lists: for of_list in &self.table.tables {
-            tables = tables.saturating_add(of_list.count());
-        }
-        tables
+        count_of_tables(self.table.tables.as_slice())
     }
 
     /// How many rows all tables have, of some 512 bytes each.
@@ -180,11 +201,7 @@ impl<L: LexerTypes> LRNonStreamingLexerDef<L> {
         ensures { count_of_rows (definition_tables self.now) < 2 ^ 64
             → result ≡ count_of_rows (definition_tables self.now) }
     {
-        let mut rows = 0usize;
-        'lists: for of_list in &self.table.tables {
-            rows = rows.saturating_add(of_list.rows());
-        }
-        rows
+        count_of_rows(self.table.tables.as_slice())
     }
 
     /// How many rules have no table, in all lists of rules that are active in a state.
@@ -192,11 +209,7 @@ impl<L: LexerTypes> LRNonStreamingLexerDef<L> {
         ensures { count_of_asked (definition_tables self.now) < 2 ^ 64
             → result ≡ count_of_asked (definition_tables self.now) }
     {
-        let mut asked = 0usize;
-        'lists: for of_list in &self.table.tables {
-            asked = asked.saturating_add(of_list.asked().len());
-        }
-        asked
+        count_of_asked(self.table.tables.as_slice())
     }
 
     /// The flags of the rule text, with their defaults.

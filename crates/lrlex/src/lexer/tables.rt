@@ -1,11 +1,11 @@
 //! The tables of each list of rules.
-ghost use Rattle.std.specs.Prelude.{◌≡◌, ◌<◌, ◌≤◌, ℕ, List, All, [], ◌∷◌, map, length, IfOk, OnOk, IfSome};
+ghost use Rattle.std.specs.Prelude.{◌≡◌, ◌<◌, ◌≤◌, ◌^◌, ℕ, List, All, [], ◌∷◌, map, length, IfOk, OnOk, IfSome};
 ghost use Rattle.regex.specs.Patterns.{Re};
 ghost use Rattle.lrlex_table.specs.Merged.{IsTableOf};
 ghost use Rattle.lrlex_table.specs.Tables.{AreSingle, ArePartsOf, AreTablesOf};
 ghost use Rattle.lrlex_rules.specs.Parts.{as_rule};
 ghost use Rattle.lrlex_rules.specs.Patterns.{pattern_of};
-ghost use Rattle.lrlex.specs.StateTables.{pattern_in, patterns_on, AreServed};
+ghost use Rattle.lrlex.specs.StateTables.{pattern_in, patterns_on, AreServed, count_of_tables, count_of_rows, count_of_asked};
 
 use lrlex_rules::Rule;
 use lrlex_table::{Budget, Single, Source, Table, Tables, joined_tables, table_of, tables_between};
@@ -165,4 +165,37 @@ pub(crate) fn tables_for<S>(
         tables.push(made)?;
     }
     Ok(tables)
+}
+
+/// How many tables the lists have.
+pub(crate) fn count_of_tables(lists: &[Tables]) -> usize
+    ensures { count_of_tables lists.now < 2 ^ 64 → result ≡ count_of_tables lists.now }
+{
+    let mut tables = 0usize;
+    'lists: for of_list in lists {
+        tables = tables.saturating_add(of_list.count());
+    }
+    tables
+}
+
+/// How many rows all these tables have.
+pub(crate) fn count_of_rows(lists: &[Tables]) -> usize
+    ensures { count_of_rows lists.now < 2 ^ 64 → result ≡ count_of_rows lists.now }
+{
+    let mut rows = 0usize;
+    'lists: for of_list in lists {
+        rows = rows.saturating_add(of_list.rows());
+    }
+    rows
+}
+
+/// How many rules have no table, in all lists.
+pub(crate) fn count_of_asked(lists: &[Tables]) -> usize
+    ensures { count_of_asked lists.now < 2 ^ 64 → result ≡ count_of_asked lists.now }
+{
+    let mut asked = 0usize;
+    'lists: for of_list in lists {
+        asked = asked.saturating_add(of_list.asked().len());
+    }
+    asked
 }

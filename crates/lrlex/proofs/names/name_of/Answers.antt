@@ -3,7 +3,7 @@ use Rattle.lrlex.proofs.NameLemmas.{named}
 use Rattle.lrlex.proofs.names.name_of.Goals as goal
 
 pub returns-in-Some : goal.returns-in-Some
-returns-in-Some g c = c.name.ensures ∙ named g.S.Id.number c.args.rules.now (g.S.Id.number c.args.id) (Some c.in-Some.rule.now) c.in-Some.ensures
+returns-in-Some g c = c.name.ensures ∙ named g.S.Numbered.number c.args.rules.now (g.S.Numbered.number c.args.id) (Some c.in-Some.rule.now) c.in-Some.ensures
 
 pub returns-in-None : goal.returns-in-None
-returns-in-None g c = named g.S.Id.number c.args.rules.now (g.S.Id.number c.args.id) None c.in-None.ensures
+returns-in-None g c = named g.S.Numbered.number c.args.rules.now (g.S.Numbered.number c.args.id) None c.in-None.ensures

@@ -1,35 +1,9 @@
-use Rattle.std.proofs.Common.{Ok, ap, sym, subst, ◌∙◌}
-use Rattle.std.specs.Prelude.{◌≡◌, IfOk, Some, slice_get}
+use Rattle.std.proofs.Common.{subst}
 use Rattle.lrlex_rules.specs.Answer.{IsAnswer}
-use Rattle.lrlex_rules.specs.Declaration.{initial}
-use Rattle.lrlex_rules.specs.Definition.{Definition}
-use Rattle.lrlex_rules.specs.Laws.{IsLawful}
-use Rattle.lrlex_rules.specs.Builder.{as_definition}
-use Rattle.lrlex.specs.Views.{definition_of}
-use Rattle.lrlex.proofs.Parted.{definition_of-parts, has_initial}
+use Rattle.lrlex.specs.Views.{definition_by}
 use Rattle.lrlex.proofs.lexer.definition.LRNonStreamingLexerDef.new_with_budget.Goals as goal
 
-pub returns-in_ok-definition-in-Ok-clause-answer : goal.returns-in_ok-definition-in-Ok-clause-answer
-returns-in_ok-definition-in-Ok-clause-answer g c =
+pub returns-in-Ok-clause-answer : goal.returns-in-Ok-clause-answer
+returns-in-Ok-clause-answer g c =
     let number = g.L.StorageT.Id.number in
-    let made = c.in_ok-definition-in-Ok in
-    let said : IsAnswer (as_definition number) c.args.flags g.L.StorageT.Id.greatest c.args.text.now (Ok c.in-Ok.file) =
-    subst (IsAnswer (as_definition number) c.args.flags g.L.StorageT.Id.greatest c.args.text.now) c.in-Ok.is c.in_ok-file.ensures.answer in
-    ap (λ (d : Definition). Ok d) (definition_of-parts number made.definition c.in-Ok.file made.ensures.rules made.ensures.states made.ensures.flags) ∙ said
-
-pub returns-in_ok-definition-in-Ok-clause-lawful : goal.returns-in_ok-definition-in-Ok-clause-lawful
-returns-in_ok-definition-in-Ok-clause-lawful g c =
-    let number = g.L.StorageT.Id.number in
-    let made = c.in_ok-definition-in-Ok in
-    let said : IsLawful c.args.text.now (as_definition number c.in-Ok.file) =
-    subst (λ answer. IfOk answer (λ file. IsLawful c.args.text.now (as_definition number file))) c.in-Ok.is c.in_ok-file.ensures.lawful in
-    subst (IsLawful c.args.text.now) (sym (definition_of-parts number made.definition c.in-Ok.file made.ensures.rules made.ensures.states made.ensures.flags)) said
-
-pub returns-in_ok-definition-in-Ok-clause-initial : goal.returns-in_ok-definition-in-Ok-clause-initial
-returns-in_ok-definition-in-Ok-clause-initial g c =
-    let number = g.L.StorageT.Id.number in
-    let made = c.in_ok-definition-in-Ok in
-    let first : slice_get (as_definition number c.in-Ok.file).states 0 ≡ Some initial =
-    subst (λ answer. IfOk answer (λ file. slice_get (as_definition number file).states 0 ≡ Some initial)) c.in-Ok.is c.in_ok-file.ensures.first in
-    has_initial (definition_of number made.definition).states
-    (subst (λ (d : Definition). slice_get d.states 0 ≡ Some initial) (sym (definition_of-parts number made.definition c.in-Ok.file made.ensures.rules made.ensures.states made.ensures.flags)) first)
+    subst (IsAnswer (definition_by number) c.args.flags g.L.StorageT.Id.greatest c.args.text.now) c.in-Ok.is c.in_ok-table.ensures.answer

@@ -20,11 +20,11 @@ invariant_of-self g c =
       distinct = λ is. subst HaveDistinctIds c.deref.ensures.value (c.have_own_ids-self.ensures is);
       at_places = table.at_places;
       listed = table.listed
-          ∙ lists_after g.S.Id.number (ids_of g.S.Id.number c.args.ids.now) states table.rules.items new
+          ∙ lists_after g.S.Numbered.number (ids_of g.S.Numbered.number c.args.ids.now) states table.rules.items new
           (rw c.as_mut_slice.ensures.value at c.take_ids.ensures) table.start_states.items
           ∙ ap (λ rules. map (λ s. active_places states (map (as_rule (λ x. 0)) rules) s.id) table.start_states.items) (sym back);
       served = subst (λ rules. ∥ AreServed rules (map (λ v. v.items) table.lists.items) table.tables.items ∥₁) (sym back)
-          (∥∥₁_map table.served (served_with_ids g.S.Id.number (ids_of g.S.Id.number c.args.ids.now) table.rules.items new
+          (∥∥₁_map table.served (served_with_ids g.S.Numbered.number (ids_of g.S.Numbered.number c.args.ids.now) table.rules.items new
           (rw c.as_mut_slice.ensures.value at c.take_ids.ensures) (map (λ v. v.items) table.lists.items) table.tables.items));
       each = table.each;
       within = table.within;

@@ -1,4 +1,4 @@
-use Rattle.lrlex.proofs.definitions.LRNonStreamingLexerDefLexerDef.set_rule_ids_spanned.Goals as goal
+use Rattle.lrlex.proofs.lexer.definition.RuleTable.set_ids_spanned.Goals as goal
 
 pub returns-clause-unused : goal.returns-clause-unused
 returns-clause-unused g c = rw c.as_slice-2.ensures.value at c.in_ok-unused.ensures
