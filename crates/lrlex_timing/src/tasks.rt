@@ -1,7 +1,7 @@
 //! What the program is asked: its words, with the texts that they name.
 use crate::faults::Fault;
 use crate::texts::text_at;
-use crate::words::{Words, read};
+use crate::words::{Words, matches_of, words_of};
 use std::env;
 
 /// What is to be timed.
@@ -22,9 +22,9 @@ pub struct Task {
 }
 
 /// Reads the texts that the words name.
-fn texts_of(rt: &HostRuntime, words: &Words) -> Result<Task, Fault> {
-    let rules = text_at(rt, words.rules.as_str(), Fault::CannotReadRules)?;
-    let input = text_at(rt, words.input.as_str(), Fault::CannotReadInput)?;
+fn texts_of(rt: &HostRuntime, words: Words<'_>) -> Result<Task, Fault> {
+    let rules = text_at(rt, words.rules, Fault::CannotReadRules)?;
+    let input = text_at(rt, words.input, Fault::CannotReadInput)?;
     Ok(Task {
         rules,
         input,
@@ -35,13 +35,19 @@ fn texts_of(rt: &HostRuntime, words: &Words) -> Result<Task, Fault> {
     })
 }
 
+/// What these words ask for, the program's own name first.
+fn task_of(rt: &HostRuntime, words: &[String]) -> Result<Task, Fault> {
+    let matches = matches_of(rt.alloc(), words)?;
+    let given = words_of(&matches)?;
+    texts_of(rt, given)
+}
+
 /// What the words of the command line ask for; nothing where there are none.
 pub fn asked(rt: &HostRuntime) -> Result<Option<Task>, Fault> {
     let words: Vec<String> = env::args(rt)?.collect(rt.alloc())?;
     if words.len() < 2 {
         return Ok(None);
     }
-    let given = read(rt.alloc(), words.as_slice())?;
-    let task = texts_of(rt, &given)?;
+    let task = task_of(rt, words.as_slice())?;
     Ok(Some(task))
 }
