@@ -2,7 +2,7 @@
 use lrlex::{
     Budget, DefaultLexerTypes, LRNonStreamingLexerDef, LexRun, LexerDef, UNSPECIFIED_LEX_FLAGS,
 };
-use lrlex_timing::{Clock, Counts, Fault, Lexed, Sizes, Spread, Times, lines_times, peak};
+use lrlex_timing::{Clock, Counts, Fault, Lexed, Sizes, Spread, Times, lexemes, lines_times, peak};
 use std::alloc::Global;
 
 /// The definition that is timed.
@@ -37,7 +37,7 @@ fn end_of(run: &Run<'_, '_>) -> usize {
 fn counts_of(run: &Run<'_, '_>) -> Counts {
     Counts {
         end: end_of(run),
-        lexemes: run.items().iter().filter(|item| item.is_ok()).count(),
+        lexemes: lexemes(run.items()),
         tiles: run.tiles(),
         asked: run.asked(),
         peak: run.entries_peak(),

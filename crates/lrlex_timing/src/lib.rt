@@ -18,4 +18,4 @@ pub use crate::memory::peak;
 pub use crate::spread::{Spread, spread_of};
 pub use crate::tasks::{Task, asked};
 pub use crate::telling::{Counts, Lexed, Relexed, Sizes, Typed, Typing, tell_anew, tell_usage};
-pub use crate::texts::{boundary_from, lines_times};
+pub use crate::texts::{boundary_from, lexemes, lines_times};

@@ -1,4 +1,4 @@
-//! The texts that are lexed: reading them, their places and their lines.
+//! The texts that are lexed: reading them, their places, their lines, and the lexemes among what they were cut into.
 use crate::clock::{Clock, Times};
 use crate::faults::Fault;
 use crate::spread::Spread;
@@ -38,4 +38,9 @@ pub fn lines_times(rt: &HostRuntime, text: &str, times: u32) -> Result<Spread, F
         time_lines(rt, text, &mut spent)?;
     }
     Ok(spent.spread())
+}
+
+/// How many items are lexemes.
+pub fn lexemes<X, E>(items: &[Result<X, E>]) -> usize {
+    items.iter().filter(|item| item.is_ok()).count()
 }
