@@ -5,26 +5,25 @@ ghost use Rattle.lrlex_base.specs.Edits.{edited};
 
 use crate::measure::{Definition, Run, time_runs};
 use lrlex_base::{Edit, Span};
-use lrlex_timing::{Clock, Fault, Relexed, Spread, Times, boundary_from, tell_anew};
+use lrlex_timing::{Fault, Relexed, Watch, boundary_from, tell_anew};
 
 /// What each edit inserts: one byte, of which any of the rule files in `bench` makes a tile or part of one.
 const PUT: &str = " ";
 
-/// Lexes once again after the edit, and adds how long it took. How many tiles were cut anew, and how many matches were asked
-/// for.
+/// Lexes once again after the edit. How many tiles were cut anew, and how many matches were asked for.
 fn time_relex(
     rt: &HostRuntime,
     run: &Run<'_, '_>,
     edit: &Edit<'_>,
     new: &str,
-    spent: &mut Times,
+    watch: &mut Watch,
 ) -> Result<(usize, u128), Fault>
     requires fits { Fits run.now.text edit.now.removed }
     requires gives { new.now ≡ edited run.now.text (as_span edit.now.removed) edit.now.put.now }
 {
-    let clock = Clock::start(rt)?;
+    watch.start(rt);
     let after = run.relex(rt.alloc(), edit, new)?;
-    spent.add(rt, clock)?;
+    watch.stop(rt);
     Ok((after.lexed(), after.asked()))
 }
 
@@ -35,22 +34,36 @@ fn time_relexes(
     edit: &Edit<'_>,
     new: &str,
     times: u32,
+    watch: &mut Watch,
 ) -> Result<Relexed, Fault>
     requires fits { Fits run.now.text edit.now.removed }
     requires gives { new.now ≡ edited run.now.text (as_span edit.now.removed) edit.now.put.now }
 {
-    let mut spent = Times::new(rt.alloc());
     let mut counts = (0, 0);
     for _ in 0..times {
-        counts = time_relex(rt, run, edit, new, &mut spent)?;
+        counts = time_relex(rt, run, edit, new, watch)?;
     }
     let (lexed, asked) = counts;
-    let spread = spent.spread();
+    let spread = watch.spread()?;
     Ok(Relexed {
         lexed,
         asked,
         spread,
     })
+}
+
+/// Edits the text of the run, and lexes so many times again.
+fn relexed_by(
+    rt: &HostRuntime,
+    run: &Run<'_, '_>,
+    edit: &Edit<'_>,
+    times: u32,
+    watch: &mut Watch,
+) -> Result<Relexed, Fault>
+    requires { Fits run.now.text edit.now.removed }
+{
+    let new = edit.apply(rt.alloc(), run.text())?;
+    time_relexes(rt, run, edit, new.as_str(), times, watch)
 }
 
 /// Inserts one byte at a place, in bytes, lexes again so many times, and prints what that took. The median of `run` is `anew`.
@@ -61,6 +74,7 @@ fn tell_edit(
     place: usize,
     anew: u128,
     times: u32,
+    watch: &mut Watch,
 ) -> Result<(), Fault> {
     let edit = Edit {
         removed: Span::new(place, place),
@@ -69,19 +83,24 @@ fn tell_edit(
     if !edit.fits(run.text()) {
         return Ok(());
     }
-    let new = edit.apply(rt.alloc(), run.text())?;
-    let relexed = time_relexes(rt, run, &edit, new.as_str(), times)?;
-    relexed.tell(rt, name, anew)
+    relexed_by(rt, run, &edit, times, watch)?.tell(rt, name, anew)
 }
 
 /// Lexes again so many times after an edit at the front, in the middle and at the end of the text. The median of `run` is
 /// `anew`.
-fn tell_places(rt: &HostRuntime, run: &Run<'_, '_>, anew: u128, times: u32) -> Result<(), Fault> {
+fn tell_places(
+    rt: &HostRuntime,
+    run: &Run<'_, '_>,
+    anew: u128,
+    times: u32,
+    watch: &mut Watch,
+) -> Result<(), Fault> {
     let text = run.text();
     let middle = boundary_from(text, text.len() / 2);
-    tell_edit(rt, run, "front", 0, anew, times)?;
-    tell_edit(rt, run, "middle", middle, anew, times)?;
-    tell_edit(rt, run, "end", text.len(), anew, times)
+    tell_anew(rt, run.asked(), anew)?;
+    tell_edit(rt, run, "front", 0, anew, times, watch)?;
+    tell_edit(rt, run, "middle", middle, anew, times, watch)?;
+    tell_edit(rt, run, "end", text.len(), anew, times, watch)
 }
 
 /// Lexes the text so many times, and then again so many times after each edit.
@@ -90,9 +109,10 @@ pub fn tell_edits(
     definition: &Definition,
     text: &str,
     times: u32,
+    watch: &mut Watch,
 ) -> Result<(), Fault> {
-    let (Spread { median, .. }, _) = time_runs(rt, definition, text, times)?;
+    let _counts = time_runs(rt, definition, text, times, watch)?;
+    let anew = watch.spread()?.median;
     let run = definition.run(rt.alloc(), text)?;
-    tell_anew(rt, run.asked(), median)?;
-    tell_places(rt, &run, median, times)
+    tell_places(rt, &run, anew, times, watch)
 }

@@ -6,32 +6,33 @@ mod keys;
 mod measure;
 
 use crate::measure::{Definition, definition_by, tell_run};
-use lrlex_timing::{Clock, Fault, Task, asked, tell_usage};
+use lrlex_timing::{Fault, Task, Watch, asked, tell_usage};
 use std::process::ExitCode;
 
-/// Measures what is asked for. The definition's build took so many nanoseconds.
+/// Measures what is asked for. The watch took how long the definition's build was.
 fn measured(
     rt: &HostRuntime,
     task: &Task,
     definition: &Definition,
-    built: u128,
+    watch: &mut Watch,
 ) -> Result<(), Fault> {
     let input = task.input.as_str();
+    let built = watch.spread()?.median;
     if task.edits {
-        edits::tell_edits(rt, definition, input, task.times)
+        edits::tell_edits(rt, definition, input, task.times, watch)
     } else if task.keys {
-        keys::tell_typing(rt, definition, input, task.times)
+        keys::tell_typing(rt, definition, input, task.times, watch)
     } else {
-        tell_run(rt, definition, built, input, task.times)
+        tell_run(rt, definition, built, input, task.times, watch)
     }
 }
 
 /// Builds the definition, and measures what is asked for.
 fn built(rt: &HostRuntime, task: &Task) -> Result<(), Fault> {
-    let clock = Clock::start(rt)?;
+    let mut watch = Watch::new(rt)?;
     let definition = definition_by(rt.alloc(), task.rules.as_str(), task.tables)?;
-    let took = clock.nanos(rt)?;
-    measured(rt, task, &definition, took)
+    watch.stop(rt);
+    measured(rt, task, &definition, &mut watch)
 }
 
 /// Does all that the program does. With no words it only prints its usage.

@@ -1,9 +1,10 @@
 //! Times lexing a text.
 use lrlex::{
-    Budget, DefaultLexerTypes, LRNonStreamingLexerDef, LexRun, LexerDef, UNSPECIFIED_LEX_FLAGS,
+    Budget, DefaultLexerTypes, LRNonStreamingLexerDef, LexBuildResult, LexRun, LexerDef,
+    UNSPECIFIED_LEX_FLAGS,
 };
-use lrlex_timing::{Clock, Counts, Fault, Lexed, Sizes, Spread, Times, lexemes, lines_times, peak};
-use std::alloc::Global;
+use lrlex_timing::{Counts, Fault, Lexed, Sizes, Spread, Watch, lexemes, lines_times, peak};
+use std::alloc::{AllocError, Global};
 
 /// The definition that is timed.
 pub type Definition = LRNonStreamingLexerDef<DefaultLexerTypes<u32>>;
@@ -12,13 +13,21 @@ pub type Definition = LRNonStreamingLexerDef<DefaultLexerTypes<u32>>;
 pub type Run<'lexer, 'input> = LexRun<'lexer, 'input, DefaultLexerTypes<u32>>;
 
 /// Reads a rule text, into a definition with tables or without any.
-pub fn definition_by(alloc: Global, rules: &str, tables: bool) -> Result<Definition, Fault> {
-    let read = if tables {
-        Definition::from_str(alloc, rules)?
+fn read(
+    alloc: Global,
+    rules: &str,
+    tables: bool,
+) -> Result<LexBuildResult<Definition>, AllocError> {
+    if tables {
+        Definition::from_str(alloc, rules)
     } else {
-        Definition::new_with_budget(alloc, rules, UNSPECIFIED_LEX_FLAGS, Budget::new(0, 0))?
-    };
-    match read {
+        Definition::new_with_budget(alloc, rules, UNSPECIFIED_LEX_FLAGS, Budget::new(0, 0))
+    }
+}
+
+/// The definition that a rule text gives, with tables or without any.
+pub fn definition_by(alloc: Global, rules: &str, tables: bool) -> Result<Definition, Fault> {
+    match read(alloc, rules, tables)? {
         Ok(definition) => Ok(definition),
         Err(_) => Err(Fault::Refused),
     }
@@ -44,44 +53,45 @@ fn counts_of(run: &Run<'_, '_>) -> Counts {
     }
 }
 
-/// Lexes the text once by `run`, and adds how long it took. What the run counts.
+/// Lexes the text once by `run`. What the run counts.
 fn time_run(
     rt: &HostRuntime,
     definition: &Definition,
     text: &str,
-    spent: &mut Times,
+    watch: &mut Watch,
 ) -> Result<Counts, Fault> {
-    let clock = Clock::start(rt)?;
+    watch.start(rt);
     let run = definition.run(rt.alloc(), text)?;
-    spent.add(rt, clock)?;
+    watch.stop(rt);
     Ok(counts_of(&run))
 }
 
-/// Lexes the text once by `lexer`, which finds its lines too, and adds how long it took.
+/// Lexes the text once by `lexer`, which finds its lines too.
 fn time_lexer(
     rt: &HostRuntime,
     definition: &Definition,
     text: &str,
-    spent: &mut Times,
+    watch: &mut Watch,
 ) -> Result<(), Fault> {
-    let clock = Clock::start(rt)?;
+    watch.start(rt);
     let _lexer = definition.lexer(rt.alloc(), text)?;
-    spent.add(rt, clock)
+    watch.stop(rt);
+    Ok(())
 }
 
-/// So many times `run`: the times, and what the last run counts.
+/// So many times `run`: what the last run counts.
 pub fn time_runs(
     rt: &HostRuntime,
     definition: &Definition,
     text: &str,
     times: u32,
-) -> Result<(Spread, Counts), Fault> {
-    let mut spent = Times::new(rt.alloc());
+    watch: &mut Watch,
+) -> Result<Counts, Fault> {
     let mut counts = Counts::NONE;
     for _ in 0..times {
-        counts = time_run(rt, definition, text, &mut spent)?;
+        counts = time_run(rt, definition, text, watch)?;
     }
-    Ok((spent.spread(), counts))
+    Ok(counts)
 }
 
 /// So many times `lexer`.
@@ -90,12 +100,12 @@ fn lexer_times(
     definition: &Definition,
     text: &str,
     times: u32,
+    watch: &mut Watch,
 ) -> Result<Spread, Fault> {
-    let mut spent = Times::new(rt.alloc());
     for _ in 0..times {
-        time_lexer(rt, definition, text, &mut spent)?;
+        time_lexer(rt, definition, text, watch)?;
     }
-    Ok(spent.spread())
+    watch.spread()
 }
 
 /// The sizes of the text and of the definition, whose build took so many nanoseconds.
@@ -118,11 +128,13 @@ pub fn tell_run(
     built: u128,
     text: &str,
     times: u32,
+    watch: &mut Watch,
 ) -> Result<(), Fault> {
     let before = peak(rt);
-    let (runs, counts) = time_runs(rt, definition, text, times)?;
-    let lexers = lexer_times(rt, definition, text, times)?;
-    let lines = lines_times(rt, text, times)?;
+    let counts = time_runs(rt, definition, text, times, watch)?;
+    let runs = watch.spread()?;
+    let lexers = lexer_times(rt, definition, text, times, watch)?;
+    let lines = lines_times(rt, text, times, watch)?;
     let lexed = Lexed {
         sizes: sizes_of(definition, built, text),
         counts,

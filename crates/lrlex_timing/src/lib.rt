@@ -12,7 +12,7 @@ mod telling;
 mod texts;
 mod words;
 
-pub use crate::clock::{Clock, Times};
+pub use crate::clock::Watch;
 pub use crate::faults::Fault;
 pub use crate::memory::peak;
 pub use crate::spread::{Spread, spread_of};

@@ -1,5 +1,5 @@
 //! The texts that are lexed: reading them, their places, their lines, and the lexemes among what they were cut into.
-use crate::clock::{Clock, Times};
+use crate::clock::Watch;
 use crate::faults::Fault;
 use crate::spread::Spread;
 use lrlex_base::NewlineCache;
@@ -24,20 +24,25 @@ pub fn boundary_from(text: &str, from: usize) -> usize {
     text.len()
 }
 
-/// Finds the lines of the text once, and adds how long it took.
-fn time_lines(rt: &HostRuntime, text: &str, spent: &mut Times) -> Result<(), Fault> {
-    let clock = Clock::start(rt)?;
+/// Finds the lines of the text once.
+fn time_lines(rt: &HostRuntime, text: &str, watch: &mut Watch) -> Result<(), Fault> {
+    watch.start(rt);
     let _lines = NewlineCache::from_str(rt.alloc(), text)?;
-    spent.add(rt, clock)
+    watch.stop(rt);
+    Ok(())
 }
 
 /// Finds the lines of the text so many times.
-pub fn lines_times(rt: &HostRuntime, text: &str, times: u32) -> Result<Spread, Fault> {
-    let mut spent = Times::new(rt.alloc());
+pub fn lines_times(
+    rt: &HostRuntime,
+    text: &str,
+    times: u32,
+    watch: &mut Watch,
+) -> Result<Spread, Fault> {
     for _ in 0..times {
-        time_lines(rt, text, &mut spent)?;
+        time_lines(rt, text, watch)?;
     }
-    Ok(spent.spread())
+    watch.spread()
 }
 
 /// How many items are lexemes.
