@@ -3,113 +3,116 @@ ghost use Rattle.std.specs.Prelude.{◌≡◌};
 ghost use Rattle.lrlex_base.specs.Spans.{Fits, as_span};
 ghost use Rattle.lrlex_base.specs.Edits.{edited};
 
-use crate::faults::Fault;
-use crate::figures::Tenths;
-use crate::measure::{Definition, run_times};
-use crate::spread::{Spread, spread_of};
-use lrlex::{DefaultLexerTypes, LexRun};
+use crate::measure::{Definition, Run, time_runs};
 use lrlex_base::{Edit, Span};
-use std::time::Instant;
+use lrlex_timing::{Fault, Relexed, Watch, boundary_from, tell_anew};
 
 /// What each edit inserts: one byte, of which any of the rule files in `bench` makes a tile or part of one.
 const PUT: &str = " ";
 
-/// The first place at `from` or after it, in bytes, that is between two characters or at an end.
-pub fn boundary_from(text: &str, from: usize) -> usize {
-    for (place, _) in text.char_indices() {
-        if place >= from {
-            return place;
-        }
-    }
-    text.len()
-}
-
-/// Lexes once again after the edit. The time, in nanoseconds, how many matches were asked for, and how many tiles were cut
-/// anew.
+/// Lexes once again after the edit. How many tiles were cut anew, and how many matches were asked for.
 fn time_relex(
     rt: &HostRuntime,
-    run: &LexRun<'_, '_, DefaultLexerTypes<u32>>,
+    run: &Run<'_, '_>,
     edit: &Edit<'_>,
     new: &str,
-) -> Result<(u128, u128, usize), Fault>
+    watch: &mut Watch,
+) -> Result<(usize, u128), Fault>
     requires fits { Fits run.now.text edit.now.removed }
     requires gives { new.now ≡ edited run.now.text (as_span edit.now.removed) edit.now.put.now }
 {
-    let begin = Instant::now(rt)?;
+    watch.start(rt);
     let after = run.relex(rt.alloc(), edit, new)?;
-    let took = begin.elapsed(rt)?;
-    Ok((took.as_nanos(), after.asked(), after.lexed()))
+    watch.stop(rt);
+    Ok((after.lexed(), after.asked()))
 }
 
-/// Prints what lexing again took, and how many times as long `run` takes.
-fn tell_relex(
+/// Lexes so many times again after the edit.
+fn time_relexes(
     rt: &HostRuntime,
-    name: &str,
-    spread: Spread,
-    asked: u128,
-    anew: Spread,
-) -> Result<(), Fault> {
-    let Spread {
-        median,
-        best,
-        worst,
-    } = spread;
-    let faster = Tenths::of(anew.median, median);
-    println!(rt;
-        "{name} matches asked: {asked}\n{name} median ns: {median}\n{name} best ns: {best}\n{name} worst ns: {worst}"
-    )?;
-    println!(rt; "{name} times faster than run: {faster}")?;
-    Ok(())
+    run: &Run<'_, '_>,
+    edit: &Edit<'_>,
+    new: &str,
+    times: u32,
+    watch: &mut Watch,
+) -> Result<Relexed, Fault>
+    requires fits { Fits run.now.text edit.now.removed }
+    requires gives { new.now ≡ edited run.now.text (as_span edit.now.removed) edit.now.put.now }
+{
+    let mut counts = (0, 0);
+    for _ in 0..times {
+        counts = time_relex(rt, run, edit, new, watch)?;
+    }
+    let (lexed, asked) = counts;
+    let spread = watch.spread()?;
+    Ok(Relexed {
+        lexed,
+        asked,
+        spread,
+    })
 }
 
-/// Inserts one byte at a place, in bytes, lexes again so many times, and prints what that took.
+/// Edits the text of the run, and lexes so many times again.
+fn relexed_by(
+    rt: &HostRuntime,
+    run: &Run<'_, '_>,
+    edit: &Edit<'_>,
+    times: u32,
+    watch: &mut Watch,
+) -> Result<Relexed, Fault>
+    requires { Fits run.now.text edit.now.removed }
+{
+    let new = edit.apply(rt.alloc(), run.text())?;
+    time_relexes(rt, run, edit, new.as_str(), times, watch)
+}
+
+/// Inserts one byte at a place, in bytes, lexes again so many times, and prints what that took. The median of `run` is `anew`.
 fn tell_edit(
     rt: &HostRuntime,
-    run: &LexRun<'_, '_, DefaultLexerTypes<u32>>,
-    text: &str,
+    run: &Run<'_, '_>,
     name: &str,
     place: usize,
-    anew: Spread,
+    anew: u128,
     times: u32,
-) -> Result<(), Fault>
-    requires { run.now.text ≡ text.now }
-{
+    watch: &mut Watch,
+) -> Result<(), Fault> {
     let edit = Edit {
         removed: Span::new(place, place),
         put: PUT,
     };
-    if !edit.fits(text) {
+    if !edit.fits(run.text()) {
         return Ok(());
     }
-    let new = edit.apply(rt.alloc(), text)?;
-    let mut spent = Vec::new(rt.alloc());
-    let mut asked = 0u128;
-    let mut lexed = 0usize;
-    for _ in 0..times {
-        let (took, found, cut) = time_relex(rt, run, &edit, new.as_str())?;
-        spent.push(took)?;
-        asked = found;
-        lexed = cut;
-    }
-    println!(rt; "{name} tiles cut anew: {lexed}")?;
-    tell_relex(rt, name, spread_of(&mut spent), asked, anew)
+    relexed_by(rt, run, &edit, times, watch)?.tell(rt, name, anew)
 }
 
-/// Lexes the text so many times, and then again so many times after an edit at the front, in the middle and at the end.
+/// Lexes again so many times after an edit at the front, in the middle and at the end of the text. The median of `run` is
+/// `anew`.
+fn tell_places(
+    rt: &HostRuntime,
+    run: &Run<'_, '_>,
+    anew: u128,
+    times: u32,
+    watch: &mut Watch,
+) -> Result<(), Fault> {
+    let text = run.text();
+    let middle = boundary_from(text, text.len() / 2);
+    tell_anew(rt, run.asked(), anew)?;
+    tell_edit(rt, run, "front", 0, anew, times, watch)?;
+    tell_edit(rt, run, "middle", middle, anew, times, watch)?;
+    tell_edit(rt, run, "end", text.len(), anew, times, watch)
+}
+
+/// Lexes the text so many times, and then again so many times after each edit.
 pub fn tell_edits(
     rt: &HostRuntime,
     definition: &Definition,
     text: &str,
     times: u32,
+    watch: &mut Watch,
 ) -> Result<(), Fault> {
-    let anew = run_times(rt, definition, text, times)?;
+    let _counts = time_runs(rt, definition, text, times, watch)?;
+    let anew = watch.spread()?.median;
     let run = definition.run(rt.alloc(), text)?;
-    let median = anew.median;
-    let asked = run.asked();
-    println!(rt; "run matches asked: {asked}\nrun median ns: {median}")?;
-    let middle = boundary_from(text, text.len() / 2);
-    tell_edit(rt, &run, text, "front", 0, anew, times)?;
-    tell_edit(rt, &run, text, "middle", middle, anew, times)?;
-    tell_edit(rt, &run, text, "end", text.len(), anew, times)?;
-    Ok(())
+    tell_places(rt, &run, anew, times, watch)
 }

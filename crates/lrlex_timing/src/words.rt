@@ -8,12 +8,12 @@ use std::alloc::{AllocError, Global};
 pub const USAGE: &str = "Usage: lrlex_bench RULES INPUT K [--edits | --keys] [--no-tables]";
 
 /// What the words say.
-#[derive(Drop)]
-pub struct Words {
+#[derive(Clone, Copy)]
+pub struct Words<'w> {
     /// The path of the rule file.
-    pub rules: String,
+    pub rules: &'w str,
     /// The path of the text to lex.
-    pub input: String,
+    pub input: &'w str,
     /// How many times each thing is timed; not 0.
     pub times: u32,
     /// Whether lexing again after an edit is measured.
@@ -52,32 +52,35 @@ fn command<'a>(alloc: Global) -> Result<Command<'a>, AllocError> {
         .arg(option(alloc, "no-tables"))
 }
 
-/// The words of the matches.
-fn words_of(alloc: Global, matches: &ArgMatches<'_>) -> Result<Words, Fault> {
-    let Some(rules) = matches.get_str("rules") else {
-        return Err(Fault::Usage);
-    };
-    let Some(input) = matches.get_str("input") else {
-        return Err(Fault::Usage);
-    };
-    match matches.get_one::<u32>("times") {
-        None | Some(0) => Err(Fault::Usage),
-        Some(times) => Ok(Words {
-            rules: String::from_str(alloc, rules)?,
-            input: String::from_str(alloc, input)?,
-            times,
-            edits: matches.get_flag("edits"),
-            keys: matches.get_flag("keys"),
-            tables: !matches.get_flag("no-tables"),
-        }),
+/// What the command finds in the words, the program's own name first.
+pub fn matches_of<'a>(alloc: Global, words: &'a [String]) -> Result<ArgMatches<'a>, Fault> {
+    match command(alloc)?.try_get_matches_from(words) {
+        Ok(matches) => Ok(matches),
+        Err(error) => Err(fault_of(error.kind())),
     }
 }
 
-/// Reads the words, the program's own name first.
-pub fn read(alloc: Global, words: &[String]) -> Result<Words, Fault> {
-    match command(alloc)?.try_get_matches_from(words) {
-        Ok(matches) => words_of(alloc, &matches),
-        Err(error) if error.kind() == ErrorKind::OutOfMemory => Err(Fault::Memory),
-        Err(_) => Err(Fault::Usage),
+/// What an error of `clap` comes to.
+fn fault_of(kind: ErrorKind) -> Fault {
+    match kind {
+        ErrorKind::OutOfMemory => Fault::Memory,
+        _ => Fault::Usage,
     }
+}
+
+/// The words of the matches.
+pub fn words_of<'w>(matches: &'w ArgMatches<'_>) -> Result<Words<'w>, Fault> {
+    let times = matches.get_one::<u32>("times").unwrap_or(0);
+    if times == 0 {
+        return Err(Fault::Usage);
+    }
+    // Both paths are there: the command takes no words without them.
+    Ok(Words {
+        rules: matches.get_str("rules").unwrap_or(""),
+        input: matches.get_str("input").unwrap_or(""),
+        times,
+        edits: matches.get_flag("edits"),
+        keys: matches.get_flag("keys"),
+        tables: !matches.get_flag("no-tables"),
+    })
 }

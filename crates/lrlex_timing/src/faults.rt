@@ -1,6 +1,5 @@
 //! Why nothing is measured.
 use crate::words::USAGE;
-use lrlex::EditError;
 use std::alloc::{AllocError, AllocFailed};
 use std::{fmt, io};
 
@@ -23,6 +22,13 @@ pub enum Fault {
     System,
 }
 
+impl Fault {
+    /// Tells it on standard error. There is nowhere to tell of a fault of standard error itself.
+    pub fn tell(self, rt: &HostRuntime) {
+        let _ = eprintln!(rt; "{self}");
+    }
+}
+
 impl fmt::Display for Fault {
     fn fmt<W: fmt::Write>(&self, f: &mut fmt::Formatter<W>) -> fmt::Result {
         let text = match self {
@@ -41,15 +47,6 @@ impl fmt::Display for Fault {
 impl From<AllocError> for Fault {
     fn from(_fault: AllocError) -> Fault {
         Fault::Memory
-    }
-}
-
-impl From<EditError> for Fault {
-    fn from(fault: EditError) -> Fault {
-        match fault {
-            EditError::DoesNotFit => Fault::DoesNotFit,
-            EditError::OutOfMemory => Fault::Memory,
-        }
     }
 }
 
