@@ -81,3 +81,11 @@ fn ids_end_at_their_greatest(rt: HostRuntime) {
     let own = usize::from_count(usize::MAX) == Some(usize::MAX);
     assert!(rt; long && wide && own);
 }
+
+#[test]
+fn numbers_of_ids_are_told_apart_and_read_back(rt: HostRuntime) {
+    let apart = 7u8.is(7) && !7u8.is(8);
+    let counted = u8::MAX.as_count() == Some(255) && u64::MAX.as_count() == Some(usize::MAX);
+    let none = u128::MAX.as_count().is_none();
+    assert!(rt; apart && counted && none);
+}
