@@ -165,14 +165,18 @@ def all_active(states, rules):
     return sum(len(places) for places in {active_in(state, rules) for state in states})
 
 
-def compare_reading(reading, first, again, record):
-    """Looks at what reading a rule text gave, and compares it with what it gives again."""
+def compare_again(first, again, record):
+    """Compares what reading a rule text gave with what it gives again."""
+    record.same("read again", first[None], again[None])
+    record.same("read again", first.get("definition"), again.get("definition"))
+
+
+def compare_reading(reading, first, record):
+    """Looks at what reading a rule text gave."""
     text = reading.first.rules.text
     if first[None]:
-        record.same("read again", first[None], again[None])
         return compare_faults(text, first[None][0], record)
     record.add("accepted")
-    record.same("read again", first["definition"], again.get("definition"))
     tables, states, rules = first["definition"]
     states, rules = value(states, b"states"), value(rules, b"rules")
     record.same("each rule is asked", [0, 0, all_active(states, rules)], value(tables, b"tables"))
@@ -363,8 +367,12 @@ def compare_trial(trial, answers, record):
     answers = list(answers)
     ways = dict(zip(["tabled", "mixed"], answers[-2:]), asking=answers[0])
     record.add("cases")
-    for reading, first, again in zip(trial.readings, answers[::2], answers[1::2]):
-        compare_reading(reading, first, again, record)
+    left = iter(answers)
+    for reading in trial.readings:
+        first = next(left)
+        compare_reading(reading, first, record)
+        if reading.again:
+            compare_again(first, next(left), record)
     if any(way[None] for way in ways.values()):
         return record.law("all ways refuse the rule text", all(way[None] for way in ways.values()))
     rules = value(ways["asking"]["definition"][2], b"rules")

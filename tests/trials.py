@@ -6,6 +6,10 @@ from made import UNKNOWN, any_ids, rule_text, steps, text, with_mistake
 # How many mistakes are made in each rule text, by themselves.
 MISTAKES = 4
 
+# Each rule text is read twice in the cases with numbers below this. What reading gives is a function of the text and the flags by
+# its contract, so that a few cases show what is compiled.
+TWICE = 250
+
 # How many characters a text has at the most that is lexed from each of its places on.
 SHORT = 20
 
@@ -84,11 +88,15 @@ def reading(rules, text, looked_for):
 
 
 class Reading:
-    """What a rule text gives with a run of a text, and what it gives again."""
+    """What a rule text gives with a run of a text, and perhaps what it gives again."""
 
-    def __init__(self, first, text):
+    def __init__(self, first, text, twice):
         self.first, self.text = first, text
-        self.again = definition_of(first.rules, "asking")
+        self.again = definition_of(first.rules, "asking") if twice else None
+
+    def asked(self):
+        """Its steps, once or twice."""
+        return [self.first, self.again] if self.again else [self.first]
 
 
 class Trial:
@@ -129,9 +137,11 @@ class Trial:
         self.ask_run(self.ways[self.run_way])
         self.ask_edits(self.ways[self.edit_way])
         self.ask_mapping(self.ways["asking"])
-        self.readings = [Reading(self.ways["asking"], self.read_text)]
+        twice = self.number < TWICE
+        self.readings = [Reading(self.ways["asking"], self.read_text, twice)]
         for rules, read_text in self.mistakes:
-            self.readings.append(Reading(reading(rules, read_text, ["R0", "R1", "ALL", ""]), read_text))
+            first = reading(rules, read_text, ["R0", "R1", "ALL", ""])
+            self.readings.append(Reading(first, read_text, twice))
 
     def ask_places(self, asked):
         """Asks for a run from each place of the short text on."""
@@ -163,5 +173,5 @@ class Trial:
 
     def asked(self):
         """All steps, of each definition by itself."""
-        readings = [asked for reading in self.readings for asked in (reading.first, reading.again)]
+        readings = [asked for reading in self.readings for asked in reading.asked()]
         return readings + [self.ways["tabled"], self.ways["mixed"]]
