@@ -1,7 +1,9 @@
 //! The steps of a case, read from JSON, and what is told before their own lines.
 use crate::edits::edit_of;
 use crate::facts::{Refusal, tell_refusal};
-use crate::reading::{Change, Trouble, change_of, count_of, list_of, loose_span_of, text_of};
+use crate::reading::{
+    Change, Trouble, change_of, count_of, elements_of, list_of, loose_span_of, text_of,
+};
 use crate::told::Told;
 use lrlex_base::{Edit, Span};
 use serde_json::{Map, Value};
@@ -92,120 +94,155 @@ pub enum Step<'v> {
     Serves(&'v str, (&'v Value, &'v Value)),
 }
 
-/// The step of the engine or of the program that has this name.
-fn driving_of<'v>(name: &str, step: &'v [Value]) -> Result<Step<'v>, Trouble> {
-    match (name, step) {
-        ("engine", [_, rules, input, writer]) => Ok(Step::Drives(
-            Engine::Run(text_of(rules)?, text_of(input)?),
-            writer,
-        )),
-        ("engine_edited", [_, rules, old, edit, new, writer]) => {
-            let texts = (text_of(old)?, text_of(new)?);
-            let engine = Engine::RunEdited(text_of(rules)?, texts, edit_of(edit)?);
-            Ok(Step::Drives(engine, writer))
-        }
-        ("engine_report", [_, rules, writer]) => {
-            Ok(Step::Drives(Engine::Report(text_of(rules)?), writer))
-        }
-        ("served", [_, stdin, lines, faults]) => {
-            Ok(Step::Serves(text_of(stdin)?, (lines, faults)))
-        }
+/// The step of this name over nothing.
+fn of_none<'v>(name: &str) -> Result<Step<'v>, Trouble> {
+    match name {
+        "definition" => Ok(Step::Asks(Asked::Definition)),
+        "flags" => Ok(Step::Asks(Asked::Flags)),
         _ => Err(Trouble::Malformed),
     }
 }
 
-/// What the step of this name shows to people; none where it is another's name.
-fn report_of<'v>(name: &str, step: &'v [Value]) -> Result<Option<Report<'v>>, Trouble> {
-    let report = match (name, step) {
-        ("complaints", [_, rules, input]) => Report::OfText(text_of(rules)?, text_of(input)?),
-        ("complaints_of_file", [_, bytes, input]) => {
-            Report::OfFile(list_of(bytes)?, text_of(input)?)
-        }
-        ("first_fault", [_, rules]) => Report::FirstFault(text_of(rules)?),
-        ("place_text", [_, text, span, message]) => {
-            Report::AtSpan(text_of(text)?, loose_span_of(span)?, text_of(message)?)
-        }
-        ("stop_text", [_, text, place, state]) => {
-            Report::AtStop(text_of(text)?, count_of(place)?, count_of(state)?)
-        }
-        _ => return Ok(None),
-    };
-    Ok(Some(report))
+/// The step of this name over a text.
+fn of_text<'v>(name: &str, text: &'v str) -> Result<Step<'v>, Trouble> {
+    match name {
+        "words" => Ok(Step::Asks(Asked::Words(text))),
+        "highlighted" => Ok(Step::Asks(Asked::Highlighted(text))),
+        "first_fault" => Ok(Step::Reports(Report::FirstFault(text))),
+        _ => Err(Trouble::Malformed),
+    }
 }
 
-/// What the step of this name asks a document for; none where it is another's name.
-fn shown_of<'v>(name: &str, asked: &'v Value) -> Result<Option<Shown<'v>>, Trouble> {
+/// The step of this name over two texts; none where it is another's name.
+fn of_texts<'v>(name: &str, text: &'v str, other: &'v str) -> Option<Step<'v>> {
+    match name {
+        "replaced" => Some(Step::Replaces(text, other)),
+        "complaints" => Some(Step::Reports(Report::OfText(text, other))),
+        _ => None,
+    }
+}
+
+/// The step of this name over a text and a list; none where it is another's name.
+fn of_text_and_list<'v>(name: &str, text: &'v str, list: &'v [Value]) -> Option<Step<'v>> {
+    match name {
+        "run" => Some(Step::Asks(Asked::Runs(text, list))),
+        "after" => Some(Step::Asks(Asked::After(text, list))),
+        "document" => Some(Step::Shows(text, Shown::Edits(list))),
+        "texts" => Some(Step::Shows(text, Shown::Texts(list))),
+        _ => None,
+    }
+}
+
+/// The step of this name over a text and something small about it.
+fn of_text_and<'v>(name: &str, text: &'v str, value: &'v Value) -> Result<Step<'v>, Trouble> {
     let shown = match name {
-        "document" => Shown::Edits(list_of(asked)?),
-        "visible" => Shown::Visible(loose_span_of(asked)?),
-        "typed" => Shown::Typed(change_of(asked)?),
-        "texts" => Shown::Texts(list_of(asked)?),
-        "range" => Shown::Range(loose_span_of(asked)?),
-        _ => return Ok(None),
+        "visible" => Shown::Visible(loose_span_of(value)?),
+        "range" => Shown::Range(loose_span_of(value)?),
+        "typed" => Shown::Typed(change_of(value)?),
+        "engine_report" => return Ok(Step::Drives(Engine::Report(text), value)),
+        _ => return Err(Trouble::Malformed),
     };
-    Ok(Some(shown))
+    Ok(Step::Shows(text, shown))
 }
 
-/// What the step of this name asks a definition for; none where it is another's name.
-fn asked_of<'v>(name: &str, step: &'v [Value]) -> Result<Option<Asked<'v>>, Trouble> {
-    let asked = match (name, step) {
-        ("definition", [_]) => Asked::Definition,
-        ("flags", [_]) => Asked::Flags,
-        ("run", [_, text, edits]) => Asked::Runs(text_of(text)?, list_of(edits)?),
-        ("lexer", [_, input, of_run, spans, bytes]) => {
-            let of_run = of_run.as_bool() == Some(true);
-            Asked::Lexer(text_of(input)?, of_run, (list_of(spans)?, list_of(bytes)?))
-        }
-        ("part", [_, text, from, to]) => {
-            Asked::Part(text_of(text)?, (count_of(from)?, count_of(to)?))
-        }
-        ("find", [_, ids, names]) => Asked::Rules(list_of(ids)?, list_of(names)?),
-        ("words", [_, text]) => Asked::Words(text_of(text)?),
-        ("highlighted", [_, text]) => Asked::Highlighted(text_of(text)?),
-        ("after", [_, text, edits]) => Asked::After(text_of(text)?, list_of(edits)?),
-        _ => return Ok(None),
+/// The step of this name over a text and another value.
+fn of_text_and_value<'v>(name: &str, text: &'v str, value: &'v Value) -> Result<Step<'v>, Trouble> {
+    let step = match (value.as_str(), elements_of(Some(value))) {
+        (Some(other), _) => of_texts(name, text, other),
+        (None, Some(list)) => of_text_and_list(name, text, list),
+        (None, None) => None,
     };
-    Ok(Some(asked))
-}
-
-/// The step of this name that changes the definition, asks an edit, or is of the engine.
-fn other_of<'v>(name: &str, step: &'v [Value]) -> Result<Step<'v>, Trouble> {
-    match (name, step) {
-        ("ids", [_, ids, spanned]) => {
-            let members = ids.as_object().ok_or(Trouble::Malformed)?;
-            Ok(Step::SetsIds(members, spanned.as_bool() == Some(true)))
-        }
-        ("replaced", [_, text, rules]) => Ok(Step::Replaces(text_of(text)?, text_of(rules)?)),
-        ("edit", [_, old, edit, new]) => {
-            Ok(Step::Edits(text_of(old)?, edit_of(edit)?, text_of(new)?))
-        }
-        _ => driving_of(name, step),
+    match step {
+        Some(step) => Ok(step),
+        None => of_text_and(name, text, value),
     }
 }
 
-/// The step of this name that asks a document, if it is one.
-fn showing_of<'v>(name: &str, step: &'v [Value]) -> Result<Option<Step<'v>>, Trouble> {
-    if let [_, text, asked] = step {
-        if let Some(shown) = shown_of(name, asked)? {
-            return Ok(Some(Step::Shows(text_of(text)?, shown)));
-        }
-    }
-    Ok(None)
+/// The step of this name that sets ids.
+fn ids_step<'v>(ids: &'v Value, spanned: &Value) -> Result<Step<'v>, Trouble> {
+    let members = ids.as_object().ok_or(Trouble::Malformed)?;
+    Ok(Step::SetsIds(members, spanned.as_bool() == Some(true)))
 }
 
-/// The step of a value.
+/// The step of this name over two values.
+fn of_two<'v>(name: &str, first: &'v Value, second: &'v Value) -> Result<Step<'v>, Trouble> {
+    match name {
+        "ids" => ids_step(first, second),
+        "find" => Ok(Step::Asks(Asked::Rules(list_of(first)?, list_of(second)?))),
+        "complaints_of_file" => Ok(Step::Reports(Report::OfFile(
+            list_of(first)?,
+            text_of(second)?,
+        ))),
+        _ => of_text_and_value(name, text_of(first)?, second),
+    }
+}
+
+/// The step of this name over a text and two values.
+fn of_three<'v>(
+    name: &str,
+    text: &'v str,
+    second: &'v Value,
+    third: &'v Value,
+) -> Result<Step<'v>, Trouble> {
+    match name {
+        "part" => {
+            let ends = (count_of(second)?, count_of(third)?);
+            Ok(Step::Asks(Asked::Part(text, ends)))
+        }
+        "stop_text" => {
+            let (place, state) = (count_of(second)?, count_of(third)?);
+            Ok(Step::Reports(Report::AtStop(text, place, state)))
+        }
+        "edit" => Ok(Step::Edits(text, edit_of(second)?, text_of(third)?)),
+        "place_text" => {
+            let (span, message) = (loose_span_of(second)?, text_of(third)?);
+            Ok(Step::Reports(Report::AtSpan(text, span, message)))
+        }
+        "engine" => Ok(Step::Drives(Engine::Run(text, text_of(second)?), third)),
+        "served" => Ok(Step::Serves(text, (second, third))),
+        _ => Err(Trouble::Malformed),
+    }
+}
+
+/// The step that asks a lexer.
+fn lexer_step<'v>(
+    input: &'v Value,
+    of_run: &Value,
+    spans: &'v Value,
+    bytes: &'v Value,
+) -> Result<Step<'v>, Trouble> {
+    let about = (list_of(spans)?, list_of(bytes)?);
+    let of_run = of_run.as_bool() == Some(true);
+    Ok(Step::Asks(Asked::Lexer(text_of(input)?, of_run, about)))
+}
+
+/// The step that has the engine lex again after an edit.
+fn edited_step<'v>(
+    rules: &'v Value,
+    texts: (&'v Value, &'v Value),
+    edit: &'v Value,
+    writer: &'v Value,
+) -> Result<Step<'v>, Trouble> {
+    let (rules, texts) = (text_of(rules)?, (text_of(texts.0)?, text_of(texts.1)?));
+    Ok(Step::Drives(Engine::RunEdited(rules, texts, edit_of(edit)?), writer))
+}
+
+/// The step of a value: a list of its name and what it is over.
 pub fn step_of(value: &Value) -> Result<Step<'_>, Trouble> {
     let step = list_of(value)?;
     let name = step.first().and_then(Value::as_str).unwrap_or("");
-    if let Some(asked) = asked_of(name, step)? {
-        return Ok(Step::Asks(asked));
-    }
-    if let Some(report) = report_of(name, step)? {
-        return Ok(Step::Reports(report));
-    }
-    match showing_of(name, step)? {
-        Some(step) => Ok(step),
-        None => other_of(name, step),
+    match step {
+        [_] => of_none(name),
+        [_, text] => of_text(name, text_of(text)?),
+        [_, first, second] => of_two(name, first, second),
+        [_, text, second, third] => of_three(name, text_of(text)?, second, third),
+        [_, input, of_run, spans, bytes] if name == "lexer" => {
+            lexer_step(input, of_run, spans, bytes)
+        }
+        [_, rules, old, edit, new, writer] if name == "engine_edited" => {
+            edited_step(rules, (old, new), edit, writer)
+        }
+        _ => Err(Trouble::Malformed),
     }
 }
 

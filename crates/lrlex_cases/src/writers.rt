@@ -4,7 +4,7 @@ ghost use Rattle.std.specs.Prelude.{Some};
 use crate::reading::{Trouble, count_of, elements_of, text_of};
 use crate::told::Told;
 use serde_json::Value;
-use std::alloc::{AllocError, Global};
+use std::alloc::Global;
 use std::io;
 use std::io::{ErrorKind, Write};
 
@@ -80,7 +80,7 @@ fn tell_held(told: &mut Told, writer: &BrokenWriter) {
 /// Tells what a call came to, and what its writer has then.
 pub fn tell_came(
     told: &mut Told,
-    came: Result<Came, AllocError>,
+    came: Result<Came, Trouble>,
     writer: &BrokenWriter,
 ) -> Result<(), Trouble> {
     let word = word_of(came?);
