@@ -1,4 +1,5 @@
 //! What definitions say, lexemes and errors, and what setting token ids gives.
+use crate::reading::Trouble;
 use crate::told::Told;
 use lrlex_base::{Id, Span, Spanned};
 use lrlex_rules::{LexBuildError, LexErrorKind, Rule, StartState, StartStateOperation};
@@ -34,6 +35,9 @@ pub enum Refusal {
     /// The rule at this place was refused.
     Rule(usize),
 }
+
+/// What is told of a span that fits a text: its text, its lines, and the places of its ends.
+pub type Fitting<'t> = (&'t str, &'t str, ((usize, usize), (usize, usize)));
 
 /// What setting token ids gave: the names without a rule, and the rules' names without an id, with their places.
 pub type Sets<'n> = (Option<HashSet<&'n str>>, Option<HashSet<(String, Span)>>);
@@ -74,7 +78,7 @@ fn tell_fault(told: &mut Told, fault: &LexBuildError) {
 }
 
 /// Tells the faults.
-fn tell_faults(told: &mut Told, faults: &[LexBuildError]) {
+pub fn tell_faults(told: &mut Told, faults: &[LexBuildError]) {
     told.key("faults");
     told.open("[");
     for fault in faults {
@@ -136,7 +140,7 @@ fn tell_target(told: &mut Told, target: Option<(usize, StartStateOperation)>) {
 }
 
 /// Tells a rule, with all its fields.
-pub fn tell_rule(told: &mut Told, rule: RuleSeen<'_>) {
+fn tell_rule(told: &mut Told, rule: RuleSeen<'_>) {
     told.open("{");
     told.member("tok_id");
     told.value(&Value::from(rule.id));
@@ -203,6 +207,129 @@ pub fn tell_item(told: &mut Told, item: Item) {
             told.value(&Value::from(state));
         }
     }
+    told.close("]");
+}
+
+/// Tells lexemes and errors.
+pub fn tell_items(told: &mut Told, items: &[Item]) {
+    told.key("items");
+    told.open("[");
+    for item in items {
+        tell_item(told, *item);
+    }
+    told.close("]");
+}
+
+/// Tells that there are no items to tell of.
+pub fn tell_no_items(told: &mut Told) {
+    told.key("items");
+    told.null();
+}
+
+/// Tells how many tiles a run has, the most entries of a stack, and how many matches it asked for.
+pub fn tell_counts(told: &mut Told, counts: [usize; 3]) {
+    let [tiles, entries_peak, asked] = counts;
+    told.key("tiles");
+    told.number(tiles);
+    told.key("entries_peak");
+    told.number(entries_peak);
+    told.key("asked_max");
+    told.number(asked);
+}
+
+/// Tells a boundary: `[place, [[count, state], ..]]`.
+pub fn tell_boundary(told: &mut Told, place: usize, stack: &[(usize, usize)]) {
+    told.open("[");
+    told.number(place);
+    told.open("[");
+    for entry in stack {
+        told.pair(*entry);
+    }
+    told.close("]");
+    told.close("]");
+}
+
+/// Tells a piece: `[rule, start, length, name]`, and more where its text isn't the text's at its span.
+pub fn tell_piece(told: &mut Told, rule: usize, span: Span, name: Option<&str>, is_own: bool) {
+    told.open("[");
+    told.number(rule);
+    told.number(span.start());
+    told.number(span.len());
+    told.name(name);
+    if !is_own {
+        told.text("wrong text");
+    }
+    told.close("]");
+}
+
+/// Tells a pair of a name and a text.
+fn tell_word(told: &mut Told, name: &str, text: &str) {
+    told.open("[");
+    told.text(name);
+    told.text(text);
+    told.close("]");
+}
+
+/// Tells pairs of a name and a text, if memory was there for them.
+pub fn tell_words(
+    told: &mut Told,
+    words: Result<Vec<(&str, &str)>, AllocError>,
+) -> Result<(), Trouble> {
+    let words = words?;
+    told.key("words");
+    told.open("[");
+    for (name, text) in words.as_slice() {
+        tell_word(told, name, text);
+    }
+    told.close("]");
+    Ok(())
+}
+
+/// Tells what is shown to people, if memory was there for it.
+pub fn tell_report(told: &mut Told, shown: Result<String, AllocError>) -> Result<(), Trouble> {
+    let shown = shown?;
+    told.key("shown");
+    told.text(&shown);
+    Ok(())
+}
+
+/// Tells a span's text, its lines and the places of its ends, or as many nulls.
+pub fn tell_fitting(told: &mut Told, fitting: Option<Fitting<'_>>) {
+    let Some((text, lines, places)) = fitting else {
+        told.null();
+        told.null();
+        told.null();
+        return;
+    };
+    told.text(text);
+    told.text(lines);
+    told.pairs(places);
+}
+
+/// Tells the rule that was found, or null.
+fn tell_found(told: &mut Told, found: Option<&Rule<u32>>) {
+    match found {
+        Some(rule) => tell_rule(told, rule_seen(rule)),
+        None => told.null(),
+    }
+}
+
+/// Tells the rule with this id, and what lexemes of the id are called.
+pub fn tell_by_id(told: &mut Told, id: u32, found: Option<&Rule<u32>>, name: Option<&str>) {
+    told.key("by_id");
+    told.open("[");
+    told.number(id as usize);
+    tell_found(told, found);
+    told.name(name);
+    told.close("]");
+}
+
+/// Tells the rule with this name.
+pub fn tell_by_name(told: &mut Told, name: &str, found: Option<&Rule<u32>>) {
+    told.key("by_name");
+    told.open("[");
+    told.text(name);
+    tell_found(told, found);
     told.close("]");
 }
 
@@ -276,8 +403,13 @@ fn tell_spanned_names(
     Ok(())
 }
 
-/// Tells what setting token ids gave.
-pub fn tell_sets(told: &mut Told, key: &str, sets: &Sets<'_>) -> Result<(), AllocError> {
+/// Tells what setting token ids gave, if memory was there for it.
+pub fn tell_sets(
+    told: &mut Told,
+    key: &str,
+    sets: Result<Sets<'_>, AllocError>,
+) -> Result<(), Trouble> {
+    let sets = sets?;
     told.key(key);
     told.open("[");
     tell_names(told, &sets.0)?;
@@ -287,7 +419,12 @@ pub fn tell_sets(told: &mut Told, key: &str, sets: &Sets<'_>) -> Result<(), Allo
 }
 
 /// The same without places.
-pub fn tell_name_sets(told: &mut Told, key: &str, sets: &NameSets<'_>) -> Result<(), AllocError> {
+pub fn tell_name_sets(
+    told: &mut Told,
+    key: &str,
+    sets: Result<NameSets<'_>, AllocError>,
+) -> Result<(), Trouble> {
+    let sets = sets?;
     told.key(key);
     told.open("[");
     tell_names(told, &sets.0)?;

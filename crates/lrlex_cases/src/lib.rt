@@ -2,9 +2,12 @@
 //! they expect. Nothing here lexes.
 #![tactic(auto)]
 
+pub mod edits;
 pub mod facts;
 pub mod findings;
 pub mod parts;
 pub mod reading;
+pub mod steps;
+pub mod tally;
 pub mod told;
 pub mod writers;

@@ -234,11 +234,30 @@ pub fn change_of(value: &Value) -> Result<Change<'_>, Trouble> {
 }
 
 /// The bytes of an edit `[from, to, text, bytes]`; none where they are left out.
-pub fn bytes_of(alloc: Global, value: &Value) -> Result<Vec<usize>, Trouble> {
+pub fn bytes_of(value: &Value) -> &[Value] {
     match elements_of(Some(value)) {
-        Some([_, _, _, bytes]) => counts_of(alloc, elements_of(Some(bytes)).unwrap_or(&[])),
-        _ => Ok(Vec::new(alloc)),
+        Some([_, _, _, bytes]) => elements_of(Some(bytes)).unwrap_or(&[]),
+        _ => &[],
     }
+}
+
+/// The bytes of a file, each a number.
+pub fn file_of(alloc: Global, list: &[Value]) -> Result<Vec<u8>, Trouble> {
+    let mut bytes = Vec::new(alloc);
+    for value in list {
+        let byte = value.as_u64().and_then(|byte| u8::try_from(byte).ok());
+        bytes.push(byte.ok_or(Trouble::Malformed)?)?;
+    }
+    Ok(bytes)
+}
+
+/// The rule text, the flags and the input of a case that has neither parts of a definition nor ids to set.
+pub fn texts_in(case: &Value) -> Result<(&str, LexFlags, &str), Trouble> {
+    if case.get("from_rules").is_some() || case.get("ids").is_some() {
+        return Err(Trouble::Malformed);
+    }
+    let (rules, input) = (text_in(case, "rules")?, text_in(case, "input")?);
+    Ok((rules, flags_in(case)?, input))
 }
 
 /// The span `[start, end]`, or an empty one where its end is before its start.

@@ -118,6 +118,19 @@ impl Told {
         self.close("]");
     }
 
+    /// Adds a line and a column, or another two numbers, as a list.
+    pub fn pair(&mut self, place: (usize, usize)) {
+        self.numbers(&[place.0, place.1]);
+    }
+
+    /// Adds two places, as a list of both.
+    pub fn pairs(&mut self, places: ((usize, usize), (usize, usize))) {
+        self.open("[");
+        self.pair(places.0);
+        self.pair(places.1);
+        self.close("]");
+    }
+
     /// Adds both ends of a span, as a list.
     pub fn span(&mut self, span: Span) {
         self.numbers(&[span.start(), span.end()]);

@@ -2,6 +2,7 @@
 ghost use Rattle.std.specs.Prelude.{Some};
 
 use crate::reading::{Trouble, count_of, elements_of, text_of};
+use crate::told::Told;
 use serde_json::Value;
 use std::alloc::Global;
 use std::io;
@@ -17,6 +18,16 @@ enum Breaks {
     TakesNone,
     /// A flush fails.
     AtFlush,
+}
+
+/// What a call that writes came to.
+#[derive(Clone, Copy)]
+pub enum Came {
+    Lexed,
+    Stopped,
+    Refused,
+    Reported,
+    Failed(ErrorKind),
 }
 
 /// Takes at most so many bytes a call, and breaks at one of its calls, counted from 1.
@@ -42,6 +53,58 @@ fn breaks_of(value: &Value) -> Result<Breaks, Trouble> {
     }
 }
 
+/// What a call came to, in a word.
+fn word_of(came: Came) -> &'static str {
+    match came {
+        Came::Lexed => "Lexed",
+        Came::Stopped => "Stopped",
+        Came::Refused => "Refused",
+        Came::Reported => "Reported",
+        Came::Failed(ErrorKind::WriteZero) => "Failed(WriteZero)",
+        Came::Failed(ErrorKind::Interrupted) => "Failed(Interrupted)",
+        Came::Failed(ErrorKind::OutOfMemory) => "Failed(OutOfMemory)",
+        Came::Failed(ErrorKind::Other) => "Failed(Other)",
+        Came::Failed(_) => "Failed(another kind)",
+    }
+}
+
+/// Tells the bytes that a writer holds.
+fn tell_held(told: &mut Told, writer: &BrokenWriter) {
+    told.open("[");
+    for byte in writer.held.as_slice() {
+        told.number(*byte as usize);
+    }
+    told.close("]");
+}
+
+/// Tells what a call came to, and what its writer has then.
+pub fn tell_came(
+    told: &mut Told,
+    came: Result<Came, Trouble>,
+    writer: &BrokenWriter,
+) -> Result<(), Trouble> {
+    let word = word_of(came?);
+    told.key("engine");
+    told.open("[");
+    told.text(word);
+    tell_held(told, writer);
+    told.number(writer.calls as usize);
+    told.number(writer.flushes as usize);
+    told.close("]");
+    Ok(())
+}
+
+/// Tells the status of the program, what both of its writers have then, and how often the first was flushed.
+pub fn tell_served(told: &mut Told, status: u8, lines: &BrokenWriter, faults: &BrokenWriter) {
+    told.key("served");
+    told.open("[");
+    told.number(status as usize);
+    tell_held(told, lines);
+    tell_held(told, faults);
+    told.number(lines.flushes as usize);
+    told.close("]");
+}
+
 impl BrokenWriter {
     /// The writer `[most, call, how it breaks]`.
     pub fn of_value(alloc: Global, value: &Value) -> Result<BrokenWriter, Trouble> {
@@ -56,16 +119,6 @@ impl BrokenWriter {
             calls: 0,
             flushes: 0,
         })
-    }
-
-    /// The bytes that it has taken.
-    pub fn held(&self) -> &[u8] {
-        self.held.as_slice()
-    }
-
-    /// How often it was asked to write, and to flush.
-    pub fn counts(&self) -> (u64, u64) {
-        (self.calls, self.flushes)
     }
 }
 

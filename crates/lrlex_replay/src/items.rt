@@ -4,17 +4,20 @@ use lrlex_base::{Id, LexError, Lexeme};
 use lrlex_cases::facts::{Item, tell_item};
 use lrlex_cases::told::Told;
 
+/// An error, as plain numbers.
+fn error_seen(error: &LRLexError) -> Item {
+    let state = match error.lexing_state() {
+        Some(state) => Some(state.id()),
+        None => None,
+    };
+    Item::Error(error.span(), state)
+}
+
 /// A lexeme or an error, as plain numbers.
 pub fn item_seen<T: Id>(item: &Result<DefaultLexeme<T>, LRLexError>) -> Item {
     match item {
         Ok(lexeme) => Item::Lexeme(lexeme.tok_id().to_u64().unwrap_or(u64::MAX), lexeme.span()),
-        Err(error) => {
-            let state = match error.lexing_state() {
-                Some(state) => Some(state.id()),
-                None => None,
-            };
-            Item::Error(error.span(), state)
-        }
+        Err(error) => error_seen(error),
     }
 }
 

@@ -2,9 +2,11 @@
 ghost use Rattle.std.specs.Prelude.{◌≡◌};
 ghost use Rattle.lrlex.specs.Lexers.{lexer_text};
 
+use crate::building::Definition;
 use crate::items::{item_seen, tell_items};
 use lrlex::{DefaultLexeme, DefaultLexerTypes, LRLexError, LRNonStreamingLexer};
 use lrlex_base::{Lexer, NonStreamingLexer, Span};
+use lrlex_cases::facts::{Fitting, tell_fitting};
 use lrlex_cases::reading::{Trouble, count_of, loose_span_of};
 use lrlex_cases::told::Told;
 use serde_json::Value;
@@ -16,14 +18,8 @@ pub type LexerOf<'lexer, 'input> = LRNonStreamingLexer<'lexer, 'input, DefaultLe
 /// A lexeme or an error.
 type Item = Result<DefaultLexeme<u32>, LRLexError>;
 
-/// Line and column.
-type Place = (usize, usize);
-
 /// Spans and bytes that a lexer is asked about.
-pub type Asked<'v> = (&'v [Value], &'v [Value]);
-
-/// What a lexer tells of a span that fits its input: its text, its lines, and where its ends are.
-type Fitting<'t> = (&'t str, &'t str, (Place, Place));
+type Asked<'v> = (&'v [Value], &'v [Value]);
 
 /// What the lexer of this input tells of a span that fits it.
 fn fitting<'t>(lexer: &LexerOf<'_, 't>, input: &str, span: Span) -> Option<Fitting<'t>>
@@ -40,27 +36,10 @@ fn fitting<'t>(lexer: &LexerOf<'_, 't>, input: &str, span: Span) -> Option<Fitti
     }
 }
 
-/// Tells a span that fits, or as many nulls.
-fn tell_fitting(told: &mut Told, fitting: Option<Fitting<'_>>) {
-    let Some((text, lines, (start, end))) = fitting else {
-        told.null();
-        told.null();
-        told.null();
-        return;
-    };
-    told.text(text);
-    told.text(lines);
-    told.open("[");
-    told.numbers(&[start.0, start.1]);
-    told.numbers(&[end.0, end.1]);
-    told.close("]");
-}
-
 /// Tells the place before a byte, by `place` and by `position`.
 fn tell_place(told: &mut Told, lexer: &LexerOf<'_, '_>, byte: usize) {
-    let ((line, column), (above, units)) = (lexer.place(byte), lexer.position(byte));
-    told.numbers(&[line, column]);
-    told.numbers(&[above, units]);
+    told.pair(lexer.place(byte));
+    told.pair(lexer.position(byte));
 }
 
 /// Tells what the lexer of this input says of a span.
@@ -79,20 +58,24 @@ fn tell_span(told: &mut Told, lexer: &LexerOf<'_, '_>, input: &str, span: Span)
 }
 
 /// The items of a lexer.
-pub fn items_of(alloc: Global, lexer: &LexerOf<'_, '_>) -> Result<Vec<Item>, AllocError> {
+fn items_of(alloc: Global, lexer: &LexerOf<'_, '_>) -> Result<Vec<Item>, AllocError> {
     lexer.iter().collect(alloc)
 }
 
-/// Tells the items of the lexer of this input, and what it says of each.
-fn tell_each(told: &mut Told, lexer: &LexerOf<'_, '_>, input: &str) -> Result<(), AllocError>
-    requires { lexer_text lexer.now ≡ input.now }
-{
+/// Tells the items of a lexer.
+pub fn tell_lexed(told: &mut Told, lexer: &LexerOf<'_, '_>) -> Result<(), AllocError> {
     let items = items_of(told.alloc(), lexer)?;
     tell_items(told, items.as_slice());
-    for item in &items {
-        tell_span(told, lexer, input, item_seen(item).span());
-    }
     Ok(())
+}
+
+/// Tells what the lexer of this input says of each of its items.
+fn tell_each(told: &mut Told, lexer: &LexerOf<'_, '_>, input: &str)
+    requires { lexer_text lexer.now ≡ input.now }
+{
+    for item in lexer.iter() {
+        tell_span(told, lexer, input, item_seen(&item).span());
+    }
 }
 
 /// Tells what the lexer of this input says of these spans.
@@ -123,7 +106,7 @@ fn tell_bytes(told: &mut Told, lexer: &LexerOf<'_, '_>, bytes: &[Value]) -> Resu
 }
 
 /// Tells what the lexer of this input says of its items, and of these spans and bytes.
-pub fn tell_lexer(
+fn tell_lexer(
     told: &mut Told,
     lexer: &LexerOf<'_, '_>,
     input: &str,
@@ -131,7 +114,25 @@ pub fn tell_lexer(
 ) -> Result<(), Trouble>
     requires { lexer_text lexer.now ≡ input.now }
 {
-    tell_each(told, lexer, input)?;
+    tell_lexed(told, lexer)?;
+    tell_each(told, lexer, input);
     tell_spans(told, lexer, input, asked.0)?;
     tell_bytes(told, lexer, asked.1)
+}
+
+/// Asks the lexer of a text, or that of its run.
+pub fn ask_lexer(
+    told: &mut Told,
+    definition: &Definition<u32>,
+    input: &str,
+    of_run: bool,
+    asked: Asked<'_>,
+) -> Result<(), Trouble> {
+    let alloc = told.alloc();
+    let lexer = if of_run {
+        definition.run(alloc, input)?.into_lexer(alloc)?
+    } else {
+        definition.lexer(alloc, input)?
+    };
+    tell_lexer(told, &lexer, input, asked)
 }

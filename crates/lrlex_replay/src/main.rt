@@ -19,19 +19,12 @@ use crate::replay::replay;
 use crate::steps::tell_case;
 use lrlex_cases::findings::{Findings, value_of};
 use lrlex_cases::reading::Trouble;
+use lrlex_cases::tally::Tally;
 use serde_json::Value;
 use std::alloc::{AllocError, Global};
 use std::io;
 use std::io::{BufRead, BufReader};
 use std::process::ExitCode;
-
-/// How many cases were replayed, and with what end.
-#[derive(Clone, Copy)]
-struct Tally {
-    cases: u64,
-    compared: u64,
-    differ: u64,
-}
 
 /// The case of a line; none where the line isn't JSON.
 fn case_of(alloc: Global, line: &str) -> Result<Option<Value>, AllocError> {
@@ -51,36 +44,15 @@ fn findings_of(alloc: Global, case: &Value) -> Result<Option<Findings>, AllocErr
     }
 }
 
-/// Writes what differs, and counts the case.
-fn tell(rt: &HostRuntime, tally: Tally, differences: &[String]) -> io::Result<Tally> {
-    for difference in differences {
-        println!(rt; "{difference}")?;
-    }
-    let differ = if differences.is_empty() { 0 } else { 1 };
-    Ok(Tally {
-        cases: tally.cases.saturating_add(1),
-        compared: tally.compared.saturating_add(1),
-        differ: tally.differ.saturating_add(differ),
-    })
-}
-
-/// Writes that a line is no case, and counts it.
-fn tell_none(rt: &HostRuntime, tally: Tally) -> io::Result<Tally> {
-    let cases = tally.cases.saturating_add(1);
-    println!(rt; "line {cases}: no case")?;
-    Ok(Tally { cases, ..tally })
-}
-
 /// Replays a case, writes what differs or what comes of its steps, and counts it.
 fn count_case(rt: &HostRuntime, tally: Tally, case: &Value) -> io::Result<Tally> {
     if let Some(steps) = case.get("steps").and_then(Value::as_array) {
         tell_case(rt, case, steps.as_slice())?;
-        let cases = tally.cases.saturating_add(1);
-        return Ok(Tally { cases, ..tally });
+        return Ok(tally.told());
     }
     match findings_of(rt.alloc(), case)? {
-        Some(findings) => tell(rt, tally, findings.differences()),
-        None => tell_none(rt, tally),
+        Some(findings) => tally.compared(rt, findings.differences()),
+        None => tally.none(rt),
     }
 }
 
@@ -88,28 +60,19 @@ fn count_case(rt: &HostRuntime, tally: Tally, case: &Value) -> io::Result<Tally>
 fn count_line(rt: &HostRuntime, tally: Tally, line: &str) -> io::Result<Tally> {
     match case_of(rt.alloc(), line)? {
         Some(case) => count_case(rt, tally, &case),
-        None => tell_none(rt, tally),
+        None => tally.none(rt),
     }
 }
 
 /// Replays the cases of standard input, and writes how many there were.
 fn replay_all(rt: &HostRuntime) -> io::Result<()> {
     let alloc = rt.alloc();
-    let mut tally = Tally {
-        cases: 0,
-        compared: 0,
-        differ: 0,
-    };
+    let mut tally = Tally::new();
     for line in BufReader::new(alloc, rt.reader())?.lines(alloc) {
         let line = line?;
         tally = count_line(rt, tally, line.as_str())?;
     }
-    let Tally {
-        cases,
-        compared,
-        differ,
-    } = tally;
-    println!(rt; "{cases} cases: {compared} compared, {differ} differ")
+    tally.print(rt)
 }
 
 fn main(rt: HostRuntime) -> ExitCode {

@@ -2,120 +2,74 @@
 ghost use Rattle.std.specs.Prelude.{◌≡◌};
 ghost use Rattle.lrlex.specs.Lexers.{lexer_text};
 
-use crate::building::{Built, Definition, build, from_text};
+use crate::building::{Definition, build};
 use crate::items::item_seen;
+use crate::lexers::LexerOf;
 use crate::runs::most_of;
-use lrlex::{Budget, DefaultLexerTypes, LRNonStreamingLexer, LexerDef};
-use lrlex_base::{Id, Lexer, NonStreamingLexer, Span};
-use lrlex_cases::facts::{Item, tell_item, tell_refusal, tell_rules, tell_sets, tell_states};
+use lrlex::{Budget, LexFlags, LexerDef};
+use lrlex_base::{Id, NewlineCache, NonStreamingLexer, Span};
+use lrlex_cases::facts::{
+    Item, tell_counts, tell_faults, tell_items, tell_refusal, tell_rules, tell_sets, tell_states,
+};
 use lrlex_cases::findings::Findings;
 use lrlex_cases::parts::ids_of;
-use lrlex_cases::reading::{Trouble, flags_in, text_in};
+use lrlex_cases::reading::{Trouble, text_in, texts_in};
 use lrlex_cases::told::Told;
 use serde_json::{Map, Value};
 use std::alloc::{AllocError, Global};
 
-/// A lexer with ids of this type.
-type LexerOver<'lexer, 'input, T> = LRNonStreamingLexer<'lexer, 'input, DefaultLexerTypes<T>>;
-
-/// Line and column of both ends of a span.
-type Ends = [[usize; 2]; 2];
-
-/// What a run counts: its tiles, the peak of its entries, and the matches that it asked for.
-type Counts = (usize, usize, u128);
+/// What lexing an input gives: the items, and how many tiles the run has, the most entries of a stack and how many matches it
+/// asked for.
+type Lexed = (Vec<Item>, [usize; 3]);
 
 /// Line and column of both ends of a span of the lexer of this input; zeros where it doesn't fit.
-fn ends_of<T: Id>(lexer: &LexerOver<'_, '_, T>, span: Span, input: &str) -> Ends
+fn ends_of(lexer: &LexerOf<'_, '_>, span: Span, input: &str) -> ((usize, usize), (usize, usize))
     requires { lexer_text lexer.now ≡ input.now }
 {
-    if !span.fits(input) {
-        return [[0, 0], [0, 0]];
+    if span.fits(input) {
+        lexer.line_col(span)
+    } else {
+        ((0, 0), (0, 0))
     }
-    let ((line, column), (end_line, end_column)) = lexer.line_col(span);
-    [[line, column], [end_line, end_column]]
 }
 
-/// The items of the lexer of this input, and where each begins and ends.
-fn placed_of<T: Id>(
-    alloc: Global,
-    lexer: &LexerOver<'_, '_, T>,
+/// Tells lines and columns where each item begins and ends, by the lexer of this input.
+fn tell_ends(told: &mut Told, lexer: &LexerOf<'_, '_>, input: &str, items: &[Item])
+    requires { lexer_text lexer.now ≡ input.now }
+{
+    told.key("linecols");
+    told.open("[");
+    for item in items {
+        told.pairs(ends_of(lexer, item.span(), input));
+    }
+    told.close("]");
+}
+
+/// Tells what lexing the input gives, with lines and columns.
+fn tell_lexed(
+    told: &mut Told,
     input: &str,
-) -> Result<Vec<(Item, Ends)>, AllocError>
-    requires { lexer_text lexer.now ≡ input.now }
-{
-    let mut placed = Vec::new(alloc);
-    for item in lexer.iter() {
-        let item = item_seen(&item);
-        placed.push((item, ends_of(lexer, item.span(), input)))?;
-    }
-    Ok(placed)
+    lexed: Result<Lexed, AllocError>,
+) -> Result<(), AllocError> {
+    let (items, counts) = lexed?;
+    tell_items(told, items.as_slice());
+    let newlines = NewlineCache::from_str(told.alloc(), input)?;
+    let lexer = LexerOf::new(input, Vec::new(told.alloc()), newlines);
+    tell_ends(told, &lexer, input, items.as_slice());
+    tell_counts(told, counts);
+    Ok(())
 }
 
-/// The items of the definition's lexer of the input, and where each begins and ends.
+/// What lexing the input by this definition gives.
 fn lexed<T: Id>(
     alloc: Global,
     definition: &Definition<T>,
     input: &str,
-) -> Result<Vec<(Item, Ends)>, AllocError> {
-    let lexer = definition.lexer(alloc, input)?;
-    placed_of(alloc, &lexer, input)
-}
-
-/// What the definition's run of the input counts.
-fn counted<T: Id>(
-    alloc: Global,
-    definition: &Definition<T>,
-    input: &str,
-) -> Result<Counts, AllocError> {
+) -> Result<Lexed, AllocError> {
     let run = definition.run(alloc, input)?;
-    Ok((run.tiles(), run.entries_peak(), run.asked()))
-}
-
-/// Tells items, and lines and columns where each begins and ends.
-fn tell_placed(told: &mut Told, placed: &[(Item, Ends)]) {
-    told.key("items");
-    told.open("[");
-    for (item, _) in placed {
-        tell_item(told, *item);
-    }
-    told.close("]");
-    told.key("linecols");
-    told.open("[");
-    for (_, [start, end]) in placed {
-        told.open("[");
-        told.numbers(start);
-        told.numbers(end);
-        told.close("]");
-    }
-    told.close("]");
-}
-
-/// Tells what a run counts.
-fn tell_counts(told: &mut Told, counts: Counts) {
-    let (tiles, entries_peak, asked) = counts;
-    told.key("tiles");
-    told.number(tiles);
-    told.key("entries_peak");
-    told.number(entries_peak);
-    told.key("asked_max");
-    told.number(most_of(asked));
-}
-
-/// Tells what lexing the input gives: the lexer's items and places, and the run's counts.
-fn tell_input<T: Id>(
-    told: &mut Told,
-    definition: &Definition<T>,
-    input: &str,
-) -> Result<(), AllocError> {
-    tell_placed(told, lexed(told.alloc(), definition, input)?.as_slice());
-    tell_counts(told, counted(told.alloc(), definition, input)?);
-    Ok(())
-}
-
-/// Tells the start states and the rules.
-pub fn tell_parts<T: Id>(told: &mut Told, definition: &Definition<T>) {
-    tell_states(told, definition.iter_start_states().as_slice());
-    tell_rules(told, definition.rules());
+    let counts = [run.tiles(), run.entries_peak(), most_of(run.asked())];
+    let items = run.items().iter().map(item_seen::<T>).collect(alloc)?;
+    Ok((items, counts))
 }
 
 /// Tells the definition, and what lexing the input gives: by the definition's tables, and without any, so that each rule is
@@ -125,36 +79,28 @@ fn tell_definition<T: Id>(
     definition: Definition<T>,
     input: &str,
 ) -> Result<(), AllocError> {
-    tell_parts(told, &definition);
-    tell_input(told, &definition, input)?;
-    let asking = definition.with_budget(told.alloc(), Budget::new(0, 0))?;
-    tell_input(told, &asking, input)
+    let alloc = told.alloc();
+    tell_states(told, definition.iter_start_states().as_slice());
+    tell_rules(told, definition.rules());
+    tell_lexed(told, input, lexed(alloc, &definition, input))?;
+    let asking = definition.with_budget(alloc, Budget::new(0, 0))?;
+    tell_lexed(told, input, lexed(alloc, &asking, input))
 }
 
-/// Tells the definition that was built and what lexing the input gives, or why there is none.
-fn tell_built<T: Id>(told: &mut Told, built: Built<T>, input: &str) -> Result<(), AllocError> {
-    match built {
+/// Tells all that comes of a rule text and an input, with ids of this type.
+fn tell_text<T: Id>(
+    told: &mut Told,
+    rules: &str,
+    flags: LexFlags,
+    input: &str,
+) -> Result<(), AllocError> {
+    match Definition::<T>::new_with_options(told.alloc(), rules, flags)? {
         Ok(definition) => tell_definition(told, definition, input),
-        Err(refusal) => {
-            tell_refusal(told, &refusal);
+        Err(faults) => {
+            tell_faults(told, faults.as_slice());
             Ok(())
         }
     }
-}
-
-/// Tells all that comes of a case, with ids of this type. It has neither parts of a definition nor ids to set: cases with these
-/// have ids of type `u32`.
-fn tell_text<T: Id>(told: &mut Told, case: &Value) -> Result<(), Trouble> {
-    if case.get("from_rules").is_some() || case.get("ids").is_some() {
-        return Err(Trouble::Malformed);
-    }
-    let (rules, flags, input) = (
-        text_in(case, "rules")?,
-        flags_in(case)?,
-        text_in(case, "input")?,
-    );
-    let built = from_text::<T>(told.alloc(), rules, flags)?;
-    Ok(tell_built(told, built, input)?)
 }
 
 /// Sets the token ids of these members, and tells what that gives.
@@ -164,30 +110,56 @@ fn set_ids(
     members: &Map<String, Value>,
 ) -> Result<(), Trouble> {
     let ids = ids_of(told.alloc(), members)?;
-    let sets = definition.set_rule_ids_spanned(told.alloc(), &ids)?;
-    Ok(tell_sets(told, "set_ids", &sets)?)
+    let sets = definition.set_rule_ids_spanned(told.alloc(), &ids);
+    tell_sets(told, "set_ids", sets)
 }
 
-/// Tells all that comes of a case, with ids of type `u32`, after setting its token ids where it has some.
+/// Tells what comes of the definition of a case, after setting its token ids where it has some.
+fn tell_defined(
+    told: &mut Told,
+    definition: Definition<u32>,
+    case: &Value,
+    input: &str,
+) -> Result<(), Trouble> {
+    let mut definition = definition;
+    if let Some(members) = case.get("ids").and_then(Value::as_object) {
+        set_ids(told, &mut definition, members)?;
+    }
+    Ok(tell_definition(told, definition, input)?)
+}
+
+/// Tells all that comes of a case, with ids of type `u32`.
 fn tell_case(told: &mut Told, case: &Value) -> Result<(), Trouble> {
-    let mut built = build(told.alloc(), case)?;
-    if let Ok(definition) = &mut built {
-        if let Some(members) = case.get("ids").and_then(Value::as_object) {
-            set_ids(told, definition, members)?;
+    let input = text_in(case, "input")?;
+    match build(told.alloc(), case)? {
+        Ok(definition) => tell_defined(told, definition, case, input),
+        Err(refusal) => {
+            tell_refusal(told, &refusal);
+            Ok(())
         }
     }
-    Ok(tell_built(told, built, text_in(case, "input")?)?)
 }
 
-/// All that comes of a case, with ids of the type that it names.
+/// Tells all that comes of a case, with ids of the type that it names.
+fn tell(told: &mut Told, case: &Value) -> Result<(), Trouble> {
+    match text_in(case, "storage")? {
+        "u8" => {
+            let (rules, flags, input) = texts_in(case)?;
+            Ok(tell_text::<u8>(told, rules, flags, input)?)
+        }
+        "u16" => {
+            let (rules, flags, input) = texts_in(case)?;
+            Ok(tell_text::<u16>(told, rules, flags, input)?)
+        }
+        "u32" => tell_case(told, case),
+        _ => Err(Trouble::Malformed),
+    }
+}
+
+/// All that comes of a case.
 fn told_of(alloc: Global, case: &Value) -> Result<String, Trouble> {
     let mut told = Told::new(alloc);
-    match text_in(case, "storage")? {
-        "u8" => tell_text::<u8>(&mut told, case)?,
-        "u16" => tell_text::<u16>(&mut told, case)?,
-        "u32" => tell_case(&mut told, case)?,
-        _ => return Err(Trouble::Malformed),
-    }
+    tell(&mut told, case)?;
     Ok(told.lines()?)
 }
 

@@ -1,11 +1,17 @@
 //! What runs answer.
+use crate::building::Definition;
 use crate::items::tell_items;
 use lrlex::{DefaultLexerTypes, LexRun, Piece};
+use lrlex_base::Edit;
+use lrlex_cases::edits::{Made, all_made_of, tell_unfit};
+use lrlex_cases::facts::{tell_boundary, tell_piece};
+use lrlex_cases::reading::Trouble;
 use lrlex_cases::told::Told;
+use serde_json::Value;
 use std::alloc::AllocError;
 
 /// A run of a definition with ids of type `u32`.
-pub type Run<'lexer, 'input> = LexRun<'lexer, 'input, DefaultLexerTypes<u32>>;
+type Run<'lexer, 'input> = LexRun<'lexer, 'input, DefaultLexerTypes<u32>>;
 
 /// Lists of a run of so many tiles or more are left out.
 const MANY_TILES: usize = 1_000;
@@ -13,18 +19,6 @@ const MANY_TILES: usize = 1_000;
 /// The number, or the greatest that fits.
 pub fn most_of(number: u128) -> usize {
     usize::try_from(number).unwrap_or(usize::MAX)
-}
-
-/// Tells a boundary: `[place, [[count, state], ..]]`.
-fn tell_boundary(told: &mut Told, place: usize, stack: &[(usize, usize)]) {
-    told.open("[");
-    told.number(place);
-    told.open("[");
-    for (count, state) in stack {
-        told.numbers(&[*count, *state]);
-    }
-    told.close("]");
-    told.close("]");
 }
 
 /// Tells the boundaries of a run.
@@ -47,28 +41,22 @@ fn tell_ahead(told: &mut Told, run: &Run<'_, '_>) {
     told.close("]");
 }
 
-/// Tells a piece of the text: `[rule, start, length, name]`, and more where its text isn't what the text has there.
-fn tell_piece(told: &mut Told, text: &str, piece: &Piece<'_, '_>) {
-    let span = piece.span;
-    told.open("[");
-    told.number(piece.rule);
-    told.number(span.start());
-    told.number(span.len());
-    told.name(piece.name);
-    if text.get(span.start()..span.end()) != Some(piece.text) {
-        told.text("wrong text");
-    }
-    told.close("]");
-}
-
-/// Tells these pieces of the text.
-pub fn tell_pieces(told: &mut Told, text: &str, pieces: &[Piece<'_, '_>]) {
+/// Tells pieces of the text, if memory was there for them.
+pub fn tell_pieces(
+    told: &mut Told,
+    text: &str,
+    pieces: Result<Vec<Piece<'_, '_>>, AllocError>,
+) -> Result<(), AllocError> {
+    let pieces = pieces?;
     told.key("pieces");
     told.open("[");
-    for piece in pieces {
-        tell_piece(told, text, piece);
+    for piece in pieces.as_slice() {
+        let span = piece.span;
+        let is_own = text.get(span.start()..span.end()) == Some(piece.text);
+        tell_piece(told, piece.rule, span, piece.name, is_own);
     }
     told.close("]");
+    Ok(())
 }
 
 /// How many entries the stack of a run's last boundary has.
@@ -95,7 +83,7 @@ fn tell_counts(told: &mut Told, run: &Run<'_, '_>) {
 }
 
 /// Tells what a run answers: its counts, and its lists where they aren't long.
-pub fn tell_run(told: &mut Told, run: &Run<'_, '_>) -> Result<(), AllocError> {
+fn tell_run(told: &mut Told, run: &Run<'_, '_>) -> Result<(), AllocError> {
     tell_counts(told, run);
     if run.tiles() >= MANY_TILES {
         return Ok(());
@@ -103,7 +91,58 @@ pub fn tell_run(told: &mut Told, run: &Run<'_, '_>) -> Result<(), AllocError> {
     tell_items(told, run.items());
     tell_boundaries(told, run);
     tell_ahead(told, run);
-    let pieces = run.pieces(told.alloc())?;
-    tell_pieces(told, run.text(), pieces.as_slice());
+    let pieces = run.pieces(told.alloc());
+    tell_pieces(told, run.text(), pieces)
+}
+
+/// Lexes again after the edit, which makes the text.
+fn lex_again<'d, 't>(
+    told: &mut Told,
+    run: &Run<'d, 't>,
+    edit: &Edit<'_>,
+    text: &'t str,
+) -> Result<Run<'d, 't>, Trouble> {
+    if !edit.gives(run.text(), text) {
+        return Err(Trouble::Malformed);
+    }
+    Ok(run.relex(told.alloc(), edit, text)?)
+}
+
+/// Tells what runs answer, of a text and after each edit.
+fn tell_runs<'t>(
+    told: &mut Told,
+    definition: &Definition<u32>,
+    text: &'t str,
+    made: &'t [Made<'_>],
+) -> Result<(), Trouble> {
+    let mut run = definition.run(told.alloc(), text)?;
+    tell_run(told, &run)?;
+    for next in made {
+        run = lex_again(told, &run, &next.edit, next.text.as_str())?;
+        tell_run(told, &run)?;
+    }
     Ok(())
+}
+
+/// Lexes a text, and again after each edit, up to one that doesn't fit.
+pub fn lex(
+    told: &mut Told,
+    definition: &Definition<u32>,
+    text: &str,
+    edits: &[Value],
+) -> Result<(), Trouble> {
+    let made = all_made_of(told.alloc(), text, edits)?;
+    tell_runs(told, definition, text, made.as_slice())?;
+    tell_unfit(told, edits, made.len())
+}
+
+/// Tells the pieces of a part of a text, by a run.
+pub fn cut_run(
+    told: &mut Told,
+    definition: &Definition<u32>,
+    text: &str,
+    ends: (usize, usize),
+) -> Result<(), AllocError> {
+    let run = definition.run(told.alloc(), text)?;
+    tell_pieces(told, text, run.pieces_in(told.alloc(), ends.0, ends.1))
 }

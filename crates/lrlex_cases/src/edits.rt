@@ -1,0 +1,94 @@
+//! The edits of a step, and the texts that they make.
+use crate::reading::{Trouble, change_of, elements_of, text_of};
+use crate::told::Told;
+use lrlex_base::{Edit, Span};
+use serde_json::Value;
+use std::alloc::{AllocError, Global};
+
+/// An edit, and the text that it makes.
+#[derive(Drop)]
+pub struct Made<'v> {
+    pub edit: Edit<'v>,
+    pub text: String,
+}
+
+/// The edit of a value.
+pub fn edit_of(value: &Value) -> Result<Edit<'_>, Trouble> {
+    let (from, to, put) = change_of(value)?;
+    Ok(Edit {
+        removed: Span::new(from, to.max(from)),
+        put,
+    })
+}
+
+/// The edit with the text that it makes of this one; none where it doesn't fit.
+fn made_of<'v>(alloc: Global, text: &str, edit: Edit<'v>) -> Result<Option<Made<'v>>, AllocError> {
+    if !edit.fits(text) {
+        return Ok(None);
+    }
+    let text = edit.apply(alloc, text)?;
+    Ok(Some(Made { edit, text }))
+}
+
+/// The same of the last text that was made, or of this one where there is none.
+fn next_of<'v>(
+    alloc: Global,
+    text: &str,
+    made: &[Made<'v>],
+    value: &'v Value,
+) -> Result<Option<Made<'v>>, Trouble> {
+    let edit = edit_of(value)?;
+    let next = match made.last() {
+        Some(last) => made_of(alloc, last.text.as_str(), edit)?,
+        None => made_of(alloc, text, edit)?,
+    };
+    Ok(next)
+}
+
+/// The edits of a list and the texts that they make, each of the one before and the first of this text. It ends before an edit
+/// that doesn't fit.
+pub fn all_made_of<'v>(
+    alloc: Global,
+    text: &str,
+    edits: &'v [Value],
+) -> Result<Vec<Made<'v>>, Trouble> {
+    let mut all = Vec::new(alloc);
+    for value in edits {
+        match next_of(alloc, text, all.as_slice(), value)? {
+            Some(made) => all.push(made)?,
+            None => return Ok(all),
+        }
+    }
+    Ok(all)
+}
+
+/// Tells the edit at this place of a list, behind all that were made, if there is one: it doesn't fit.
+pub fn tell_unfit(told: &mut Told, edits: &[Value], made: usize) -> Result<(), Trouble> {
+    if let Some(edit) = edits.get(made) {
+        let removed = edit_of(edit)?.removed;
+        told.key("unfit");
+        told.span(removed);
+    }
+    Ok(())
+}
+
+/// The edits of a list, each beside the text that it makes.
+pub fn edits_of(alloc: Global, list: &[Value]) -> Result<Vec<(Edit<'_>, &str)>, Trouble> {
+    let mut edits = Vec::new(alloc);
+    for value in list {
+        match elements_of(Some(value)) {
+            Some([_, _, _, text]) => edits.push((edit_of(value)?, text_of(text)?))?,
+            _ => return Err(Trouble::Malformed),
+        }
+    }
+    Ok(edits)
+}
+
+/// Tells whether an edit fits a text, and whether it makes the other of it.
+pub fn tell_edit(told: &mut Told, old: &str, edit: Edit<'_>, new: &str) {
+    told.key("fits");
+    told.open("[");
+    told.truth(edit.fits(old));
+    told.truth(edit.gives(old, new));
+    told.close("]");
+}
