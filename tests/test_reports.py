@@ -1,7 +1,11 @@
 """What people are shown of faults and of errors, against worked answers."""
-from driver import case, last_value, told
 
-# rule texts, and what is shown of their faults
+import unittest
+
+from support import replay
+from support.definitions import from_text
+
+# Rule texts, and what is shown of their faults.
 FAULTS = [
     (
         "%%\nab 'A'\nc 'C'\na+b 'A'\n",
@@ -26,10 +30,10 @@ FAULTS = [
     ("\n\ufeff%%\na 'A'\n", "tokens.l:2:1: Unknown declaration\n2 | \ufeff%%\n  | ^\n"),
 ]
 
-# the rules by which inputs are lexed
+# The rules by which inputs are lexed.
 RULES = "%x TEXT\n%%\n[a漢語\\t\\n]+ 'A'\n\\[ <+TEXT>;\n<TEXT>b 'B'\n<TEXT>\\] <-TEXT>;\n"
 
-# inputs, and what is shown of where lexing them stops
+# Inputs, and what is shown of where lexing them stops.
 STOPS = [
     ("aa[b]a", ""),
     ("x", "input.txt:1:1: unexpected character 'x'\n1 | x\n  | ^\n"),
@@ -46,7 +50,7 @@ STOPS = [
     ("a\ufeff", "input.txt:1:2: unexpected character '\ufeff'\n1 | a\ufeff\n  |  ^\n"),
 ]
 
-# rule files, and what is shown of the bytes that aren't text or of the faults
+# Rule files, and what is shown of the bytes that aren't text or of the faults.
 FILES = [
     (b"\xff", "tokens.l:1:1: not UTF-8, byte 0xFF at offset 0\n1 | \n  | ^\n"),
     (b"%%\na 'A'\n\xe6\xbc", "tokens.l:3:1: not UTF-8, byte 0xE6 at offset 9\n3 | \n  | ^\n"),
@@ -57,9 +61,9 @@ FILES = [
     (b"%%\n\xe6\xbc\xa2 'A'\n", ""),
 ]
 
-LINES = "1\n2\n3\n4\n5\n6\n7\n8\n9\n漢字 x\n"
+TEN_LINES = "1\n2\n3\n4\n5\n6\n7\n8\n9\n漢字 x\n"
 
-# spans of these lines, and what is shown of them
+# Spans of the ten lines, and what is shown of them.
 SPANS = [
     ([18, 21], "f:10:1: m\n10 | 漢字 x\n   | ^^\n"),
     ([19, 20], "f:10:1: m\n10 | 漢字 x\n   | ^\n"),
@@ -68,55 +72,51 @@ SPANS = [
     ([0, 99], "f:1:1: m\n1 | 1\n  | ^\n"),
 ]
 
-
-def are_shown(steps, wants):
-    """Each step shows what it must."""
-    for step, pairs, want in zip(steps, told([case([step], "%%\n") for step in steps]), wants):
-        got = last_value(pairs, "shown")
-        assert got == want, f"{step}: {got!r} for {want!r}"
-
-
-def faults_and_stops_are_shown():
-    are_shown([["complaints", rules, ""] for rules, _ in FAULTS], [shown for _, shown in FAULTS])
-    are_shown([["complaints", RULES, text] for text, _ in STOPS], [shown for _, shown in STOPS])
-
-
-# rule texts, the text of the first fault alone, and what is shown of it
+# Rule texts, the text of the first fault alone, and what is shown of it.
 FIRST = [
     ("%%\na 'A'\nb\n<c>d ;\n", "Rule is missing a space", "tokens.l:3:1: Rule is missing a space\n3 | b\n  | ^\n"),
     ("%%\na 'A'\n", "", ""),
 ]
 
 
-def the_first_fault_alone_is_shown():
-    for rules, text, shown in FIRST:
-        are_shown([["first_fault", rules]], [f"{text}\n{shown}" if text else ""])
+def shown(step):
+    """What is shown by the step."""
+    return replay.answer(from_text("%%\n").case(step)).last("shown")
 
 
-def a_refused_pattern_is_told_in_words_of_regex():
-    [pairs] = told([case([["first_fault", "%%\n( 'A'"]], "%%\n")])
-    text = last_value(pairs, "shown")
-    assert text.startswith("Invalid regular expression: "), text
+class Reports(unittest.TestCase):
+    """Faults of rule texts and files, and where lexing stopped, as people are shown them."""
+
+    def check_shown(self, rows):
+        """Each step shows what it must."""
+        cases = [from_text("%%\n").case(step) for step, _ in rows]
+        for (step, wanted), answers in zip(rows, replay.answers(cases), strict=True):
+            with self.subTest(step=step):
+                self.assertEqual(answers.last("shown"), wanted)
+
+    def test_faults_of_a_rule_text(self):
+        self.check_shown([(["complaints", rules, ""], wanted) for rules, wanted in FAULTS])
+
+    def test_where_lexing_stopped(self):
+        self.check_shown([(["complaints", RULES, text], wanted) for text, wanted in STOPS])
+
+    def test_the_first_fault_alone(self):
+        self.check_shown([(["first_fault", rules], f"{text}\n{place}" if text else "") for rules, text, place in FIRST])
+
+    def test_a_refused_pattern_has_the_reason_of_regex(self):
+        text = shown(["first_fault", "%%\n( 'A'"])
+        self.assertTrue(text.startswith("Invalid regular expression: "), text)
+
+    def test_bytes_that_are_not_utf_8(self):
+        self.check_shown([(["complaints_of_file", list(data), ""], wanted) for data, wanted in FILES])
+
+    def test_any_span(self):
+        self.check_shown([(["place_text", TEN_LINES, span, "m"], wanted) for span, wanted in SPANS])
+
+    def test_a_stop_past_the_end(self):
+        wanted = "f:2:1: unexpected end of the text\n2 | \n  | ^\n"
+        self.assertEqual(shown(["stop_text", "a\r\n", 9, 7]), wanted)
 
 
-def bad_bytes_are_shown():
-    steps = [["complaints_of_file", list(data), ""] for data, _ in FILES]
-    are_shown(steps, [shown for _, shown in FILES])
-
-
-def any_span_is_shown():
-    are_shown([["place_text", LINES, span, "m"] for span, _ in SPANS], [shown for _, shown in SPANS])
-    are_shown([["stop_text", "a\r\n", 9, 7]], ["f:2:1: unexpected end of the text\n2 | \n  | ^\n"])
-
-
-def tests():
-    return [
-        (function.__name__, function)
-        for function in (
-            faults_and_stops_are_shown,
-            the_first_fault_alone_is_shown,
-            a_refused_pattern_is_told_in_words_of_regex,
-            bad_bytes_are_shown,
-            any_span_is_shown,
-        )
-    ]
+if __name__ == "__main__":
+    unittest.main()

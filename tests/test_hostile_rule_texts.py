@@ -1,40 +1,42 @@
 """Rule texts that are long, deep or full of names: each has its exact answer, and none takes long."""
-from definitions import case_of, read, repeated
-from driver import last_value, told
-from shown import same
+
+import unittest
+
+from support import replay
+from support.definitions import from_text
 
 
-def ends_text(span):
+def format_span(span):
     """` 6..7`."""
     start, end = span
     return f" {start}..{end}"
 
 
-def fault_text(fault):
+def format_fault(fault):
     """A fault by its kind and its spans: `DuplicateName 6..7 12..13`."""
-    return fault["kind"] + "".join(ends_text(span) for span in fault["spans"])
+    return fault["kind"] + "".join(format_span(span) for span in fault["spans"])
 
 
-def state_text(state):
+def format_state(state):
     """A state by the length of its name, the name's place, and its id: `state 7 0..0 0`."""
     number, name, _, span = state
-    return f"state {len(name.encode())}{ends_text(span)} {number}"
+    return f"state {len(name.encode())}{format_span(span)} {number}"
 
 
-def rule_text(rule):
+def format_rule(rule):
     """A rule by the length of its name, the name's place, and how many start states it lists: `rule 1 6..7 0`."""
     length = "-" if rule["name"] is None else len(rule["name"].encode())
-    return f"rule {length}{ends_text(rule['name_span'])} {len(rule['start_states'])}"
+    return f"rule {length}{format_span(rule['name_span'])} {len(rule['start_states'])}"
 
 
-def read_text(rules):
+def format_reading(rules):
     """The states and the rules of a rule text, or its faults."""
-    pairs = told([case_of(read(rules), ["definition"])])[0]
-    faults = last_value(pairs, "faults")
+    answers = replay.answer(from_text(rules).case(["definition"]))
+    faults = answers.last("faults")
     if faults is not None:
-        return ", ".join(fault_text(fault) for fault in faults)
-    states = [state_text(state) for state in last_value(pairs, "states")]
-    return ", ".join(states + [rule_text(rule) for rule in last_value(pairs, "rules")])
+        return ", ".join(format_fault(fault) for fault in faults)
+    states = [format_state(state) for state in answers.last("states")]
+    return ", ".join(states + [format_rule(rule) for rule in answers.last("rules")])
 
 
 # A part between a head and a tail, how often, and what comes of it.
@@ -67,12 +69,6 @@ LONG = [
 ]
 
 
-def long_texts():
-    for head, part, count, tail, want in LONG:
-        same(read_text(repeated(head, part, count, tail)), want, part)
-    return f"{len(LONG)} rows"
-
-
 def names(head, before, count, behind, named=True):
     """A head, and then so many times what stands before a name, the name, and what stands behind it.
 
@@ -84,7 +80,7 @@ def names(head, before, count, behind, named=True):
 def place_of(first, step, k, length, places, apart):
     """The places of number k: so many, so far apart, of this length."""
     start = first + k * step
-    return "".join(ends_text((start + i * apart, start + i * apart + length)) for i in range(places))
+    return "".join(format_span((start + i * apart, start + i * apart + length)) for i in range(places))
 
 
 def many(what, count, first, step, length, behind="", places=1, apart=0, numbered=False):
@@ -148,12 +144,24 @@ MANY = [
 ]
 
 
-def many_names():
-    for row, texts, wants in MANY:
-        same(read_text("".join(texts)), ", ".join(words for want in wants for words in want), row)
-    return f"{len(MANY)} rows"
+class HostileRuleTexts(unittest.TestCase):
+    """Reading rule texts that are made to be hard to read."""
+
+    def check_reading(self, rules, wanted):
+        """Reading these rules gives this. Long answers are compared without a line for each difference."""
+        got = format_reading(rules)
+        self.assertTrue(got == wanted, f"got {got[:500]}, wanted {wanted[:500]}")
+
+    def test_long_texts(self):
+        for head, part, count, tail, wanted in LONG:
+            with self.subTest(head=head, part=part, count=count, tail=tail):
+                self.check_reading(head + part * count + tail, wanted)
+
+    def test_texts_of_many_names(self):
+        for name, texts, wanted in MANY:
+            with self.subTest(row=name):
+                self.check_reading("".join(texts), ", ".join(word for words in wanted for word in words))
 
 
-def tests():
-    """The tests of this file, each with its name."""
-    return [("long_texts", long_texts), ("many_names", many_names)]
+if __name__ == "__main__":
+    unittest.main()

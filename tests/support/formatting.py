@@ -1,18 +1,6 @@
 """Answers as short texts, so that a row reads as a person would write it."""
 
 
-def same(got, want, row):
-    """The two are the same, in the row of this name or of these rules."""
-    if got != want:
-        raise AssertionError(f"{row!r}: got {cut(got)}, expected {cut(want)}")
-
-
-def cut(what):
-    """What is told of a value that may be long."""
-    text = repr(what)
-    return text if len(text) <= 2000 else text[:2000] + ".."
-
-
 def names_of(rules):
     """What lexemes are called by their ids: the name of the first named rule with the id."""
     names = {}
@@ -22,7 +10,7 @@ def names_of(rules):
     return names
 
 
-def item_text(item, names):
+def format_item(item, names):
     """`ID 0+3` or `error 3..3 in 0`."""
     if item[0] == "lex":
         _, token, start, length = item
@@ -31,57 +19,62 @@ def item_text(item, names):
     return f"error {place}..{place}" + ("" if state is None else f" in {state}")
 
 
-def items_text(items, names):
+def format_items(items, names):
     """`ID 0+3, error 3..3 in 0`."""
-    return ", ".join(item_text(item, names) for item in items)
+    return ", ".join(format_item(item, names) for item in items)
 
 
-def entry_text(count, state):
-    """`1`, or `1*2` where it stands there twice."""
+def format_entry(count, state):
+    """`1`, or `1*2` where it is there twice."""
     return str(state) if count == 1 else f"{state}*{count}"
 
 
-def boundary_text(place, stack):
+def format_boundary(place, stack):
     """A boundary by its place and its stack, from bottom to top: `2:0,1*2`."""
-    return f"{place}:" + ",".join(entry_text(count, state) for count, state in stack)
+    return f"{place}:" + ",".join(format_entry(count, state) for count, state in stack)
 
 
-def boundaries_text(boundaries):
+def format_boundaries(boundaries):
     """`0:0 1:0,1 2:0,1*2`."""
-    return " ".join(boundary_text(place, stack) for place, stack in boundaries)
+    return " ".join(format_boundary(place, stack) for place, stack in boundaries)
 
 
-def ahead_text(ahead):
-    """How far past each boundary the tiles before it looked: ` 0 1`."""
-    return "".join(f" {bytes}" for bytes in ahead)
+def format_lookahead(ahead):
+    """How far past each boundary the tiles before it looked: `0 1`."""
+    return " ".join(str(count) for count in ahead)
 
 
-def piece_text(piece, data):
+def format_piece(piece, data):
     """The place of its rule, its name and its text: `0 ID ab`."""
     rule, start, length, name = piece
     text = data[start:start + length].decode()
     return f"{rule} {'-' if name is None else name} {text}"
 
 
-def pieces_text(pieces, text):
+def format_pieces(pieces, text):
     """`0 ID ab|2 -  `."""
     data = text.encode()
-    return "|".join(piece_text(piece, data) for piece in pieces)
+    return "|".join(format_piece(piece, data) for piece in pieces)
 
 
-def rule_text(rule):
+def format_rule(rule):
     """A rule's name and id: `ID 0`, `- none`."""
     name = "-" if rule["name"] is None else rule["name"]
     token = "none" if rule["tok_id"] is None else rule["tok_id"]
     return f"{name} {token}"
 
 
-def rules_text(rules):
+def format_rules(rules):
     """`ID none, - 1`."""
-    return ", ".join(rule_text(rule) for rule in rules)
+    return ", ".join(format_rule(rule) for rule in rules)
 
 
-def place_text(place):
-    """`1:2`."""
+def format_place(place):
+    """A line and a column: `1:2`."""
     line, column = place
     return f"{line}:{column}"
+
+
+def format_places(places):
+    """Each place in characters and each in code units: `1:1 0:0`."""
+    return " ".join(f"{format_place(place)} {format_place(position)}" for place, position in places)
