@@ -38,7 +38,7 @@ IDS = [
 ]
 
 
-class Definitions(unittest.TestCase):
+class Definitions(replay.TestCase):
     """What a definition says of its rules."""
 
     def test_look_ups_by_id_find_the_first(self):

@@ -34,7 +34,7 @@ def last(step, key, rules=WORDS):
     return answers.last(key)
 
 
-class DocCallers(unittest.TestCase):
+class DocCallers(replay.TestCase):
     """What the shown callers give."""
 
     def test_names_and_texts_of_lexemes(self):

@@ -124,7 +124,7 @@ def format_texts(texts):
     return "".join(f" <{part}>" for part in texts)
 
 
-class Documents(unittest.TestCase):
+class Documents(replay.TestCase):
     """Documents through edits, what they say at any number, and parts of a text."""
 
     def check_document(self, answers, wanted):

@@ -150,7 +150,7 @@ def runs_of(answers):
     return list(zip(answers.values("run"), answers.values("items"), answers.values("boundaries"), strict=True))
 
 
-class Edits(unittest.TestCase):
+class Edits(replay.TestCase):
     """Runs, documents and texts after edits."""
 
     def test_runs_after_an_edit(self):

@@ -92,7 +92,7 @@ def writers(whole, came):
             yield [most, calls + 1, breaks], [came, list(whole), calls, 0]
 
 
-class Engine(unittest.TestCase):
+class Engine(replay.TestCase):
     """Bytes, faults, and how often writers are called."""
 
     def test_writers_that_fail_at_each_call(self):

@@ -1,15 +1,27 @@
-"""The examples (`lrlex_examples`) over stored runs and rows, as both compilers make the program."""
+"""The examples (lrlex_examples) over stored runs and rows, as both compilers build the program.
+
+The stored run of an example is its input examples/NAME.in, or examples/NAME.txt at the top where README shows it, and its output
+examples/NAME.out.
+"""
 
 import html
 import os
 import re
-import subprocess
+import unittest
 
-TOP = os.path.dirname(os.path.dirname(os.path.abspath(__file__)))
-PROGRAM = f"{TOP}/crates/lrlex_examples/out/lrlex_examples"
+from support import replay
+from support import programs
+from support.programs import Outcome
 
-# Examples that read standard input, and the status of their stored run: examples/NAME.txt has the input, NAME.out the output.
-STORED = {"calc": 0, "conf": 0, "edit_loop": 0, "json_check": 1}
+PROGRAM = "lrlex_examples"
+
+# Examples that read standard input: the input of the stored run, and its status.
+STORED = {
+    "calc": ("examples/calc.txt", 0),
+    "conf": ("tests/examples/conf.in", 0),
+    "edit_loop": ("tests/examples/edit_loop.in", 0),
+    "json_check": ("tests/examples/json_check.in", 1),
+}
 
 # Other inputs: the example, its input, its output and its status.
 ROWS = [
@@ -28,111 +40,97 @@ ROWS = [
 
 # Texts that are highlighted, each by a rule file.
 SHOWN = [
-    ("bench/c.l", "examples/sorted.c"),
-    ("bench/py.l", "tests/driver.py"),
-    ("bench/json.l", "examples/json_check.txt"),
-    ("bench/conf.l", "examples/conf.txt"),
-    ("bench/c.l", "examples/conf.txt"),
+    ("rules/c.l", "examples/sorted.c"),
+    ("rules/py.l", "tests/support/replay.py"),
+    ("rules/json.l", "tests/examples/json_check.in"),
+    ("rules/conf.l", "tests/examples/conf.in"),
+    ("rules/c.l", "tests/examples/conf.in"),
 ]
 
-# Words that are refused, or where a file isn't there.
-REFUSED = [[], ["none"], ["calc", "more"], ["highlight", "bench/c.l"], ["highlight", "--page", "a", "b"]]
+# Words that are refused.
+REFUSED = [[], ["none"], ["calc", "more"], ["highlight", "rules/c.l"], ["highlight", "--page", "a", "b"]]
+
+# Files that aren't there.
+MISSING = [["none.l", "examples/tokens.txt"], ["rules/c.l", "none.txt"]]
 
 
-def programs():
-    """The program as each compiler makes it."""
-    return [it for it in (PROGRAM, f"{PROGRAM}.by-rattle") if os.path.exists(it) or it == PROGRAM]
+def text_of_page(page):
+    """The text of a page's element pre, without tags and with characters read back."""
+    found = re.fullmatch(r"<!DOCTYPE html>.*?<pre>(.*)</pre>\n", page, re.S)
+    if not found:
+        raise AssertionError(f"no page: {page[:200]!r}")
+    return html.unescape(re.sub(r"</?span[^>]*>", "", found.group(1)))
 
 
-def come(program, words, given=b""):
-    """What a run writes to standard output and standard error, and its status."""
-    ran = subprocess.run([program, *words], input=given, capture_output=True, cwd=TOP, timeout=60, check=False)
-    return ran.stdout, ran.stderr, ran.returncode
+class Examples(unittest.TestCase):
+    """What comes of each example."""
+
+    def setUp(self):
+        programs.need(PROGRAM)
+
+    def rows(self, rows):
+        """Each program with each of the rows."""
+        return [(program, row) for program in programs.by_each_compiler(PROGRAM) for row in rows]
+
+    def test_stored_runs(self):
+        for program, (name, (given, status)) in self.rows(STORED.items()):
+            with self.subTest(example=name, program=program):
+                wanted = Outcome(programs.read(f"tests/examples/{name}.out"), "", status)
+                self.assertEqual(programs.run([program, name], programs.read(given)), wanted)
+
+    def test_other_inputs(self):
+        for program, (name, given, out, status) in self.rows(ROWS):
+            with self.subTest(example=name, given=given, program=program):
+                self.assertEqual(programs.run([program, name], given), Outcome(out, "", status))
+
+    def test_highlighted_for_a_terminal(self):
+        for program, (rules, path) in self.rows(SHOWN):
+            with self.subTest(rules=rules, path=path, program=program):
+                out, err, status = programs.run([program, "highlight", rules, path])
+                self.assertIn("\x1b[", out, "no colour")
+                self.assertEqual((re.sub(r"\x1b\[\d+m", "", out), err, status), (programs.read(path), "", 0))
+
+    def test_highlighted_as_a_page(self):
+        for program, (rules, path) in self.rows(SHOWN):
+            with self.subTest(rules=rules, path=path, program=program):
+                out, err, status = programs.run([program, "highlight", "--html", rules, path])
+                self.assertIn("<span class=", out, "no colour")
+                self.assertEqual((text_of_page(out), err, status), (programs.read(path), "", 0))
+
+    def test_rules_with_faults_highlight_nothing(self):
+        for program in programs.by_each_compiler(PROGRAM):
+            out, err, status = programs.run([program, "highlight", "examples/faults.l", "examples/tokens.txt"])
+            self.assertEqual((out, status), ("", 1))
+            self.assertTrue(err.startswith("examples/faults.l:"), err)
+
+    def test_files_that_are_missing_or_not_utf_8(self):
+        for program, words in self.rows([*MISSING, ["rules/c.l", "docs/highlighted.png"]]):
+            with self.subTest(words=words, program=program):
+                out, err, status = programs.run([program, "highlight", *words])
+                self.assertEqual((out, status), ("", 1))
+                self.assertIn("" if words in MISSING else "not UTF-8", err)
+                self.assertTrue(err)
+
+    def test_help(self):
+        names = [*STORED, "highlight"]
+        for program in programs.by_each_compiler(PROGRAM):
+            out, err, status = programs.run([program, "--help"])
+            self.assertEqual((err, status), ("", 0))
+            for name in names:
+                self.assertIn(f"  {name} ", out)
+        for program, name in self.rows(names):
+            with self.subTest(example=name, program=program):
+                out, err, status = programs.run([program, name, "--help"])
+                self.assertEqual((err, status), ("", 0))
+                self.assertIn(f"Usage: {os.path.basename(program)} {name}", out)
+
+    def test_words_that_are_refused(self):
+        for program, words in self.rows(REFUSED):
+            with self.subTest(words=words, program=program):
+                out, err, status = programs.run([program, *words])
+                self.assertEqual((out, status), ("", 2))
+                self.assertIn(PROGRAM, err)
 
 
-def read(path):
-    """The bytes of a file of the repository."""
-    with open(f"{TOP}/{path}", "rb") as it:
-        return it.read()
-
-
-def holds(what, come_, wanted):
-    """That a run is as it should be."""
-    assert come_ == wanted, f"{what}: {come_!r} in place of {wanted!r}"
-
-
-def stored():
-    """The stored runs."""
-    for program in programs():
-        for name, status in STORED.items():
-            wanted = (read(f"examples/{name}.out"), b"", status)
-            holds(name, come(program, [name], read(f"examples/{name}.txt")), wanted)
-    return f"{len(STORED)} runs of {len(programs())} programs"
-
-
-def rows():
-    """The rows."""
-    for program in programs():
-        for name, given, out, status in ROWS:
-            given = given if isinstance(given, bytes) else given.encode()
-            holds(f"{name} of {given!r}", come(program, [name], given), (out.encode(), b"", status))
-    return f"{len(ROWS)} rows of {len(programs())} programs"
-
-
-def page_text(page):
-    """What stands in a page's element pre, without tags and with characters read back."""
-    found = re.fullmatch(r"<!DOCTYPE html>.*?<pre>(.*)</pre>\n", page.decode(), re.S)
-    assert found, f"no page: {page[:200]!r}"
-    return html.unescape(re.sub(r"</?span[^>]*>", "", found.group(1))).encode()
-
-
-def highlighted():
-    """Texts in colours: without these, each is the input."""
-    for program in programs():
-        for rules, path in SHOWN:
-            out, err, status = come(program, ["highlight", rules, path])
-            assert b"\x1b[" in out, f"{path} has no colour"
-            holds(path, (re.sub(rb"\x1b\[\d+m", b"", out), err, status), (read(path), b"", 0))
-            out, err, status = come(program, ["highlight", "--html", rules, path])
-            assert b"<span class=" in out, f"{path} has no colour as a page"
-            holds(f"the page of {path}", (page_text(out), err, status), (read(path), b"", 0))
-    return f"{len(SHOWN)} texts, for a terminal and as pages"
-
-
-def not_highlighted():
-    """Rules that have faults, and files that aren't there or aren't UTF-8."""
-    for program in programs():
-        out, err, status = come(program, ["highlight", "examples/faults.l", "examples/tokens.txt"])
-        assert out == b"" and err.startswith(b"examples/faults.l:") and status == 1, f"faults: {out!r} {err!r} {status}"
-        for words in (["none.l", "examples/tokens.txt"], ["bench/c.l", "none.txt"]):
-            out, err, status = come(program, ["highlight", *words])
-            assert out == b"" and err and status == 1, f"{words}: {out!r} {err!r} {status}"
-        out, err, status = come(program, ["highlight", "bench/c.l", "docs/highlighted.png"])
-        assert out == b"" and b"not UTF-8" in err and status == 1, f"a picture: {out!r} {err!r} {status}"
-    return "4 refusals"
-
-
-def words():
-    """Help, of the program and of each example, and words that are refused."""
-    names = [*STORED, "highlight"]
-    for program in programs():
-        out, err, status = come(program, ["--help"])
-        assert all(f"  {name} ".encode() in out for name in names) and (err, status) == (b"", 0), f"--help: {out!r}"
-        for name in names:
-            out, err, status = come(program, [name, "--help"])
-            assert f"Usage: {os.path.basename(program)} {name}".encode() in out and (err, status) == (b"", 0), f"{name}: {out!r} {err!r}"
-        for given in REFUSED:
-            out, err, status = come(program, given)
-            assert out == b"" and b"lrlex_examples" in err and status == 2, f"{given}: {out!r} {err!r} {status}"
-    return f"help of {len(names)} examples, {len(REFUSED)} refusals"
-
-
-def tests():
-    """The tests, by name."""
-    return [
-        ("stored_runs", stored),
-        ("rows", rows),
-        ("highlighted", highlighted),
-        ("not_highlighted", not_highlighted),
-        ("words", words),
-    ]
+if __name__ == "__main__":
+    unittest.main()

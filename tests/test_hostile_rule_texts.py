@@ -144,7 +144,7 @@ MANY = [
 ]
 
 
-class HostileRuleTexts(unittest.TestCase):
+class HostileRuleTexts(replay.TestCase):
     """Reading rule texts that are made to be hard to read."""
 
     def check_reading(self, rules, wanted):

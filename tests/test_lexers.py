@@ -73,7 +73,7 @@ def lexers(rules, text, spans):
     return replay.answers([from_text(rules).case(["lexer", text, of_run, spans, []]) for of_run in [False, True]])
 
 
-class Lexers(unittest.TestCase):
+class Lexers(replay.TestCase):
     """Texts, lines and columns of lexemes and spans."""
 
     def format_span(self, said):

@@ -84,7 +84,7 @@ def shown(step):
     return replay.answer(from_text("%%\n").case(step)).last("shown")
 
 
-class Reports(unittest.TestCase):
+class Reports(replay.TestCase):
     """Faults of rule texts and files, and where lexing stopped, as people are shown them."""
 
     def check_shown(self, rows):

@@ -2,6 +2,7 @@
 
 import unittest
 
+from support import replay
 from support.definitions import WORK, from_text, new_with_budget, with_budget
 from support.rule_texts import FAR, FAR_PAIRS, FAR_STATES, FAR_TWO_TABLES, FAR_WITHOUT_TABLE
 from support.run_rows import Row, check_rows
@@ -72,7 +73,7 @@ LONG = [
 ]
 
 
-class Runs(unittest.TestCase):
+class Runs(replay.TestCase):
     """Runs of a text as it is, and counts after edits of long ones."""
 
     def test_which_rules_have_a_table(self):

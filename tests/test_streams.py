@@ -1,29 +1,31 @@
 """The program over streams that break: each call of read or write moves one to four bytes, and each in turn fails, or moves
-nothing. tools/break_streams.c, preloaded, makes a stream so, and keeps a trace of all calls that open, read and write.
+nothing. tools/preload/break_streams.c, preloaded, breaks a stream so, and keeps a trace of all calls that open, read and write.
 
 Of each run its output, its messages, its status and the whole trace have to be those of Model, which says what the program does,
-call by call: no fault is tried again, a fault ends what was begun and is told, and one of standard error is passed over.
+call by call: no fault is tried again, a fault ends what was begun and is reported, and one of standard error is passed over.
 """
 
-import atexit
 import collections
 import errno
-import functools
 import os
-import shlex
-import shutil
-import subprocess
 import tempfile
 import unittest
 from concurrent.futures import ThreadPoolExecutor
 from typing import NamedTuple
 
-from program import BAD_EDIT, BOTH, LINES, MANY_FAULTS, MANY_TOLD, NO_PATTERN, SHORT, TOP, USAGE, Came, as_bytes, fill, served
+from support import programs
+from support.program_rows import (
+    BAD_EDIT, BOTH, LINES, MANY_FAULTS, MANY_REPORTED, NO_PATTERN, PROGRAM, SHORT, USAGE, serve,
+)
+from support.programs import Outcome, as_bytes, as_text
 
 STDIN, STDOUT, STDERR = "0", "1", "2"
 MOST = range(1, 5)
 NOTHING = 0
 NEVER = -1
+
+# How many ways in which a run differs are shown.
+MOST_SHOWN = 5
 
 
 class Run(NamedTuple):
@@ -100,7 +102,7 @@ class Model:
         return all(self.write(STDERR, piece.encode()) for piece in pieces)
 
     def take(self, stream, text):
-        """What is told where the text can't be had; nothing where it can."""
+        """What is written to standard error where the text can't be had; nothing where it can."""
         path = "-" if stream == STDIN else stream
         error = (stream != STDIN and self.open(path, text)) or self.read(stream, as_bytes(text))
         if error == errno.ENOMEM:
@@ -135,56 +137,18 @@ def wanted(run, breaks):
     """What must come of the run where streams break so, and its trace."""
     model = Model(breaks)
     status = model.serve(run)
-    out, err = (model.held[it].decode(errors="backslashreplace") for it in (STDOUT, STDERR))
-    return Came(out, err, status), model.trace
+    out, err = (as_text(model.held[stream]) for stream in (STDOUT, STDERR))
+    return Outcome(out, err, status), model.trace
 
 
-@functools.lru_cache(maxsize=None)
-def library():
-    """The path of tools/break_streams.c as it was built, once."""
-    if not shutil.which("cc"):
-        raise unittest.SkipTest("there is no cc")
-    folder = tempfile.mkdtemp()
-    atexit.register(shutil.rmtree, folder)
-    path = f"{folder}/break.so"
-    subprocess.run(["cc", "-O2", "-shared", "-fPIC", "-o", path, f"{TOP}/tools/break_streams.c", "-ldl"], check=True)
-    return path
-
-
-def gotten(folder, run, breaks):
+def came(folder, run, breaks):
     """What comes of the run in its folder where streams break so, and its trace."""
     lines = [f"{stream} {most} {at} {error}" for stream, (most, at, error) in breaks.items()]
     stdin = b"".join(as_bytes(text) for stream, text in run.reads if stream == STDIN)
     with tempfile.NamedTemporaryFile("r", dir=folder) as trace:
-        environment = {"LD_PRELOAD": library(), "BREAK": "\n".join(lines), "TRACE": trace.name}
-        came = served(folder, shlex.split(run.words), stdin, environment)
-        return came, trace.read().splitlines()
-
-
-def difference(folder, run, breaks):
-    """What differs in the run; nothing where it does as Model does."""
-    got, want = gotten(folder, run, breaks), wanted(run, breaks)
-    return "" if got == want else f"{run.name}: lrlex {run.words} with {breaks}\n  gave {got}\n  want {want}"
-
-
-def differences(run, cases):
-    """How many ways there are in which its streams break, and what differs in the run over each."""
-    with tempfile.TemporaryDirectory() as folder, ThreadPoolExecutor(os.cpu_count()) as pool:
-        fill(folder, {path: text for path, text in run.reads if path != STDIN and text is not None})
-        different = list(pool.map(lambda breaks: difference(folder, run, breaks), cases))
-    return len(different), [it for it in different if it]
-
-
-def hold(pairs):
-    """Holds the program to each run over each way in which its streams break."""
-    library()
-    tried, different = 0, []
-    for run, cases in pairs:
-        many, more = differences(run, cases)
-        tried, different = tried + many, different + more
-    assert tried, "nothing was tried"
-    assert not different, f"{len(different)} of {tried} runs\n" + "\n".join(different[:5])
-    return f"{tried} runs"
+        environment = {"LD_PRELOAD": programs.preloaded("break_streams"), "BREAK": "\n".join(lines), "TRACE": trace.name}
+        outcome = serve(folder, run.words, stdin, environment)
+        return outcome, trace.read().splitlines()
 
 
 def each(run, stream, errors, others=None, first=1):
@@ -200,7 +164,7 @@ def each(run, stream, errors, others=None, first=1):
 WRITING = (errno.EIO, errno.EINTR, NOTHING)
 READING = (errno.EIO, errno.EINTR, errno.ENOMEM)
 
-WORDS = "%%\n[a-z]+ 'ID'\n❤ 'HEART'\n[ ] ;"
+HEARTS = "%%\n[a-z]+ 'ID'\n❤ 'HEART'\n[ ] ;"
 STOPPED = "Couldn't lex input starting at byte"
 
 
@@ -210,48 +174,48 @@ def texts(rules, text):
 
 
 WRITERS = [
-    Run("lexed", "rules input", texts(WORDS, "ab❤ c"), "ID ab\nHEART ❤\nID c\n"),
-    Run("stopped", "rules input", texts(WORDS, "❤ !"), f"HEART ❤\n{STOPPED} 4\n", (), 1),
+    Run("lexed", "rules input", texts(HEARTS, "ab❤ c"), "ID ab\nHEART ❤\nID c\n"),
+    Run("stopped", "rules input", texts(HEARTS, "❤ !"), f"HEART ❤\n{STOPPED} 4\n", (), 1),
     Run("refused", "rules input", texts("%%\n( 'A'", "a"), "", (NO_PATTERN,), 1),
-    Run("edited", "--from 0 --to 2 --put ❤ rules input", texts(WORDS, "ab cd ef"), "HEART ❤\nID cd\nID ef\n"),
-    Run("edited, stopped", "--from 0 --to 2 --put xyz rules input", texts(WORDS, "ab !"), f"ID xyz\n{STOPPED} 4\n", (), 1),
+    Run("edited", "--from 0 --to 2 --put ❤ rules input", texts(HEARTS, "ab cd ef"), "HEART ❤\nID cd\nID ef\n"),
+    Run("edited, stopped", "--from 0 --to 2 --put xyz rules input", texts(HEARTS, "ab !"), f"ID xyz\n{STOPPED} 4\n", (), 1),
     Run("a line that is written whole", "", [(STDIN, BOTH)], LINES),
 ]
 
 REPORTS = [
     Run("one fault", "rules input", texts("", "a"), "", (SHORT,), 1),
-    Run("more faults", "rules input", texts(MANY_FAULTS, "a"), "", (MANY_TOLD,), 1),
-    Run("faults after an edit", "--from 0 --to 1 --put x rules input", texts(MANY_FAULTS, "a"), "", (MANY_TOLD,), 1),
+    Run("more faults", "rules input", texts(MANY_FAULTS, "a"), "", (MANY_REPORTED,), 1),
+    Run("faults after an edit", "--from 0 --to 1 --put x rules input", texts(MANY_FAULTS, "a"), "", (MANY_REPORTED,), 1),
     Run("nothing in standard input", "", [(STDIN, "")], "", (SHORT,), 1),
     Run("usage", "--help", [], "", (USAGE,), 1),
-    Run("a bad edit", "--from 2 --to 1 --put x rules input", texts(WORDS, "ab"), "", (BAD_EDIT,), 1),
-    Run("no file", "rules none", [("rules", WORDS), ("none", None)]),
-    Run("no text", "rules input", texts(WORDS, b"\xff")),
-    Run("no text in standard input", "rules -", [("rules", WORDS), (STDIN, b"\xff")]),
+    Run("a bad edit", "--from 2 --to 1 --put x rules input", texts(HEARTS, "ab"), "", (BAD_EDIT,), 1),
+    Run("no file", "rules none", [("rules", HEARTS), ("none", None)]),
+    Run("no text", "rules input", texts(HEARTS, b"\xff")),
+    Run("no text in standard input", "rules -", [("rules", HEARTS), (STDIN, b"\xff")]),
 ]
 
-RULES = "%%\n[a-z❤]+ 'ID'\n[ ] ;"
+NAMES = "%%\n[a-z❤]+ 'ID'\n[ ] ;"
 TEXT = "a❤ ❤❤"
-HEARTS = f"{RULES}\n----\n{TEXT}"
+BOTH_HEARTS = f"{NAMES}\n----\n{TEXT}"
 HEARTS_LEXED = "ID a❤\nID ❤❤\n"
 
 READERS = [
-    Run("lexed", "", [(STDIN, HEARTS)], HEARTS_LEXED),
+    Run("lexed", "", [(STDIN, BOTH_HEARTS)], HEARTS_LEXED),
     Run("stopped", "", [(STDIN, "%%\na 'A'\n----\na❤")], f"A a\n{STOPPED} 1\n", (), 1),
     Run("refused", "", [(STDIN, "%%\n❤❤ x\n----\na")], "", ("2:4: Invalid rule name\n",), 1),
     # the first `-` takes all, and the second asks once more at the end
     Run("twice", "- -", [(STDIN, "%%\n❤ 'A'"), (STDIN, "")]),
     Run("no input", "- none", [(STDIN, "%%\n❤ 'A'"), ("none", None)]),
-    Run("the rules alone", "- input", [(STDIN, RULES), ("input", TEXT)], HEARTS_LEXED),
-    Run("the input alone", "rules -", [("rules", RULES), (STDIN, TEXT)], HEARTS_LEXED),
-    Run("an input that is edited", "--from 1 --to 4 --put b rules -", [("rules", RULES), (STDIN, TEXT)], "ID ab\nID ❤❤\n"),
+    Run("the rules alone", "- input", [(STDIN, NAMES), ("input", TEXT)], HEARTS_LEXED),
+    Run("the input alone", "rules -", [("rules", NAMES), (STDIN, TEXT)], HEARTS_LEXED),
+    Run("an input that is edited", "--from 1 --to 4 --put b rules -", [("rules", NAMES), (STDIN, TEXT)], "ID ab\nID ❤❤\n"),
 ]
 
 FILES = [
-    Run("both", "rules input", texts(RULES, TEXT), HEARTS_LEXED),
-    Run("an input that is edited", "--from 1 --to 4 --put b rules input", texts(RULES, TEXT), "ID ab\nID ❤❤\n"),
-    Run("the rules alone", "rules -", [("rules", RULES), (STDIN, TEXT)], HEARTS_LEXED),
-    Run("the input alone", "- input", [(STDIN, RULES), ("input", TEXT)], HEARTS_LEXED),
+    Run("both", "rules input", texts(NAMES, TEXT), HEARTS_LEXED),
+    Run("an input that is edited", "--from 1 --to 4 --put b rules input", texts(NAMES, TEXT), "ID ab\nID ❤❤\n"),
+    Run("the rules alone", "rules -", [("rules", NAMES), (STDIN, TEXT)], HEARTS_LEXED),
+    Run("the input alone", "- input", [(STDIN, NAMES), ("input", TEXT)], HEARTS_LEXED),
 ]
 
 
@@ -291,14 +255,14 @@ def cut(text):
 
 def cut_texts():
     """Texts that end within a character, read a few bytes a call."""
-    assert len(cut(HEARTS)) == 8
-    for part in cut(HEARTS):
+    assert len(cut(BOTH_HEARTS)) == 8
+    for part in cut(BOTH_HEARTS):
         yield Run("both", "", [(STDIN, part)]), STDIN
-    for part in cut(RULES):
+    for part in cut(NAMES):
         yield Run("the rules", "rules input", [("rules", part)]), "rules"
     for part in cut(TEXT):
-        yield Run("the input", "rules input", texts(RULES, part)), "input"
-        yield Run("the input in standard input", "rules -", [("rules", RULES), (STDIN, part)]), STDIN
+        yield Run("the input", "rules input", texts(NAMES, part)), "input"
+        yield Run("the input in standard input", "rules -", [("rules", NAMES), (STDIN, part)]), STDIN
 
 
 def cut_readers():
@@ -306,13 +270,48 @@ def cut_readers():
         yield run, [{stream: Break(most, NEVER, NOTHING)} for most in MOST]
 
 
-def tests():
-    tables = [
-        ("standard output that breaks", broken_writers),
-        ("standard error that breaks", broken_reports),
-        ("both that break", broken_twice),
-        ("standard input that breaks", broken_readers),
-        ("files that break", broken_files),
-        ("texts that end within a character", cut_readers),
-    ]
-    return [(name, lambda pairs=pairs: hold(pairs())) for name, pairs in tables]
+class Streams(unittest.TestCase):
+    """The program does as Model does, in each way in which a run's streams break."""
+
+    def check_run(self, run, ways):
+        """Checks the run in each of these ways, each of which is a row."""
+        with tempfile.TemporaryDirectory() as folder, ThreadPoolExecutor(os.cpu_count()) as pool:
+            programs.fill(folder, {path: text for path, text in run.reads if path != STDIN and text is not None})
+            outcomes = pool.map(lambda breaks: came(folder, run, breaks), ways)
+            differ = 0
+            for breaks, outcome in zip(ways, outcomes, strict=True):
+                with self.subTest(run=run.name, words=run.words, breaks=breaks):
+                    differ += outcome != wanted(run, breaks)
+                    self.assertEqual(outcome, wanted(run, breaks))
+                self.assertLess(differ, MOST_SHOWN, f"{run.name}: its other ways are not compared")
+
+    def check_runs(self, pairs):
+        """Checks runs, each with the ways in which its streams break."""
+        programs.need(PROGRAM)
+        programs.preloaded("break_streams")
+        for run, ways in pairs:
+            ways = list(ways)
+            self.assertTrue(ways, f"{run.name}: there is no way in which it breaks")
+            self.check_run(run, ways)
+
+    def test_standard_output_that_breaks(self):
+        self.check_runs(broken_writers())
+
+    def test_standard_error_that_breaks(self):
+        self.check_runs(broken_reports())
+
+    def test_standard_output_and_error_that_break(self):
+        self.check_runs(broken_twice())
+
+    def test_standard_input_that_breaks(self):
+        self.check_runs(broken_readers())
+
+    def test_files_that_break(self):
+        self.check_runs(broken_files())
+
+    def test_texts_that_end_within_a_character(self):
+        self.check_runs(cut_readers())
+
+
+if __name__ == "__main__":
+    unittest.main()

@@ -78,7 +78,7 @@ def many_states(count, moves):
 SHARED = [(0, [0, 0, 40]), (60, [19, 57, 21]), (200, [40, 120, 0])]
 
 
-class TablesAgainstRegex(unittest.TestCase):
+class TablesAgainstRegex(replay.TestCase):
     """What tables find is what `regex` finds."""
 
     def check_alike(self, rules, text, edits):

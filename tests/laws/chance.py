@@ -1,4 +1,4 @@
-"""Numbers by chance, all of which follow from a seed and from a case's number, on every machine alike."""
+"""Random numbers, all of which follow from a seed and from a case's number, on every machine alike."""
 
 # An odd number by which seeds are spread, so that the cases of two seeds don't overlap.
 SPREAD = 0x9E3779B97F4A7C15

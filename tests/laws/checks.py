@@ -1,12 +1,12 @@
 """Laws that hold of all rule texts, texts, edits and maps of ids, and that need no expected answers."""
 import json
 
-from places import counted, fits, told
-from trials import IDS
+from laws.random_case import IDS
+from support.places import counted, fits, said_of_span
 
 
 def raw(line, key):
-    """The value of the line with this key, as it stands there."""
+    """The value of the line with this key, as it is there."""
     found, _, value = line.partition(b" ")
     if found != key:
         raise AssertionError(f"{found!r} in place of {key!r}")
@@ -24,7 +24,7 @@ def values(lines, key):
 
 
 class Run:
-    """What a run answers, as it stands in its five lines."""
+    """What a run answers, as its five lines have it."""
 
     def __init__(self, lines):
         counts, items, boundaries, ahead, pieces = lines
@@ -70,12 +70,12 @@ def items_by_pieces(data, pieces, boundaries):
 
 
 def places_by_pieces(pieces):
-    """The places of the boundaries: 0, and behind each piece."""
+    """The places of the boundaries: 0, and after each piece."""
     return [0] + [start + length for _, start, length, _ in pieces]
 
 
 def counts_by(pieces, items, boundaries):
-    """Tiles, items, the most entries of a stack and those of the last; tiles that were cut anew, which are all."""
+    """Tiles, items, the most entries of a stack and those of the last; recut tiles, which are all."""
     entries = [len(stack) for _, stack in boundaries]
     return [len(pieces), len(items), max(entries), entries[-1], len(pieces)]
 
@@ -83,29 +83,29 @@ def counts_by(pieces, items, boundaries):
 def look_further(data, places, ahead):
     """Whether there is one look a boundary, and each goes as far as the one before or further, up to the text's end at most.
 
-    The end counts as one more byte, and 255 stands for more bytes.
+    The end counts as one more byte, and 255 means more bytes.
     """
     ends = [place + over for place, over in zip(places, ahead)]
     known = [end for end, over in zip(ends, ahead) if over < 255]
     return len(ahead) == len(places) and ends[0] == 0 and known == sorted(known) and known[-1] <= len(data) + 1
 
 
-def compare_tiling(text, run, rules, record):
+def compare_tiling(text, run, rules, tally):
     """Compares what a run of the text by a definition that was read answers with itself: all follows from its pieces."""
     data = text.encode()
     lists = b",".join([run.pieces, run.items, run.boundaries, run.ahead])
     pieces, items, boundaries, ahead = json.loads(b"[" + lists + b"]")
-    record.add("runs")
-    record.add("tiles", run.counts[0])
-    record.add("errors", sum(item[0] == "err" for item in items))
-    record.add("lexemes", sum(item[0] == "lex" for item in items))
-    record.law("pieces follow one another", follow(pieces), f": {pieces}")
-    record.same("items by pieces", items_by_pieces(data, pieces, boundaries), items)
+    tally.add("runs")
+    tally.add("tiles", run.counts[0])
+    tally.add("errors", sum(item[0] == "err" for item in items))
+    tally.add("lexemes", sum(item[0] == "lex" for item in items))
+    tally.law("pieces follow one another", follow(pieces), f": {pieces}")
+    tally.same("items by pieces", items_by_pieces(data, pieces, boundaries), items)
     places = [place for place, _ in boundaries]
-    record.same("boundaries by pieces", places_by_pieces(pieces), places)
-    record.law("looks go on", look_further(data, places, ahead), f": {places}, {ahead}")
-    record.same("counts by pieces", counts_by(pieces, items, boundaries), run.counts[:5])
-    record.same("names of pieces", [rules[piece[0]]["name"] for piece in pieces], [piece[3] for piece in pieces])
+    tally.same("boundaries by pieces", places_by_pieces(pieces), places)
+    tally.law("looks go on", look_further(data, places, ahead), f": {places}, {ahead}")
+    tally.same("counts by pieces", counts_by(pieces, items, boundaries), run.counts[:5])
+    tally.same("names of pieces", [rules[piece[0]]["name"] for piece in pieces], [piece[3] for piece in pieces])
 
 
 # A rule text
@@ -122,34 +122,34 @@ def name_of(rules, token):
     return named[0] if named else None
 
 
-def compare_finds(rules, lines, record):
+def compare_finds(rules, lines, tally):
     """Compares look-ups with the rules."""
     by_id = values([line for line in lines if line.startswith(b"by_id ")], b"by_id")
     by_name = values(lines[len(by_id):], b"by_name")
     want = [[token, find(rules, "tok_id", token), name_of(rules, token)] for token, _, _ in by_id]
-    record.same("look-ups by id", want, by_id)
-    record.same("look-ups by name", [[name, find(rules, "name", name)] for name, _ in by_name], by_name)
-    record.law("look-ups are as many as were asked for", len(by_id) == len(IDS) and len(by_id) + len(by_name) == len(lines))
+    tally.same("look-ups by id", want, by_id)
+    tally.same("look-ups by name", [[name, find(rules, "name", name)] for name, _ in by_name], by_name)
+    tally.law("look-ups are as many as were asked for", len(by_id) == len(IDS) and len(by_id) + len(by_name) == len(lines))
 
 
-def compare_rules(text, rules, record):
+def compare_rules(text, rules, tally):
     """Compares the ids of the rules that were read with their places, and their names with one another and with the text."""
     data = text.encode()
     named = [rule for rule in rules if rule["name"] is not None]
     names = [rule["name"] for rule in named]
-    record.same("ids are places", list(range(len(rules))), [rule["tok_id"] for rule in rules])
-    record.law("names are distinct", len(set(names)) == len(names), f": {names}")
+    tally.same("ids are places", list(range(len(rules))), [rule["tok_id"] for rule in rules])
+    tally.law("names are distinct", len(set(names)) == len(names), f": {names}")
     stand = [data[slice(*rule["name_span"])].decode(errors="replace") for rule in named]
-    record.same("names stand in the rule text", names, stand)
+    tally.same("names stand in the rule text", names, stand)
 
 
-def compare_faults(text, line, record):
+def compare_faults(text, line, tally):
     """Looks at the faults of a rule text: each names places, and each place is in the text."""
     data, faults = text.encode(), value(line, b"faults")
     placed = [bool(fault["spans"]) and all(fits(data, *span) for span in fault["spans"]) for fault in faults]
-    record.add("refused")
-    record.add("faults", len(faults))
-    record.law("faults have places in the text", placed and all(placed), f": {faults}")
+    tally.add("refused")
+    tally.add("faults", len(faults))
+    tally.law("faults have places in the text", placed and all(placed), f": {faults}")
 
 
 def active_in(state, rules):
@@ -165,67 +165,67 @@ def all_active(states, rules):
     return sum(len(places) for places in {active_in(state, rules) for state in states})
 
 
-def compare_again(first, again, record):
+def compare_again(first, again, tally):
     """Compares what reading a rule text gave with what it gives again."""
-    record.same("read again", first[None], again[None])
-    record.same("read again", first.get("definition"), again.get("definition"))
+    tally.same("read again", first[None], again[None])
+    tally.same("read again", first.get("definition"), again.get("definition"))
 
 
-def compare_reading(reading, first, record):
+def compare_reading(reading, first, tally):
     """Looks at what reading a rule text gave."""
     text = reading.first.rules.text
     if first[None]:
-        return compare_faults(text, first[None][0], record)
-    record.add("accepted")
+        return compare_faults(text, first[None][0], tally)
+    tally.add("accepted")
     tables, states, rules = first["definition"]
     states, rules = value(states, b"states"), value(rules, b"rules")
-    record.same("each rule is asked", [0, 0, all_active(states, rules)], value(tables, b"tables"))
-    compare_rules(text, rules, record)
-    compare_finds(rules, first["find"], record)
-    compare_tiling(reading.text, one_run(first["run"]), rules, record)
+    tally.same("each rule is matched by regex", [0, 0, all_active(states, rules)], value(tables, b"tables"))
+    compare_rules(text, rules, tally)
+    compare_finds(rules, first["find"], tally)
+    compare_tiling(reading.text, one_run(first["run"]), rules, tally)
 
 
 # Ways of finding winners
 
 
-def compare_ways(trial, answers, record):
-    """What wins by tables is what wins by asking each rule, at each place of a text."""
-    asking = answers["asking"]
-    for name, lines in asking.items():
+def compare_ways(case, answers, tally):
+    """What wins by tables is what wins by `regex` alone, at each place of a text."""
+    regex = answers["regex"]
+    for name, lines in regex.items():
         if isinstance(name, tuple) and name[0] == "from":
-            record.at = name[1]
-            record.add("places")
+            tally.at = name[1]
+            tally.add("places")
             for way in ["tabled", "mixed"]:
                 # all but the counts and how far the tiles looked
                 got = answers[way][name]
                 want = lines[1:3] + lines[4:]
-                record.same(f"{way} and asking", want, got[1:3] + got[4:])
-    record.at = None
+                tally.same(f"{way} and regex", want, got[1:3] + got[4:])
+    tally.at = None
 
 
-def count_sizes(rules, answers, record):
+def count_sizes(rules, answers, tally):
     """Counts the rules and their tables."""
     tables, rows, untabled = value(answers["tabled"]["definition"][0], b"tables")
-    record.add("rules", len(rules))
-    record.add("tables", tables)
-    record.add("rows", rows)
-    record.add("untabled", untabled)
-    record.add("untabled_mixed", value(answers["mixed"]["definition"][0], b"tables")[2])
+    tally.add("rules", len(rules))
+    tally.add("tables", tables)
+    tally.add("rows", rows)
+    tally.add("untabled", untabled)
+    tally.add("untabled_mixed", value(answers["mixed"]["definition"][0], b"tables")[2])
 
 
 # A lexer, and a part of a text
 
 
-def compare_lexer(trial, lines, run, record):
+def compare_lexer(case, lines, run, tally):
     """A lexer has the items of a run, and tells texts, lines and places of these, of any spans and of any bytes."""
-    data = trial.run_text.encode()
-    record.same("items of a lexer", run.items, raw(lines[0], b"items"))
-    spans = [item_span(item) for item in json.loads(run.items)] + trial.spans
-    record.add("counted", len(spans) + len(trial.bytes))
+    data = case.run_text.encode()
+    tally.same("items of a lexer", run.items, raw(lines[0], b"items"))
+    spans = [item_span(item) for item in json.loads(run.items)] + case.spans
+    tally.add("counted", len(spans) + len(case.bytes))
     got = values(lines[1:len(spans) + 1], b"told")
-    record.same("what a lexer tells", [told(data, *span) for span in spans], got)
+    tally.same("what a lexer says", [said_of_span(data, *span) for span in spans], got)
     got = values(lines[len(spans) + 1:], b"place")
-    record.same("places of a lexer", [counted(data, byte) for byte in trial.bytes], got)
+    tally.same("places of a lexer", [counted(data, byte) for byte in case.bytes], got)
 
 
 def item_span(item):
@@ -233,18 +233,18 @@ def item_span(item):
     return [item[2], item[2] + item[3]] if item[0] == "lex" else [item[1], item[1]]
 
 
-def compare_part(trial, lines, run, record):
+def compare_part(case, lines, run, tally):
     """The pieces of a part, by a run and by a document, are those of the run that have a byte in it."""
-    start, end = trial.part
+    start, end = case.part
     pieces = [piece for piece in json.loads(run.pieces) if start < end and piece[1] < end and piece[1] + piece[2] > start]
-    record.same("pieces of a part", [pieces, pieces], values(lines, b"pieces"))
+    tally.same("pieces of a part", [pieces, pieces], values(lines, b"pieces"))
 
 
 # Edits
 
 
-class Shown:
-    """What a document shows, as it stands in its four lines."""
+class DocumentState:
+    """What a document is, as its four lines have it."""
 
     def __init__(self, lines):
         self.lines = lines
@@ -253,64 +253,64 @@ class Shown:
         self.text, self.items, self.pieces = value(text, b"text"), raw(items, b"items"), raw(pieces, b"pieces")
 
 
-def compare_places(step, line, record):
-    """Compares the places that a document tells with those that are counted by hand."""
-    record.add("counted", len(step.bytes))
-    expected = [counted(step.after, byte) for byte in step.bytes]
-    record.same("places after an edit", expected, value(line, b"places"))
+def compare_places(edit, line, tally):
+    """Compares the places that a document gives with those that are counted by hand."""
+    tally.add("counted", len(edit.bytes))
+    expected = [counted(edit.after, byte) for byte in edit.bytes]
+    tally.same("places after an edit", expected, value(line, b"places"))
 
 
-def compare_shown(shown, text, anew, record):
-    """A document shows its text and what lexing it anew gives."""
-    record.same("text of a document", text, shown.text)
-    record.same("items of a document", anew.items, shown.items)
-    record.same("pieces of a document", anew.pieces, shown.pieces)
-    record.same("tiles of a document", anew.counts[0], shown.tiles)
+def compare_document(shown, text, recomputed, tally):
+    """A document has its text, and what lexing it again gives."""
+    tally.same("text of a document", text, shown.text)
+    tally.same("items of a document", recomputed.items, shown.items)
+    tally.same("pieces of a document", recomputed.pieces, shown.pieces)
+    tally.same("tiles of a document", recomputed.counts[0], shown.tiles)
 
 
-def compare_relexed(shown, anew, again, record):
-    """A run after an edit is that of its text anew, and took no more; the document's counts are its counts."""
-    record.same("items after an edit", anew.items, again.items)
-    record.same("pieces after an edit", anew.pieces, again.pieces)
-    record.same("boundaries after an edit", anew.boundaries, again.boundaries)
-    record.same("counts after an edit", anew.counts[:4], again.counts[:4])
-    few = again.counts[4] <= anew.counts[4] and again.counts[5] <= anew.counts[5]
-    record.law("no more searches and tiles than anew", few, f": {anew.counts}, {again.counts}")
+def compare_relexed(shown, recomputed, again, tally):
+    """A run after an edit is that of its text, recomputed, and took no more; the document's counts are its counts."""
+    tally.same("items after an edit", recomputed.items, again.items)
+    tally.same("pieces after an edit", recomputed.pieces, again.pieces)
+    tally.same("boundaries after an edit", recomputed.boundaries, again.boundaries)
+    tally.same("counts after an edit", recomputed.counts[:4], again.counts[:4])
+    few = again.counts[4] <= recomputed.counts[4] and again.counts[5] <= recomputed.counts[5]
+    tally.law("no more searches and tiles than recomputed", few, f": {recomputed.counts}, {again.counts}")
     counts = [again.counts[0], again.counts[4], again.counts[5]]
-    record.same("counts of a document", counts, [shown.tiles, shown.lexed, shown.asked])
+    tally.same("counts of a document", counts, [shown.tiles, shown.lexed, shown.asked])
 
 
-def compare_unfit(before, shown, record):
+def compare_unfit(before, shown, tally):
     """An edit that doesn't fit changes nothing."""
-    record.add("unfit")
-    record.same("a document after no edit", before.lines, shown.lines)
+    tally.add("unfit")
+    tally.same("a document after no edit", before.lines, shown.lines)
 
 
-def compare_edits(trial, answers, record):
+def compare_edits(case, answers, tally):
     """Compares a document and a run after each edit with the run of the new text."""
     lines = answers["document"]
     runs = iter(runs_of(answers["edited runs"]))
-    before, anew = Shown(lines[:4]), one_run(answers["anew", None])
-    compare_shown(before, trial.edit_text, anew, record)
-    compare_relexed(before, anew, next(runs), record)
-    for number, step in enumerate(trial.edits):
-        record.at = number
+    before, recomputed = DocumentState(lines[:4]), one_run(answers["recomputed", None])
+    compare_document(before, case.edit_text, recomputed, tally)
+    compare_relexed(before, recomputed, next(runs), tally)
+    for number, edit in enumerate(case.edits):
+        tally.at = number
         fit, *four, places = lines[4 + 6 * number:10 + 6 * number]
-        shown = Shown(four)
-        record.same("whether an edit fits", step.fits, value(fit, b"edit"))
-        if step.fits:
-            anew = one_run(answers["anew", number])
-            record.add("edits")
-            record.add("tiles_after", shown.tiles)
-            record.add("tiles_anew", shown.lexed)
-            compare_shown(shown, step.after.decode(), anew, record)
-            compare_relexed(shown, anew, next(runs), record)
+        shown = DocumentState(four)
+        tally.same("whether an edit fits", edit.fits, value(fit, b"edit"))
+        if edit.fits:
+            recomputed = one_run(answers["recomputed", number])
+            tally.add("edits")
+            tally.add("tiles_after", shown.tiles)
+            tally.add("tiles_recut", shown.lexed)
+            compare_document(shown, edit.after.decode(), recomputed, tally)
+            compare_relexed(shown, recomputed, next(runs), tally)
         else:
-            compare_unfit(before, shown, record)
-        compare_places(step, places, record)
+            compare_unfit(before, shown, tally)
+        compare_places(edit, places, tally)
         before = shown
-    record.at = None
-    record.law("no more runs than edits", next(runs, None) is None and len(lines) == 4 + 6 * len(trial.edits))
+    tally.at = None
+    tally.law("no more runs than edits", next(runs, None) is None and len(lines) == 4 + 6 * len(case.edits))
 
 
 # Token ids from a map
@@ -344,45 +344,45 @@ def items_by_map(run, ids):
     return items + [item for item in json.loads(run.items)[-1:] if item[0] == "err"]
 
 
-def compare_mapping(trial, rules, answers, run, record):
+def compare_mapping(case, rules, answers, run, tally):
     """Compares what setting ids tells, and what comes of it, with the run before."""
     (line,) = answers["ids"]
-    sets = sets_by(rules, trial.ids, trial.spanned)
-    record.add("maps")
-    record.add("lacking", len(sets[0] or []))
-    record.add("unused", len(sets[1] or []))
-    record.same("names without a counterpart", sets, value(line, b"ids"))
-    mapped = rules_by(rules, trial.ids)
-    record.same("rules by a map", mapped, value(answers["mapped definition"][2], b"rules"))
-    compare_finds(mapped, answers["mapped find"], record)
+    sets = sets_by(rules, case.ids, case.spanned)
+    tally.add("maps")
+    tally.add("lacking", len(sets[0] or []))
+    tally.add("unused", len(sets[1] or []))
+    tally.same("names without a counterpart", sets, value(line, b"ids"))
+    mapped = rules_by(rules, case.ids)
+    tally.same("rules by a map", mapped, value(answers["mapped definition"][2], b"rules"))
+    compare_finds(mapped, answers["mapped find"], tally)
     after = one_run(answers["mapped run"])
-    record.same("items by a map", items_by_map(run, trial.ids), json.loads(after.items))
+    tally.same("items by a map", items_by_map(run, case.ids), json.loads(after.items))
 
 
 # All of a case
 
 
-def compare_trial(trial, answers, record):
+def compare_case(case, answers, tally):
     """Holds to the laws what came of a case: for each of its definitions, the lines of each step."""
     answers = list(answers)
-    ways = dict(zip(["tabled", "mixed"], answers[-2:]), asking=answers[0])
-    record.add("cases")
+    ways = dict(zip(["tabled", "mixed"], answers[-2:]), regex=answers[0])
+    tally.add("cases")
     left = iter(answers)
-    for reading in trial.readings:
+    for reading in case.readings:
         first = next(left)
-        compare_reading(reading, first, record)
+        compare_reading(reading, first, tally)
         if reading.again:
-            compare_again(first, next(left), record)
+            compare_again(first, next(left), tally)
     if any(way[None] for way in ways.values()):
-        return record.law("all ways refuse the rule text", all(way[None] for way in ways.values()))
-    rules = value(ways["asking"]["definition"][2], b"rules")
-    record.same("rules by each way", 1, len({tuple(way["definition"][1:]) for way in ways.values()}))
-    count_sizes(rules, ways, record)
-    compare_ways(trial, ways, record)
-    asked = ways[trial.run_way]
+        return tally.law("all ways refuse the rule text", all(way[None] for way in ways.values()))
+    rules = value(ways["regex"]["definition"][2], b"rules")
+    tally.same("rules by each way", 1, len({tuple(way["definition"][1:]) for way in ways.values()}))
+    count_sizes(rules, ways, tally)
+    compare_ways(case, ways, tally)
+    asked = ways[case.run_way]
     run = one_run(asked["one run"])
-    compare_tiling(trial.run_text, run, rules, record)
-    compare_lexer(trial, asked["lexer"], run, record)
-    compare_part(trial, asked["part"], run, record)
-    compare_edits(trial, ways[trial.edit_way], record)
-    compare_mapping(trial, rules, ways["asking"], run, record)
+    compare_tiling(case.run_text, run, rules, tally)
+    compare_lexer(case, asked["lexer"], run, tally)
+    compare_part(case, asked["part"], run, tally)
+    compare_edits(case, ways[case.edit_way], tally)
+    compare_mapping(case, rules, ways["regex"], run, tally)

@@ -1,5 +1,5 @@
-"""Rule texts, flags, texts, edits, mistakes and maps of ids by chance."""
-from patterns import pattern
+"""Random rule texts, flags, texts, edits, mistakes and maps of ids."""
+from laws.patterns import pattern
 
 # What texts are made of: the characters that the patterns speak of, and some of their words.
 PIECES = [
@@ -10,7 +10,7 @@ PIECES = [
 # What the texts are made of in which large patterns match much.
 FEW = ["a", "a", "a", "b", "b", "ab", "c", "aa"]
 
-# What may stand in the place of a character of a rule text.
+# What may replace a character of a rule text.
 MARKS = [
     "<", ">", "+", "-", "*", ",", "'", '"', ";", "%", "%%", "%%\n", "%x ", " ", "\t", "\n", "\r", "\\", "[", "]", "(", ")", "{",
     "}", "/", "//", "é", "😀", "\u00a0", "\u2028", "0", "R0", "X", "INITIAL",
@@ -34,7 +34,7 @@ PIECES_MEASURED, FEW_MEASURED = with_lengths(PIECES), with_lengths(FEW)
 
 
 def text(chance, most):
-    """A text by chance, of no more than so many bytes and of hardly fewer."""
+    """A random text, of no more than so many bytes and of hardly fewer."""
     pieces = FEW_MEASURED if chance.one_in(3) else PIECES_MEASURED
     taken, room = [], most
     for _ in range(most):
@@ -77,7 +77,7 @@ FLAGS = [
 
 
 def any_flags(chance):
-    """Flags by chance, most of them unset."""
+    """Random flags, most of them unset."""
     return {name: value for name, times, value in FLAGS if chance.one_in(times)}
 
 
@@ -141,13 +141,13 @@ def with_mistake(chance, rules):
     return RuleText(changed, rules.flags, None)
 
 
-class Step:
+class Edit:
     """An edit, and what must come of it: whether it fits, the text after it, and bytes whose places are asked for then."""
 
     __slots__ = ("start", "end", "put", "fits", "after", "bytes")
 
     def as_list(self):
-        """The edit, as the program reads it."""
+        """The edit as a step has it, with the bytes."""
         return [self.start, self.end, self.put, self.bytes]
 
 
@@ -194,28 +194,28 @@ def is_between(data, byte):
     return byte <= len(data) and place_before(data, byte) == byte
 
 
-def any_step(chance, before):
-    """An edit of these bytes of a text by chance."""
-    step = Step()
+def any_edit(chance, before):
+    """A random edit of these bytes of a text."""
+    edit = Edit()
     choose = any_bytes if chance.one_in(8) else fitting
-    step.start, step.end = choose(chance, before)
-    step.put = text(chance, room(chance, len(before)))
-    step.fits = step.start <= step.end and is_between(before, step.start) and is_between(before, step.end)
-    step.after = before
-    if step.fits:
-        step.after = before[:step.start] + step.put.encode() + before[step.end:]
-    most = len(step.after) + 4
-    step.bytes = [chance.below(most), chance.below(most), chance.below(most)]
-    return step
+    edit.start, edit.end = choose(chance, before)
+    edit.put = text(chance, room(chance, len(before)))
+    edit.fits = edit.start <= edit.end and is_between(before, edit.start) and is_between(before, edit.end)
+    edit.after = before
+    if edit.fits:
+        edit.after = before[:edit.start] + edit.put.encode() + before[edit.end:]
+    most = len(edit.after) + 4
+    edit.bytes = [chance.below(most), chance.below(most), chance.below(most)]
+    return edit
 
 
-def steps(chance, first, count):
+def edits(chance, first, count):
     """So many edits, each of the text after the one before."""
     now, made = first.encode(), []
     for _ in range(count):
-        step = any_step(chance, now)
-        now = step.after
-        made.append(step)
+        edit = any_edit(chance, now)
+        now = edit.after
+        made.append(edit)
     return made
 
 

@@ -1,4 +1,4 @@
-"""Patterns by chance."""
+"""Random patterns."""
 
 # Patterns of a few characters that are valid with and without `unicode`.
 ASCII = [
@@ -12,7 +12,7 @@ BEYOND = [
     "[α-ω]", "[日本語]", "[^é]", "[😀-😏]", "k", "s", "\\p{Lu}", "(?i:k)", "(?i:é)", "[\\w&&[^b]]", "\\pN", "\\B", "(?-s:a.?)",
 ]
 
-# How two patterns, which stand for `@` and `#`, are put together.
+# How two patterns, in the place of `@` and `#`, are put together.
 FORMS = [
     "@#", "@#", "@#", "@|#", "@|#", "#|@", "(@|#)", "(@|#)#", "(@)*#", "(@)+#", "(@)?#", "#(@)*?", "#(@)+?", "(@)??#", "(@){2}#",
     "(@){1,3}#", "(@){2,}", "(@){0,2}?#", "(@|#)*", "(@|#)+", "(?i)@#", "(?i:@)#", "(?s:@)#", "(?-m:@)#", "(?U:@)#", "@|", "|@",
@@ -44,7 +44,7 @@ def filled(form, left, right):
 
 
 def join_two(chance, parts):
-    """Puts the last two parts together, and the whole behind the others or before them."""
+    """Puts the last two parts together, and the whole after the others or before them."""
     left, right = parts.pop(), parts.pop()
     whole = filled(chance.one_of(FORMS), left, right)
     parts.insert(len(parts) if chance.one_in(2) else 0, whole)
@@ -61,7 +61,7 @@ def grown(chance, unicode):
 
 
 def pattern(chance, unicode):
-    """A pattern by chance. Without `unicode` it asks for no character beyond ASCII."""
+    """A random pattern. Without `unicode` it asks for no character beyond ASCII."""
     kind = chance.below(10)
     if unicode and kind == 0:
         return chance.one_of(LARGE)

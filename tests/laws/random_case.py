@@ -1,7 +1,7 @@
-"""What is tried in one case of the laws: a rule text, texts, edits and a map by chance, and the steps that ask all of it."""
-from chance import Chance
-from driver import case
-from made import UNKNOWN, any_ids, rule_text, steps, text, with_mistake
+"""A random case of the laws: a rule text, texts, edits and a map of ids, and the steps that ask what comes of them."""
+from laws.chance import Chance
+from laws.generate import UNKNOWN, any_ids, edits, rule_text, text, with_mistake
+from support.definitions import Definition
 
 # How many mistakes are made in each rule text, by themselves.
 MISTAKES = 4
@@ -13,10 +13,10 @@ TWICE = 250
 # How many characters a text has at the most that is lexed from each of its places on.
 SHORT = 20
 
-# How the definitions are made that find winners in different ways: each rule is asked; by tables, as far as the usual budget
-# goes; and by tables later, as far as a small budget goes.
+# How the definitions are made that find winners in different ways: by `regex` alone; by tables, as far as the usual budget goes;
+# and by tables that are made later, as far as a small budget goes.
 WAYS = {
-    "asking": {"budget": [0, 0]},
+    "regex": {"budget": [0, 0]},
     "tabled": {},
     "mixed": {"budget": [0, 0], "again": [20, 1_000_000]},
 }
@@ -27,7 +27,7 @@ IDS = list(range(12))
 
 def any_way(chance):
     """One of the ways, mostly that by the usual tables."""
-    return {0: "asking", 1: "mixed"}.get(chance.below(6), "tabled")
+    return {0: "regex", 1: "mixed"}.get(chance.below(6), "tabled")
 
 
 def any_span(chance, most):
@@ -57,10 +57,10 @@ class Steps:
 
     def case(self):
         """The case of these steps."""
-        return case(self.steps, self.rules.text, self.rules.flags, **WAYS[self.way])
+        return Definition(self.way, rules=self.rules.text, flags=self.rules.flags, **WAYS[self.way]).case(*self.steps)
 
     def answers(self, lines):
-        """The lines of each step by its name. Those before the first step, as faults, stand under None."""
+        """The lines of each step by its name. Those before the first step, as faults, are under None."""
         parts = [[]]
         for line in lines:
             if line.startswith(b"step "):
@@ -81,7 +81,7 @@ def definition_of(rules, way):
 
 def reading(rules, text, looked_for):
     """Asks what a rule text gives, a run of a text, and look-ups."""
-    asked = definition_of(rules, "asking")
+    asked = definition_of(rules, "regex")
     asked.ask("run", "run", text, [])
     asked.ask("find", "find", IDS, looked_for)
     return asked
@@ -92,17 +92,17 @@ class Reading:
 
     def __init__(self, first, text, twice):
         self.first, self.text = first, text
-        self.again = definition_of(first.rules, "asking") if twice else None
+        self.again = definition_of(first.rules, "regex") if twice else None
 
     def asked(self):
         """Its steps, once or twice."""
         return [self.first, self.again] if self.again else [self.first]
 
 
-class Trial:
-    """The case with this number."""
+class RandomCase:
+    """The random case with this number, of this seed, with so many edits of a document."""
 
-    def __init__(self, seed, number, edits):
+    def __init__(self, seed, number, edit_count):
         chance = Chance(seed, number)
         self.seed, self.number = seed, number
         self.rules = rule_text(chance)
@@ -113,7 +113,7 @@ class Trial:
         self.ids = any_ids(chance, self.rules.names)
         self.edit_way = any_way(chance)
         self.edit_text = text(chance, chance.below(180) + 20)
-        self.edits = steps(chance, self.edit_text, edits)
+        self.edits = edits(chance, self.edit_text, edit_count)
         self.mistakes = [(with_mistake(chance, self.rules), text(chance, 40)) for _ in range(MISTAKES)]
         self.choose(chance)
         self.ask()
@@ -131,14 +131,14 @@ class Trial:
         """Makes the steps of each definition."""
         looked_for = [name for name in self.rules.names if name is not None] + UNKNOWN
         self.ways = {way: definition_of(self.rules, way) for way in ["tabled", "mixed"]}
-        self.ways["asking"] = reading(self.rules, self.read_text, looked_for)
+        self.ways["regex"] = reading(self.rules, self.read_text, looked_for)
         for asked in self.ways.values():
             self.ask_places(asked)
         self.ask_run(self.ways[self.run_way])
         self.ask_edits(self.ways[self.edit_way])
-        self.ask_mapping(self.ways["asking"])
+        self.ask_mapping(self.ways["regex"])
         twice = self.number < TWICE
-        self.readings = [Reading(self.ways["asking"], self.read_text, twice)]
+        self.readings = [Reading(self.ways["regex"], self.read_text, twice)]
         for rules, read_text in self.mistakes:
             first = reading(rules, read_text, ["R0", "R1", "ALL", ""])
             self.readings.append(Reading(first, read_text, twice))
@@ -156,13 +156,13 @@ class Trial:
 
     def ask_edits(self, asked):
         """Asks for a document and runs through the edits, and for a run of each of the texts after them."""
-        asked.ask("document", "document", self.edit_text, [step.as_list() for step in self.edits])
-        made = [step.as_list()[:3] for step in self.edits if step.fits]
-        asked.ask("edited runs", "run", self.edit_text, made)
-        asked.ask(("anew", None), "run", self.edit_text, [])
-        for number, step in enumerate(self.edits):
-            if step.fits:
-                asked.ask(("anew", number), "run", step.after.decode(), [])
+        asked.ask("document", "document", self.edit_text, [edit.as_list() for edit in self.edits])
+        fitting = [edit.as_list()[:3] for edit in self.edits if edit.fits]
+        asked.ask("edited runs", "run", self.edit_text, fitting)
+        asked.ask(("recomputed", None), "run", self.edit_text, [])
+        for number, edit in enumerate(self.edits):
+            if edit.fits:
+                asked.ask(("recomputed", number), "run", edit.after.decode(), [])
 
     def ask_mapping(self, asked):
         """Sets the ids of the map, and asks for the definition, a run and look-ups once more."""

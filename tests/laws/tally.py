@@ -1,14 +1,14 @@
-"""What was tried, counted, and what differs."""
+"""How much was tried, and what differs."""
 from collections import Counter
 
 
-def cut(what):
-    """What is told of a value that may be long."""
-    text = repr(what)
+def shortened(value):
+    """The value as it is printed, shortened where it is long."""
+    text = repr(value)
     return text if len(text) <= 1500 else text[:1500] + ".."
 
 
-class Record:
+class Tally:
     """How much was tried so far, and a line for each comparison that failed."""
 
     def __init__(self):
@@ -19,7 +19,7 @@ class Record:
         self.counts[name] += more
 
     def law(self, law, holds, why=""):
-        """Takes down whether a law holds."""
+        """Counts a comparison, and notes it where the law doesn't hold."""
         self.counts["compared"] += 1
         if not holds:
             self.counts["differ"] += 1
@@ -27,11 +27,11 @@ class Record:
 
     def same(self, law, want, got):
         """Compares what came with what must come."""
-        self.law(law, want == got, "" if want == got else f": expected {cut(want)}, got {cut(got)}")
+        self.law(law, want == got, "" if want == got else f": expected {shortened(want)}, got {shortened(got)}")
 
 
-# The lines that tell how much was tried.
-TALLY = """\
+# The lines that say how much was tried.
+SUMMARY = """\
 cases: {cases}
 rule texts: {accepted} accepted, {refused} refused with {faults} faults
 rules: {rules}, in {tables} tables of {rows} rows
@@ -39,13 +39,13 @@ rules without a table: {untabled}, with a small budget {untabled_mixed}
 runs: {runs}, of {tiles} tiles, {lexemes} lexemes, {errors} errors
 places where tables and asking were compared: {places}
 edits of documents: {edits}, and {unfit} that don't fit
-tiles after edits: {tiles_after}, of which {tiles_anew} were cut anew
+tiles after edits: {tiles_after}, of which {tiles_recut} were cut anew
 lines and columns counted by hand: {counted}
 maps of token ids: {maps}, with {lacking} names that no rule has, without {unused} that one has
 cases that both compilers' programs were given: {both}
 {compared} comparisons: {differ} differ"""
 
 
-def tally(counts):
+def summary(counts):
     """How much was tried, and how much differs."""
-    return TALLY.format_map(counts)
+    return SUMMARY.format_map(counts)

@@ -1,18 +1,11 @@
-"""Calls of the library that ask for memory, as cases with steps, and all that has to come of them."""
-from places import told
+"""Calls of the library that ask for memory, as cases with steps, and all that has to come of them.
 
+ANY is what isn't worked out by hand.
+"""
 
-class Any:
-    """Equal to anything: what isn't worked out by hand."""
+from unittest.mock import ANY
 
-    def __eq__(self, other):
-        return True
-
-    def __repr__(self):
-        return "any"
-
-
-ANY = Any()
+from support.places import said_of_span
 
 # A state that is pushed and popped, and a rule that has no table, since it looks at what follows.
 RULES = """%x TEXT
@@ -58,14 +51,14 @@ def rules(tokens=range(7)):
 class Lexed:
     """A text, and what lexing it by the rules gives: lexemes by id, start and end; tiles by rule, start and end.
 
-    `deep` are the first of the boundaries at which TEXT is on top, and the first behind them; `lines` are what the engine writes.
+    `deep` are the first of the boundaries at which TEXT is on top, and the first after them; `lines` are what the engine writes.
     """
 
     def __init__(self, text, lexemes, tiles, deep, lines):
         self.text, self.lexemes, self.tiles, self.deep, self.lines = text, lexemes, tiles, deep, lines
 
     def items(self):
-        """The items, as they are told."""
+        """The items, as they are answered."""
         return [["lex", token, start, end - start] for token, start, end in self.lexemes]
 
     def pieces(self):
@@ -75,13 +68,13 @@ class Lexed:
     def boundaries(self):
         """The boundaries with their stacks."""
         places = [0] + [end for _, _, end in self.tiles]
-        first, behind = self.deep
-        return [[place, [[1, 0]] + ([[1, 1]] if first <= at < behind else [])] for at, place in enumerate(places)]
+        first, after = self.deep
+        return [[place, [[1, 0]] + ([[1, 1]] if first <= at < after else [])] for at, place in enumerate(places)]
 
-    def run(self, cut, asked):
-        """The lines of a run that cut so many tiles anew and asked so often."""
+    def run(self, recut, searches):
+        """The lines of a run that recut so many tiles and took so many searches."""
         return [
-            ("run", [len(self.tiles), len(self.lexemes), 2, 1, cut, asked]),
+            ("run", [len(self.tiles), len(self.lexemes), 2, 1, recut, searches]),
             ("items", self.items()),
             ("boundaries", self.boundaries()),
             ("ahead", ANY),
@@ -98,9 +91,9 @@ class Lexed:
         ]
 
     def lexer(self):
-        """The lines of a lexer that is asked for no more than its items."""
+        """The lines of a lexer that is asked for its items alone."""
         data = self.text.encode()
-        return [("items", self.items())] + [("told", told(data, start, end)) for _, start, end in self.lexemes]
+        return [("items", self.items())] + [("told", said_of_span(data, start, end)) for _, start, end in self.lexemes]
 
 
 OLD = Lexed(
@@ -113,7 +106,7 @@ OLD = Lexed(
     "NAME ab\nNUMBER 12\nPART x y\nLAST 34\n",
 )
 
-# What stands at bytes 3..5 of the old text gives way to this.
+# This replaces bytes 3..5 of the old text.
 PUT = "cd\n5"
 
 NEW = Lexed(
@@ -127,7 +120,7 @@ NEW = Lexed(
     "NAME ab\nNAME cd\nNUMBER 5\nPART x y\nLAST 34\n",
 )
 
-# A rule text with faults: its last line is behind all that can be read.
+# A rule text with faults: its last line is after all that can be read.
 FAULTY = "%s AA\n%s AA\n%%\na 'Y'\nb 'Y'\n( 'OPEN'\n"
 
 FAULTS = [
@@ -136,7 +129,7 @@ FAULTS = [
     {"kind": "RegexError", "spans": [[27, 27]]},
 ]
 
-# These faults, told.
+# The report of these faults.
 REPORT = (
     "1:4: Start state already exists, again at 2:4\n4:4: Rule name already exists, again at 5:4\n6:1: Invalid regular expression\n"
 )
@@ -156,14 +149,14 @@ class Call:
             self.lines += [("step", step[0]), *lines]
 
 
-def definition(asked, tokens=range(7)):
+def definition(without_table, tokens=range(7)):
     """The lines of the definition, where so many rules have no table, and the rules these ids."""
-    return [("tables", [ANY, ANY, asked]), ("states", STATES), ("rules", rules(tokens))]
+    return [("tables", [ANY, ANY, without_table]), ("states", STATES), ("rules", rules(tokens))]
 
 
-def engine(came, lines):
+def engine(outcome, lines):
     """The line of a call of the engine, which wrote these lines."""
-    return [("engine", [came, list(lines.encode()), ANY, 0])]
+    return [("engine", [outcome, list(lines.encode()), ANY, 0])]
 
 
 def by_id(token, name):

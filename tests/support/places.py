@@ -18,19 +18,19 @@ def counted(data, byte):
     """
     before = data[:byte].decode(errors="ignore")
     line = before.count("\n")
-    beside = before[before.rfind("\n") + 1:]
-    return [[line + 1, len(beside) + 1], [line, len(beside.encode("utf-16-le")) // 2]]
+    in_line = before[before.rfind("\n") + 1:]
+    return [[line + 1, len(in_line) + 1], [line, len(in_line.encode("utf-16-le")) // 2]]
 
 
 def lines_around(data, start, end):
     """The whole lines of a span that fits, without the end of the last."""
     first = data.rfind(b"\n", 0, start) + 1
-    behind = data.find(b"\n", end)
-    return data[first:behind if behind >= 0 else len(data)].decode()
+    after = data.find(b"\n", end)
+    return data[first:after if after >= 0 else len(data)].decode()
 
 
-def told(data, start, end):
-    """What a lexer must tell of a span: the span, its text, what is told of one that fits, and the places of both ends."""
+def said_of_span(data, start, end):
+    """What a lexer must say of a span: the span, its text, what it says of one that fits, and the places of both ends."""
     end = max(start, end)
     first, last = counted(data, start), counted(data, end)
     if not fits(data, start, end):

@@ -51,8 +51,8 @@ def by_each_compiler(name):
 
 
 def as_bytes(text):
-    """The bytes of a text. Bytes stay as they are."""
-    return text.encode() if isinstance(text, str) else text
+    """The bytes of a text, those of `as_text` also. Bytes stay as they are."""
+    return text.encode(errors="surrogateescape") if isinstance(text, str) else text
 
 
 def as_text(data):

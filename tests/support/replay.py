@@ -1,10 +1,18 @@
 """Runs lrlex_replay over cases with steps. steps.md says what a case is, and which lines its steps answer."""
 
 import json
+import unittest
 
 from support import programs
 
 PROGRAM = "lrlex_replay"
+
+
+class TestCase(unittest.TestCase):
+    """Tests that run lrlex_replay. They are skipped where it isn't built."""
+
+    def setUp(self):
+        programs.need(PROGRAM)
 
 
 class Answers:
@@ -49,7 +57,7 @@ def run(text, path=None):
     ended = programs.run([path], text, timeout=600)
     if ended.status != 0 or ended.err:
         raise AssertionError(f"{path} ended with status {ended.status}: {ended.err!r} after {ended.out[-300:]!r}")
-    return ended.out.encode(errors="surrogateescape")
+    return programs.as_bytes(ended.out)
 
 
 def split(out, count):
@@ -63,8 +71,7 @@ def split(out, count):
 
 
 def answers(cases):
-    """What each case answers. Skips the test where the program isn't built."""
-    programs.need(PROGRAM)
+    """What each case answers."""
     return [Answers(lines) for lines in split(run(as_input(cases)), len(cases))]
 
 
