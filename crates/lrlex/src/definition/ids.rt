@@ -134,7 +134,9 @@ impl<S: Numbered> RuleTable<S> {
         take_ids(self.rules.as_mut_slice(), ids);
         self.own_ids = have_own_ids(&self.rules);
     }
-    /// The same, and answers the map's names that no rule has, and the names of rules that the map lacks.
+
+    /// Gives each named rule the map's id for its name, or none. Answers the map's names that no rule has, and the names of
+    /// rules that the map lacks.
     pub(crate) fn set_ids<'a>(
         &mut self,
         alloc: Global,
@@ -157,7 +159,8 @@ impl<S: Numbered> RuleTable<S> {
         Ok((lacking, unused))
     }
 
-    /// The same, and answers the map's names that no rule has, and the names of rules that the map lacks, each with its place.
+    /// Gives each named rule the map's id for its name, or none. Answers the map's names that no rule has, and the names of
+    /// rules that the map lacks, each with its place in the rule text.
     pub(crate) fn set_ids_spanned<'a>(
         &mut self,
         alloc: Global,

@@ -62,7 +62,7 @@ pub trait LexerDef<L: LexerTypes>: Sized {
     fn get_rule(&self, idx: usize) -> Option<&Rule<L::StorageT>>
         ensures { option_copied result ≡ slice_get (rules_of self.now) idx };
 
-    /// The first rule with this id, where there is one. `find_rule_by_id` tells.
+    /// The first rule with this id, where there is one. `find_rule_by_id` is the test.
     fn get_rule_by_id(&self, tok_id: L::StorageT) -> &Rule<L::StorageT>
         requires { IsSome (rule_with_id L.StorageT.number (rules_of self.now)
             (L.StorageT.number tok_id)) }
@@ -102,7 +102,8 @@ pub trait LexerDef<L: LexerTypes>: Sized {
             (map (as_rule L.StorageT.number) (rules_of self.old))) sets.1) }
         ensures unchanged { OnErr result (self.new ≡ self.old) };
 
-    /// The same, where the second set has each name with its place in the rule text.
+    /// Gives each named rule the map's id for its name, or none, as `set_rule_ids` does. The second set has each name of a
+    /// rule that the map lacks with the name's place in the rule text.
     fn set_rule_ids_spanned<'a>(
         &mut self,
         alloc: Global,
@@ -233,8 +234,8 @@ impl<L: LexerTypes> LRNonStreamingLexerDef<L> {
         LRNonStreamingLexerDef::new_with_budget(alloc, text, flags, usual_budget())
     }
 
-    /// The same, with tables that cost no more than this. Under a budget of nothing each rule is asked by itself. No
-    /// answer depends on it.
+    /// Reads a rule text with these flags, as `new_with_options` does, and makes tables that cost no more than the budget.
+    /// Under a budget of nothing each rule is matched by `regex`. No answer depends on the budget.
     pub fn new_with_budget(
         alloc: Global,
         text: &str,

@@ -215,7 +215,7 @@ impl<S: Numbered> RuleTable<S> {
         }
     }
 
-    /// The rules that are active in the first state with the id. These are the ones at hand, where they are that state's:
+    /// The rules that are active in the first state with the id. These are the given ones, where they are that state's:
     /// lexing mostly stays in a state.
     #[inline(always)]
     pub(crate) fn rules_at<'d>(&'d self, rules: StateRules<'d>, id: usize) -> StateRules<'d>

@@ -69,7 +69,7 @@ fn try_singles<S>(
 /// For how many rules the table of each alone is made before they are joined.
 const RULES_AT_ONCE: usize = 128;
 
-/// Tables for those of the rules at these places that stand from `from` on and below `to` in the list. The tables of rules
+/// Tables for those of the rules at these places whose index in the list is from `from` on and below `to`. The tables of rules
 /// alone have many more rows than one for all, so of a long list one part is joined before the next is begun. In a part at
 /// most half of what is left of the budget goes into these, so that as much is left to join them, and for other lists.
 fn tables_from<S>(
@@ -121,7 +121,7 @@ fn tables_on<S>(
     tables_from(alloc, rules, places, 0, places.len(), singles, budget)
 }
 
-/// In how many of the lists each of so many rules stands.
+/// In how many of the lists each of so many rules is.
 fn lists_with(alloc: Global, rules: usize, lists: &[Vec<usize>]) -> Result<Vec<usize>, AllocError> {
     let mut counts = vec![in alloc; 0usize; rules]?;
     for places in lists {
@@ -134,7 +134,7 @@ fn lists_with(alloc: Global, rules: usize, lists: &[Vec<usize>]) -> Result<Vec<u
     Ok(counts)
 }
 
-/// Room for the table of each rule alone, which stands in so many lists.
+/// Room for the table of each rule alone, which is in so many lists.
 fn singles_in(alloc: Global, lists: &[usize]) -> Result<Vec<Single>, AllocError>
     ensures { (pattern : ℕ → Re) → IfOk result (λ singles. AreSingle pattern singles.items) }
 {
@@ -145,7 +145,7 @@ fn singles_in(alloc: Global, lists: &[usize]) -> Result<Vec<Single>, AllocError>
     Ok(singles)
 }
 
-/// Tables for each of the lists of rules, which stand at these places.
+/// Tables for each of the lists of rules, which are at these places.
 pub(crate) fn tables_for<S>(
     alloc: Global,
     rules: &[Rule<S>],

@@ -33,7 +33,7 @@ use std::marker::Model;
 /// Why an edit was not made.
 #[derive(Clone, Copy, Debug, PartialEq, Eq)]
 pub enum EditError {
-    /// An end of the bytes to remove is past the text's end or inside a character, or the first stands behind the second.
+    /// An end of the bytes to remove is past the text's end or inside a character, or the first end is after the second.
     DoesNotFit,
     OutOfMemory,
 }
