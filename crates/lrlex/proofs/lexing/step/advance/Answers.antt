@@ -183,7 +183,7 @@ returns-clause-goes_on g c on f u =
     let reach = c.in_ok-scan.scan.reach in
     let decided = subst (λ q. IsDecided d q (drop p.place text) reach) on_top (subst (λ xs. IsDecided d c.top_of-state.result xs reach) c.range_from-rest.ensures.value c.in_ok-scan.ensures.scan.decided) in
     record {
-      rules = record {
+      under_way = record {
         boundary =
             subst (IsCharBoundary text) (sym c.in_ok-push_boundary.ensures.place)
             (IsCharBoundary-from_rest text p.place t.len u.boundary.0 (subst (λ rest. IsCharBoundary rest t.len) c.range_from-rest.ensures.value (rw c.in-Some.is at c.in_ok-scan.ensures.tile).0));
