@@ -12,7 +12,7 @@ use Rattle.lrlex_base.specs.Spans.{Span, span, same_span}
 use Rattle.lrlex_rules.specs.Event.Subject.{StateName, RuleName}
 use Rattle.lrlex_rules.specs.Event.Event.{NewState, NewRule, Duplicate, Verbatim, Refused, Fatal}
 use Rattle.lrlex_rules.specs.Outcome.{fault_of, faults_after, duplicate_of, same_subject, kind_of}
-use Rattle.lrlex_rules.specs.Merge.{is_kind_of, is_fault_of, with_place, with_duplicate}
+use Rattle.lrlex_rules.specs.Duplicates.{is_kind_of, is_fault_of, with_place, with_duplicate}
 
 -- an event that is no duplicate leaves the faults before it as they are
 abbrev pub is_duplicate : Event → Bool

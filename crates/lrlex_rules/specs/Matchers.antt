@@ -4,7 +4,7 @@ use Rattle.std.specs.Prelude.{Box, ◌≡◌, ℕ, List, length, Option, Some, s
 use Rattle.regex.specs.Patterns.{SameCaptures}
 use Rattle.regex.specs.Strings.{matcher_pattern}
 use Rattle.regex.specs.declared.string.matcher.Matcher.{Matcher}
-use Rattle.lrlex_rules.specs.Parts.{RuleParts}
+use Rattle.lrlex_rules.specs.RuleParts.{RuleParts}
 use Rattle.lrlex_rules.specs.Patterns.{rule_pattern}
 
 -- a matcher, where there is one, is that of the rule

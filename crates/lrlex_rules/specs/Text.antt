@@ -83,11 +83,6 @@ trim_text text = trim_end (trim_start text)
 abbrev pub trim : Piece → Piece
 trim x = piece (x.at + (length x.text - length (trim_start x.text))) (trim_text x.text)
 
--- a piece, or the same without the white space round it
-abbrev pub laid_out : Bool → Piece → Piece
-laid_out true x = trim x
-laid_out false x = x
-
 -- a text of white space alone
 abbrev pub is_white : List ℕ → Bool
 is_white text = list_all is_white_space (chars text)

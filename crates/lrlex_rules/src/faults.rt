@@ -39,7 +39,7 @@ pub enum LexErrorKind {
 }
 
 impl LexErrorKind {
-    ghost use Rattle.lrlex_rules.specs.Faults.{message};
+    ghost use Rattle.lrlex_rules.specs.LexBuildError.{message};
 
     /// What is wrong, in English, without a full stop. Why `regex` refuses a pattern isn't told.
     pub fn message(&self) -> &'static str
@@ -71,7 +71,7 @@ pub struct LexBuildError {
 }
 
 impl LexBuildError {
-    ghost use Rattle.lrlex_rules.specs.Faults.{fault_kind, fault_spans};
+    ghost use Rattle.lrlex_rules.specs.LexBuildError.{fault_kind, fault_spans};
 
     pub(crate) fn new(kind: LexErrorKind, spans: Vec<Span>) -> LexBuildError
         ensures kind { fault_kind result ≡ kind }
@@ -89,7 +89,7 @@ impl LexBuildError {
 }
 
 impl Spanned for LexBuildError {
-    ghost use Rattle.lrlex_rules.specs.Faults.{fault_kind, fault_spans, kind_of_spans};
+    ghost use Rattle.lrlex_rules.specs.LexBuildError.{fault_kind, fault_spans, kind_of_spans};
 
     ghost spans_of = { fault_spans };
 
@@ -110,7 +110,7 @@ impl Spanned for LexBuildError {
 }
 
 impl fmt::Display for LexBuildError {
-    ghost use Rattle.lrlex_rules.specs.Faults.{fault_kind, kind_text};
+    ghost use Rattle.lrlex_rules.specs.LexBuildError.{fault_kind, kind_text};
 
     ghost output = { λ e. kind_text (fault_kind e) };
 

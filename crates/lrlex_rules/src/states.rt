@@ -21,7 +21,7 @@ pub struct StartStateId {
 }
 
 impl StartStateId {
-    ghost use Rattle.lrlex_rules.specs.Parts.{state_number};
+    ghost use Rattle.lrlex_rules.specs.RuleParts.{state_number};
 
     /// The id with this number.
     pub fn new(id: usize) -> StartStateId
@@ -49,7 +49,7 @@ pub struct StartState {
 
 impl StartState {
     ghost use Rattle.lrlex_base.specs.Spans.{as_span};
-    ghost use Rattle.lrlex_rules.specs.Parts.{as_state};
+    ghost use Rattle.lrlex_rules.specs.RuleParts.{as_state};
 
     /// A start state with a copy of this name, which stands at `name_span` in its rule text.
     pub fn new(

@@ -2,8 +2,8 @@ ghost use Rattle.std.specs.Prelude.{◌≡◌, ◌++◌, ◌∷◌, [], map, fal
 ghost use Rattle.std.proofs.Props.{props};
 ghost use Rattle.lrlex_base.specs.Spans.{as_span};
 ghost use Rattle.lrlex_rules.specs.Outcome.{kind_of};
-ghost use Rattle.lrlex_rules.specs.Kinds.{as_kind, as_subject};
-ghost use Rattle.lrlex_rules.specs.Merge.{AreFaultPlaces, NotesFault, KeepsFaults, fault_index};
+ghost use Rattle.lrlex_rules.specs.LexErrorKind.{as_kind, as_subject};
+ghost use Rattle.lrlex_rules.specs.Duplicates.{AreFaultPlaces, NotesFault, KeepsFaults, fault_index};
 
 use crate::faults::{LexBuildError, LexErrorKind};
 use lrlex_base::Span;
@@ -66,9 +66,9 @@ pub(crate) struct Faults {
 }
 
 impl Faults {
-    ghost use Rattle.lrlex_rules.specs.Merge.{tells_duplicates, with_duplicate};
-    ghost use Rattle.lrlex_rules.specs.Faults.{fault_kind};
-    ghost use Rattle.lrlex_rules.specs.Builder.{as_fault};
+    ghost use Rattle.lrlex_rules.specs.Duplicates.{tells_duplicates, with_duplicate};
+    ghost use Rattle.lrlex_rules.specs.LexBuildError.{fault_kind};
+    ghost use Rattle.lrlex_rules.specs.LexParser.{as_fault};
 
     /// No faults.
     pub(crate) fn new(alloc: Global) -> Faults

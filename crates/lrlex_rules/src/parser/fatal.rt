@@ -1,6 +1,6 @@
 ghost use Rattle.std.specs.Prelude.{◌≡◌, false};
-ghost use Rattle.lrlex_rules.specs.Kinds.{as_kind, is_regex_error};
-ghost use Rattle.lrlex_rules.specs.Merge.{tells_duplicates};
+ghost use Rattle.lrlex_rules.specs.LexErrorKind.{as_kind, is_regex_error};
+ghost use Rattle.lrlex_rules.specs.Duplicates.{tells_duplicates};
 
 use crate::faults::LexErrorKind;
 

@@ -1,7 +1,7 @@
 ghost use Rattle.std.specs.Prelude.{◌≡◌, ◌++◌, ◌∷◌, [], map, option_map, OnOk, OnErr};
 ghost use Rattle.std.specs.Option.{option_copied};
 ghost use Rattle.std.proofs.Props.{props};
-ghost use Rattle.lrlex_rules.specs.Parts.{state_name, rule_name, ArePlaces, NotesName, KeepsNames};
+ghost use Rattle.lrlex_rules.specs.Names.{state_name, rule_name, ArePlaces, NotesName, KeepsNames};
 
 use crate::rules::Rule;
 use crate::states::StartState;
@@ -35,7 +35,7 @@ pub(crate) struct States<'t> {
 }
 
 impl<'t> States<'t> {
-    ghost use Rattle.lrlex_rules.specs.Parts.{as_state};
+    ghost use Rattle.lrlex_rules.specs.RuleParts.{as_state};
     ghost use Rattle.lrlex_rules.specs.Declaration.{state_named};
 
     /// No states.
@@ -80,7 +80,7 @@ pub(crate) struct Rules<'t, StorageT> {
 }
 
 impl<'t, StorageT: Numbered> Rules<'t, StorageT> {
-    ghost use Rattle.lrlex_rules.specs.Parts.{as_rule};
+    ghost use Rattle.lrlex_rules.specs.RuleParts.{as_rule};
     ghost use Rattle.lrlex_rules.specs.Outcome.{rule_with_name};
 
     /// No rules.

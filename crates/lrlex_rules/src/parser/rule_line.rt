@@ -1,7 +1,7 @@
 ghost use Rattle.std.specs.Prelude.{◌≡◌, ◌+◌, ◌^◌, ◌<◌, ◌≤◌, ◌∷◌, length, map, IfOk, IfSome};
 ghost use Rattle.std.specs.Option.{option_map, option_copied};
 ghost use Rattle.lrlex_rules.specs.RuleLine.{operation_of, target_name, state_id, target, is_unnamed, is_quoted_by, label_in, parts_of_word, split, listed_names, names_left, listed_ids, all_ids, state_ids, read_pattern};
-ghost use Rattle.lrlex_rules.specs.Builder.{as_states, as_fatal, as_label, as_parts, as_pattern, as_piece, seen, HasAngles, line_end, items_of};
+ghost use Rattle.lrlex_rules.specs.LexParser.{as_states, as_fatal, as_label, as_parts, as_pattern, as_piece, seen, HasAngles, line_end, items_of};
 
 use crate::faults::LexErrorKind;
 use crate::parser::escapes::unescape;
