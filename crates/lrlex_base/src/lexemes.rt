@@ -1,6 +1,6 @@
 ghost use Rattle.std.specs.Prelude.{◌≡◌, ◌<◌, ◌+◌, ◌^◌, true, false};
 ghost use Rattle.lrlex_base.specs.Spans.{span_start, span_end};
-ghost use Rattle.lrlex_base.specs.Seen.{Seen};
+ghost use Rattle.lrlex_base.specs.LexemeParts.{LexemeParts};
 ghost use Rattle.lrlex_base.specs.declared.spans.Span.{Span};
 
 use crate::spans::Span;
@@ -12,7 +12,7 @@ use std::hash::Hash;
 /// Each maker's numbers are given back by the other calls.
 pub trait Lexeme<StorageT>: Copy + Debug + Display + Eq + Hash + Error {
     // What can be seen of a lexeme: id, first byte, number of bytes, and whether error recovery made it up.
-    ghost seen: { Self → Seen StorageT };
+    ghost seen: { Self → LexemeParts StorageT };
 
     /// A lexeme of `len` bytes from the byte at `start` on. The sum fits `usize`.
     fn new(tok_id: StorageT, start: usize, len: usize) -> Self
