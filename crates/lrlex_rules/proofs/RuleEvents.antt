@@ -20,7 +20,7 @@ use Rattle.lrlex_rules.specs.RuleParts.{as_state, as_rule}
 use Rattle.lrlex_rules.specs.Duplicates.{with_duplicate}
 use Rattle.regex.specs.declared.error.Error.{Error}
 use Rattle.lrlex_rules.proofs.Refusals.{none_refused, pattern_refused}
-use Rattle.lrlex_rules.proofs.Builders.{adds_duplicate}
+use Rattle.lrlex_rules.proofs.LexParserLemmas.{adds_duplicate}
 
 -- ---- the number of rules
 lt_test : (a b : ℕ) → a < b → nat_lt a b ≡ true

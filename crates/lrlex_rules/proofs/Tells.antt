@@ -18,7 +18,7 @@ use Rattle.lrlex_base.specs.Classes.{is_blank}
 use Rattle.lrlex_rules.specs.RuleLine.{LineParts, RuleLabel, Pattern, is_greater, in_angles, after_angles, operation_of, target_name, state_id, is_unnamed, is_quoted, label_in, name_part, listed_ids, listed_names, target, target_of, label_of, split, read_pattern, parts_of_word}
 use Rattle.lrlex_rules.specs.Outcome.{Settings, faults_after, rule_event, pattern_event, parts_event, split_event, rule_with_name, is_verbatim, line_event}
 use Rattle.lrlex_rules.specs.LexParser.{Represents, hits, refused_in, refused_of}
-use Rattle.lrlex_rules.proofs.Builders.{refused-push}
+use Rattle.lrlex_rules.proofs.LexParserLemmas.{refused-push}
 use Rattle.lrlex_rules.specs.declared.states.StartStateOperation.{StartStateOperation}
 use Rattle.lrlex_rules.proofs.Refusals.{none_refused, fatal_refused, pattern_refused}
 

@@ -1,4 +1,4 @@
--- How one more duplicate joins the faults, and where the fault of an original stands among them.
+-- How one more duplicate joins the faults, and where the fault of an original is among them.
 use Rattle.std.specs.Prelude.{◌≡◌, ℕ, ◌<◌, ◌==◌, Bool, true, false, ◌&&◌, ◌||◌, if◌then◌else◌, Option, Some, List, [], ◌∷◌, ◌++◌, length, map}
 use Rattle.std.specs.Option.{option_map_or}
 use Rattle.std.specs.List.{list_any, slice_index_or}
@@ -19,7 +19,7 @@ is_kind_of StateName DuplicateStartState = true
 is_kind_of RuleName DuplicateName = true
 is_kind_of _ _ = false
 
--- a fault of this kind tells of duplicates
+-- a fault of this kind is that of duplicates
 abbrev pub tells_duplicates : FaultKind → Bool
 tells_duplicates kind = is_kind_of StateName kind || is_kind_of RuleName kind
 
@@ -38,7 +38,7 @@ with_place subject original found f = if is_fault_of subject original f then fau
 abbrev pub with_duplicate : Subject → Span → Span → List Fault → List Fault
 with_duplicate subject original found faults = map (with_place subject original found) faults ++ (if list_any (is_fault_of subject original) faults then [] else fault (kind_of subject) (original ∷ found ∷ []) ∷ [])
 
--- ---- where the fault of an original stands
+-- ---- where the fault of an original is
 -- whether a key of the program stands for this original
 abbrev pub is_original : Subject → Span → Named × ℕ × ℕ → Bool
 is_original subject original key = same_subject subject (as_subject key.0) && same_span original (span key.1 key.2)

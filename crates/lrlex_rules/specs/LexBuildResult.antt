@@ -1,4 +1,4 @@
--- What reading a rule text answers: a definition or faults.
+-- What parsing a rule text returns: a definition or faults.
 use Rattle.std.specs.Prelude.{◌≡◌, ◌≢◌, ℕ, if◌then◌else◌, Option, Some, None, List, [], ◌∷◌, map, Result, Ok, Err, Vec}
 use Rattle.std.specs.List.{filter_map}
 use Rattle.std.specs.declared.alloc.Global.{Global}
@@ -56,18 +56,18 @@ pub record IsRefused (config : Config) (pattern : List ℕ) (error : Error) : Ty
   pub kind : IsRightKind config (wrapped pattern) error
   pub not_memory : error ≢ OutOfMemory
 
--- the same of each of these patterns and the error at its place
+-- `regex` refuses each of these patterns with the error at the same place
 abbrev pub AreRefusals : Config → List (List ℕ) → List Error → Type 0
 AreRefusals config [] [] = Unit {0}
 AreRefusals config [] (e ∷ es) = ⊥
 AreRefusals config (p ∷ ps) [] = ⊥
 AreRefusals config (p ∷ ps) (e ∷ es) = IsRefused config p e × AreRefusals config ps es
 
--- what a build is asked with
+-- the settings of a build
 abbrev pub settings : LexFlags → ℕ → Option ℕ → Settings
 settings flags greatest refused = record { flags = flags; greatest_id = greatest; refused = refused }
 
--- the place of the pattern that `regex` refused, as the answer tells it
+-- the place of the pattern that `regex` refused, as the answer has it
 abbrev pub refused_by : {D : Type 0} → Result D (Vec LexBuildError Global) → Option ℕ
 refused_by (Ok d) = None
 refused_by (Err v) = refused_in (as_faults v)
@@ -81,7 +81,7 @@ abbrev pub AreByRegex : LexFlags → ℕ → List ℕ → Vec LexBuildError Glob
 AreByRegex flags greatest text v =
     AreRefusals (config_of flags) (refused_patterns (events_of (settings flags greatest (refused_in (as_faults v))) text)) (regex_errors v.items)
 
--- so it is of the faults of a refused text
+-- where the answer is faults, each `RegexError` is why `regex` refused that very pattern
 abbrev pub AreOwnRefusals : {D : Type 0} → LexFlags → ℕ → List ℕ → Result D (Vec LexBuildError Global) → Type 0
 AreOwnRefusals flags greatest text (Ok d) = Unit {0}
 AreOwnRefusals flags greatest text (Err v) = AreByRegex flags greatest text v

@@ -52,13 +52,13 @@ EndBy end lines = (i : ℕ) (d : Line) → i < length lines → line_end (slice_
 abbrev pub AreApart : List Line → Type 0
 AreApart lines = (i j : ℕ) (d : Line) → i < j → j < length lines → (slice_index_or lines i d).at < (slice_index_or lines j d).at
 
--- the line stands in a text that begins at this offset
+-- the line is in a text that begins at this offset
 pub record StandsIn (at : ℕ) (text : List ℕ) (line : Line) : Type 0 where
   pub from : at ≤ line.at
   pub to : line_end line ≤ at + length text
   pub is : take (length line.text.now) (drop (line.at - at) text) ≡ line.text.now
 
--- in a text that begins at this offset, the line is at a `%`, behind which stands another
+-- in a text that begins at this offset, the mark has two bytes, of which the second is a `%`
 pub record MarkAt (at : ℕ) (text : List ℕ) (mark : Line) : Type 0 where
   pub from : at ≤ mark.at
   pub room : (mark.at - at) + 1 < length text
@@ -102,11 +102,11 @@ hits refused o = option_map_or (λ (x : ℕ). x == o) refused false
 abbrev pub HitAlike : Option ℕ → Option ℕ → List Line → ℕ → Type 0
 HitAlike r r' lines i = (j : ℕ) (d : Line) → j < i → hits r (slice_index_or lines j d).at ≡ hits r' (slice_index_or lines j d).at
 
--- ---- what was read so far
+-- ---- what was parsed so far
 abbrev pub refused_of : {S : Type 0} → LexParser S → Option ℕ
 refused_of b = refused_in (map as_fault b.faults.list.items)
 
--- the builder has what these events say, where `number` gives the number that an id stands for
+-- the parser has what these events say, where `number` gives the number that an id stands for
 pub record Represents {S : Type 0} (number : S → ℕ) (flags : LexFlags) (b : LexParser S) (events : List Event) : Type 0 where
   pub states : as_states b.states ≡ states_of events
   pub rules : map (as_rule number) b.rules.list.items ≡ rules_of events
@@ -114,16 +114,16 @@ pub record Represents {S : Type 0} (number : S → ℕ) (flags : LexFlags) (b : 
   pub refused : b.is_refused ≡ is_refused events
   pub refusals : AreRefusals (config_of flags) (refused_patterns events) (regex_errors b.faults.list.items)
 
--- from one builder to the next, one event more
+-- from one state of the parser to the next, one event more
 abbrev pub Adds : {S : Type 0} → (S → ℕ) → LexParser S → LexParser S → (List Event → Event) → Type 0
 Adds number old new event = (flags : LexFlags) (events : List Event) → Represents number flags old events → Represents number flags new (events ++ event events ∷ [])
 
--- the same, where `regex` has refused a pattern at this place
+-- from one state of the parser to the next, the event of a pattern that `regex` refused at this place
 abbrev pub AddsRefused : {S : Type 0} → (S → ℕ) → LexParser S → LexParser S → Error → ℕ → Type 0
 AddsRefused number old new error at =
     (flags : LexFlags) (pattern : List ℕ) → IsRefused (config_of flags) pattern error → (events : List Event) → Represents number flags old events → Represents number flags new (events ++ Refused at pattern ∷ [])
 
--- from one builder to the next, these events in place of those before
+-- from one state of the parser to the next, these events in place of those before
 abbrev pub Reads : {S : Type 0} → (S → ℕ) → LexParser S → LexParser S → (List Event → List Event) → Type 0
 Reads number old new after = (flags : LexFlags) (events : List Event) → Represents number flags old events → Represents number flags new (after events)
 
@@ -132,12 +132,12 @@ pub record Suits (s : Settings) (flags : LexFlags) (greatest : ℕ) : Type 0 whe
   pub flags_are : resolved s.flags ≡ flags
   pub greatest_is : s.greatest_id ≡ greatest
 
--- from one builder to the next, one event more, which looks at the settings. They tell whether `regex` refused the pattern at this place.
+-- from one state of the parser to the next, one event more, which depends on the settings. They say whether `regex` refused the pattern at this place.
 abbrev pub AddsLine : {S : Type 0} → (S → ℕ) → LexFlags → ℕ → LexParser S → LexParser S → ℕ → (Settings → List Event → Event) → Type 0
 AddsLine number flags greatest old new o event =
     (s : Settings) → Suits s flags greatest → (events : List Event) → Represents number flags old events → hits s.refused o ≡ hits (refused_of new) o → Represents number flags new (events ++ event s events ∷ [])
 
--- from one builder to the next, these events in place of those before, which look at the settings. They tell which pattern `regex` refused, if it did.
+-- from one state of the parser to the next, these events in place of those before, which depend on the settings. They say which pattern `regex` refused, if it did.
 abbrev pub ReadsLines : {S : Type 0} → (S → ℕ) → LexFlags → ℕ → LexParser S → LexParser S → (Settings → List Event → List Event) → Type 0
 ReadsLines number flags greatest old new after =
     (s : Settings) → Suits s flags greatest → (events : List Event) → Represents number flags old events → s.refused ≡ refused_of new → Represents number flags new (after s events)

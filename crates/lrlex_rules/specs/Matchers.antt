@@ -1,4 +1,4 @@
--- The matchers of rules that are asked, each made when its rule is first asked.
+-- The matchers of rules, each made when its rule is first matched by `regex`.
 use Rattle.std.specs.declared.alloc.Global.{Global}
 use Rattle.std.specs.Prelude.{Box, ◌≡◌, ℕ, List, length, Option, Some, slice_get}
 use Rattle.regex.specs.Patterns.{SameCaptures}

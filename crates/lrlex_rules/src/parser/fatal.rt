@@ -4,7 +4,7 @@ ghost use Rattle.lrlex_rules.specs.Duplicates.{tells_duplicates};
 
 use crate::faults::LexErrorKind;
 
-/// A fault that ends the reading, and its place. Such a fault is never `regex`'s, nor that of duplicates.
+/// A fault that ends the parse, and the place of it. Such a fault is neither `regex`'s nor that of duplicates.
 #[derive(Debug, Drop)]
 pub(crate) struct Fatal {
     pub(crate) kind: LexErrorKind,

@@ -23,7 +23,8 @@ use crate::parser::escapes::trim_head;
 use crate::parser::names::{Rules, States};
 use crate::parser::rule_line::{Parts, Pattern, read_pattern, split};
 use crate::parser::text::{
-    Line, Margins, after_mark, begins_with_white, first_word, is_white, next_name, read_section, skip_blanks,
+    Line, Margins, after_mark, begins_with_white, first_word, is_white, next_name, read_section,
+    skip_blanks,
 };
 use crate::rules::Rule;
 use crate::states::StartState;
@@ -185,7 +186,12 @@ impl<'t, StorageT: Numbered> LexParser<'t, StorageT> {
     }
 
     /// Declares a start state with this name.
-    fn declare_start_state(&mut self, alloc: Global, name: Line<'t>, exclusive: bool) -> Result<(), AllocError>
+    fn declare_start_state(
+        &mut self,
+        alloc: Global,
+        name: Line<'t>,
+        exclusive: bool,
+    ) -> Result<(), AllocError>
         requires fits { line_end name < 2 ^ 64 }
         requires calm { self.old.is_refused ≡ false }
         ensures { OnOk result (Adds StorageT.number self.old self.new
@@ -257,7 +263,12 @@ impl<'t, StorageT: Numbered> LexParser<'t, StorageT> {
     }
 
     /// Parses a line of the rules section.
-    fn parse_line(&mut self, alloc: Global, line: Line<'t>, flags: &LexFlags) -> Result<(), AllocError>
+    fn parse_line(
+        &mut self,
+        alloc: Global,
+        line: Line<'t>,
+        flags: &LexFlags,
+    ) -> Result<(), AllocError>
         requires fits { line_end line < 2 ^ 64 }
         requires calm { self.old.is_refused ≡ false }
         ensures { OnOk result

@@ -28,7 +28,7 @@ pub(crate) fn trim_start(text: &str) -> &str
     text.trim_start_matches(|c: char| is_white_space(c))
 }
 
-/// The text without the white space round it.
+/// The text without the white space at both ends.
 pub(crate) fn trim_text(text: &str) -> &str
     ensures value { result.now ≡ trim_text text.now }
     ensures bound { length result.now ≤ length text.now }
@@ -101,7 +101,7 @@ pub(crate) fn split_last_blank(text: &str) -> Option<(&str, &str)>
     text.rsplit_once(|c: char| is_blank(c))
 }
 
-/// What becomes of the white space round a line.
+/// What becomes of the white space at both ends of a line.
 #[derive(Clone, Copy)]
 pub(crate) enum Margins {
     /// It is left out, as in the declarations.
@@ -118,7 +118,7 @@ pub(crate) struct Line<'a> {
 }
 
 impl<'a> Line<'a> {
-    /// The line without the white space round it.
+    /// The line without the white space at both ends.
     pub(crate) fn trim(self) -> Line<'a>
         requires { self.at + length self.text.now < 2 ^ 64 }
         ensures value { as_piece result ≡ trim (as_piece self.entry) }

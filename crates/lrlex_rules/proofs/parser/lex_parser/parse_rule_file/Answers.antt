@@ -5,7 +5,7 @@ use Rattle.lrlex_rules.specs.declared.flags.LexFlags.{LexFlags}
 use Rattle.lrlex_rules.specs.Event.{refused_patterns}
 use Rattle.lrlex_rules.specs.Outcome.{events_of}
 use Rattle.lrlex_rules.specs.Flags.{config_of}
-use Rattle.lrlex_rules.proofs.Answer.{whole, answers_faults, answers_definition, none_told}
+use Rattle.lrlex_rules.proofs.LexBuildResultLemmas.{whole, answers_faults, answers_definition, none_told}
 use Rattle.lrlex_rules.proofs.Initial.{outcome_first}
 use Rattle.lrlex_rules.proofs.Lawful.{outcome_lawful}
 use Rattle.lrlex_rules.proofs.PlacedFaults.{outcome_placed}

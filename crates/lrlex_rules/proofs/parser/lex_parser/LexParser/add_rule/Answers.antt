@@ -6,7 +6,7 @@ use Rattle.lrlex_rules.specs.Definition.{Rule}
 use Rattle.lrlex_rules.specs.Flags.{config_of}
 use Rattle.lrlex_rules.specs.RuleParts.{as_rule}
 use Rattle.lrlex_rules.specs.LexParser.{as_parts, as_pattern, IsRefused}
-use Rattle.lrlex_rules.proofs.Builders.{on_ok, adds_rule}
+use Rattle.lrlex_rules.proofs.LexParserLemmas.{on_ok, adds_rule}
 use Rattle.lrlex_rules.proofs.RuleEvents.{line_too_many, line_refused, line_kept, rule_made, at_most}
 use Rattle.lrlex_rules.proofs.parser.lex_parser.LexParser.add_rule.Goals as goal
 

@@ -2,7 +2,7 @@ use Rattle.std.proofs.Common.{◌∙◌, [], ◌∷◌, ◌++◌, ap, refl, map}
 use Rattle.std.proofs.lemmas.List.{map_push}
 use Rattle.lrlex_rules.specs.Event.{Fault, span_of}
 use Rattle.lrlex_rules.specs.LexParser.{as_fault, as_piece}
-use Rattle.lrlex_rules.proofs.Builders.{adds_verbatim}
+use Rattle.lrlex_rules.proofs.LexParserLemmas.{adds_verbatim}
 use Rattle.lrlex_rules.proofs.Places.{one_fault}
 use Rattle.lrlex_rules.proofs.parser.lex_parser.LexParser.add_verbatim.Goals as goal
 

@@ -8,7 +8,7 @@ use Rattle.lrlex_rules.specs.Duplicates.{with_duplicate}
 use Rattle.lrlex_rules.specs.LexParser.{as_piece, as_fault}
 use Rattle.lrlex_rules.specs.RuleParts.{as_state}
 use Rattle.lrlex_rules.proofs.Places.{span_from}
-use Rattle.lrlex_rules.proofs.Builders.{on_ok, declares_again, declares_new, declares_right, declares_wrong}
+use Rattle.lrlex_rules.proofs.LexParserLemmas.{on_ok, declares_again, declares_new, declares_right, declares_wrong}
 use Rattle.lrlex_rules.proofs.parser.lex_parser.LexParser.declare_start_state.Goals as goal
 
 pub returns-then-not-is_state_name : goal.returns-then-not-is_state_name

@@ -6,7 +6,7 @@ use Rattle.lrlex_rules.specs.Flags.{allows_comments}
 use Rattle.lrlex_rules.specs.Declaration.{Declared, state_event, declarations, section_end, trimmed_lines}
 use Rattle.lrlex_rules.specs.Outcome.{events_after, rules_events}
 use Rattle.lrlex_rules.specs.LexParser.{Represents, as_piece}
-use Rattle.lrlex_rules.proofs.Builders.{on_ok}
+use Rattle.lrlex_rules.proofs.LexParserLemmas.{on_ok}
 use Rattle.lrlex_rules.proofs.Whole.{declared_all, declared_end}
 use Rattle.lrlex_rules.proofs.parser.lex_parser.LexParser.parse.Goals as goal
 

@@ -10,7 +10,7 @@ use Rattle.lrlex_base.specs.Classes.{is_white_space}
 use Rattle.lrlex_rules.specs.Text.{cut, is_empty}
 use Rattle.lrlex_rules.proofs.Runs.{events_after_one}
 use Rattle.lrlex_rules.specs.LexParser.{Represents, as_piece}
-use Rattle.lrlex_rules.proofs.Builders.{on_ok}
+use Rattle.lrlex_rules.proofs.LexParserLemmas.{on_ok}
 use Rattle.lrlex_rules.proofs.Declares.{declared_is, undeclared_is}
 use Rattle.lrlex_rules.proofs.parser.lex_parser.LexParser.parse_declaration.Goals as goal
 use Rattle.lrlex_rules.proofs.parser.lex_parser.LexParser.parse_declaration.Goals.{in_default-via-in-Some+else-not-is_empty, in_default-via-in_default}

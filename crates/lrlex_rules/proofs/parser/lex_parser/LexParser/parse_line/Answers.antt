@@ -3,7 +3,7 @@ use Rattle.lrlex_rules.specs.LexParser.{as_piece, as_fatal}
 use Rattle.lrlex_rules.specs.Outcome.{line_event}
 use Rattle.lrlex_rules.specs.Event.{span_of}
 use Rattle.lrlex_rules.specs.Event.Event.{Verbatim, Fatal}
-use Rattle.lrlex_rules.proofs.Builders.{on_ok}
+use Rattle.lrlex_rules.proofs.LexParserLemmas.{on_ok}
 use Rattle.lrlex_rules.proofs.RuleEvents.{line_from, verbatim_is, split_is}
 use Rattle.lrlex_rules.proofs.parser.lex_parser.LexParser.parse_line.Goals as goal
 

@@ -7,7 +7,7 @@ use Rattle.lrlex_rules.specs.LexParser.{as_states, as_parts, as_pattern, as_fata
 use Rattle.lrlex_rules.specs.RuleParts.{as_rule}
 use Rattle.lrlex_rules.specs.Event.{rules_of}
 use Rattle.lrlex_rules.specs.Outcome.{split_event, rule_event}
-use Rattle.lrlex_rules.proofs.Builders.{on_ok}
+use Rattle.lrlex_rules.proofs.LexParserLemmas.{on_ok}
 use Rattle.lrlex_rules.proofs.RuleEvents.{line_from, line_same, line_duplicate, offered_is, unread_is}
 use Rattle.lrlex_rules.proofs.parser.lex_parser.LexParser.parse_rule.Goals as goal
 

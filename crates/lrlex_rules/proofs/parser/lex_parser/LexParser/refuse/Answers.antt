@@ -5,7 +5,7 @@ use Rattle.lrlex_rules.specs.Event.{Fault, fault_at}
 use Rattle.lrlex_rules.specs.LexErrorKind.{as_kind, is_regex_error}
 use Rattle.lrlex_rules.specs.LexParser.{refused_in, as_fault}
 use Rattle.lrlex_rules.proofs.Refusals.{refused_in-push}
-use Rattle.lrlex_rules.proofs.Builders.{adds_fatal}
+use Rattle.lrlex_rules.proofs.LexParserLemmas.{adds_fatal}
 use Rattle.lrlex_rules.proofs.Places.{one_fault}
 use Rattle.lrlex_rules.proofs.parser.lex_parser.LexParser.refuse.Goals as goal
 

@@ -1,6 +1,6 @@
 use Rattle.std.proofs.Common.{ap, refl}
 use Rattle.lrlex_rules.specs.LexParser.{regex_error}
-use Rattle.lrlex_rules.proofs.Builders.{adds_refused}
+use Rattle.lrlex_rules.proofs.LexParserLemmas.{adds_refused}
 use Rattle.lrlex_rules.proofs.Places.{one_fault}
 use Rattle.lrlex_rules.proofs.parser.lex_parser.LexParser.refuse_pattern.Goals as goal
 

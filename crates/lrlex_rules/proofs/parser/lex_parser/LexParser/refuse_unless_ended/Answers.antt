@@ -2,7 +2,7 @@ use Rattle.std.proofs.Common.{List, subst, sym, ◌∙◌}
 use Rattle.lrlex_rules.specs.Event.{Event}
 use Rattle.lrlex_rules.specs.LexParser.{Represents}
 use Rattle.lrlex_rules.specs.LexErrorKind.{as_kind}
-use Rattle.lrlex_rules.proofs.Builders.{on_ok}
+use Rattle.lrlex_rules.proofs.LexParserLemmas.{on_ok}
 use Rattle.lrlex_rules.proofs.Whole.{then_fatal_is}
 use Rattle.lrlex_rules.proofs.parser.lex_parser.LexParser.refuse_unless_ended.Goals as goal
 

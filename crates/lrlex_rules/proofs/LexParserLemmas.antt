@@ -24,7 +24,7 @@ use Rattle.lrlex_rules.specs.declared.faults.LexBuildError.{LexBuildError}
 use Rattle.lrlex_rules.specs.Flags.{config_of}
 use Rattle.lrlex_rules.specs.LexErrorKind.{is_regex_error}
 use Rattle.lrlex_rules.proofs.Refusals.{calm_refusals, fatal_refusals, one_refusal}
-use Rattle.lrlex_rules.proofs.Merges.{with_duplicate_is, faults_other}
+use Rattle.lrlex_rules.proofs.DuplicateLemmas.{with_duplicate_is, faults_other}
 
 pub on_ok : {T E : Type 0} {P Q : Type 0} (r : Result T E) → (P → Q) → OnOk r P → OnOk r Q
 on_ok (Ok x) f h = f h
