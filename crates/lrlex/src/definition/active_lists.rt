@@ -1,6 +1,6 @@
 //! The rules that are active in each start state, as lists of places: states with the same rules share a list.
 ghost use Rattle.std.specs.Prelude.{◌≡◌, ◌<◌, ◌≤◌, ◌∷◌, ◌++◌, [], ℕ, All, map, length, IfOk, IfSome, IsTrue};
-ghost use Rattle.lrlex_rules.specs.Parts.{as_rule, as_state};
+ghost use Rattle.lrlex_rules.specs.RuleParts.{as_rule, as_state};
 ghost use Rattle.lrlex.specs.Active.{active_places};
 ghost use Rattle.lrlex.specs.StateTables.{ArePlaced, list_in, lists_at};
 

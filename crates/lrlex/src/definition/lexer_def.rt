@@ -1,5 +1,5 @@
 ghost use Rattle.std.specs.Prelude.{◌≡◌, IfOk};
-ghost use Rattle.lrlex_rules.specs.Answer.{IsAnswer, AreOwnRefusals};
+ghost use Rattle.lrlex_rules.specs.LexBuildResult.{IsAnswer, AreOwnRefusals};
 
 use crate::definition::lookups::{first_named, first_with_id};
 use crate::definition::non_streaming::LRNonStreamingLexerDef;
@@ -20,10 +20,10 @@ pub trait LexerDef<L: LexerTypes>: Sized {
     ghost use Rattle.std.specs.Slice.Iter.{iter_rest};
     ghost use Rattle.lrlex_rules.specs.declared.states.StartState.{StartState};
     ghost use Rattle.lrlex_rules.specs.Definition.{Definition};
-    ghost use Rattle.lrlex_rules.specs.Answer.{IsAnswer, AreOwnRefusals};
-    ghost use Rattle.lrlex_rules.specs.Faults.{IsPlaced};
-    ghost use Rattle.lrlex_rules.specs.Laws.{IsLawful};
-    ghost use Rattle.lrlex_rules.specs.Parts.{RuleParts, as_rule};
+    ghost use Rattle.lrlex_rules.specs.LexBuildResult.{IsAnswer, AreOwnRefusals};
+    ghost use Rattle.lrlex_rules.specs.LexBuildError.{IsPlaced};
+    ghost use Rattle.lrlex_rules.specs.DefinitionLaws.{IsLawful};
+    ghost use Rattle.lrlex_rules.specs.RuleParts.{RuleParts, as_rule};
     ghost use Rattle.lrlex.specs.Ids.{IsMadeOf, rule_with_id, rule_named, ids_of, with_own_id, with_ids, is_lacking, is_unused, is_unused_at, HoldsNames, HoldsTexts, HoldsPlaces};
 
     // What it says.
@@ -210,8 +210,8 @@ impl<L: LexerTypes> LexerDef<L> for LRNonStreamingLexerDef<L> {
 
 impl<L: LexerTypes> LRNonStreamingLexerDef<L> {
     ghost use Rattle.std.specs.Prelude.{true, IfErr, All};
-    ghost use Rattle.lrlex_rules.specs.Faults.{IsPlaced};
-    ghost use Rattle.lrlex_rules.specs.Laws.{IsLawful};
+    ghost use Rattle.lrlex_rules.specs.LexBuildError.{IsPlaced};
+    ghost use Rattle.lrlex_rules.specs.DefinitionLaws.{IsLawful};
     ghost use Rattle.lrlex.specs.Active.{is_state};
     ghost use Rattle.lrlex.specs.Views.{definition_of, definition_rules};
 

@@ -8,7 +8,7 @@ ghost use Rattle.lrlex.specs.Searches.{asks, asks_by};
 ghost use Rattle.lrlex.specs.Lookahead.{LooksAhead};
 ghost use Rattle.lrlex.specs.Views.{definition_by, definition_of, items_by};
 ghost use Rattle.lrlex.specs.LexRun.{IsRunOf, HasItemLaws, end_of, end_state_of};
-ghost use Rattle.lrlex_rules.specs.Parts.{state_number};
+ghost use Rattle.lrlex_rules.specs.RuleParts.{state_number};
 ghost use Rattle.lrlex.specs.Progress.{HasFinished};
 
 use crate::definition::non_streaming::LRNonStreamingLexerDef;

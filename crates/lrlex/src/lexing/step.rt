@@ -1,6 +1,6 @@
 ghost use Rattle.std.specs.Prelude.{◌≡◌, ◌+◌, ◌-◌, ◌^◌, ◌<◌, ◌≤◌, true, false, [], ◌∷◌, ◌++◌, length, map, IfOk, OnOk, IsCharBoundary};
 ghost use Rattle.lrlex.specs.Active.{is_state, lexeme_id};
-ghost use Rattle.lrlex_rules.specs.Parts.{as_rule};
+ghost use Rattle.lrlex_rules.specs.RuleParts.{as_rule};
 ghost use Rattle.lrlex.specs.Searches.{untabled_count};
 ghost use Rattle.lrlex.specs.Tiling.{Error, top, stack_after, lexeme_of};
 ghost use Rattle.lrlex_boundaries.specs.Entries.{plain, AreEntries};

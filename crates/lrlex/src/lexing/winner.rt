@@ -6,7 +6,7 @@ ghost use Rattle.lrlex.specs.Views.{definition_by};
 
 use crate::definition::rule_table::{RuleTable, StateRules};
 use lrlex_base::Numbered;
-use lrlex_rules::{ask_by, no_matchers};
+use lrlex_rules::{empty_matchers, match_rule};
 use lrlex_table::DeadEnds;
 use regex::Matcher;
 use std::alloc::{AllocError, Global};
@@ -132,7 +132,7 @@ fn winner_with_search<'d, S: Numbered>(
         let number = tables.asked()[index];
         let place = active[number];
         let rule = &table.rules[place];
-        let len = ask_by(alloc, &mut matchers[place], rule, text, asked)?;
+        let len = match_rule(alloc, &mut matchers[place], rule, text, asked)?;
         if is_better(number, len, best) {
             best = Tile { rule: number, len };
         }
@@ -168,7 +168,7 @@ impl<'d, 't> Searcher<'d, 't> {
     ) -> Result<Self, AllocError>
         ensures { IfOk result (IsSearcherOf table.now text.now) }
     {
-        let matchers = no_matchers(alloc, &table.rules)?;
+        let matchers = empty_matchers(alloc, &table.rules)?;
         let ends = DeadEnds::new(alloc, &table.tables, text);
         Ok(Searcher { matchers, ends })
     }

@@ -5,7 +5,7 @@ use Rattle.lrlex_rules.specs.Definition.{Rule}
 use Rattle.lrlex.specs.Active.{active_count, lacks_id, lacks_target, lexeme_id}
 use Rattle.lrlex.specs.Searches.{untabled_count}
 use Rattle.lrlex.specs.Tiling.{Tile, Item, Error, top, IsStuck, IsTaken, stack_after, lexeme_of, tile_items, NoMatch, NoId, NoTarget}
-use Rattle.lrlex_rules.specs.Parts.{as_rule}
+use Rattle.lrlex_rules.specs.RuleParts.{as_rule}
 use Rattle.lrlex_boundaries.specs.Entries.{plain}
 use Rattle.lrlex.specs.Reach.{Reached}
 use Rattle.lrlex.specs.Views.{definition_by, items_by}
