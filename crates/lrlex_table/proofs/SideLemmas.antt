@@ -9,7 +9,7 @@ use Rattle.regex_dfa.specs.Kinds.{sees_lf}
 use Rattle.regex_dfa.specs.Moves.{Test, Agrees}
 use Rattle.regex_dfa.specs.declared.dfa.Dfa.{Dfa}
 use Rattle.regex_dfa.proofs.ClassesLemmas.{state_within}
-use Rattle.lrlex_table.specs.Charts.{AsksForStarts, side_at, no_side, StepsFrom, StepsOn}
+use Rattle.lrlex_table.specs.Determinizer.{AsksForStarts, side_at, no_side, StepsFrom, StepsOn}
 
 pub agrees_at_start : (nfa : Nfa) (hay : List ℕ) (j : ℕ) (before after : Side) → AsksForStarts nfa → is_edge (side_before hay j) ≡ is_edge before →
     is_lf (side_before hay j) ≡ is_lf before → Agrees nfa (λ l. holds l hay j) before after true
