@@ -40,7 +40,7 @@ module _ (t : Table) (text : List ℕ) where
       next_of (next_rows t) r (Some (get_or text j 0)) ≡ row_after (next_rows t) t.start (take (j + 1) text)
   row_more j r is lt = ap (next_of (next_rows t) r) (sym (slice_get-get_or text j 0 lt)) ∙ sym (row_next j r is lt)
 
-  -- a walk that goes on in vain has dead ends behind its match
+  -- a walk that goes on in vain has dead ends after its match
   pub vain_behind : (len reach j r : ℕ) → IsVainPast t text len reach → len < j → j < reach → r ≡ row_after (next_rows t) t.start (take j text) → IsVain t r (drop j text) (reach - j)
   vain_behind len reach j r vain past before is =
       let rest = length-drop j text in (

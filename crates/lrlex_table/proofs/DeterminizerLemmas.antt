@@ -1,4 +1,4 @@
--- A chart of an NFA is the table of its pattern.
+-- What a determinizer makes of an NFA is the table of the NFA's pattern.
 use Rattle.std.proofs.Common.{◌≡◌, ◌≢◌, ℕ, zero, suc, ◌+◌, ◌*◌, ◌<◌, ◌≤◌, ◌==◌, Bool, true, false, not, if◌then◌else◌, List, All, [], ◌∷◌, ◌++◌, length, vec_len, get_or, Option, Some, None, is_some, slice_get, slice_index, slice_index_or, replicate, set, refl, sym, ap, ◌∙◌, subst, inl, inr, arith, ne_eqb}
 use Rattle.std.proofs.lemmas.Bool.{cond-false, cases_lt, cases_eq}
 use Rattle.std.proofs.lemmas.List.{get_or-set_other, get_or_past, get_or_append_left, get_or_push, length_push}
@@ -101,7 +101,7 @@ module _ (nfa : Nfa) (rows : List (List ℕ)) (next : List ℕ) (wins : List (Op
     };
   }
 
--- ---- how a chart grows
+-- ---- how the table in the making grows
 
 pub AreStates-push : (nfa : Nfa) (rows : List (List ℕ)) (threads : List ℕ) → ((r : ℕ) → AreStates nfa (threads_at rows r)) → AreStates nfa threads →
     (r : ℕ) → AreStates nfa (threads_at (rows ++ threads ∷ []) r)
@@ -114,7 +114,7 @@ AreStates-push nfa rows threads old one r = elim (cases_lt r (length rows)) [
   ]
 ]
 
--- a row more
+-- with one more row
 pub partial_dfa_push : (nfa : Nfa) (rows : List (List ℕ)) (next : List ℕ) (wins : List (Option ℕ)) (threads : List ℕ) → IsPartialDfa nfa rows next wins → AreStates nfa threads →
     IsPartialDfa nfa (rows ++ threads ∷ []) next wins
 partial_dfa_push nfa rows next wins threads built states =
@@ -197,7 +197,7 @@ partial_dfa_end nfa rows next wins b built len room steps =
       here,
     )
 
--- a cell more
+-- with one more cell
 pub partial_dfa_cell : (nfa : Nfa) (rows : List (List ℕ)) (next : List ℕ) (wins : List (Option ℕ)) (r b v : ℕ) → IsPartialDfa nfa rows next wins → length wins ≡ r + 1 →
     length next ≡ r * 256 + b → b < 256 → v ≢ 1 → IsCell nfa rows (is_won wins r) r b v → IsPartialDfa nfa rows (next ++ v ∷ []) wins
 partial_dfa_cell nfa rows next wins r b v built made at small other cell =
@@ -342,7 +342,7 @@ filling_starts nfa rows next wins row threads matched built room made at are ste
       won = subst (λ i. is_won (wins ++ win_of matched ∷ []) i ≡ matched) made ended.1;
     }
 
--- the empty chart
+-- the table in the making, with no row filled
 pub partial_dfa_starts : (nfa : Nfa) → nfa.start < vec_len nfa.states → IsPartialDfa nfa ([] ∷ (nfa.start ∷ []) ∷ []) [] []
 partial_dfa_starts nfa start_in = record {
   some = omega arith;

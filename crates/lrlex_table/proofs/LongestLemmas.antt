@@ -63,7 +63,7 @@ module _ (next : List ℕ) (wins : List (Option ℕ)) (start : ℕ) (ps : List R
       length_is (serves.nfa k) (pattern_at ps k) other (serves.threads start k) reach (last k) (serves.measures k lt) also (alike_past reach text other within same) (serves.begins k lt)
       ((ends (length ps) serves.nfa serves.threads serves.matched (serves.table text is.bytes)).2 other (serves.table other also.bytes) same k lt)
 
-  -- what the walk answers is the longest match
+  -- what the walk finds is the longest match
   winner_of_walk : (top ≤ 1 → NoneMatches ps text) × (1 < top → IsLongest ps text w (top - 1))
   winner_of_walk = (
     λ few k lt. omega (arith, takes text is refl k lt, leads.most k lt),

@@ -1,4 +1,4 @@
--- Patterns of two tables, the second's after the first's.
+-- Moves of the threads of two tables, where the second's patterns come after the first's.
 use Rattle.std.proofs.Common.{◌≡◌, ℕ, ◌+◌, ◌-◌, ◌<◌, ◌≤◌, Bool, false, cond, List, [], Option, Some, None, nat_lt, refl, sym, ap, ◌∙◌, subst, inl, inr, arith}
 use Rattle.std.proofs.lemmas.Bool.{cond-true, cond-false, cases_lt, lt-ltb, le-ltb}
 use Rattle.regex_nfa.specs.declared.nfa.Nfa.{Nfa}

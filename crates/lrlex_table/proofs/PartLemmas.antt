@@ -39,7 +39,7 @@ rising_lt lo hi (x ∷ xs) i zero r lt within = absurd (omega arith)
 rising_lt lo hi (x ∷ xs) zero (suc j) r lt within = omega (arith, (rising_within (x + 1) hi xs j r.1 (omega arith)).0)
 rising_lt lo hi (x ∷ xs) (suc i) (suc j) r lt within = rising_lt (x + 1) hi xs i j r.1 (omega arith) (omega arith)
 
--- a lesser number stands earlier
+-- a lesser number is earlier
 pub rising_order : (lo hi : ℕ) (xs : List ℕ) (i j : ℕ) → AreRising lo hi xs → i < length xs → get_or xs i 0 < get_or xs j 0 → i < j
 rising_order lo hi xs i j r within lt = elim (cases_lt i j) [
   | inl less ↦ less

@@ -1,4 +1,4 @@
--- A grid of two tables is the table of the patterns of both.
+-- The product of two tables is the table of the patterns of both.
 use Rattle.std.proofs.Common.{◌≡◌, ◌≢◌, ℕ, zero, suc, ◌+◌, ◌-◌, ◌*◌, ◌<◌, ◌≤◌, Bool, false, cond, List, All, [], ◌∷◌, ◌++◌, length, Option, Some, None, nat_lt, slice_get, slice_index_or, replicate, append_assoc, append-nil, refl, sym, ap, ◌∙◌, subst, inl, inr, arith}
 use Rattle.std.proofs.lemmas.Bool.{cond-true, cond-false, cases_lt, cases_eq, lt-ltb, le-ltb}
 use Rattle.std.proofs.lemmas.List.{get_or_past, get_or_append_left, get_or-append_right, length-append, length_push, get_or_push}
@@ -141,7 +141,7 @@ module _ (na nb : List ℕ) (wa wb : List (Option ℕ)) (sa sb m : ℕ) (rows : 
             (moves_none (nfas k) (λ l. holds l hay j) o)
       ]
 
-    -- the grid is the table of all patterns
+    -- the product is the table of all patterns
     pub serves_both : Serves next wins 1 (ps ++ qs)
     serves_both = record {
       nfa = nfas;
@@ -157,13 +157,13 @@ module _ (na nb : List ℕ) (wa wb : List (Option ℕ)) (sa sb m : ℕ) (rows : 
       };
     }
 
--- ---- how a grid grows
+-- ---- how the product in the making grows
 
 module _ (na nb : List ℕ) (wa wb : List (Option ℕ)) (sa sb m : ℕ) where
   abbrev ProductBuilder : List (ℕ × ℕ) → List ℕ → List (Option ℕ) → Type 0
   ProductBuilder = IsPartialProduct na nb wa wb sa sb m
 
-  -- a row more
+  -- with one more row
   pub partial_product_push : (rows : List (ℕ × ℕ)) (next : List ℕ) (wins : List (Option ℕ)) (p : ℕ × ℕ) → ProductBuilder rows next wins → p.0 ≢ sa → p.1 ≢ sb →
       ProductBuilder (rows ++ p ∷ []) next wins
   partial_product_push rows next wins p built other also =
@@ -221,7 +221,7 @@ module _ (na nb : List ℕ) (wa wb : List (Option ℕ)) (sa sb m : ℕ) where
         cells = built.cells;
       }
 
-  -- a cell more
+  -- with one more cell
   pub partial_product_cell : (rows : List (ℕ × ℕ)) (next : List ℕ) (wins : List (Option ℕ)) (r b v : ℕ) → ProductBuilder rows next wins → length wins ≡ r + 1 →
       length next ≡ r * 256 + b → b < 256 → v ≢ 1 → IsPairCell na nb rows (pair_at rows r) b v → ProductBuilder rows (next ++ v ∷ []) wins
   partial_product_cell rows next wins r b v built made at small other cell =

@@ -11,7 +11,7 @@ pub row_after-push : (next : List ℕ) (r : ℕ) (xs : List ℕ) (b : ℕ) → r
 row_after-push next r [] b = refl
 row_after-push next r (x ∷ xs) b = row_after-push next (next_of next r (Some x)) xs b
 
--- the walk stands in this row behind the first j bytes, and no row before was dead
+-- after the first j bytes the walk is in this row, and no row before was dead
 pub record Walked (t : Table) (text : List ℕ) (j r : ℕ) : Type 0 where
   pub row : r ≡ row_after (next_rows t) t.start (take j text)
   pub alive : (i : ℕ) → 0 < i → i ≤ j → row_after (next_rows t) t.start (take i text) ≢ 0
@@ -38,7 +38,7 @@ module _ (t : Table) (text : List ℕ) where
         ];
       }
 
-  -- no row behind a byte is dead
+  -- no row after a byte is dead
   pub living : (j r : ℕ) → t.start ≢ 0 → Walked t text j r → r ≢ 0
   living zero r some w dead = some (sym w.row ∙ dead)
   living (suc j) r some w dead = w.alive (suc j) (omega arith) (omega arith) (sym w.row ∙ dead)

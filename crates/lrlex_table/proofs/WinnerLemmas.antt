@@ -113,7 +113,7 @@ part_matches_best ps patterns text k n rises best =
       cuts = best.cuts;
     }
 
--- ---- what decides a look at several tables
+-- ---- what decides a scan by several tables
 
 pub decided_farther : (ps : List Re) (among : ℕ → Bool) (text : List ℕ) (n m : ℕ) → n ≤ m → IsDecidedAmong ps among text n → IsDecidedAmong ps among text m
 decided_farther ps among text n m le is other also same k lt this = is other also (alike_less n m text other le same) k lt this
@@ -162,7 +162,7 @@ scan_of_fewer ps among fewer text s each is = record {
   decided = λ other also same k lt this. is.decided other also same k lt (each k this);
 }
 
--- where there is one table alone, all see what it sees
+-- where there is only one table, its scan is that of all
 pub only_part : (ps : List Re) (t : Tables) (part : Part) (text : List ℕ) (s : TableScan) → t.parts.items ≡ part ∷ [] → AreTablesOf ps t →
     (IsPartOf ps 0 (length ps) part → IsTableScanOf ps (is_among part.patterns.items) text s) → IsTableScanOf ps (is_tabled t.parts.items) text s
 only_part ps t part text s only are sees =

@@ -8,7 +8,7 @@ pub struct Budget {
     work: usize,
 }
 
-/// What it costs to fill a row, in the budget's units of work, without the steps of an NFA.
+/// What it costs to fill a row, in the budget's units of work. The steps of an NFA are paid besides.
 const WORK_OF_A_ROW: usize = 1_000;
 
 impl Budget {
@@ -19,7 +19,7 @@ impl Budget {
         Budget { rows, work }
     }
 
-    /// Pays for so many rows. False where there aren't as many left, and then none is.
+    /// Pays for so many rows. False where fewer are left; then none is left after it.
     pub fn pay_rows(&mut self, rows: usize) -> bool
         ensures enough { IsTrue result ↔ (rows ≤ self.old.rows) }
         ensures left { self.new.rows ≡ self.old.rows - rows }
@@ -53,7 +53,7 @@ impl Budget {
         self.rows = self.rows.saturating_add(rows);
     }
 
-    /// Pays for so much work. False where there isn't as much left, and then none is.
+    /// Pays for so much work. False where less is left; then nothing is left after it.
     pub fn pay_work(&mut self, work: usize) -> bool
         ensures enough { IsTrue result ↔ (work ≤ self.old.work) }
         ensures left { self.new.work ≡ self.old.work - work }

@@ -7,7 +7,7 @@ use crate::budget::Budget;
 use crate::table::Table;
 use std::alloc::{AllocError, Global};
 
-/// The table of one pattern, once it was tried to build it and if that was possible, and how many lists are still to get it.
+/// Room for the table of one pattern, which may be untried, built or impossible to build, and how many lists are still to get it.
 #[derive(Drop)]
 pub struct CachedTable {
     pub(crate) table: Option<Table>,
@@ -16,7 +16,7 @@ pub struct CachedTable {
 }
 
 impl CachedTable {
-    /// A table that wasn't tried yet, for so many lists.
+    /// Room for a table that so many lists are to get, and that wasn't tried to be built yet.
     pub fn new(lists: usize) -> CachedTable
         ensures table { result.table ≡ None }
         ensures is_tried { result.is_tried ≡ false }
@@ -29,14 +29,14 @@ impl CachedTable {
         }
     }
 
-    /// Whether it was tried to build the table.
+    /// Whether building the table was tried.
     pub fn is_tried(&self) -> bool
         ensures { result ≡ self.now.is_tried }
     {
         self.is_tried
     }
 
-    /// Keeps what came of trying to build the table.
+    /// Keeps the table that was built, or that building it was tried and failed.
     pub fn tried(&mut self, table: Option<Table>)
         ensures table { self.new.table ≡ table }
         ensures is_tried { self.new.is_tried ≡ true }

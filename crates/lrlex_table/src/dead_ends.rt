@@ -209,7 +209,14 @@ impl<'d, 't> DeadEnds<'d, 't> {
 
     /// Which of the part's patterns wins at this place, where the walk stops at the first known dead end, and those that it comes
     /// to are kept.
-    fn part_winner_at(&mut self, part: &Part, list: usize, index: usize, place: usize, rest: &str) -> TableScan
+    fn part_winner_at(
+        &mut self,
+        part: &Part,
+        list: usize,
+        index: usize,
+        place: usize,
+        rest: &str,
+    ) -> TableScan
         requires part { table_at self.old.lists.now list index ≡ Some part.now.table }
         requires rest { rest.now ≡ drop place self.old.text.now }
         requires inside { place ≤ length self.old.text.now }
@@ -233,7 +240,13 @@ impl<'d, 't> DeadEnds<'d, 't> {
     /// Which pattern of the list wins at this place among those that have a table, where each walk stops at the first known
     /// dead end, and those that it comes to are kept.
     #[inline(never)]
-    fn winner_of_parts_at(&mut self, tables: &Tables, list: usize, place: usize, rest: &str) -> TableScan
+    fn winner_of_parts_at(
+        &mut self,
+        tables: &Tables,
+        list: usize,
+        place: usize,
+        rest: &str,
+    ) -> TableScan
         requires tables { slice_get self.old.lists.now list ≡ Some tables.now }
         requires rest { rest.now ≡ drop place self.old.text.now }
         requires inside { place ≤ length self.old.text.now }
@@ -286,7 +299,13 @@ impl<'d, 't> DeadEnds<'d, 't> {
     /// Which pattern wins at this place, as `winner_at` returns it, where a dead end may be known or the list has another number
     /// of tables than one. Out of line, so that only the walk through one table is in line.
     #[inline(never)]
-    fn winner_out_of_line(&mut self, tables: &Tables, list: usize, place: usize, rest: &str) -> TableScan
+    fn winner_out_of_line(
+        &mut self,
+        tables: &Tables,
+        list: usize,
+        place: usize,
+        rest: &str,
+    ) -> TableScan
         requires tables { slice_get self.old.lists.now list ≡ Some tables.now }
         requires rest { rest.now ≡ drop place self.old.text.now }
         requires inside { place ≤ length self.old.text.now }

@@ -10,7 +10,7 @@ ghost use Rattle.lrlex_table.specs.Determinizer.{AsksForStarts, side_at, StepsFr
 use crate::budget::Budget;
 use crate::index::{Index, hash_of_threads};
 use crate::marking::marked_table;
-use crate::step::{StepContext, Scratch, Stuck};
+use crate::step::{Scratch, StepContext, Stuck};
 use crate::table::{START, Table};
 use regex_dfa::Dfa;
 use regex_hir::Look;

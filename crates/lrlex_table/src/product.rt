@@ -61,7 +61,12 @@ fn run_end(a: &Table, x: u16, b: &Table, y: u16, byte: usize) -> usize
 
 impl ProductBuilder {
     /// The dead row and the row of the two tables' first rows, neither of them filled. None where a table begins at row 0.
-    fn new(alloc: Global, a: &Table, b: &Table, shift: u16) -> Result<Option<ProductBuilder>, AllocError>
+    fn new(
+        alloc: Global,
+        a: &Table,
+        b: &Table,
+        shift: u16,
+    ) -> Result<Option<ProductBuilder>, AllocError>
         ensures { IfOk result (λ o. IfSome o (λ g. IsProductBelow a.now b.now shift g 0)) }
     {
         if a.start == 0 || b.start == 0 {

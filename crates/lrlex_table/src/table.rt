@@ -6,7 +6,7 @@ use std::alloc::{AllocError, Global};
 /// Added to a cell that leads to a row where some pattern matches.
 pub(crate) const MARK: u16 = 0x8000;
 
-/// The row where each walk through a table begins. No cell leads to it.
+/// The row where a walk begins, in each table that is built. No cell leads to it.
 pub(crate) const START: u16 = 1;
 
 /// An automaton for a list of patterns. It has a row for each state, and a row has a cell for each byte: the next row,

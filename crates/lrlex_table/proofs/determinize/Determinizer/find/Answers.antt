@@ -7,9 +7,9 @@ use Rattle.lrlex_table.proofs.determinize.Determinizer.find.Goals as goal
 pub returns-in-loop-probe-clause-is : goal.returns-in-loop-probe-clause-is
 returns-in-loop-probe-clause-is c =
     let text = (bytes_eq-Decides c.as_slice.result.now c.args.threads.now).0 (sym c.eq.ensures ∙ c.if-eq.true) in
-    let at = c.in-Some.ensures.lookup in
+    let at = c.in-Some-get.ensures.lookup in
     let rows = c.args.self.now.rows.items in
-    let row = c.in_ok-row.row in
-    let read = ap (λ xs. slice_get xs row) (sym c.deref.ensures.value) ∙ slice_get_read c.deref.result.now (length c.deref.result.now) row c.in-Some.found.now refl at.3.0 at.1 in
+    let row = c.in-Some.row in
+    let read = ap (λ xs. slice_get xs row) (sym c.deref.ensures.value) ∙ slice_get_read c.deref.result.now (length c.deref.result.now) row c.in-Some-get.found.now refl at.3.0 at.1 in
     get_or_from_slice_get (lists_of c.args.self.now.rows) row c.args.threads.now []
     (slice_get-map (λ v. v.items) rows row ∙ ap (option_map (λ v. v.items)) read ∙ ap Some (sym c.as_slice.ensures.value ∙ text))

@@ -1,8 +1,8 @@
 use Rattle.std.proofs.Common.{Some, None, option_map, refl, sym, ap, ◌∙◌, subst, IsCharBoundary}
 use Rattle.std.proofs.lemmas.Str.{IsCharBoundary-start}
 use Rattle.regex.specs.Strings.{matcher_pattern, match_span}
-use Rattle.lrlex_matching.proofs.FoundLemmas.{match_length_found, match_length_other, end_elsewhere}
-use Rattle.lrlex_matching.proofs.matched.Goals as goal
+use Rattle.lrlex_matching.proofs.FindLemmas.{match_length_found, match_length_other, end_elsewhere}
+use Rattle.lrlex_matching.proofs.match_len.Goals as goal
 
 pub returns-then-start-eq0-clause-length : goal.returns-then-start-eq0-clause-length
 returns-then-start-eq0-clause-length c =

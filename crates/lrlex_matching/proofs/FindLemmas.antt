@@ -1,4 +1,4 @@
--- What a search answers: the end of a match that begins at the text's beginning, and 0 where there is none.
+-- What a search by `regex` finds: the end of a match that begins at the text's beginning, and 0 where there is none.
 use Rattle.std.proofs.Common.{◌≡◌, ◌≢◌, ne_eqb, ℕ, true, false, ◌==◌, List, Option, Some, option_map, refl, sym, ap, ◌∙◌, eq-eqb, ◌&&◌, IsCharBoundary}
 use Rattle.std.proofs.lemmas.Bool.{cond-true, cond-false}
 use Rattle.regex.specs.Patterns.{Re, find_str, span}
