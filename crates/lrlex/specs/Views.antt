@@ -4,13 +4,13 @@ use Rattle.lrlex_base.specs.Spans.{span_start, span_end}
 use Rattle.lrlex_base.specs.Seen.{Seen}
 use Rattle.lrlex_rules.specs.Definition.{Definition}
 use Rattle.lrlex_table.specs.declared.tables.Tables.{Tables}
-use Rattle.lrlex.specs.Stops.{lex_error_span, lex_error_state}
+use Rattle.lrlex.specs.Errors.{lex_error_span, lex_error_state}
 use Rattle.lrlex_rules.specs.Parts.{RuleParts, as_rule, as_state, state_number}
 use Rattle.lrlex.specs.Tiling.{Item, Lexeme, Error}
 use Rattle.lrlex.specs.declared.errors.LRLexError.{LRLexError}
 use Rattle.lrlex_rules.specs.declared.states.StartState as start
-use Rattle.lrlex.specs.declared.lexer.definition.LRNonStreamingLexerDef.{LRNonStreamingLexerDef}
-use Rattle.lrlex.specs.declared.lexer.definition.RuleTable.{RuleTable}
+use Rattle.lrlex.specs.declared.definition.non_streaming.LRNonStreamingLexerDef.{LRNonStreamingLexerDef}
+use Rattle.lrlex.specs.declared.definition.rule_table.RuleTable.{RuleTable}
 
 -- what a rule table says, where `number` gives the number that an id stands for
 abbrev pub definition_by : {S : Type 0} → (S → ℕ) → RuleTable S → Definition

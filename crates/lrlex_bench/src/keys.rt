@@ -1,7 +1,7 @@
 //! Times a document while keys are typed.
 use crate::measure::Definition;
 use lrlex::{DefaultLexerTypes, EditError};
-use lrlex_timing::{Fault, Typed, Typing, Watch, boundary_from, peak};
+use lrlex_bench_lib::{Fault, Typed, Typing, Watch, boundary_from, peak};
 use std::alloc::Global;
 
 type Document<'d> = lrlex::Document<'d, DefaultLexerTypes<u32>>;
@@ -43,7 +43,7 @@ fn type_keys(
     let mut place = from;
     for _ in 0..keys {
         time_key(rt, document, place, watch)?;
-        most = most.max(document.lexed());
+        most = most.max(document.recut_tiles());
         place = place.saturating_add(KEY.len());
     }
     let spread = watch.spread()?;

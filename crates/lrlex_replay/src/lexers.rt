@@ -1,14 +1,14 @@
 //! What a lexer tells of its items, and of any span and byte.
 ghost use Rattle.std.specs.Prelude.{◌≡◌};
-ghost use Rattle.lrlex.specs.Lexers.{lexer_text};
+ghost use Rattle.lrlex.specs.Lexer.{lexer_text};
 
 use crate::building::Definition;
 use crate::items::{item_seen, tell_items};
 use lrlex::{DefaultLexeme, DefaultLexerTypes, LRLexError, LRNonStreamingLexer};
 use lrlex_base::{Lexer, NonStreamingLexer, Span};
-use lrlex_cases::facts::{Fitting, tell_fitting};
-use lrlex_cases::reading::{Trouble, count_of, loose_span_of};
-use lrlex_cases::told::Told;
+use lrlex_replay_cases::facts::{Fitting, tell_fitting};
+use lrlex_replay_cases::reading::{Trouble, count_of, loose_span_of};
+use lrlex_replay_cases::told::Told;
 use serde_json::Value;
 use std::alloc::{AllocError, Global};
 
