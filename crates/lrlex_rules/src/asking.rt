@@ -7,11 +7,11 @@ ghost use Rattle.lrlex_rules.specs.Matchers.{IsMatcherOf, AreMatchers};
 ghost use Rattle.lrlex_rules.specs.Patterns.{rule_pattern};
 
 use crate::rules::Rule;
-use lrlex_matching::matched;
+use lrlex_matching::match_len;
 use regex::Matcher;
 use std::alloc::{AllocError, Global};
 
-/// How many bytes of the text the rule's pattern matches, by a search that is counted. No other function calls `matched`.
+/// How many bytes of the text the rule's pattern matches, by a search that is counted. No other function calls `match_len`.
 fn ask<S>(matcher: &mut Matcher<'_>, rule: &Rule<S>, text: &str, asked: &mut u128) -> usize
     requires rule { SameCaptures (matcher_pattern matcher.old) (rule_pattern rule.now) }
     requires room { asked.old + 1 < 2 ^ 128 }
@@ -21,7 +21,7 @@ fn ask<S>(matcher: &mut Matcher<'_>, rule: &Rule<S>, text: &str, asked: &mut u12
     ensures same { matcher_pattern matcher.new ≡ matcher_pattern matcher.old }
 {
     *asked += 1;
-    matched(matcher, text)
+    match_len(matcher, text)
 }
 
 /// The same, by a matcher that is made where there is none yet. Out of line, since a matcher's room on the stack would cost
