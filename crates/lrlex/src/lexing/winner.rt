@@ -71,18 +71,18 @@ fn tabled_winner<S: Numbered>(
         × (t.rule < vec_len table.now.rules)) }
     ensures ends { (ends.new.lists ≡ ends.old.lists) × (ends.new.text ≡ ends.old.text) }
 {
-    let scan = ends.look(rules.tables, rules.list, from, text);
-    let Some(tile) = scan.tile else {
+    let scan = ends.winner_at(rules.tables, rules.list, from, text);
+    let Some(found) = scan.winner else {
         return Scan {
             winner: None,
             reach: scan.reach,
         };
     };
-    let rule = active_place(rules.active, table.rules.len(), tile.rule);
+    let rule = active_place(rules.active, table.rules.len(), found.pattern);
     Scan {
         winner: Some(Tile {
             rule,
-            len: tile.len,
+            len: found.len,
         }),
         reach: scan.reach,
     }
@@ -120,11 +120,11 @@ fn winner_with_search<'d, S: Numbered>(
 {
     let active = rules.active;
     let tables = rules.tables;
-    let scan = ends.look(tables, rules.list, from, text);
-    let mut best = match scan.tile {
-        Some(tile) => Tile {
-            rule: tile.rule,
-            len: tile.len,
+    let scan = ends.winner_at(tables, rules.list, from, text);
+    let mut best = match scan.winner {
+        Some(found) => Tile {
+            rule: found.pattern,
+            len: found.len,
         },
         None => Tile { rule: 0, len: 0 },
     };

@@ -33,10 +33,10 @@ others-init g c =
       best = elim c.match-scan.branch [
         | in-Some w ↦
             subst told (sym w.best-is)
-            (told_some d q text places t.asked.items c.requires.rules.active t refl c.requires.rules.tables c.look-scan.result.tile c.look-scan.ensures.winner w.in-Some.tile w.in-Some.is)
+            (told_some d q text places t.asked.items c.requires.rules.active t refl c.requires.rules.tables c.winner_at-scan.result.winner c.winner_at-scan.ensures.winner w.in-Some.found w.in-Some.is)
         | in-None w ↦
             subst told (sym w.best-is)
-            (told_none d q text places t.asked.items c.requires.rules.active t refl c.requires.rules.tables c.look-scan.result.tile c.look-scan.ensures.winner w.in-None.is)
+            (told_none d q text places t.asked.items c.requires.rules.active t refl c.requires.rules.tables c.winner_at-scan.result.winner c.winner_at-scan.ensures.winner w.in-None.is)
       ];
     }
 
@@ -251,5 +251,5 @@ returns-clause-asked g c =
       );
     }
 
-pub look-scan-requires-clause-tables : goal.look-scan-requires-clause-tables
-look-scan-requires-clause-tables g c = ap (λ xs. slice_get xs c.args.rules.list) c.requires.held.1 ∙ c.requires.rules.list
+pub winner_at-scan-requires-clause-tables : goal.winner_at-scan-requires-clause-tables
+winner_at-scan-requires-clause-tables g c = ap (λ xs. slice_get xs c.args.rules.list) c.requires.held.1 ∙ c.requires.rules.list
