@@ -102,7 +102,7 @@ PARTS = [
     ("the greatest numbers", from_text(WORDS), "abc de", 0, 2**64 - 1, "0 ID abc|1 -  |0 ID de"),
     ("an empty text", from_text(WORDS), "", 0, 9, ""),
     ("up to an error", from_text(WORDS), "ab!cd", 1, 5, "0 ID ab"),
-    ("behind an error", from_text(WORDS), "ab!cd", 2, 5, ""),
+    ("after an error", from_text(WORDS), "ab!cd", 2, 5, ""),
     ("an error at the beginning", from_text(WORDS), "!ab", 0, 3, ""),
     ("without a state 0", from_rules(LETTERS, False), "aa", 0, 2, ""),
     ("from parts", from_rules(LETTERS, True), "aaa", 1, 2, "0 A a"),

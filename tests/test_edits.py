@@ -100,7 +100,7 @@ AFTER_AN_EDIT = [
     ),
 ]
 
-# Tiles cut anew after an edit, by tables and where each rule is asked, and how far the tiles of a run looked.
+# Tiles that are recut after an edit, with tables and by `regex` alone, and how far the tiles of a run looked ahead.
 RECUT = [
     # in a word, at the front and at the end: the word alone
     Row(with_budget(WORDS, 8_000, WORK), "ab cd ef", [(4, 4, "x")], recut=1),
@@ -112,14 +112,14 @@ RECUT = [
     # nothing
     Row(with_budget(WORDS, 8_000, WORK), "ab cd ef", [(4, 4, "")], recut=1),
     Row(with_budget(WORDS, 0, WORK), "ab cd ef", [(4, 4, "")], recut=3),
-    # the blank looked at the byte behind it, and a comment goes on to the end
+    # the blank looked at the byte after it, and a comment goes on to the end
     Row(with_budget(COMMENTS, 8_000, WORK), "one two three", [(4, 4, "/* ")], recut=3),
     Row(with_budget(COMMENTS, 0, WORK), "one two three", [(4, 4, "/* ")], recut=4),
     # the first match looked for a b
     Row(with_budget("%%\na+b|a 'X'", 8_000, WORK), "aac", [(2, 3, "b")], recut=1),
     Row(with_budget("%%\na+b|a 'X'", 0, WORK), "aac", [(2, 3, "b")], recut=1),
     Row(with_budget(WORDS, 8_000, WORK), "ab cd", recut=3, lookahead="0 1 1 1"),
-    # a rule that is asked counts as one that looks at the text's end
+    # a rule that is matched by `regex` counts as one that looks at the text's end
     Row(with_budget(WORDS, 0, WORK), "ab cd", recut=3, lookahead="0 4 3 1"),
     Row(with_budget("%%\na+b|a 'X'", 8_000, WORK), "aaac", recut=3, lookahead="0 3 2 1"),
     Row(with_budget(WORDS, 8_000, WORK), "", recut=0, lookahead="0"),
@@ -127,8 +127,8 @@ RECUT = [
 
 # How often the edits are made one after another, a text and the edits.
 #
-# In the last one brackets stand inside others: one more in front of them moves each stack behind it, so each edit leaves
-# entries behind that no boundary needs any more.
+# In the last one brackets are inside others: one more before them changes each stack after it, so each edit leaves entries that
+# no boundary needs any more.
 CHAINS = [
     (NESTED, 1, "(b)d", [(0, 0, "(")]),
     (COMMENTS, 1, "one two three", [(4, 4, "/* "), (10, 10, " */"), (4, 7, "")]),

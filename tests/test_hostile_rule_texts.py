@@ -69,12 +69,12 @@ LONG = [
 ]
 
 
-def names(head, before, count, behind, named=True):
-    """A head, and then so many times what stands before a name, the name, and what stands behind it.
+def names(head, before, count, after, named=True):
+    """A head, and then so many times what comes before a name, the name, and what comes after it.
 
     The names have seven bytes and differ, or they are none.
     """
-    return head + "".join(f"{before}{f'n{k + 100_000}' if named else ''}{behind}" for k in range(count))
+    return head + "".join(f"{before}{f'n{k + 100_000}' if named else ''}{after}" for k in range(count))
 
 
 def place_of(first, step, k, length, places, apart):
@@ -83,14 +83,14 @@ def place_of(first, step, k, length, places, apart):
     return "".join(format_span((start + i * apart, start + i * apart + length)) for i in range(places))
 
 
-def many(what, count, first, step, length, behind="", places=1, apart=0, numbered=False):
+def many(what, count, first, step, length, after="", places=1, apart=0, numbered=False):
     """Faults, states or rules that come of it, so many.
 
     What each is, the place of the first, and how much further on each of the others has its own; how long a place is, and what
-    follows behind the places: the number from 1, or these letters. Each stands in so many places, and these are so far apart.
+    follows after the places: the number from 1, or these letters. Each is in so many places, and these are so far apart.
     """
     return [
-        f"{what}{place_of(first, step, k, length, places, apart)}{f' {k + 1}' if numbered else ''}{behind}"
+        f"{what}{place_of(first, step, k, length, places, apart)}{f' {k + 1}' if numbered else ''}{after}"
         for k in range(count)
     ]
 
@@ -102,7 +102,7 @@ MANY = [
     (
         "ten thousand names",
         [names("%%\n", "x '", 10_000, "'\n")],
-        [INITIAL, many("rule 7", 10_000, first=6, step=12, length=7, behind=" 0")],
+        [INITIAL, many("rule 7", 10_000, first=6, step=12, length=7, after=" 0")],
     ),
     (
         "twenty thousand states with a rule each",
@@ -110,7 +110,7 @@ MANY = [
         [
             INITIAL,
             many("state 7", 20_000, first=3, step=8, length=7, numbered=True),
-            many("rule -", 20_000, first=160_017, step=13, length=0, behind=" 1"),
+            many("rule -", 20_000, first=160_017, step=13, length=0, after=" 1"),
         ],
     ),
     (

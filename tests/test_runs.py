@@ -39,7 +39,7 @@ TABLES = [
     Row(from_text(FAR_TWO_TABLES), "", tables=2, without_table=0),
 ]
 
-# Looks far past a tile's end in vain.
+# Texts on which tables walk far past the end of a tile in vain.
 FAR_TEXTS = [
     Row(from_text(FAR), "a" * 1_000_000, tiles=1_000_000, count=1_000_000),
     Row(from_text(FAR), "a" * 1_000_000 + "b", tiles=1, count=1),
@@ -49,24 +49,23 @@ FAR_TEXTS = [
     Row(from_text(FAR_WITHOUT_TABLE), "a" * 200_000, tiles=200_000, count=200_000),
 ]
 
-ASKING = with_budget(PUSHES, 0, 0)
+BY_REGEX = with_budget(PUSHES, 0, 0)
 
-# Inputs that push a million states, each also with an `e` put in front, where no rule has a table, so that each is asked;
-# and one of millions of tiles.
+# Inputs that push a million states, where no rule has a table, each also with an `e` put before it; and one of millions of tiles.
 LONG = [
-    Row(ASKING, "a" * 1_000_000 + "d", tiles=1_000_001, count=1, peak=2, last=2),
+    Row(BY_REGEX, "a" * 1_000_000 + "d", tiles=1_000_001, count=1, peak=2, last=2),
     Row(
-        ASKING, "a" * 1_000_000 + "d", [(0, 0, "e")],
+        BY_REGEX, "a" * 1_000_000 + "d", [(0, 0, "e")],
         tiles=1_000_002, count=1, peak=2, last=2, searches=5,
     ),
-    Row(ASKING, "ab" * 500_000 + "d", tiles=1_000_001, count=1, peak=1_000_001, last=1_000_001),
+    Row(BY_REGEX, "ab" * 500_000 + "d", tiles=1_000_001, count=1, peak=1_000_001, last=1_000_001),
     Row(
-        ASKING, "ab" * 500_000 + "d", [(0, 0, "e")],
+        BY_REGEX, "ab" * 500_000 + "d", [(0, 0, "e")],
         tiles=1_000_002, count=1, peak=1_000_001, last=1_000_001, searches=5,
     ),
-    Row(ASKING, "abcc" * 250_000 + "d", tiles=1_000_001, count=1, peak=3, last=1),
+    Row(BY_REGEX, "abcc" * 250_000 + "d", tiles=1_000_001, count=1, peak=3, last=1),
     Row(
-        ASKING, "abcc" * 250_000 + "d", [(0, 0, "e")],
+        BY_REGEX, "abcc" * 250_000 + "d", [(0, 0, "e")],
         tiles=1_000_002, count=1, peak=3, last=1, searches=5,
     ),
     Row(from_text("%%\nx ;"), "x" * 20_000_000, tiles=20_000_000, count=0, peak=1, searches=0),

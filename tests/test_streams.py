@@ -228,7 +228,7 @@ def broken_reports():
 
 
 def broken_twice():
-    """Standard output fails at each of its calls, and what is told of that at each of standard error's."""
+    """Standard output fails at each of its calls, and the message of that at each of standard error's."""
     for run in [it for it in WRITERS if it.name in ("lexed", "edited, stopped")]:
         for breaks in each(run, STDOUT, (errno.EIO,)):
             if breaks[STDOUT].most == 3:
