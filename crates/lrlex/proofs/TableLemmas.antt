@@ -13,7 +13,7 @@ use Rattle.regex.specs.Patterns.{Re, SameCaptures, empty}
 use Rattle.lrlex_rules.specs.Definition.{Definition, Rule}
 use Rattle.lrlex_matching.specs.Matching.{match_length}
 use Rattle.lrlex_rules.specs.Patterns.{pattern_of}
-use Rattle.lrlex_rules.specs.Parts.{RuleParts, as_rule, as_state}
+use Rattle.lrlex_rules.specs.RuleParts.{RuleParts, as_rule, as_state}
 use Rattle.lrlex_rules.specs.declared.states.StartState as start
 use Rattle.lrlex_table.specs.Table.{next_rows, pattern_at, IsTableOf, IsLongest, NoneMatches}
 use Rattle.lrlex_table.specs.Tables.{AreCached, is_among, is_tabled, AreRising, AreTablesOf, IsBestAmong}

@@ -3,7 +3,7 @@ ghost use Rattle.std.specs.Prelude.{◌≡◌, ◌<◌, ◌≤◌, ◌^◌, ℕ,
 ghost use Rattle.regex.specs.Patterns.{Re};
 ghost use Rattle.lrlex_table.specs.Table.{IsTableOf};
 ghost use Rattle.lrlex_table.specs.Tables.{AreCached, ArePartsOf, AreTablesOf};
-ghost use Rattle.lrlex_rules.specs.Parts.{as_rule};
+ghost use Rattle.lrlex_rules.specs.RuleParts.{as_rule};
 ghost use Rattle.lrlex_rules.specs.Patterns.{pattern_of};
 ghost use Rattle.lrlex.specs.StateTables.{pattern_in, patterns_on, AreServed, count_of_tables, count_of_rows, count_of_asked};
 
@@ -71,7 +71,7 @@ fn try_singles<S>(
 /// For how many rules the table of each alone is made before they are joined.
 const RULES_AT_ONCE: usize = 128;
 
-/// Tables for those of the rules at these places that stand from `from` on and below `to` in the list. The tables of rules
+/// Tables for those of the rules at these places whose index in the list is from `from` on and below `to`. The tables of rules
 /// alone have many more rows than one for all, so of a long list one part is joined before the next is begun. In a part at
 /// most half of what is left of the budget goes into these, so that as much is left to join them, and for other lists.
 fn tables_from<S>(
@@ -123,7 +123,7 @@ fn tables_on<S>(
     tables_from(alloc, rules, places, 0, places.len(), singles, budget)
 }
 
-/// In how many of the lists each of so many rules stands.
+/// In how many of the lists each of so many rules is.
 fn lists_with(alloc: Global, rules: usize, lists: &[Vec<usize>]) -> Result<Vec<usize>, AllocError> {
     let mut counts = vec![in alloc; 0usize; rules]?;
     for places in lists {
@@ -136,7 +136,7 @@ fn lists_with(alloc: Global, rules: usize, lists: &[Vec<usize>]) -> Result<Vec<u
     Ok(counts)
 }
 
-/// Room for the table of each rule alone, which stands in so many lists.
+/// Room for the table of each rule alone, which is in so many lists.
 fn singles_in(alloc: Global, lists: &[usize]) -> Result<Vec<CachedTable>, AllocError>
     ensures { (pattern : ℕ → Re) → IfOk result (λ singles. AreCached pattern singles.items) }
 {
@@ -147,7 +147,7 @@ fn singles_in(alloc: Global, lists: &[usize]) -> Result<Vec<CachedTable>, AllocE
     Ok(singles)
 }
 
-/// Tables for each of the lists of rules, which stand at these places.
+/// Tables for each of the lists of rules, which are at these places.
 pub(crate) fn tables_for<S>(
     alloc: Global,
     rules: &[Rule<S>],

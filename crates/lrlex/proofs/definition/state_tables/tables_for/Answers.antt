@@ -1,7 +1,7 @@
 use Rattle.std.proofs.Common.{rules, ◌≡◌, [], map, length, option_map, refl, sym, ap, ◌∙◌, subst, arith}
 use Rattle.std.proofs.lemmas.List.{length_push}
 use Rattle.std.proofs.lemmas.Option.{slice_get-map, slice_get_read, get_or_from_slice_get}
-use Rattle.lrlex_rules.specs.Parts.{as_rule}
+use Rattle.lrlex_rules.specs.RuleParts.{as_rule}
 use Rattle.lrlex.specs.StateTables.{AreServed, list_in, patterns_on, pattern_in}
 use Rattle.lrlex_table.specs.Tables.{AreCached, AreTablesOf}
 use Rattle.lrlex.proofs.TableLemmas.{single_back, served_more}

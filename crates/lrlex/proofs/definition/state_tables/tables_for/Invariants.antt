@@ -1,7 +1,7 @@
 -- The tables of the lists so far.
 use Rattle.std.proofs.Common.{◌≡◌, map, length}
 use Rattle.lrlex_table.specs.Tables.{AreCached}
-use Rattle.lrlex_rules.specs.Parts.{as_rule}
+use Rattle.lrlex_rules.specs.RuleParts.{as_rule}
 use Rattle.lrlex.specs.StateTables.{AreServed, pattern_in}
 use Rattle.lrlex.proofs.definition.state_tables.tables_for.Given as goal
 

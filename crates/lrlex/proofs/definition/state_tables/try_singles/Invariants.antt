@@ -1,6 +1,6 @@
 use Rattle.std.proofs.Common.{map}
 use Rattle.lrlex_table.specs.Tables.{AreCached}
-use Rattle.lrlex_rules.specs.Parts.{as_rule}
+use Rattle.lrlex_rules.specs.RuleParts.{as_rule}
 use Rattle.lrlex.specs.StateTables.{pattern_in}
 use Rattle.lrlex.proofs.definition.state_tables.try_singles.Given as goal
 
