@@ -109,15 +109,25 @@ fn conclude<W: Write, E: Write>(
     }
 }
 
+/// A rule text, the flags of its lexer, and the input.
+struct Request<'t> {
+    rules: &'t str,
+    flags: LexFlags,
+    input: &'t str,
+}
+
 /// Lexes the input by the rules and returns the status.
 fn lex<W: Write, E: Write>(
     alloc: Global,
-    rules: &str,
-    flags: LexFlags,
-    input: &str,
+    request: &Request<'_>,
     out: &mut W,
     err: &mut E,
 ) -> Result<u8, Fault<'static>> {
+    let Request {
+        rules,
+        flags,
+        input,
+    } = *request;
     let ended = engine::run::<DefaultLexerTypes<u32>, W>(alloc, rules, flags, input, out);
     conclude(alloc, rules, ended, out, err)
 }
@@ -125,13 +135,16 @@ fn lex<W: Write, E: Write>(
 /// Lexes the input by the rules, lexes again after the edit, and returns the status.
 fn lex_edited<W: Write, E: Write>(
     alloc: Global,
-    rules: &str,
-    flags: LexFlags,
-    input: &str,
+    request: &Request<'_>,
     edit: &(usize, usize, String),
     out: &mut W,
     err: &mut E,
 ) -> Result<u8, Fault<'static>> {
+    let Request {
+        rules,
+        flags,
+        input,
+    } = *request;
     let (from, to, put) = edit;
     if from > to {
         return Err(Fault::BadEdit);
@@ -146,14 +159,9 @@ fn lex_edited<W: Write, E: Write>(
     let Ok(edited) = edit.apply(alloc, input) else {
         return Err(Fault::Memory);
     };
+    let edited = edited.as_str();
     let ended = engine::run_edited::<DefaultLexerTypes<u32>, W>(
-        alloc,
-        rules,
-        flags,
-        input,
-        &edit,
-        edited.as_str(),
-        out,
+        alloc, rules, flags, input, &edit, edited, out,
     );
     conclude(alloc, rules, ended, out, err)
 }
@@ -167,7 +175,12 @@ fn serve_input<R: AllocGlobal, I: Read, W: Write, E: Write>(
 ) -> Result<u8, Fault<'static>> {
     let both = read_text(rt.alloc(), stdin).map_err(|fault| Fault::of_text("-", fault))?;
     let (rules, input) = split(both.as_str());
-    lex(rt.alloc(), rules, UNSPECIFIED_LEX_FLAGS, input, out, err)
+    let request = Request {
+        rules,
+        flags: UNSPECIFIED_LEX_FLAGS,
+        input,
+    };
+    lex(rt.alloc(), &request, out, err)
 }
 
 /// Lexes by the rule text and the input that the words name. The rule text is read first.
@@ -182,10 +195,14 @@ fn serve_files<'w, R: Files + AllocGlobal, I: Read, W: Write, E: Write>(
     let rules = text_at(rt, path, stdin).map_err(|fault| Fault::of_text(path, fault))?;
     let path = words.input.as_str();
     let input = text_at(rt, path, stdin).map_err(|fault| Fault::of_text(path, fault))?;
-    let (rules, input) = (rules.as_str(), input.as_str());
+    let request = Request {
+        rules: rules.as_str(),
+        flags: words.flags,
+        input: input.as_str(),
+    };
     match &words.edit {
-        Some(edit) => lex_edited(rt.alloc(), rules, words.flags, input, edit, out, err),
-        None => lex(rt.alloc(), rules, words.flags, input, out, err),
+        Some(edit) => lex_edited(rt.alloc(), &request, edit, out, err),
+        None => lex(rt.alloc(), &request, out, err),
     }
 }
 
