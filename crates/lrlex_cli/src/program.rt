@@ -110,6 +110,7 @@ fn conclude<W: Write, E: Write>(
 }
 
 /// A rule text, the flags of its lexer, and the input.
+#[derive(Clone, Copy)]
 struct Request<'t> {
     rules: &'t str,
     flags: LexFlags,
@@ -119,7 +120,7 @@ struct Request<'t> {
 /// Lexes the input by the rules and returns the status.
 fn lex<W: Write, E: Write>(
     alloc: Global,
-    request: &Request<'_>,
+    request: Request<'_>,
     out: &mut W,
     err: &mut E,
 ) -> Result<u8, Fault<'static>> {
@@ -127,7 +128,7 @@ fn lex<W: Write, E: Write>(
         rules,
         flags,
         input,
-    } = *request;
+    } = request;
     let ended = engine::run::<DefaultLexerTypes<u32>, W>(alloc, rules, flags, input, out);
     conclude(alloc, rules, ended, out, err)
 }
@@ -135,7 +136,7 @@ fn lex<W: Write, E: Write>(
 /// Lexes the input by the rules, lexes again after the edit, and returns the status.
 fn lex_edited<W: Write, E: Write>(
     alloc: Global,
-    request: &Request<'_>,
+    request: Request<'_>,
     edit: &(usize, usize, String),
     out: &mut W,
     err: &mut E,
@@ -144,7 +145,7 @@ fn lex_edited<W: Write, E: Write>(
         rules,
         flags,
         input,
-    } = *request;
+    } = request;
     let (from, to, put) = edit;
     if from > to {
         return Err(Fault::BadEdit);
@@ -180,7 +181,7 @@ fn serve_input<R: AllocGlobal, I: Read, W: Write, E: Write>(
         flags: UNSPECIFIED_LEX_FLAGS,
         input,
     };
-    lex(rt.alloc(), &request, out, err)
+    lex(rt.alloc(), request, out, err)
 }
 
 /// Lexes by the rule text and the input that the words name. The rule text is read first.
@@ -201,8 +202,8 @@ fn serve_files<'w, R: Files + AllocGlobal, I: Read, W: Write, E: Write>(
         input: input.as_str(),
     };
     match &words.edit {
-        Some(edit) => lex_edited(rt.alloc(), &request, edit, out, err),
-        None => lex(rt.alloc(), &request, out, err),
+        Some(edit) => lex_edited(rt.alloc(), request, edit, out, err),
+        None => lex(rt.alloc(), request, out, err),
     }
 }
 

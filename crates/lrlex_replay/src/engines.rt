@@ -127,7 +127,10 @@ pub fn display_faults(told: &mut Told) -> Result<(), AllocError> {
     told.key("faults");
     told.open("[");
     tell_displayed(told, &EngineFault::Memory)?;
-    tell_displayed(told, &EngineFault::Write(io::Error::from(io::ErrorKind::Other)))?;
+    tell_displayed(
+        told,
+        &EngineFault::Write(io::Error::from(io::ErrorKind::Other)),
+    )?;
     for fault in [WordsFault::Memory, WordsFault::Refused] {
         tell_displayed(told, &fault)?;
     }
