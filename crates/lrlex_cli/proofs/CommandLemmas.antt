@@ -10,7 +10,7 @@ use Rattle.lrlex_cli.specs.Command.{command, given}
 pub one_more : (a b c : App) (r : Rule) → c ≡ with_rule b r → b ≡ a → c ≡ with_rule a r
 one_more a b c r e before = e ∙ ap (λ (x : App). with_rule x r) before
 
--- the same of the last call, whose result is not yet known to be `Ok`
+-- one argument more by the last call, whose result is not yet known to be `Ok`
 pub last_more : {E : Type 0} (a b : App) (r : Rule) (last : Result Command E) → b ≡ a
     → IfOk last (λ c. app_of c ≡ with_rule b r) → IfOk last (λ c. app_of c ≡ with_rule a r)
 last_more a b r last before h = IfOk-weaker last _ _ (λ c e. one_more a b (app_of c) r e before) h

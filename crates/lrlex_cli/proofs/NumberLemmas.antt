@@ -34,7 +34,7 @@ module _ (E : Type 0) (bits : ℕ) (G : Text → Result ℕ E → Type 0) (parse
   read_value (Some t) (Ok None) none some cases = absurd (some t refl)
   read_value (Some t) (Err e) none some cases = refused _ (Q e) q cases (no_number bits t e (parses t (Err e) (some t refl)))
 
-  -- the same of an option's name
+  -- reading the number of the option of a name
   pub read_number : (f : Found) (name : Text) (r : Result (Option ℕ) E) → (one_text f name ≡ None → r ≡ Ok None)
       → ((t : Text) → one_text f name ≡ Some t → TriesOne G t r)
       → MatchResult r (λ n. q ≡ Ok n) (λ e. IsErrAnd q (Q e)) → Reads (IsNumber bits (rows_of f) name) q

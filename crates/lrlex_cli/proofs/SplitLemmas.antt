@@ -9,21 +9,21 @@ use Rattle.lrlex_cli.specs.Texts.{IsWholeLines, HasMarkBetween, IsSplit}
 abbrev pub LacksFront : List ℕ → Type 0
 LacksFront s = (rest : List ℕ) → s ≢ codes "----\n" ++ rest
 
--- nor does it stand after a line that ends below n
+-- the mark's line does not follow a line that ends below n
 abbrev pub LacksBelow : List ℕ → ℕ → Type 0
 LacksBelow s n = (i : ℕ) → i < n → LacksTextAt (codes "\n----\n") s i
 
--- what stands past a front
+-- what follows a front
 past : (f x : List ℕ) → drop (length f) (f ++ x) ≡ x
 past [] x = refl
 past (y ∷ f) x = past f x
 
--- what stands in a front
+-- what is in a front
 within : (f x : List ℕ) → take (length f) (f ++ x) ≡ f
 within [] x = refl
 within (y ∷ f) x = ap (λ (l : List ℕ). y ∷ l) (within f x)
 
--- a mark stands further on, or ends the text
+-- a mark is further on, or ends the text
 pub placed : (s b a : List ℕ) (n : ℕ) → LacksFront s → LacksBelow s n → HasMarkBetween s b a → (n < length b) ⊎ (s ≡ b ++ codes "----")
 placed s b a n front below m =
     elim m.parts [
@@ -37,7 +37,7 @@ placed s b a n front below m =
       | inr p ↦ inr p.0
     ]
 
--- the text is split where the first mark stands after a line's end
+-- the text is split where the first mark follows a line's end
 pub split_found : (s front rest : List ℕ) → LacksFront s → LacksBelow s (length front) → s ≡ front ++ (codes "\n----\n" ++ rest) → IsSplit s (front ++ 10 ∷ []) rest
 split_found s front rest none below e =
     inl (
@@ -51,7 +51,7 @@ split_found s front rest none below e =
       ],
     )
 
--- the same, by the places that `find` gives
+-- the text is split at the place that `find` returns
 pub split_found_at : (s before after : List ℕ) (at j : ℕ) → LacksFront s → LacksBelow s at → HasTextAt (codes "\n----\n") s at j → at ≤ length s
     → before ≡ slice_range s 0 (at + 1) → after ≡ drop (at + 6) s → IsSplit s before after
 split_found_at s before after at j none below here fits b a =
@@ -95,6 +95,6 @@ pub whole_lines : (bs : List ℕ) → (length bs ≡ 0) ⊎ ((front : List ℕ) 
 whole_lines [] h = inl refl
 whole_lines (b ∷ bs) h = elim h [ inl e ↦ absurd (omega arith) | inr w ↦ inr w ]
 
--- and only there
+-- a text is not whole lines where it has bytes and its last is not U+000A
 pub broken_line : (bs : List ℕ) (r : Bool) → length bs ≢ 0 → ((front : List ℕ) → bs ≡ front ++ 10 ∷ [] → r ≡ true) → r ≡ false → IsWholeLines bs → ⊥
 broken_line bs r some ends f h = elim h [ inl e ↦ some (ap length e) | inr w ↦ absurd (cc (ends w.0 w.1, f)) ]

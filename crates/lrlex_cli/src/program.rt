@@ -14,7 +14,7 @@ use std::alloc::Global;
 use std::io::{Read, Write};
 use std::rt::Files;
 
-/// Why the program can't do what it is asked, other than for errors in the rule text.
+/// Why the program can't do what its words ask for, other than for errors in the rule text.
 #[derive(Clone, Copy, Debug, PartialEq, Eq)]
 pub enum Fault<'a> {
     /// The words aren't those of a call of the program.

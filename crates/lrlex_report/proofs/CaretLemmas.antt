@@ -1,9 +1,9 @@
--- Characters that are added one behind another.
+-- Characters that are added one after the other.
 use Rattle.std.proofs.Common.{◌≡◌, ℕ, ◌+◌, List, [], ◌∷◌, ◌++◌, length, replicate, ap, ◌∙◌, arith, append_assoc, append-nil}
 use Rattle.std.proofs.lemmas.List.{replicate-append-replicate, length-append}
 use Rattle.lrlex_report.specs.Carets.{or_caret}
 
--- one more of the same
+-- the character once more
 pub replicate_more : (old : List ℕ) (n x : ℕ) → (old ++ replicate n x) ++ x ∷ [] ≡ old ++ replicate (n + 1) x
 replicate_more old n x = append_assoc old (replicate n x) (x ∷ []) ∙ ap (λ xs. old ++ xs) (replicate-append-replicate n 1 x)
 

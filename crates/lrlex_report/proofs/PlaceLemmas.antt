@@ -64,14 +64,14 @@ IsCharBoundary_min text a b x y =
       | inr le ↦ let e : min a b ≡ b = omega arith in subst (IsCharBoundary text) (sym e) y
     ]
 
--- the line of a place, by the ends that the cache tells
+-- the line of a place, by the ends that the cache returns
 pub line_at_is : (text : List ℕ) (at begin end stop : ℕ) → begin ≡ (whole_lines text (at_place at)).start → end ≡ (whole_lines text (at_place at)).end → stop ≡ before_return text (span begin end) →
     span begin stop ≡ line_at text at
 line_at_is text at begin end stop a b c =
     let lines = whole_lines text (at_place at) in
     ap (λ (s : ℕ). span begin s) c ∙ ap (λ (x : ℕ). span x (before_return text (span x end))) a ∙ ap (λ (x : ℕ). span lines.start (before_return text (span lines.start x))) b
 
--- a heading and an excerpt, added one behind the other
+-- a heading and an excerpt, added one after the other
 pub placed : (file text message out mid new : List ℕ) (x : Span) (at to : ℕ) (p : ℕ × ℕ) → at ≡ nearest text x.start → to ≡ nearest text x.end → p ≡ place_of text at → mid ≡ out ++ heading file p.0 p.1 message →
     new ≡ mid ++ excerpt text at to → new ≡ out ++ place_text file text x message
 unfolding place_text

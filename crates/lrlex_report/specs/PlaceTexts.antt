@@ -1,5 +1,5 @@
--- How a place of a text is shown: its file, line and column with a message, its line behind the line's number, and carets under
--- the place.
+-- How a place of a text is shown: its file, line and column with a message, then its line with the line's number, then carets
+-- under the place.
 use Rattle.std.specs.Prelude.{ℕ, ◌-◌, ◌==◌, ◌&&◌, nat_lt, min, List, [], ◌∷◌, ◌++◌, length, replicate, slice_index, slice_range, codes, decimal, if◌then◌else◌}
 use Rattle.std.specs.Str.{chars}
 use Rattle.std.specs.Fmt.Cut.{floor_char_boundary}

@@ -1,4 +1,4 @@
--- The lines of the faults so far stand in `text`.
+-- `text` has the lines of the errors so far.
 use Rattle.std.proofs.Common.{◌≡◌, string_bytes, take}
 use Rattle.lrlex_cli.specs.FaultLines.{fault_lines}
 use Rattle.lrlex_cli.proofs.fault_lines.fault_lines.Given as goal

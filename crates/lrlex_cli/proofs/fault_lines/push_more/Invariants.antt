@@ -1,4 +1,4 @@
--- The places so far stand behind what stood in `text`.
+-- `text` has what it had before, and then the places so far.
 use Rattle.std.proofs.Common.{◌≡◌, ◌++◌, string_bytes, take}
 use Rattle.lrlex_cli.specs.FaultLines.{more_places}
 use Rattle.lrlex_cli.proofs.fault_lines.push_more.Given as goal

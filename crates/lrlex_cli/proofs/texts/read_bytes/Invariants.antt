@@ -1,4 +1,4 @@
--- What was read so far stands in `bytes`.
+-- `bytes` has what was read so far.
 use Rattle.std.specs.Io.KnownBytes.{Consumes}
 use Rattle.lrlex_cli.proofs.texts.read_bytes.Given as goal
 

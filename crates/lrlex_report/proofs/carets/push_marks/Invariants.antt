@@ -1,4 +1,4 @@
--- The characters so far stand behind what stood in `out`.
+-- `out` has what it had before, and then what the characters so far add.
 use Rattle.std.proofs.Common.{◌≡◌, ◌++◌, string_bytes}
 use Rattle.lrlex_report.specs.Carets.{marks}
 use Rattle.lrlex_report.proofs.carets.push_marks.Given as goal

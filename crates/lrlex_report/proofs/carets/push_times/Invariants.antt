@@ -1,4 +1,4 @@
--- So many stand behind what stood in `out`.
+-- `out` has what it had before, and then the character `done` times.
 use Rattle.std.proofs.Common.{◌≡◌, ◌-◌, ◌≤◌, ◌++◌, replicate, string_bytes}
 use Rattle.lrlex_report.proofs.carets.push_times.Given as goal
 

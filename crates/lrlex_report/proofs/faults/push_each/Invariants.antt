@@ -1,4 +1,4 @@
--- The places so far stand behind what stood in `out`.
+-- `out` has what it had before, and then the message at the places so far.
 use Rattle.std.proofs.Common.{◌≡◌, ◌++◌, string_bytes, take}
 use Rattle.lrlex_report.specs.FaultTexts.{at_each}
 use Rattle.lrlex_report.proofs.faults.push_each.Given as goal
