@@ -72,6 +72,17 @@ BROKEN = [
     ("", [5, 0, "fails at a flush"], [4, 2, "takes none"], "", "1:1:", 0),
 ]
 
+# What each error of lrlex_cli displays: those of the engine, of the words and of the texts.
+ERRORS = [
+    "Out of memory",
+    "Can't write",
+    "Out of memory",
+    "Usage: lrlex <lexer.l> <input file>",
+    "Out of memory",
+    "Can't open file",
+    "File is not UTF-8",
+]
+
 
 def answers_of(steps, key):
     """What each step answers under this key, by one run of the program."""
@@ -120,6 +131,12 @@ class Engine(replay.TestCase):
             with self.subTest(step=row[:3]):
                 lines, messages, flushes = row[3:]
                 self.assertEqual(answer, [1, list(lines.encode()), list(messages.encode()), flushes])
+
+    def test_what_errors_display(self):
+        [displayed] = answers_of([["faults"]], "faults")
+        for row in zip(displayed, ERRORS, strict=True):
+            with self.subTest(error=row[1]):
+                self.assertEqual(*row)
 
 
 if __name__ == "__main__":
