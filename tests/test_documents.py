@@ -5,7 +5,7 @@ import unittest
 from support import replay
 from support.definitions import from_rules, from_text, rule
 from support.formatting import format_items, format_pieces, format_places, names_of
-from support.rule_texts import COMMENTS, LINES, WORDS
+from support.rule_texts import COMMENTS, LINES, NESTED, WORDS
 
 FACES = "%%\n[a😀]+ 'ID'\n[ ] ;"
 
@@ -113,6 +113,19 @@ PARTS = [
     ("a comment that was opened before", from_text(COMMENTS), "a /* b */ c", 6, 8, "2 -  b |1 - */"),
 ]
 
+# What a row shows, how its definition is made, its text, the place up to which it is lexed, and the start state there.
+ENDS = [
+    ("a text that is lexed whole", from_text(WORDS), "ab cd", [5, 0]),
+    ("an empty text", from_text(WORDS), "", [0, 0]),
+    ("a text that stops with an error", from_text(WORDS), "ab!cd", [2, 0]),
+    ("an unclosed comment", from_text(COMMENTS), "a /* b", [6, 1]),
+    ("a closed comment", from_text(COMMENTS), "a /* b */ c", [11, 0]),
+    ("two open brackets", from_text(NESTED), "((x)y", [5, 1]),
+    ("an error in a start state", from_text(NESTED), "(1", [1, 1]),
+    ("without a state 0", from_rules(LETTERS, False), "aa", [0, None]),
+    ("from parts", from_rules(LETTERS, True), "aab", [2, 0]),
+]
+
 
 def document_case(rules, text, edits):
     """A document of a text through edits."""
@@ -172,6 +185,13 @@ class Documents(replay.TestCase):
                     self.assertEqual(format_places(answers.values("place")), places)
                     of_spans = answers.values("told")[len(answers.last("items")):]
                     self.assertEqual(format_texts(span[2] for span in of_spans), texts)
+
+    def test_where_a_text_ends(self):
+        cases = [definition.case(["end", text]) for _, definition, text, _ in ENDS]
+        for (name, _, _, wanted), answers in zip(ENDS, replay.answers(cases), strict=True):
+            with self.subTest(row=name):
+                # by a run and by a document
+                self.assertEqual(answers.values("end"), [wanted, wanted])
 
     def test_the_pieces_of_a_part(self):
         cases = [definition.case(["part", text, start, end]) for _, definition, text, start, end, _ in PARTS]
