@@ -1,6 +1,6 @@
 """Stored runs of ./lrlex, which builds the program first where its source changed."""
 
-import os
+import os.path
 import shlex
 import unittest
 
@@ -10,8 +10,9 @@ from support.program_rows import PROGRAM
 
 
 def command():
-    """The command: ./lrlex, or the program in the folder that LRLEX_PROGRAMS names."""
-    return programs.path_of(PROGRAM) if os.environ.get("LRLEX_PROGRAMS") else f"{programs.TOP}/lrlex"
+    """./lrlex where its program is built, so that no test starts the first build; else the program that LRLEX_PROGRAMS names."""
+    is_built = os.path.exists(f"{programs.TOP}/crates/{PROGRAM}/out/{PROGRAM}")
+    return f"{programs.TOP}/lrlex" if is_built else programs.path_of(PROGRAM)
 
 
 class Cli(unittest.TestCase):

@@ -36,7 +36,7 @@ def is_built(name):
 def need(name):
     """Skips the test where the program isn't built."""
     if not is_built(name):
-        raise unittest.SkipTest(f"{name} isn't built: rt run in crates/{name} builds it (there is no {path_of(name)})")
+        raise unittest.SkipTest(f"{name} isn't built: ./dev build {name}")
 
 
 def by_rattle(name):
