@@ -9,13 +9,13 @@ use Rattle.lrlex_base.specs.Spans.{Fits, Span, span}
 use Rattle.lrlex_base.specs.declared.spans.Span.{Span as TheSpan}
 use Rattle.lrlex_boundaries.specs.Boundaries.{Boundary}
 use Rattle.std.specs.String.{string_bytes}
-use Rattle.lrlex.specs.Asked.{asks_by}
-use Rattle.lrlex.specs.Editing.{IsLexedBy, WasEdited, WasLeft}
+use Rattle.lrlex.specs.Searches.{asks_by}
+use Rattle.lrlex.specs.Document.{IsLexedBy, WasEdited, WasLeft}
 use Rattle.lrlex.specs.ItemLaws.{HaveLaws}
-use Rattle.lrlex.specs.Kept.{LooksAhead}
+use Rattle.lrlex.specs.Lookahead.{LooksAhead}
 use Rattle.lrlex.specs.Nearest.{FitsAt}
 use Rattle.lrlex.specs.Reach.{IsRun}
-use Rattle.lrlex.specs.Relexed.{AreCountsOf}
+use Rattle.lrlex.specs.Relex.{AreCountsOf}
 use Rattle.lrlex.specs.Views.{definition_by, items_by}
 use Rattle.lrlex.specs.declared.errors.LRLexError.{LRLexError}
 use Rattle.lrlex.specs.declared.definition.rule_table.RuleTable.{RuleTable}
@@ -85,6 +85,6 @@ module _ {S X : Type 0} (number : S → ℕ) (seen : X → Seen S) (d : RuleTabl
 
   pub edited_counts : {A E : Type 0} (r : Result A E) (bounds : List Boundary) (numbers : List ℕ) → OnOk r (WasEdited number seen d removed put old new) →
       old.lexed.boundaries ≡ bounds → old.lexed.ahead.items ≡ numbers →
-      OnOk r (AreCountsOf (definition_by number d) (asks_by d (string_bytes new.text)) bounds numbers removed put (string_bytes new.text) new.lexed.boundaries new.lexed.asked new.lexed.anew)
+      OnOk r (AreCountsOf (definition_by number d) (asks_by d (string_bytes new.text)) bounds numbers removed put (string_bytes new.text) new.lexed.boundaries new.lexed.asked new.lexed.recut)
   edited_counts (Ok x) bounds numbers made is_bounds is_numbers = counts_moved (asks_by d) is_bounds is_numbers refl refl made.counts
   edited_counts (Err e) bounds numbers made is_bounds is_numbers = tt

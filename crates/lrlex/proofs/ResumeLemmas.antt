@@ -15,7 +15,7 @@ use Rattle.lrlex_boundaries.specs.Entries.{plain, AreEntries}
 use Rattle.lrlex_boundaries.specs.Boundaries.{Boundary, place_and_stack, no_boundary, boundary_at}
 use Rattle.lrlex.specs.Moves.{begins_before}
 use Rattle.lrlex.specs.Reach.{Reached, IsLexed}
-use Rattle.lrlex.specs.Kept.{IsDecidedAt, AreDecided, items_before, GoesOn, BeginAlike}
+use Rattle.lrlex.specs.Lookahead.{IsDecidedAt, AreDecided, items_before, GoesOn, BeginAlike}
 use Rattle.lrlex.proofs.TilingLemmas.{Wins-le}
 use Rattle.lrlex.proofs.TailLemmas.{tail_tiling}
 use Rattle.lrlex.proofs.BestLemmas.{a_tiling}

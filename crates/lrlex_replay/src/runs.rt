@@ -77,7 +77,7 @@ fn tell_counts(told: &mut Told, run: &Run<'_, '_>) {
         run.items().len(),
         run.entries_peak(),
         last_entries(run),
-        run.lexed(),
+        run.recut_tiles(),
         most_of(run.asked()),
     ]);
 }

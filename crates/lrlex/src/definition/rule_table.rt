@@ -149,7 +149,7 @@ impl<S: Numbered> RuleTable<S> {
 
 /// The rules that are active in a start state, as places, and their tables.
 #[derive(Clone, Copy)]
-pub(crate) struct RulesIn<'d> {
+pub(crate) struct StateRules<'d> {
     pub(crate) state: usize,
     pub(crate) active: &'d [usize],
     /// The place of the tables among those of the definition.
@@ -162,8 +162,8 @@ impl<S: Numbered> RuleTable<S> {
     ghost use Rattle.std.specs.Prelude.{Some, slice_get};
     ghost use Rattle.lrlex_table.specs.Tables.{AreTablesOf};
     ghost use Rattle.lrlex.specs.StateTables.{patterns_on};
-    ghost use Rattle.lrlex.specs.AtHand.{AreOf};
-    ghost use Rattle.lrlex.specs.Asked.{untabled_count};
+    ghost use Rattle.lrlex.specs.Searcher.{AreOf};
+    ghost use Rattle.lrlex.specs.Searches.{untabled_count};
 
     /// Whether a state has the id.
     #[inline(always)]
@@ -201,13 +201,13 @@ impl<S: Numbered> RuleTable<S> {
 
     /// The rules that are active in the first state with the id.
     #[inline(always)]
-    pub(crate) fn rules_in(&self, id: usize) -> RulesIn<'_>
+    pub(crate) fn rules_in(&self, id: usize) -> StateRules<'_>
         requires { is_state (definition_by S.number self.now) id ≡ true }
         ensures state { result.state ≡ id }
         ensures rules { AreOf S.number self.now id result }
     {
         let (list, tables) = self.tables_in(id);
-        RulesIn {
+        StateRules {
             state: id,
             active: self.active_in(id),
             list,
@@ -218,14 +218,14 @@ impl<S: Numbered> RuleTable<S> {
     /// The rules that are active in the first state with the id. These are the ones at hand, where they are that state's:
     /// lexing mostly stays in a state.
     #[inline(always)]
-    pub(crate) fn rules_at<'d>(&'d self, here: RulesIn<'d>, id: usize) -> RulesIn<'d>
+    pub(crate) fn rules_at<'d>(&'d self, rules: StateRules<'d>, id: usize) -> StateRules<'d>
         requires id { is_state (definition_by S.number self.now) id ≡ true }
-        requires here { AreOf S.number self.now here.state here }
+        requires rules { AreOf S.number self.now rules.state rules }
         ensures state { result.state ≡ id }
         ensures rules { AreOf S.number self.now id result }
     {
-        if here.state == id {
-            here
+        if rules.state == id {
+            rules
         } else {
             self.rules_in(id)
         }

@@ -33,7 +33,7 @@ pub fn show(rt: &HostRuntime, document: &Document<'_, Types>) -> io::Result<()> 
             Err(error) => show_error(rt, document, error)?,
         }
     }
-    let (lexed, tiles) = (document.lexed(), document.tiles());
+    let (lexed, tiles) = (document.recut_tiles(), document.tiles());
     println!(rt; "{lexed} of {tiles} tiles cut anew")
 }
 

@@ -7,7 +7,7 @@ use Rattle.lrlex.specs.Active.{active_places}
 use Rattle.lrlex.specs.StateTables.{list_in}
 use Rattle.lrlex.proofs.ViewLemmas.{position_within, list_any-map}
 use Rattle.lrlex.proofs.TableLemmas.{tables_at_state, first_place}
-use Rattle.lrlex.proofs.AskedLemmas.{untabled_here}
+use Rattle.lrlex.proofs.SearchLemmas.{untabled_here}
 use Rattle.lrlex.proofs.definition.rule_table.RuleTable.tables_in.Goals as goal
 
 pub returns : goal.returns

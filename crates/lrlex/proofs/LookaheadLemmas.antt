@@ -12,7 +12,7 @@ use Rattle.lrlex.specs.Tiling.{Item, top}
 use Rattle.lrlex_boundaries.specs.Entries.{plain}
 use Rattle.lrlex_boundaries.specs.Boundaries.{Boundary, no_boundary, boundary_at}
 use Rattle.lrlex.specs.Reach.{IsLexed}
-use Rattle.lrlex.specs.Kept.{IsDecided, IsDecidedAt, AreDecided, LooksAhead, IsSafe, HasLooked, capped}
+use Rattle.lrlex.specs.Lookahead.{IsDecided, IsDecidedAt, AreDecided, LooksAhead, IsSafe, HasLooked, capped}
 use Rattle.lrlex.proofs.DecidedLemmas.{decided_more, decided_kept}
 
 module _ (d : Definition) (text : List ℕ) where
@@ -106,12 +106,12 @@ looks_known d text bounds ahead t = ∥∥₁_elim t (Prim.hlevel props) (λ l. 
 
 -- ---- a run at its last boundary
 
-pub looked_start : (d : Definition) (text : List ℕ) (m : Boundary) (place over : ℕ) → HasLooked d text (m ∷ []) (0 ∷ []) place over
-looked_start d text m place over = record { looks = looks_start d text m; all = λ i x lt. absurd (omega arith) }
+pub looked_start : (d : Definition) (text : List ℕ) (m : Boundary) (place lookahead : ℕ) → HasLooked d text (m ∷ []) (0 ∷ []) place lookahead
+looked_start d text m place lookahead = record { looks = looks_start d text m; all = λ i x lt. absurd (omega arith) }
 
 -- one tile more
-module _ (d : Definition) (text : List ℕ) (before bounds : List Boundary) (ahead : List ℕ) (place : ℕ) (stack : List (ℕ × ℕ)) (over : ℕ)
-    (kept : bounds ≡ before ++ record { place = place; entries = stack } ∷ []) (h : HasLooked d text bounds ahead place over) where
+module _ (d : Definition) (text : List ℕ) (before bounds : List Boundary) (ahead : List ℕ) (place : ℕ) (stack : List (ℕ × ℕ)) (lookahead : ℕ)
+    (kept : bounds ≡ before ++ record { place = place; entries = stack } ∷ []) (h : HasLooked d text bounds ahead place lookahead) where
   here : Boundary
   here = record { place = place; entries = stack }
 
@@ -127,22 +127,22 @@ module _ (d : Definition) (text : List ℕ) (before bounds : List Boundary) (ahe
   unfolding here
   some = omega (arith, ap length kept, length-append before (here ∷ []))
 
-  past_all : (reach : ℕ) → IsDecided d (top (plain stack)) (drop place text) reach → AreDecided d text bounds (length bounds) (place + max over reach)
+  past_all : (reach : ℕ) → IsDecided d (top (plain stack)) (drop place text) reach → AreDecided d text bounds (length bounds) (place + max lookahead reach)
   unfolding here
   past_all reach decided =
       let at : ℕ = place + reach in
       let rest : at - place ≡ reach = omega arith in
       let one : IsDecidedAt d text at (boundary_at bounds (length bounds - 1)) = subst (IsDecidedAt d text at) (sym last_boundary) (subst (IsDecided d (top (plain stack)) (drop place text)) (sym rest) decided) in
       let n : length bounds - 1 + 1 ≡ length bounds = omega (arith, some) in
-      let to : max (place + over) at ≤ place + max over reach = omega arith in
-      all_more d text bounds (length bounds) (max (place + over) at) (place + max over reach) to
-      (subst (λ k. AreDecided d text bounds k (max (place + over) at)) n (all_step d text bounds (length bounds - 1) (place + over) at (omega (arith, some)) h.all one))
+      let to : max (place + lookahead) at ≤ place + max lookahead reach = omega arith in
+      all_more d text bounds (length bounds) (max (place + lookahead) at) (place + max lookahead reach) to
+      (subst (λ k. AreDecided d text bounds k (max (place + lookahead) at)) n (all_step d text bounds (length bounds - 1) (place + lookahead) at (omega (arith, some)) h.all one))
 
   pub looked_more : (reach len : ℕ) → IsDecided d (top (plain stack)) (drop place text) reach → (next : List (ℕ × ℕ)) (to n : ℕ) (after : List Boundary) (more : List ℕ) →
-      to ≡ place + len → n ≡ max over reach - len → after ≡ bounds ++ record { place = to; entries = next } ∷ [] → more ≡ ahead ++ capped n ∷ [] → HasLooked d text after more to n
+      to ≡ place + len → n ≡ max lookahead reach - len → after ≡ bounds ++ record { place = to; entries = next } ∷ [] → more ≡ ahead ++ capped n ∷ [] → HasLooked d text after more to n
   looked_more reach len decided next to n after more to_is n_is after_is more_is =
       let m : Boundary = record { place = to; entries = next } in
-      let far : ℕ = place + max over reach in
+      let far : ℕ = place + max lookahead reach in
       let all : AreDecided d text (bounds ++ m ∷ []) (length bounds) far = all_longer d text bounds (m ∷ []) (length bounds) far (omega arith) (past_all reach decided) in
       let count : length bounds ≡ length (bounds ++ m ∷ []) - 1 = omega (arith, length-append bounds (m ∷ [])) in
       let made : HasLooked d text (bounds ++ m ∷ []) (ahead ++ capped n ∷ []) to n = record {

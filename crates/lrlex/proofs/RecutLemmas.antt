@@ -12,22 +12,22 @@ use Rattle.lrlex_base.specs.Spans.{Fits, as_span}
 use Rattle.lrlex_base.specs.declared.spans.Span.{Span}
 use Rattle.lrlex_table.specs.Decided.{IsText}
 use Rattle.lrlex.specs.Active.{is_state}
-use Rattle.lrlex.specs.Asked.{IsLastSafe, asks_by, untabled_count}
+use Rattle.lrlex.specs.Searches.{IsLastSafe, asks_by, untabled_count}
 use Rattle.lrlex_boundaries.specs.Boundaries.{Boundary, place_and_stack, no_boundary, boundary_at}
 use Rattle.lrlex_boundaries.specs.Entries.{plain}
-use Rattle.lrlex.specs.Kept.{HasLooked, IsSafe, LooksAhead, items_before}
+use Rattle.lrlex.specs.Lookahead.{HasLooked, IsSafe, LooksAhead, items_before}
 use Rattle.lrlex_boundaries.specs.Moves.{AreSorted, Meets}
 use Rattle.lrlex.specs.Moves.{begins_before}
 use Rattle.lrlex.specs.Reach.{IsLexed, Reached, searches}
-use Rattle.lrlex.specs.Relexed.{AreCountsOf}
+use Rattle.lrlex.specs.Relex.{AreCountsOf}
 use Rattle.lrlex.specs.Tiling.{Done, Item, asked_at, top}
-use Rattle.lrlex.specs.UnderWay.{HasAdvanced, HasCutAnew, HasEnded, HasMet, IsEditOf, IsUnderWay, StandsAt, Front, front_of}
+use Rattle.lrlex.specs.Progress.{HasAdvanced, HasRecut, HasEnded, HasMet, IsEditOf, IsUnderWay, StandsAt, Front, front_of}
 use Rattle.lrlex.specs.Views.{definition_by, items_by}
 use Rattle.lrlex.specs.declared.errors.LRLexError.{LRLexError}
 use Rattle.lrlex.specs.declared.definition.rule_table.RuleTable.{RuleTable}
 use Rattle.lrlex.specs.declared.lexing.step.Progress.{Progress}
-use Rattle.lrlex.proofs.AheadLemmas.{looks_known}
-use Rattle.lrlex.proofs.AskedLemmas.{asks_nowhere, next_asked, cut_to_meeting, cut_to_stop, cut_to_end}
+use Rattle.lrlex.proofs.LookaheadLemmas.{looks_known}
+use Rattle.lrlex.proofs.SearchLemmas.{asks_nowhere, next_asked, cut_to_meeting, cut_to_stop, cut_to_end}
 use Rattle.lrlex.proofs.FrontLemmas.{joined}
 use Rattle.lrlex.proofs.GoingLemmas.{some_boundary, order_at, first_safe, going, going_looked}
 use Rattle.lrlex.proofs.KnownLemmas.{known, sorted}
@@ -75,9 +75,9 @@ module _ {S : Type 0} (number : S → ℕ) (def : RuleTable S) (new : List ℕ) 
     (place : ℕ) (stack : List (ℕ × ℕ)) (found : List Item) (bounds : List Boundary) (asked : ℕ) (r : Reached (definition_by number def) new place stack found bounds asked)
     (from : ℕ) (resumed : IsLastSafe olds numbers removed.start from) (le : from < length bounds) (count : asked ≡ asks_by def new (slice_range bounds from (length bounds - 1)))
     (unmet : (k : ℕ) → k + 1 < length bounds → Meets olds bounds removed.start removed.end (length put) k → ⊥)
-    (anew : ℕ) (tiles : from + anew ≡ length bounds - 1) where
+    (recut : ℕ) (tiles : from + recut ≡ length bounds - 1) where
   abbrev Counts : List Boundary → ℕ → Type 0
-  Counts all many = AreCountsOf (definition_by number def) (asks_by def new) olds numbers (as_span removed) put new all many anew
+  Counts all many = AreCountsOf (definition_by number def) (asks_by def new) olds numbers (as_span removed) put new all many recut
 
   reused : (k : ℕ) → k < length olds → IsSafe olds numbers removed.start k → k < from + 1
   reused k within safe = elim (cases_lt from k) [
@@ -86,8 +86,8 @@ module _ {S : Type 0} (number : S → ℕ) (def : RuleTable S) (new : List ℕ) 
   ]
 
   few_tiles : (tail all : List Boundary) → all ≡ bounds ++ tail → (k : ℕ) → k < length olds → IsSafe olds numbers removed.start k
-      → (anew + k ≤ length all - 1) × ((j : ℕ) → Meets olds all removed.start removed.end (length put) j → anew + k ≤ j)
-  few_tiles tail all e = few_anew olds bounds tail all numbers removed.start removed.end (length put) (from + 1) anew unmet e reused (omega arith) (omega (arith, tiles, le))
+      → (recut + k ≤ length all - 1) × ((j : ℕ) → Meets olds all removed.start removed.end (length put) j → recut + k ≤ j)
+  few_tiles tail all e = few_anew olds bounds tail all numbers removed.start removed.end (length put) (from + 1) recut unmet e reused (omega arith) (omega (arith, tiles, le))
 
   asked_first : (tail all : List Boundary) → all ≡ bounds ++ tail → asked ≤ searches (definition_by number def) new all
   asked_first tail all e =
@@ -110,7 +110,7 @@ module _ {S : Type 0} (number : S → ℕ) (def : RuleTable S) (new : List ℕ) 
         few = few_met D new place stack found bounds tail all asked asked r e (omega arith);
         met = met D new olds removed.start removed.end (length put) place stack found bounds tail all asked asked r unmet e (omega arith);
         lexed = few_tiles tail all e;
-        exact = λ z. cut_to_meeting def D new olds numbers removed.start removed.end (length put) place stack found bounds asked r from resumed le count unmet all asked anew tiles tail e refl past j within back same;
+        exact = λ z. cut_to_meeting def D new olds numbers removed.start removed.end (length put) place stack found bounds asked r from resumed le count unmet all asked recut tiles tail e refl past j within back same;
       }
 
   -- where lexing stopped before the text's end
@@ -123,7 +123,7 @@ module _ {S : Type 0} (number : S → ℕ) (def : RuleTable S) (new : List ℕ) 
         few = few_searches D new bounds all many many few refl e;
         met = λ k m. absurd (none k (subst (λ ms. Meets olds ms removed.start removed.end (length put) k) e m));
         lexed = few_tiles [] all (e ∙ sym (append-nil bounds));
-        exact = λ z. cut_to_stop def D new olds numbers removed.start removed.end (length put) place stack found bounds asked r from resumed le count unmet all many anew tiles e none lt is;
+        exact = λ z. cut_to_stop def D new olds numbers removed.start removed.end (length put) place stack found bounds asked r from resumed le count unmet all many recut tiles e none lt is;
       }
 
   -- where it came to the text's end
@@ -136,7 +136,7 @@ module _ {S : Type 0} (number : S → ℕ) (def : RuleTable S) (new : List ℕ) 
         few = few_met D new place stack found bounds [] all asked asked r whole (omega arith);
         met = met D new olds removed.start removed.end (length put) place stack found bounds [] all asked asked r unmet whole (omega arith);
         lexed = few_tiles [] all whole;
-        exact = λ z. cut_to_end def D new olds numbers removed.start removed.end (length put) place stack found bounds asked r from resumed le count unmet all asked anew tiles e end refl;
+        exact = λ z. cut_to_end def D new olds numbers removed.start removed.end (length put) place stack found bounds asked r from resumed le count unmet all asked recut tiles e end refl;
       }
 
 -- ---- tiles, one by one
@@ -169,7 +169,7 @@ module _ {S X : Type 0} (number : S → ℕ) (seen : X → Seen S) (def : RuleTa
       let olds_found = items_by number seen found in
       let le : removed.start ≤ length text = omega (arith, removed.in_order, fits.1.0) in
       let gone = going D text new put removed.start removed.end olds_found olds numbers initial is le gives h looks k from.within from.safe in
-      let looked = going_looked D text new put removed.start removed.end olds_found olds numbers initial is le gives h looks k from.within from.safe p.over e.over in
+      let looked = going_looked D text new put removed.start removed.end olds_found olds numbers initial is le gives h looks k from.within from.safe p.lookahead e.lookahead in
       let at = boundary_at olds k in
       let before = items_before at.place olds_found in
       let items_are : before ++ items_by number seen p.items.items ≡ before = ap (λ xs. before ++ items_by number seen xs) e.items ∙ append-nil before in
@@ -188,9 +188,9 @@ module _ {S X : Type 0} (number : S → ℕ) (seen : X → Seen S) (def : RuleTa
               (subst (λ ms. Reached D new at.place at.entries before ms p.asked) (sym bounds_are)
               (subst (λ n. Reached D new at.place at.entries before (take (k + 1) olds) n) (sym e.asked) gone.reached))));
           looked =
-              subst (λ i. HasLooked D new (whole p) (take k numbers ++ p.ahead.items) i p.over) (sym e.place)
-              (subst (λ ms. HasLooked D new ms (take k numbers ++ p.ahead.items) at.place p.over) (sym bounds_are)
-              (subst (λ ns. HasLooked D new (take (k + 1) olds) ns at.place p.over) (sym numbers_are) looked));
+              subst (λ i. HasLooked D new (whole p) (take k numbers ++ p.ahead.items) i p.lookahead) (sym e.place)
+              (subst (λ ms. HasLooked D new ms (take k numbers ++ p.ahead.items) at.place p.lookahead) (sym bounds_are)
+              (subst (λ ns. HasLooked D new (take (k + 1) olds) ns at.place p.lookahead) (sym numbers_are) looked));
         };
         exact = e.asked ∙ sym (asks_nowhere def new (whole p) k (length (whole p) - 1) (omega (arith, count)));
         unmet = unmet_before olds (whole p) removed.start removed.end (length put) (λ j lt.
@@ -208,7 +208,7 @@ module _ {S X : Type 0} (number : S → ℕ) (seen : X → Seen S) (def : RuleTa
       let e : whole n ≡ whole p ++ m ∷ [] = joined (take k olds) p.boundaries n.boundaries (m ∷ []) more.more.1 in
       record {
         from = c.from;
-        under_way = more.here;
+        under_way = more.under_way;
         exact = next_asked def new D p.place p.stack.items (front.items ++ items_by number seen p.items.items) (whole p) p.asked c.under_way.reached k (omega (arith, whole_len p c, c.under_way.some)) c.exact n.asked m (whole n) lt is e;
         unmet = λ j below meets. none j (meets_front olds (whole p) (m ∷ []) (whole n) removed.start removed.end (length put) j e (omega (arith, below, ap length e, length-append (whole p) (m ∷ []))) meets);
       }
@@ -218,7 +218,7 @@ module _ {S X : Type 0} (number : S → ℕ) (seen : X → Seen S) (def : RuleTa
   module _ (first : ℕ) (within : first ≤ length found) (before : items_by number seen (take first found) ≡ items_before (boundary_at olds k).place (items_by number seen found)) where
     -- at a meeting
     pub cut_met : (p : Progress X) (j : ℕ) → AreCut p → HasMet (definition_by number def) number seen olds removed put new front p j
-        → HasCutAnew number seen def found olds numbers removed put new (record { index = k; first = first; progress = p; met = Some j })
+        → HasRecut number seen def found olds numbers removed put new (record { index = k; first = first; progress = p; met = Some j })
     cut_met p j c m = record {
       from = c.from;
       first = within;
@@ -236,7 +236,7 @@ module _ {S X : Type 0} (number : S → ℕ) (seen : X → Seen S) (def : RuleTa
     -- at an error
     pub cut_stopped : (p n : Progress X) → AreCut p → ((j : ℕ) → Meets olds (whole p) removed.start removed.end (length put) j → ⊥) → HasEnded (definition_by number def) number seen new front p n
         → p.place < length new → n.asked ≡ p.asked + untabled_count def (top (plain p.stack.items)) → n.asked ≤ searches (definition_by number def) new (whole p)
-        → HasCutAnew number seen def found olds numbers removed put new (record { index = k; first = first; progress = n; met = None })
+        → HasRecut number seen def found olds numbers removed put new (record { index = k; first = first; progress = n; met = None })
     cut_stopped p n c none e lt is few =
         let D = definition_by number def in
         let same : whole n ≡ whole p = ap (λ ms. take k olds ++ ms) e.same in
@@ -255,7 +255,7 @@ module _ {S X : Type 0} (number : S → ℕ) (seen : X → Seen S) (def : RuleTa
         }
 
     -- at the text's end
-    pub cut_ended : (p : Progress X) → AreCut p → length new ≤ p.place → HasCutAnew number seen def found olds numbers removed put new (record { index = k; first = first; progress = p; met = None })
+    pub cut_ended : (p : Progress X) → AreCut p → length new ≤ p.place → HasRecut number seen def found olds numbers removed put new (record { index = k; first = first; progress = p; met = None })
     cut_ended p c end =
         let D = definition_by number def in
         let all = front.items ++ items_by number seen p.items.items in

@@ -14,7 +14,7 @@ use Rattle.lrlex_boundaries.specs.Entries.{plain}
 use Rattle.lrlex_boundaries.specs.Boundaries.{Boundary, place_and_stack, no_boundary, boundary_at}
 use Rattle.lrlex_boundaries.specs.Moves.{Meets}
 use Rattle.lrlex.specs.Reach.{Reached}
-use Rattle.lrlex.specs.Asked.{tables_in, untabled_count, asks_at, asks_by, IsLastSafe, IsFirstMeeting, WasCutAnew}
+use Rattle.lrlex.specs.Searches.{tables_in, untabled_count, asks_at, asks_by, IsLastSafe, IsFirstMeeting, WasRecut}
 use Rattle.lrlex.specs.declared.definition.rule_table.RuleTable.{RuleTable}
 use Rattle.lrlex.proofs.ReachLemmas.{length_now}
 use Rattle.lrlex.proofs.MeetLemmas.{meets_front, front_at, last_at}
@@ -177,10 +177,10 @@ none_first olds all low high len none = record { meets = inr refl; first = λ j 
 module _ {S : Type 0} (def : RuleTable S) (d : Definition) (text : List ℕ) (olds : List Boundary) (numbers : List ℕ) (low high len : ℕ)
     (place : ℕ) (stack : List (ℕ × ℕ)) (found : List Item) (bounds : List Boundary) (asked : ℕ) (r : Reached d text place stack found bounds asked)
     (from : ℕ) (resumed : IsLastSafe olds numbers low from) (le : from < length bounds) (count : asked ≡ asks_by def text (slice_range bounds from (length bounds - 1)))
-    (unmet : (k : ℕ) → k + 1 < length bounds → Meets olds bounds low high len k → ⊥) (all : List Boundary) (now anew : ℕ) (tiles : from + anew ≡ length bounds - 1) where
+    (unmet : (k : ℕ) → k + 1 < length bounds → Meets olds bounds low high len k → ⊥) (all : List Boundary) (now recut : ℕ) (tiles : from + recut ≡ length bounds - 1) where
   -- where the tail was taken over
   pub cut_to_meeting : (tail : List Boundary) → all ≡ bounds ++ tail → now ≡ asked → low + len ≤ place → (j : ℕ) → j < length olds → (boundary_at olds j).place + (low + len) ≡ place + high →
-      (boundary_at olds j).entries ≡ stack → WasCutAnew (asks_by def text) olds all numbers low high len now anew
+      (boundary_at olds j).entries ≡ stack → WasRecut (asks_by def text) olds all numbers low high len now recut
   cut_to_meeting tail e is past j within back same =
       let n = length_now d text place stack found bounds asked r in
       let t : IsThere olds (low + len) (place + high) (plain stack) = record { j = j; m = boundary_at olds j; there = slice_get-get_or olds j no_boundary within; back = back; same = ap (λ xs. plain xs) same } in
@@ -196,7 +196,7 @@ module _ {S : Type 0} (def : RuleTable S) (d : Definition) (text : List ℕ) (ol
 
   -- where lexing stopped before the text's end
   pub cut_to_stop : all ≡ bounds → ((k : ℕ) → Meets olds bounds low high len k → ⊥) → place < length text → now ≡ asked + untabled_count def (top (plain stack)) →
-      WasCutAnew (asks_by def text) olds all numbers low high len now anew
+      WasRecut (asks_by def text) olds all numbers low high len now recut
   cut_to_stop e none lt is = record {
     from = from;
     to = length all;
@@ -207,7 +207,7 @@ module _ {S : Type 0} (def : RuleTable S) (d : Definition) (text : List ℕ) (ol
   }
 
   -- where it came to the text's end
-  pub cut_to_end : all ≡ bounds → length text ≤ place → now ≡ asked → WasCutAnew (asks_by def text) olds all numbers low high len now anew
+  pub cut_to_end : all ≡ bounds → length text ≤ place → now ≡ asked → WasRecut (asks_by def text) olds all numbers low high len now recut
   cut_to_end e end is =
       let n = length_now d text place stack found bounds asked r in
       let whole : all ≡ bounds ++ [] = e ∙ sym (append-nil bounds) in

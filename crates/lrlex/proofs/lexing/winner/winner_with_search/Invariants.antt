@@ -4,7 +4,7 @@ use Rattle.lrlex_rules.specs.Matchers.{AreMatchers}
 use Rattle.lrlex.specs.StateTables.{patterns_on}
 use Rattle.lrlex_table.specs.Tables.{IsBestAmong}
 use Rattle.lrlex.proofs.TableLemmas.{looked_at}
-use Rattle.lrlex.proofs.lexing.winner.winner_by.Given as goal
+use Rattle.lrlex.proofs.lexing.winner.winner_with_search.Given as goal
 
 abbrev pub invariant-others : goal.invariant-others
 invariant-others g l = record {

@@ -6,20 +6,20 @@ use Rattle.lrlex_base.specs.Edits.{edited}
 use Rattle.lrlex_base.specs.declared.spans.Span.{Span}
 use Rattle.lrlex_rules.specs.declared.states.StartStateOperation.{StartStateOperation}
 use Rattle.lrlex_rules.specs.Definition.{Definition}
-use Rattle.lrlex.specs.Asked.{IsLastSafe, asks_by, untabled_count}
-use Rattle.lrlex.specs.Kept.{AreRaised, HasLooked, LooksAhead, capped, items_before}
+use Rattle.lrlex.specs.Searches.{IsLastSafe, asks_by, untabled_count}
+use Rattle.lrlex.specs.Lookahead.{AreRaised, HasLooked, LooksAhead, capped, items_before}
 use Rattle.lrlex_boundaries.specs.Moves.{moved_boundary}
 use Rattle.lrlex.specs.Moves.{items_from}
 use Rattle.lrlex_boundaries.specs.Boundaries.{Boundary, boundary_at}
 use Rattle.lrlex.specs.Reach.{IsLexed, IsRun, Reached, searches}
-use Rattle.lrlex.specs.Relexed.{AreCountsOf}
+use Rattle.lrlex.specs.Relex.{AreCountsOf}
 use Rattle.lrlex_boundaries.specs.Entries.{AreEntries, plain}
 use Rattle.lrlex.specs.Tiling.{Item, rebased, stack_after, top}
 use Rattle.lrlex.specs.Views.{definition_by, items_by}
 use Rattle.lrlex.specs.declared.errors.LRLexError.{LRLexError}
 use Rattle.lrlex.specs.declared.definition.rule_table.RuleTable.{RuleTable}
 use Rattle.lrlex.specs.declared.lexing.step.Progress.{Progress}
-use Rattle.lrlex.specs.declared.editing.relex.Anew.{Anew}
+use Rattle.lrlex.specs.declared.editing.relex.Recut.{Recut}
 use Rattle.lrlex.specs.declared.lexing.run.Lexed.{Lexed}
 
 -- The next boundary was entered: it stands at this place, the rule's target moved the stack, the tiles looked so far
@@ -30,7 +30,7 @@ pub record HasEntered {X : Type 0} (old new : Progress X) (target : Option (ℕ 
   pub moved : plain new.stack.items ≡ stack_after (plain old.stack.items) target
   pub items : new.items.items ≡ old.items.items
   pub asked : new.asked ≡ old.asked
-  pub over : new.over ≡ far
+  pub lookahead : new.lookahead ≡ far
   pub ahead : new.ahead.items ≡ old.ahead.items ++ capped far ∷ []
   pub kept : new.boundaries ≡ old.boundaries ++ record { place = at; entries = new.stack.items } ∷ []
 
@@ -42,7 +42,7 @@ pub record StandsAt {X : Type 0} (old : List Boundary) (numbers : List ℕ) (ind
   pub boundaries : p.boundaries ≡ boundary_at old index ∷ []
   pub asked : p.asked ≡ 0
   pub ahead : p.ahead.items ≡ slice_index numbers index ∷ []
-  pub over : p.over ≡ slice_index numbers index
+  pub lookahead : p.lookahead ≡ slice_index numbers index
 
 -- what was found, with so many tiles cut anew
 pub record HasFinished {X : Type 0} (p : Progress X) (cut : ℕ) (r : Lexed X) : Type 0 where
@@ -50,7 +50,7 @@ pub record HasFinished {X : Type 0} (p : Progress X) (cut : ℕ) (r : Lexed X) :
   pub boundaries : r.boundaries ≡ p.boundaries
   pub asked : r.asked ≡ p.asked
   pub ahead : r.ahead.items ≡ p.ahead.items
-  pub anew : r.anew ≡ cut
+  pub recut : r.recut ≡ cut
 
 -- the same was found, at the same cost
 pub record HasSame {X : Type 0} (old new : Lexed X) : Type 0 where
@@ -58,7 +58,7 @@ pub record HasSame {X : Type 0} (old new : Lexed X) : Type 0 where
   pub boundaries : new.boundaries ≡ old.boundaries
   pub ahead : new.ahead.items ≡ old.ahead.items
   pub asked : new.asked ≡ old.asked
-  pub anew : new.anew ≡ old.anew
+  pub recut : new.recut ≡ old.recut
 
 -- All old boundaries before the cursor stand before the place, as it was before the edit; where a meeting was found, the one at
 -- the cursor stands there, with the same stack.
@@ -90,11 +90,11 @@ pub record IsUnderWay {S X : Type 0} (d : Definition) (number : S → ℕ) (seen
   pub boundary : IsCharBoundary text p.place
   pub some : 0 < length p.boundaries
   pub reached : Reached d text p.place p.stack.items (f.items ++ items_by number seen p.items.items) (f.boundaries ++ p.boundaries) p.asked
-  pub looked : HasLooked d text (f.boundaries ++ p.boundaries) (f.ahead ++ p.ahead.items) p.place p.over
+  pub looked : HasLooked d text (f.boundaries ++ p.boundaries) (f.ahead ++ p.ahead.items) p.place p.lookahead
 
 -- it took one more tile, and stands behind it
 pub record HasAdvanced {S X : Type 0} (d : Definition) (number : S → ℕ) (seen : X → Seen S) (text : List ℕ) (f : Front) (old new : Progress X) : Type 0 where
-  pub here : IsUnderWay d number seen text f new
+  pub under_way : IsUnderWay d number seen text f new
   pub grows : old.place < new.place
   pub more : (m : Boundary) × (new.boundaries ≡ old.boundaries ++ m ∷ [])
 
@@ -130,8 +130,8 @@ pub record HasMet {S X : Type 0} (d : Definition) (number : S → ℕ) (seen : X
 
 -- Tiles were cut anew from the last boundary of the old run that is safe, up to the first that meets it, or to the end of
 -- what the text gives.
-pub record HasCutAnew {S X : Type 0} (number : S → ℕ) (seen : X → Seen S) (d : RuleTable S) (found : List (Result X LRLexError)) (bounds : List Boundary)
-    (numbers : List ℕ) (removed : Span) (put new : List ℕ) (a : Anew X) : Type 0 where
+pub record HasRecut {S X : Type 0} (number : S → ℕ) (seen : X → Seen S) (d : RuleTable S) (found : List (Result X LRLexError)) (bounds : List Boundary)
+    (numbers : List ℕ) (removed : Span) (put new : List ℕ) (a : Recut X) : Type 0 where
   pub from : IsLastSafe bounds numbers removed.start a.index
   pub first : a.first ≤ length found
   pub before : items_by number seen (take a.first found) ≡ items_before (boundary_at bounds a.index).place (items_by number seen found)
@@ -146,7 +146,7 @@ pub record HasCutAnew {S X : Type 0} (number : S → ℕ) (seen : X → Seen S) 
       → AreCountsOf (definition_by number d) (asks_by d new) bounds numbers (as_span removed) put new all a.progress.asked (length a.progress.boundaries - 1)
 
 -- what was cut anew stands in place of all behind its front
-pub record IsPutBehind {X : Type 0} (found : List (Result X LRLexError)) (bounds : List Boundary) (numbers : List ℕ) (a : Anew X)
+pub record HasReplacedTail {X : Type 0} (found : List (Result X LRLexError)) (bounds : List Boundary) (numbers : List ℕ) (a : Recut X)
     (found' : List (Result X LRLexError)) (bounds' : List Boundary) (numbers' : List ℕ) : Type 0 where
   pub items : found' ≡ take a.first found ++ a.progress.items.items
   pub boundaries : bounds' ≡ take a.index bounds ++ a.progress.boundaries
@@ -154,10 +154,10 @@ pub record IsPutBehind {X : Type 0} (found : List (Result X LRLexError)) (bounds
 
 -- What was cut anew stands between its front and what follows old boundary j, moved to the place at hand: items, boundaries, and the
 -- numbers that tell how far the tiles looked, raised where that is needed.
-pub record IsPutBetween {S X : Type 0} (number : S → ℕ) (seen : X → Seen S) (found : List (Result X LRLexError)) (bounds : List Boundary) (numbers : List ℕ) (a : Anew X) (j : ℕ)
+pub record HasReplacedMiddle {S X : Type 0} (number : S → ℕ) (seen : X → Seen S) (found : List (Result X LRLexError)) (bounds : List Boundary) (numbers : List ℕ) (a : Recut X) (j : ℕ)
     (found' : List (Result X LRLexError)) (bounds' : List Boundary) (numbers' : List ℕ) : Type 0 where
   pub items : items_by number seen found' ≡ (items_by number seen (take a.first found) ++ items_by number seen a.progress.items.items)
       ++ map (rebased (boundary_at bounds j).place a.progress.place) (items_from (boundary_at bounds j).place (items_by number seen found))
   pub boundaries : bounds' ≡ (take a.index bounds ++ a.progress.boundaries)
       ++ map (moved_boundary (boundary_at bounds j).place a.progress.place) (drop (j + 1) bounds)
-  pub ahead : AreRaised bounds numbers j a.progress.over (length bounds) (take a.index numbers ++ a.progress.ahead.items) numbers'
+  pub ahead : AreRaised bounds numbers j a.progress.lookahead (length bounds) (take a.index numbers ++ a.progress.ahead.items) numbers'

@@ -6,7 +6,7 @@ use Rattle.lrlex_table.specs.declared.tables.Tables.{Tables}
 use Rattle.lrlex.specs.Tiling.{top}
 use Rattle.lrlex_boundaries.specs.Boundaries.{Boundary, place_and_stack}
 use Rattle.lrlex_boundaries.specs.Moves.{Meets}
-use Rattle.lrlex.specs.Kept.{IsSafe}
+use Rattle.lrlex.specs.Lookahead.{IsSafe}
 use Rattle.lrlex.specs.declared.definition.non_streaming.LRNonStreamingLexerDef.{LRNonStreamingLexerDef}
 use Rattle.lrlex.specs.declared.definition.rule_table.RuleTable.{RuleTable}
 
@@ -44,10 +44,10 @@ pub record IsFirstMeeting (old new : List Boundary) (low high len k : ℕ) : Typ
 
 -- What lexing again takes, after the bytes from low to high gave way to so many others: it cuts tiles from the last safe
 -- boundary up to the first that meets the old run, and searches at the boundaries between.
-pub record WasCutAnew (asks : List Boundary → ℕ) (old new : List Boundary) (ahead : List ℕ) (low high len asked anew : ℕ) : Type 0 where
+pub record WasRecut (asks : List Boundary → ℕ) (old new : List Boundary) (ahead : List ℕ) (low high len asked recut : ℕ) : Type 0 where
   pub from : ℕ
   pub to : ℕ
   pub resumed : IsLastSafe old ahead low from
   pub met : IsFirstMeeting old new low high len to
   pub searches : asked ≡ asks (slice_range new from to)
-  pub tiles : from + anew ≡ min to (length new - 1)
+  pub tiles : from + recut ≡ min to (length new - 1)

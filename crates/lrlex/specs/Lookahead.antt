@@ -54,20 +54,20 @@ pub record IsSafe (bounds : List Boundary) (ahead : List ℕ) (low k : ℕ) : Ty
 abbrev pub capped : ℕ → ℕ
 capped n = min n 255
 
--- Of a run that stands at its last boundary, at this place: the numbers so far, and that its tiles looked at most `over`
+-- Of a run that stands at its last boundary, at this place: the numbers so far, and that its tiles looked at most `lookahead`
 -- bytes past the place.
-pub record HasLooked (d : Definition) (text : List ℕ) (bounds : List Boundary) (ahead : List ℕ) (place over : ℕ) : Type 0 where
+pub record HasLooked (d : Definition) (text : List ℕ) (bounds : List Boundary) (ahead : List ℕ) (place lookahead : ℕ) : Type 0 where
   pub looks : LooksAhead d text bounds ahead
-  pub all : AreDecided d text bounds (length bounds - 1) (place + over)
+  pub all : AreDecided d text bounds (length bounds - 1) (place + lookahead)
 
--- The number is enough for boundary k where the tiles before boundary j looked at most `over` bytes past the place of j: it
+-- The number is enough for boundary k where the tiles before boundary j looked at most `lookahead` bytes past the place of j: it
 -- is as great as the old one, and goes as far.
 abbrev pub IsEnough : List Boundary → List ℕ → ℕ → ℕ → ℕ → ℕ → Type 0
-IsEnough bounds ahead j over k n =
-    n < 255 → (slice_index ahead k ≤ n) × ((boundary_at bounds j).place + over ≤ (boundary_at bounds k).place + n)
+IsEnough bounds ahead j lookahead k n =
+    n < 255 → (slice_index ahead k ≤ n) × ((boundary_at bounds j).place + lookahead ≤ (boundary_at bounds k).place + n)
 
 -- `all` has the numbers of `front`, and then those of the boundaries behind j and before `end`, raised where that is needed
-pub record AreRaised (bounds : List Boundary) (ahead : List ℕ) (j over end : ℕ) (front all : List ℕ) : Type 0 where
+pub record AreRaised (bounds : List Boundary) (ahead : List ℕ) (j lookahead end : ℕ) (front all : List ℕ) : Type 0 where
   pub kept : take (length front) all ≡ front
   pub len : length all + (j + 1) ≡ length front + end
-  pub each : (k : ℕ) → j < k → k < end → IsEnough bounds ahead j over k (slice_index all ((length front + k) - (j + 1)))
+  pub each : (k : ℕ) → j < k → k < end → IsEnough bounds ahead j lookahead k (slice_index all ((length front + k) - (j + 1)))

@@ -4,7 +4,7 @@ use Rattle.lrlex.specs.Moves.{begins_before}
 use Rattle.lrlex.specs.Views.{item_of}
 use Rattle.lrlex.proofs.WithinLemmas.{in_order_of, from_point}
 use Rattle.lrlex.proofs.ResumeLemmas.{before_point}
-use Rattle.lrlex.proofs.editing.relex.many_before.Goals as goal
+use Rattle.lrlex.proofs.editing.relex.count_before.Goals as goal
 
 pub returns-clause-before : goal.returns-clause-before
 returns-clause-before g c =

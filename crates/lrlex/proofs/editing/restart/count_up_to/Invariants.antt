@@ -1,6 +1,6 @@
 use Rattle.std.proofs.Common.{ℕ, ◌-◌, ◌<◌, ◌≤◌, length}
 use Rattle.lrlex_boundaries.specs.Boundaries.{boundary_at}
-use Rattle.lrlex.proofs.editing.restart.up_to.Given as goal
+use Rattle.lrlex.proofs.editing.restart.count_up_to.Given as goal
 
 abbrev pub invariant-halves : goal.invariant-halves
 invariant-halves l =

@@ -5,11 +5,11 @@ use Rattle.lrlex_base.specs.Edits.{edited}
 use Rattle.lrlex_base.specs.Places.{AreBreaksOf}
 use Rattle.lrlex_base.specs.Seen.{Seen}
 use Rattle.lrlex_base.specs.Spans.{Span}
-use Rattle.lrlex.specs.Asked.{asks_by}
-use Rattle.lrlex.specs.Kept.{LooksAhead}
+use Rattle.lrlex.specs.Searches.{asks_by}
+use Rattle.lrlex.specs.Lookahead.{LooksAhead}
 use Rattle.lrlex.specs.Reach.{IsRun}
-use Rattle.lrlex.specs.Relexed.{AreCountsOf}
-use Rattle.lrlex.specs.UnderWay.{HasSame}
+use Rattle.lrlex.specs.Relex.{AreCountsOf}
+use Rattle.lrlex.specs.Progress.{HasSame}
 use Rattle.lrlex.specs.Views.{definition_by, items_by}
 use Rattle.lrlex.specs.declared.definition.rule_table.RuleTable.{RuleTable}
 use Rattle.lrlex.specs.declared.editing.document.LexedText.{LexedText}
@@ -27,7 +27,7 @@ pub record WasEdited {S X : Type 0} (number : S → ℕ) (seen : X → Seen S) (
   pub breaks : AreBreaksOf (string_bytes new.text) new.newlines
   pub looks : LooksAhead (definition_by number d) (string_bytes new.text) new.lexed.boundaries new.lexed.ahead.items
   pub run : IsRun (definition_by number d) (string_bytes new.text) (items_by number seen new.lexed.items.items) new.lexed.boundaries
-  pub counts : AreCountsOf (definition_by number d) (asks_by d (string_bytes new.text)) old.lexed.boundaries old.lexed.ahead.items removed put (string_bytes new.text) new.lexed.boundaries new.lexed.asked new.lexed.anew
+  pub counts : AreCountsOf (definition_by number d) (asks_by d (string_bytes new.text)) old.lexed.boundaries old.lexed.ahead.items removed put (string_bytes new.text) new.lexed.boundaries new.lexed.asked new.lexed.recut
 
 -- all is what it was
 pub record WasLeft {X : Type 0} (old new : LexedText X) : Type 0 where
