@@ -1,6 +1,6 @@
 -- Where lexing begins.
 use Rattle.std.proofs.Common.{◌≡◌, ℕ, true, List, [], ◌∷◌, Result, sym, subst}
-use Rattle.lrlex_base.specs.Seen.{Seen}
+use Rattle.lrlex_base.specs.LexemeParts.{LexemeParts}
 use Rattle.lrlex_rules.specs.Definition.{Definition}
 use Rattle.lrlex.specs.Active.{is_state}
 use Rattle.lrlex_boundaries.specs.Boundaries.{Boundary}
@@ -11,7 +11,7 @@ use Rattle.lrlex.specs.declared.errors.LRLexError.{LRLexError}
 use Rattle.lrlex.proofs.LookaheadLemmas.{looked_start}
 use Rattle.lrlex.proofs.ReachLemmas.{Reached-none}
 
-pub begun : {S X : Type 0} (d : Definition) (text : List ℕ) (number : S → ℕ) (see : X → Seen S) (place : ℕ) (stack : List (ℕ × ℕ)) (xs : List (Result X LRLexError)) (bounds : List Boundary) (asked : ℕ)
+pub begun : {S X : Type 0} (d : Definition) (text : List ℕ) (number : S → ℕ) (see : X → LexemeParts S) (place : ℕ) (stack : List (ℕ × ℕ)) (xs : List (Result X LRLexError)) (bounds : List Boundary) (asked : ℕ)
     → place ≡ 0 → stack ≡ (1, 0) ∷ [] → xs ≡ [] → bounds ≡ record { place = 0; entries = (1, 0) ∷ [] } ∷ [] → asked ≡ 0 → is_state d 0 ≡ true
     → Reached d text place stack (items_by number see xs) bounds asked
 begun d text number see place stack xs bounds asked at is_stack none one unasked initial =

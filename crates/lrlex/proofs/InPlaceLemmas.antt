@@ -4,7 +4,7 @@ use Rattle.std.proofs.Math.Logic.{∥∥₁_elim}
 use Rattle.std.proofs.Props.{props}
 use Rattle.std.proofs.lemmas.Bool.{cases_lt, true≢false}
 use Rattle.std.proofs.lemmas.List.{map-append, nil_from_length}
-use Rattle.lrlex_base.specs.Seen.{Seen}
+use Rattle.lrlex_base.specs.LexemeParts.{LexemeParts}
 use Rattle.lrlex_base.specs.Spans.{as_span, Span as Cut}
 use Rattle.lrlex_base.specs.declared.spans.Span.{Span}
 use Rattle.lrlex_rules.specs.Definition.{Definition}
@@ -29,7 +29,7 @@ use Rattle.lrlex.proofs.MeetLemmas.{items_movable, bounds_movable, rest_same, wh
 use Rattle.lrlex.proofs.RaisedLemmas.{looks_taken_over}
 use Rattle.lrlex.proofs.ReachLemmas.{last_now, run_of}
 
-module _ {S X : Type 0} (number : S → ℕ) (seen : X → Seen S) (def : RuleTable S) (found : List (Result X LRLexError)) (olds : List Boundary) (numbers : List ℕ)
+module _ {S X : Type 0} (number : S → ℕ) (seen : X → LexemeParts S) (def : RuleTable S) (found : List (Result X LRLexError)) (olds : List Boundary) (numbers : List ℕ)
     (removed : Span) (put new : List ℕ) (e : IsEditOf number seen def found olds numbers removed put new) where
   -- ---- without a state 0 nothing changes
 

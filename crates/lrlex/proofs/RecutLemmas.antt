@@ -7,10 +7,10 @@ use Rattle.std.proofs.lemmas.Option.{same_Some, none-some}
 use Rattle.std.proofs.lemmas.List.{length-drop, length-take-le, get_or-take, take_more, map-append}
 use Rattle.std.proofs.lemmas.List.Sums.{sum_by-append}
 use Rattle.lrlex_base.specs.Edits.{edited}
-use Rattle.lrlex_base.specs.Seen.{Seen}
+use Rattle.lrlex_base.specs.LexemeParts.{LexemeParts}
 use Rattle.lrlex_base.specs.Spans.{Fits, as_span}
 use Rattle.lrlex_base.specs.declared.spans.Span.{Span}
-use Rattle.lrlex_table.specs.Decided.{IsText}
+use Rattle.lrlex_table.specs.Reach.{IsText}
 use Rattle.lrlex.specs.Active.{is_state}
 use Rattle.lrlex.specs.Searches.{IsLastSafe, asks_by, untabled_count}
 use Rattle.lrlex_boundaries.specs.Boundaries.{Boundary, place_and_stack, no_boundary, boundary_at}
@@ -36,7 +36,7 @@ use Rattle.lrlex.proofs.ReachLemmas.{asked_now, ended, few_searches, nothing_lef
 
 -- ---- what is known of the old run
 
-module _ {S X : Type 0} (number : S → ℕ) (seen : X → Seen S) (def : RuleTable S) (found : List (Result X LRLexError)) (olds : List Boundary) (numbers : List ℕ)
+module _ {S X : Type 0} (number : S → ℕ) (seen : X → LexemeParts S) (def : RuleTable S) (found : List (Result X LRLexError)) (olds : List Boundary) (numbers : List ℕ)
     (removed : Span) (put new : List ℕ) (e : IsEditOf number seen def found olds numbers removed put new) where
   -- how long the new text is
   pub new_len : length new ≡ removed.start + (length put + (length e.text - removed.end))
@@ -141,7 +141,7 @@ module _ {S : Type 0} (number : S → ℕ) (def : RuleTable S) (new : List ℕ) 
 
 -- ---- tiles, one by one
 
-module _ {S X : Type 0} (number : S → ℕ) (seen : X → Seen S) (def : RuleTable S) (found : List (Result X LRLexError)) (olds : List Boundary) (numbers : List ℕ)
+module _ {S X : Type 0} (number : S → ℕ) (seen : X → LexemeParts S) (def : RuleTable S) (found : List (Result X LRLexError)) (olds : List Boundary) (numbers : List ℕ)
     (removed : Span) (put new : List ℕ) (k : ℕ) where
   -- what stands in front of them
   abbrev pub front : Front

@@ -8,7 +8,7 @@ use Rattle.std.proofs.lemmas.Str.{IsUtf8-drop, IsCharBoundary-start, IsCharBound
 use Rattle.lrlex_base.specs.Spans.{span}
 use Rattle.lrlex_base.specs.Edits.{edited}
 use Rattle.lrlex_rules.specs.Definition.{Definition}
-use Rattle.lrlex_table.specs.Decided.{IsText}
+use Rattle.lrlex_table.specs.Reach.{IsText}
 use Rattle.lrlex.specs.Active.{is_state}
 use Rattle.lrlex.specs.Tiling.{Tile, Item, End, top, IsTaken, stack_past, IsTiling, tile_items, items, lexemes, boundaries}
 use Rattle.lrlex_boundaries.specs.Entries.{plain, AreEntries}

@@ -3,7 +3,7 @@ use Rattle.std.specs.Prelude.{◌≡◌, ℕ, List}
 use Rattle.std.specs.String.{string_bytes}
 use Rattle.lrlex_base.specs.Edits.{edited}
 use Rattle.lrlex_base.specs.Places.{AreBreaksOf}
-use Rattle.lrlex_base.specs.Seen.{Seen}
+use Rattle.lrlex_base.specs.LexemeParts.{LexemeParts}
 use Rattle.lrlex_base.specs.Spans.{Span}
 use Rattle.lrlex.specs.Searches.{asks_by}
 use Rattle.lrlex.specs.Lookahead.{LooksAhead}
@@ -15,14 +15,14 @@ use Rattle.lrlex.specs.declared.definition.rule_table.RuleTable.{RuleTable}
 use Rattle.lrlex.specs.declared.editing.document.LexedText.{LexedText}
 
 -- the newlines are those of the text, and what was found is what it gives
-abbrev pub IsLexedBy : {S X : Type 0} → (S → ℕ) → (X → Seen S) → RuleTable S → LexedText X → Type 0
+abbrev pub IsLexedBy : {S X : Type 0} → (S → ℕ) → (X → LexemeParts S) → RuleTable S → LexedText X → Type 0
 IsLexedBy number seen d t =
     AreBreaksOf (string_bytes t.text) t.newlines
     × ∥ LooksAhead (definition_by number d) (string_bytes t.text) t.lexed.boundaries t.lexed.ahead.items ∥₁
     × ∥ IsRun (definition_by number d) (string_bytes t.text) (items_by number seen t.lexed.items.items) t.lexed.boundaries ∥₁
 
 -- the bytes of the span gave way to these, what was found is what the text gives now, and this is what that took
-pub record WasEdited {S X : Type 0} (number : S → ℕ) (seen : X → Seen S) (d : RuleTable S) (removed : Span) (put : List ℕ) (old new : LexedText X) : Type 0 where
+pub record WasEdited {S X : Type 0} (number : S → ℕ) (seen : X → LexemeParts S) (d : RuleTable S) (removed : Span) (put : List ℕ) (old new : LexedText X) : Type 0 where
   pub text : string_bytes new.text ≡ edited (string_bytes old.text) removed put
   pub breaks : AreBreaksOf (string_bytes new.text) new.newlines
   pub looks : LooksAhead (definition_by number d) (string_bytes new.text) new.lexed.boundaries new.lexed.ahead.items

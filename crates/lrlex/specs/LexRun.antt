@@ -1,6 +1,6 @@
 -- What a run has found, as plain data.
 use Rattle.std.specs.Prelude.{ℕ, ◌-◌, List, [], ◌∷◌, length, Option, None, Some, Result}
-use Rattle.lrlex_base.specs.Seen.{Seen}
+use Rattle.lrlex_base.specs.LexemeParts.{LexemeParts}
 use Rattle.lrlex_boundaries.specs.Boundaries.{Boundary, boundary_at, last_entries}
 use Rattle.lrlex_boundaries.specs.Entries.{plain}
 use Rattle.lrlex.specs.ItemLaws.{HaveLaws}
@@ -26,11 +26,11 @@ abbrev pub run_with : {D X : Type 0} → D → List ℕ → List (Result X LRLex
 run_with d text items bounds ahead asked recut = record { definition = d; text = text; items = items; boundaries = bounds; ahead = ahead; asked = asked; recut = recut }
 
 -- it is the run of this definition on this text
-abbrev pub IsRunOf : {L X S E P Q : Type 0} → (S → ℕ) → (X → Seen S) → LRNonStreamingLexerDef L X S E P Q → List ℕ → Run (LRNonStreamingLexerDef L X S E P Q) X → Type 0
+abbrev pub IsRunOf : {L X S E P Q : Type 0} → (S → ℕ) → (X → LexemeParts S) → LRNonStreamingLexerDef L X S E P Q → List ℕ → Run (LRNonStreamingLexerDef L X S E P Q) X → Type 0
 IsRunOf number seen d text r = IsRun (definition_of number d) text (items_by number seen r.items) r.boundaries
 
 -- and so its items have the laws of the items of each run
-abbrev pub HasItemLaws : {L X S E P Q : Type 0} → (S → ℕ) → (X → Seen S) → LRNonStreamingLexerDef L X S E P Q → List ℕ → Run (LRNonStreamingLexerDef L X S E P Q) X → Type 0
+abbrev pub HasItemLaws : {L X S E P Q : Type 0} → (S → ℕ) → (X → LexemeParts S) → LRNonStreamingLexerDef L X S E P Q → List ℕ → Run (LRNonStreamingLexerDef L X S E P Q) X → Type 0
 HasItemLaws number seen d text r = HaveLaws (definition_of number d) text (items_by number seen r.items) r.boundaries
 
 -- the place up to which a text with these boundaries was lexed: that of the last one, and 0 without one

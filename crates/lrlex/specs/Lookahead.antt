@@ -1,7 +1,7 @@
 -- What stays of a run when its text changes from a place on.
 use Rattle.std.specs.Prelude.{◌≡◌, ℕ, ◌+◌, ◌-◌, ◌<◌, ◌≤◌, min, List, All, [], ◌∷◌, length, map, drop, take, slice_index, if◌then◌else◌, IsCharBoundary}
 use Rattle.lrlex_rules.specs.Definition.{Definition}
-use Rattle.lrlex_table.specs.Decided.{IsText, BeginsAlike}
+use Rattle.lrlex_table.specs.Reach.{IsText, BeginsAlike}
 use Rattle.lrlex.specs.Tiling.{Item, Tile, Wins, top}
 use Rattle.lrlex_boundaries.specs.Entries.{plain}
 use Rattle.lrlex_boundaries.specs.Boundaries.{Boundary, place_and_stack, boundary_at}

@@ -1,6 +1,6 @@
 -- How each step of a run leaves what the run has found so far.
 use Rattle.std.specs.Prelude.{◌≡◌, ℕ, ◌+◌, ◌-◌, ◌^◌, ◌<◌, ◌≤◌, Bool, true, max, List, Option, Some, None, Result, [], ◌∷◌, ◌++◌, length, map, drop, take, slice_index, IsCharBoundary}
-use Rattle.lrlex_base.specs.Seen.{Seen}
+use Rattle.lrlex_base.specs.LexemeParts.{LexemeParts}
 use Rattle.lrlex_base.specs.Spans.{Fits, as_span}
 use Rattle.lrlex_base.specs.Edits.{edited}
 use Rattle.lrlex_base.specs.declared.spans.Span.{Span}
@@ -86,20 +86,20 @@ abbrev pub front_of : List Item → List Boundary → List ℕ → ℕ → Front
 front_of found bounds numbers k = record { items = items_before (boundary_at bounds k).place found; boundaries = take k bounds; ahead = take k numbers }
 
 -- A run stands at a place, between characters: tiles led to it, with these items and boundaries, and they looked so far.
-pub record IsUnderWay {S X : Type 0} (d : Definition) (number : S → ℕ) (seen : X → Seen S) (text : List ℕ) (f : Front) (p : Progress X) : Type 0 where
+pub record IsUnderWay {S X : Type 0} (d : Definition) (number : S → ℕ) (seen : X → LexemeParts S) (text : List ℕ) (f : Front) (p : Progress X) : Type 0 where
   pub boundary : IsCharBoundary text p.place
   pub some : 0 < length p.boundaries
   pub reached : Reached d text p.place p.stack.items (f.items ++ items_by number seen p.items.items) (f.boundaries ++ p.boundaries) p.asked
   pub looked : HasLooked d text (f.boundaries ++ p.boundaries) (f.ahead ++ p.ahead.items) p.place p.lookahead
 
 -- it took one more tile, and stands behind it
-pub record HasAdvanced {S X : Type 0} (d : Definition) (number : S → ℕ) (seen : X → Seen S) (text : List ℕ) (f : Front) (old new : Progress X) : Type 0 where
+pub record HasAdvanced {S X : Type 0} (d : Definition) (number : S → ℕ) (seen : X → LexemeParts S) (text : List ℕ) (f : Front) (old new : Progress X) : Type 0 where
   pub under_way : IsUnderWay d number seen text f new
   pub grows : old.place < new.place
   pub more : (m : Boundary) × (new.boundaries ≡ old.boundaries ++ m ∷ [])
 
 -- it found no more tile, and all that it found is what the text gives
-pub record HasEnded {S X : Type 0} (d : Definition) (number : S → ℕ) (seen : X → Seen S) (text : List ℕ) (f : Front) (old new : Progress X) : Type 0 where
+pub record HasEnded {S X : Type 0} (d : Definition) (number : S → ℕ) (seen : X → LexemeParts S) (text : List ℕ) (f : Front) (old new : Progress X) : Type 0 where
   pub lexed : IsLexed d text (f.items ++ items_by number seen new.items.items) (f.boundaries ++ new.boundaries)
   pub same : new.boundaries ≡ old.boundaries
   pub ahead : new.ahead.items ≡ old.ahead.items
@@ -110,7 +110,7 @@ pub record HasSearched {S X : Type 0} (number : S → ℕ) (d : RuleTable S) (te
   pub exact : new.asked ≡ old.asked + untabled_count d (top (plain old.stack.items))
 
 -- The lists are those of a run of some text, and this edit makes the new text of that one.
-pub record IsEditOf {S X : Type 0} (number : S → ℕ) (seen : X → Seen S) (d : RuleTable S) (found : List (Result X LRLexError)) (bounds : List Boundary)
+pub record IsEditOf {S X : Type 0} (number : S → ℕ) (seen : X → LexemeParts S) (d : RuleTable S) (found : List (Result X LRLexError)) (bounds : List Boundary)
     (numbers : List ℕ) (removed : Span) (put new : List ℕ) : Type 0 where
   pub text : List ℕ
   pub small : length text < 2 ^ 64
@@ -121,7 +121,7 @@ pub record IsEditOf {S X : Type 0} (number : S → ℕ) (seen : X → Seen S) (d
 
 -- A run of the new text that has these items and boundaries in front of it meets old boundary j: it stands past the edit, and
 -- that one stood there before it, with the same stack.
-pub record HasMet {S X : Type 0} (d : Definition) (number : S → ℕ) (seen : X → Seen S) (bounds : List Boundary) (removed : Span) (put new : List ℕ) (f : Front) (p : Progress X) (j : ℕ) : Type 0 where
+pub record HasMet {S X : Type 0} (d : Definition) (number : S → ℕ) (seen : X → LexemeParts S) (bounds : List Boundary) (removed : Span) (put new : List ℕ) (f : Front) (p : Progress X) (j : ℕ) : Type 0 where
   pub under_way : IsUnderWay d number seen new f p
   pub within : j < length bounds
   pub past : removed.start + length put ≤ p.place
@@ -130,7 +130,7 @@ pub record HasMet {S X : Type 0} (d : Definition) (number : S → ℕ) (seen : X
 
 -- Tiles were cut anew from the last boundary of the old run that is safe, up to the first that meets it, or to the end of
 -- what the text gives.
-pub record HasRecut {S X : Type 0} (number : S → ℕ) (seen : X → Seen S) (d : RuleTable S) (found : List (Result X LRLexError)) (bounds : List Boundary)
+pub record HasRecut {S X : Type 0} (number : S → ℕ) (seen : X → LexemeParts S) (d : RuleTable S) (found : List (Result X LRLexError)) (bounds : List Boundary)
     (numbers : List ℕ) (removed : Span) (put new : List ℕ) (a : Recut X) : Type 0 where
   pub from : IsLastSafe bounds numbers removed.start a.index
   pub first : a.first ≤ length found
@@ -154,7 +154,7 @@ pub record HasReplacedTail {X : Type 0} (found : List (Result X LRLexError)) (bo
 
 -- What was cut anew stands between its front and what follows old boundary j, moved to the place at hand: items, boundaries, and the
 -- numbers that tell how far the tiles looked, raised where that is needed.
-pub record HasReplacedMiddle {S X : Type 0} (number : S → ℕ) (seen : X → Seen S) (found : List (Result X LRLexError)) (bounds : List Boundary) (numbers : List ℕ) (a : Recut X) (j : ℕ)
+pub record HasReplacedMiddle {S X : Type 0} (number : S → ℕ) (seen : X → LexemeParts S) (found : List (Result X LRLexError)) (bounds : List Boundary) (numbers : List ℕ) (a : Recut X) (j : ℕ)
     (found' : List (Result X LRLexError)) (bounds' : List Boundary) (numbers' : List ℕ) : Type 0 where
   pub items : items_by number seen found' ≡ (items_by number seen (take a.first found) ++ items_by number seen a.progress.items.items)
       ++ map (rebased (boundary_at bounds j).place a.progress.place) (items_from (boundary_at bounds j).place (items_by number seen found))

@@ -9,7 +9,7 @@ ghost use Rattle.lrlex.specs.Lookahead.{LooksAhead};
 ghost use Rattle.lrlex.specs.Nearest.{IsNearest, FitsAt};
 ghost use Rattle.lrlex.specs.Pieces.{ArePieces, ArePiecesIn};
 ghost use Rattle.lrlex.specs.LexRun.{IsRunOf, HasItemLaws, end_of, end_state_of};
-ghost use Rattle.lrlex_rules.specs.Parts.{state_number};
+ghost use Rattle.lrlex_rules.specs.RuleParts.{state_number};
 ghost use Rattle.lrlex.specs.Reach.{IsRun};
 ghost use Rattle.lrlex.specs.Relex.{WasRelexed};
 ghost use Rattle.lrlex.specs.Utf16.{utf16_position};
@@ -33,7 +33,7 @@ use std::marker::Model;
 /// Why an edit was not made.
 #[derive(Clone, Copy, Debug, PartialEq, Eq)]
 pub enum EditError {
-    /// An end of the bytes to remove is past the text's end or inside a character, or the first stands behind the second.
+    /// An end of the bytes to remove is past the text's end or inside a character, or the first end is after the second.
     DoesNotFit,
     OutOfMemory,
 }

@@ -27,7 +27,7 @@ use lrlex_boundaries::Boundaries;
 use lrlex_boundaries::room::splice;
 use std::alloc::{AllocError, Global};
 
-/// The item once what stood at `from` stands at `to`.
+/// The item, once what was at `from` is at `to`.
 fn moved<S: Numbered, X: Lexeme<S>>(
     item: &Result<X, LRLexError>,
     from: usize,
@@ -90,7 +90,7 @@ fn count_before<S: Numbered, X: Lexeme<S>>(items: &[Result<X, LRLexError>], plac
     )
 }
 
-/// Moves the items from the one at `first` on: what stood at `from` stands at `to`.
+/// Moves the items from the one at `first` on: what was at `from` is at `to`.
 fn move_items<S: Numbered, X: Lexeme<S>>(
     items: &mut [Result<X, LRLexError>],
     first: usize,
@@ -113,7 +113,7 @@ fn move_items<S: Numbered, X: Lexeme<S>>(
     }
 }
 
-/// The first boundary from `cursor` on that doesn't stand before the place.
+/// The first boundary from `cursor` on that isn't before the place.
 fn first_from(boundaries: &Boundaries, cursor: usize, place: usize) -> usize
     requires { cursor ≤ length boundaries.now }
     ensures within { result ≤ length boundaries.now }
@@ -133,7 +133,7 @@ fn first_from(boundaries: &Boundaries, cursor: usize, place: usize) -> usize
     next
 }
 
-/// Whether the boundary is there, stands at the place and has the stack.
+/// Whether there is such a boundary, at the place and with the stack.
 fn is_at(boundaries: &Boundaries, index: usize, place: usize, stack: &[(usize, usize)]) -> bool
     ensures within { result ≡ true → index < length boundaries.now }
     ensures place { result ≡ true → (boundary_at boundaries.now index).place ≡ place }
@@ -148,7 +148,7 @@ fn is_at(boundaries: &Boundaries, index: usize, place: usize, stack: &[(usize, u
     boundaries.stack(index) == stack
 }
 
-/// How many old boundaries stand before what follows the edit.
+/// How many old boundaries are before what follows the edit.
 fn boundaries_before_rest(old: &Boundaries, edit: &Edit<'_>) -> usize
     requires { AreSorted old.now }
     ensures within { result ≤ length old.now }
@@ -163,7 +163,7 @@ fn boundaries_before_rest(old: &Boundaries, edit: &Edit<'_>) -> usize
     }
 }
 
-/// Whether an old boundary stands where the new one stood before the edit, with the same stack.
+/// Whether there is an old boundary where the new one was before the edit, with the same stack.
 /// The cursor moves forward to the place.
 fn meets(
     old: &Boundaries,
@@ -210,7 +210,7 @@ pub(crate) struct Old<'a, X> {
 /// The tiles that were cut anew.
 #[derive(Drop)]
 pub(crate) struct Recut<X> {
-    /// The old boundary from which on, and how many old items stand before it.
+    /// The old boundary from which on, and how many old items are before it.
     pub(crate) index: usize,
     pub(crate) first: usize,
     /// What was found from there on.
@@ -273,7 +273,7 @@ fn lex_changed<S: Numbered, X: Lexeme<S>>(
     })
 }
 
-/// Puts what was cut anew in the place of all old ones behind its front. After a refusal all is what it was.
+/// Puts what was cut anew in the place of all that the old run has from there on. Where memory is refused, nothing changes.
 fn replace_tail<X: Copy>(
     items: &mut Vec<Result<X, LRLexError>>,
     boundaries: &mut Boundaries,
@@ -300,8 +300,8 @@ fn replace_tail<X: Copy>(
     Ok(())
 }
 
-/// Puts what was cut anew in the place of the old ones between its front and the old boundary that it met, and moves what follows that
-/// one. After a refusal all is what it was.
+/// Puts what was cut anew in the place of what the old run has up to the boundary that was met, and moves what follows that
+/// one. Where memory is refused, nothing changes.
 fn replace_middle<S: Numbered, X: Lexeme<S>>(
     items: &mut Vec<Result<X, LRLexError>>,
     boundaries: &mut Boundaries,
@@ -358,7 +358,7 @@ fn replace_middle<S: Numbered, X: Lexeme<S>>(
 }
 
 /// Lexes the text after an edit in place, and answers how many searches that needed and how many tiles it cut anew, which the run
-/// has yet to be told. What stands before these stays, and what follows is moved. After a refusal all is what it was.
+/// has yet to be told. What is before these tiles stays, and what follows is moved. Where memory is refused, nothing changes.
 pub(crate) fn relex_in_place<S: Numbered, X: Lexeme<S>>(
     alloc: Global,
     table: &RuleTable<S>,

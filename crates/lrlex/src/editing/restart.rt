@@ -2,7 +2,7 @@ ghost use Rattle.std.specs.Prelude.{◌≡◌, ℕ, ◌+◌, ◌-◌, ◌<◌, �
 ghost use Rattle.lrlex_base.specs.Spans.{span, span_start, as_span, Fits};
 ghost use Rattle.lrlex_base.specs.Edits.{edited};
 ghost use Rattle.lrlex_rules.specs.Definition.{Definition};
-ghost use Rattle.lrlex_table.specs.Decided.{IsText};
+ghost use Rattle.lrlex_table.specs.Reach.{IsText};
 ghost use Rattle.lrlex.specs.Active.{is_state};
 ghost use Rattle.lrlex.specs.Tiling.{Item};
 ghost use Rattle.lrlex_boundaries.specs.Boundaries.{Boundary, boundary_at};
@@ -16,7 +16,7 @@ use crate::lexing::step::{Progress, capped};
 use lrlex_boundaries::Boundaries;
 use std::alloc::{AllocError, Global};
 
-/// What an edit leaves of a run. Where what wins at each of the first k boundaries is decided by bytes that stand before the
+/// What an edit leaves of a run. Where what wins at each of the first k boundaries is decided by bytes before the
 /// edit, the new run has the first k tiles of the old one, with their boundaries and items, and lexing may go on from
 /// boundary k.
 pub fn resume_laws()
@@ -34,7 +34,7 @@ pub fn resume_laws()
 {}
 
 /// How far the bytes go that decide what wins: the text and its end decide it, more bytes decide it too, before an edit the
-/// same bytes decide it as before, and behind the edit the same, moved with the text.
+/// same bytes decide it as before, and after the edit the same, moved with the text.
 pub fn decided_laws()
     ensures whole { (d : Definition) (q : ℕ) (text : List ℕ)
         → IsDecided d q text (length text + 1) }
@@ -56,7 +56,7 @@ pub fn decided_laws()
         → IsDecidedAt d new to (record { place = place; entries = m.entries }) }
 {}
 
-/// How the numbers that tell how far the tiles looked grow with a run, and that those up to a safe boundary stay.
+/// How the numbers that say how far the tiles looked grow with a run, and that those up to a safe boundary stay.
 pub fn ahead_laws()
     ensures start { (d : Definition) (text : List ℕ) (m : Boundary)
         → LooksAhead d text (m ∷ []) (0 ∷ []) }
@@ -77,7 +77,7 @@ pub fn ahead_laws()
         → LooksAhead d new (take (k + 1) bounds) (take (k + 1) ahead) }
 {}
 
-/// How many boundaries stand at the place or before it.
+/// How many boundaries are at the place or before it.
 pub(crate) fn count_up_to(boundaries: &Boundaries, place: usize) -> usize
     requires { AreSorted boundaries.now }
     ensures within { result ≤ length boundaries.now }
@@ -132,7 +132,7 @@ pub(crate) fn last_safe(boundaries: &Boundaries, ahead: &[u8], place: usize) -> 
     0
 }
 
-/// What stands at an old boundary, with that boundary alone.
+/// What a run has found that begins at an old boundary: that boundary alone.
 pub(crate) fn resume<X: Copy>(
     alloc: Global,
     old: &Boundaries,
@@ -160,8 +160,8 @@ pub(crate) fn resume<X: Copy>(
     Ok(progress)
 }
 
-/// Adds the numbers of the boundaries behind the one at `index` that stand no farther than the tiles before that one looked,
-/// which is at most `lookahead` bytes past its place, and answers the first boundary behind these. From there on the numbers stay.
+/// Adds the numbers of the boundaries after the one at `index` that are no farther than the tiles before that one looked,
+/// which is at most `lookahead` bytes past its place, and answers the first boundary after these. From there on the numbers stay.
 pub(crate) fn append_raised(
     ahead: &mut Vec<u8>,
     old: &Boundaries,

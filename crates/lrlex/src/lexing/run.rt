@@ -8,7 +8,7 @@ ghost use Rattle.lrlex.specs.Searches.{asks, asks_by};
 ghost use Rattle.lrlex.specs.Lookahead.{LooksAhead};
 ghost use Rattle.lrlex.specs.Views.{definition_by, definition_of, items_by};
 ghost use Rattle.lrlex.specs.LexRun.{IsRunOf, HasItemLaws, end_of, end_state_of};
-ghost use Rattle.lrlex_rules.specs.Parts.{state_number};
+ghost use Rattle.lrlex_rules.specs.RuleParts.{state_number};
 ghost use Rattle.lrlex.specs.Progress.{HasFinished};
 
 use crate::definition::non_streaming::LRNonStreamingLexerDef;
@@ -96,7 +96,7 @@ impl<'lexer, 'input, L: LexerTypes<LexErrorT = LRLexError>> LexRun<'lexer, 'inpu
         self.lexed.asked
     }
 
-    /// How many tiles the call that made this run cut anew. It took over the others.
+    /// How many tiles the call that made this run cut anew. `relex` takes over the others from the old run.
     pub fn recut_tiles(&self) -> usize
         ensures { result ≡ self.now.recut }
     {
@@ -132,7 +132,7 @@ impl<'lexer, 'input, L: LexerTypes<LexErrorT = LRLexError>> LexRun<'lexer, 'inpu
         self.lexed.boundaries.len()
     }
 
-    /// Where the boundary stands.
+    /// The offset of the boundary in the text, in bytes. Boundary `index` comes after so many tiles.
     pub fn place(&self, index: usize) -> usize
         requires { index < length self.now.boundaries }
         ensures { result ≡ (boundary_at self.now.boundaries index).place }
@@ -140,7 +140,7 @@ impl<'lexer, 'input, L: LexerTypes<LexErrorT = LRLexError>> LexRun<'lexer, 'inpu
         self.lexed.boundaries.place(index)
     }
 
-    /// How many bytes past the boundary's place the tiles before it looked. 255 stands for more.
+    /// How many bytes past the boundary's place the tiles before it looked. 255 means more, or unknown.
     pub fn ahead(&self, index: usize) -> u8
         requires { index < length self.now.boundaries }
         ensures { result ≡ slice_index self.now.ahead index }
@@ -164,7 +164,7 @@ pub(crate) struct Lexed<X> {
     pub(crate) items: Vec<Result<X, LRLexError>>,
     pub(crate) boundaries: Boundaries,
     pub(crate) asked: u128,
-    /// For each boundary, how many bytes past its place the tiles before it looked. 255 stands for more.
+    /// For each boundary, how many bytes past its place the tiles before it looked. 255 means more, or unknown.
     pub(crate) ahead: Vec<u8>,
     /// How many tiles were cut anew.
     pub(crate) recut: usize,

@@ -1,6 +1,6 @@
 ghost use Rattle.std.specs.Prelude.{◌≡◌, ◌+◌, ◌-◌, ◌^◌, ◌<◌, ◌≤◌, true, false, [], ◌∷◌, ◌++◌, length, map, IfOk, OnOk, IsCharBoundary};
 ghost use Rattle.lrlex.specs.Active.{is_state, lexeme_id};
-ghost use Rattle.lrlex_rules.specs.Parts.{as_rule};
+ghost use Rattle.lrlex_rules.specs.RuleParts.{as_rule};
 ghost use Rattle.lrlex.specs.Searches.{untabled_count};
 ghost use Rattle.lrlex.specs.Tiling.{Error, top, stack_after, lexeme_of};
 ghost use Rattle.lrlex_boundaries.specs.Entries.{plain, AreEntries};
@@ -30,7 +30,7 @@ pub(crate) struct Progress<X> {
     pub(crate) items: Vec<Result<X, LRLexError>>,
     pub(crate) boundaries: Boundaries,
     pub(crate) asked: u128,
-    /// For each boundary, how many bytes past its place the tiles before it looked. 255 stands for more.
+    /// For each boundary, how many bytes past its place the tiles before it looked. 255 means more, or unknown.
     pub(crate) ahead: Vec<u8>,
     /// How many bytes past the place the tiles looked.
     pub(crate) lookahead: usize,
@@ -112,7 +112,7 @@ pub(crate) fn push_error<S: Numbered, X: Lexeme<S>>(
     Ok(())
 }
 
-/// The number that stands for so many bytes.
+/// So many bytes as a number of one byte, where 255 means more.
 #[inline(always)]
 pub(crate) fn capped(lookahead: usize) -> u8
     ensures { result ≡ capped lookahead }

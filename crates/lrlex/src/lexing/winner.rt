@@ -6,7 +6,7 @@ ghost use Rattle.lrlex.specs.Views.{definition_by};
 
 use crate::definition::rule_table::{RuleTable, StateRules};
 use lrlex_base::Numbered;
-use lrlex_rules::{ask_by, no_matchers};
+use lrlex_rules::{empty_matchers, match_rule};
 use lrlex_table::DeadEnds;
 use regex::Matcher;
 use std::alloc::{AllocError, Global};
@@ -25,7 +25,7 @@ pub(crate) struct Scan {
     pub(crate) reach: usize,
 }
 
-/// Whether a rule that takes so many bytes is better than the best so far: it takes more, or as many and stands earlier.
+/// Whether a rule that takes so many bytes is better than the best so far: it takes more, or as many and is the earlier one.
 #[inline(always)]
 fn is_better(rule: usize, len: usize, best: Tile) -> bool
     ensures better { result ≡ true → (best.len < len) ⊎ ((len ≡ best.len) × (rule < best.rule)) }
@@ -50,8 +50,8 @@ fn active_place(active: &[usize], rules: usize, number: usize) -> usize
     }
 }
 
-/// What wins at the beginning of the text, which stands at `from`, in a state whose active rules all have a table: what the
-/// tables tell.
+/// What wins at the beginning of the text, which begins at `from` in the input, in a state whose active rules all have a
+/// table: the tables decide.
 #[inline(always)]
 fn tabled_winner<S: Numbered>(
     table: &RuleTable<S>,
@@ -71,26 +71,26 @@ fn tabled_winner<S: Numbered>(
         × (t.rule < vec_len table.now.rules)) }
     ensures ends { (ends.new.lists ≡ ends.old.lists) × (ends.new.text ≡ ends.old.text) }
 {
-    let scan = ends.look(rules.tables, rules.list, from, text);
-    let Some(tile) = scan.tile else {
+    let scan = ends.winner_at(rules.tables, rules.list, from, text);
+    let Some(found) = scan.winner else {
         return Scan {
             winner: None,
             reach: scan.reach,
         };
     };
-    let rule = active_place(rules.active, table.rules.len(), tile.rule);
+    let rule = active_place(rules.active, table.rules.len(), found.pattern);
     Scan {
         winner: Some(Tile {
             rule,
-            len: tile.len,
+            len: found.len,
         }),
         reach: scan.reach,
     }
 }
 
-/// The rule that wins at the beginning of the text, which stands at `from`, among those that are active in the state:
-/// the tables tell the best of the rules that have one, and the others are asked. A search doesn't tell how far it looked,
-/// so the whole text decides. Out of line, so that a tile whose rules all have a table doesn't pay for it.
+/// The rule that wins at the beginning of the text, which begins at `from` in the input, among those that are active in the
+/// state: the tables give the best of the rules that have one, and each other rule is matched by `regex`. Such a match doesn't
+/// say how far it looked, so the whole text decides. Out of line, so that a tile whose rules all have a table doesn't pay for it.
 #[inline(never)]
 fn winner_with_search<'d, S: Numbered>(
     alloc: Global,
@@ -120,11 +120,11 @@ fn winner_with_search<'d, S: Numbered>(
 {
     let active = rules.active;
     let tables = rules.tables;
-    let scan = ends.look(tables, rules.list, from, text);
-    let mut best = match scan.tile {
-        Some(tile) => Tile {
-            rule: tile.rule,
-            len: tile.len,
+    let scan = ends.winner_at(tables, rules.list, from, text);
+    let mut best = match scan.winner {
+        Some(found) => Tile {
+            rule: found.pattern,
+            len: found.len,
         },
         None => Tile { rule: 0, len: 0 },
     };
@@ -132,7 +132,7 @@ fn winner_with_search<'d, S: Numbered>(
         let number = tables.asked()[index];
         let place = active[number];
         let rule = &table.rules[place];
-        let len = ask_by(alloc, &mut matchers[place], rule, text, asked)?;
+        let len = match_rule(alloc, &mut matchers[place], rule, text, asked)?;
         if is_better(number, len, best) {
             best = Tile { rule: number, len };
         }
@@ -168,7 +168,7 @@ impl<'d, 't> Searcher<'d, 't> {
     ) -> Result<Self, AllocError>
         ensures { IfOk result (IsSearcherOf table.now text.now) }
     {
-        let matchers = no_matchers(alloc, &table.rules)?;
+        let matchers = empty_matchers(alloc, &table.rules)?;
         let ends = DeadEnds::new(alloc, &table.tables, text);
         Ok(Searcher { matchers, ends })
     }

@@ -156,7 +156,7 @@ pub(crate) fn pieces_in<'d, 't, S: Numbered>(
 
 impl<'lexer, 'input, L: LexerTypes<LexErrorT = LRLexError>> LexRun<'lexer, 'input, L> {
     /// The whole text up to its end or to the error, as it was cut: the tiles of unnamed rules too, in order. A run doesn't
-    /// keep which rule cut a tile: each tile is looked for once more, and the rules that have no table are asked again.
+    /// keep which rule cut a tile: each tile is looked for once more, and the rules that have no table are matched by `regex` again.
     pub fn pieces(&self, alloc: Global) -> Result<Vec<Piece<'lexer, 'input>>, AllocError>
         ensures { IfOk result (λ pieces. ArePieces
             (definition_of L.StorageT.number self.now.definition) self.now.text
@@ -171,7 +171,7 @@ impl<'lexer, 'input, L: LexerTypes<LexErrorT = LRLexError>> LexRun<'lexer, 'inpu
     }
 
     /// The pieces that have a byte in `from..to`, in order, such as those of the lines that an editor shows. Each is whole: the
-    /// first may begin before `from`, and the last end behind `to`. Any numbers will do: past the text's end there are none,
+    /// first may begin before `from`, and the last end after `to`. Any numbers will do: past the text's end there are none,
     /// nor where `from` isn't before `to`. Both ends are found by halving, so it takes time for the rules and for what the
     /// tiles of these pieces look at, and none for the rest of the text.
     pub fn pieces_in(

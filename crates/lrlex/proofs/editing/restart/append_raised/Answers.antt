@@ -12,7 +12,7 @@ far_enough : (c : At-near) → (c.args.index < c.match-checked_add.far) × (c.ma
 far_enough c = elim c.match-checked_add.branch [
   | in-Some w ↦
       let sum : w.in-Some.end ≡ (boundary_at c.args.old.now c.args.index).place + c.args.lookahead = search (rules, arith) in
-      let e = w.up_to-far.ensures in (
+      let e = w.count_up_to-far.ensures in (
         elim (cases_lt c.args.index c.match-checked_add.far) [
           | inl lt ↦ lt
           | inr ge ↦ absurd (omega (arith, e.past c.args.index (omega (arith, w.far-is)) c.requires.within, sum))

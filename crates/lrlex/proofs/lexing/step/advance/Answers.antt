@@ -5,7 +5,7 @@ use Rattle.lrlex_rules.specs.Definition.{Rule}
 use Rattle.lrlex.specs.Active.{active_count, lacks_id, lacks_target, lexeme_id}
 use Rattle.lrlex.specs.Searches.{untabled_count}
 use Rattle.lrlex.specs.Tiling.{Tile, Item, Error, top, IsStuck, IsTaken, stack_after, lexeme_of, tile_items, NoMatch, NoId, NoTarget}
-use Rattle.lrlex_rules.specs.Parts.{as_rule}
+use Rattle.lrlex_rules.specs.RuleParts.{as_rule}
 use Rattle.lrlex_boundaries.specs.Entries.{plain}
 use Rattle.lrlex.specs.Reach.{Reached}
 use Rattle.lrlex.specs.Views.{definition_by, items_by}
@@ -183,7 +183,7 @@ returns-clause-goes_on g c on f u =
     let reach = c.in_ok-scan.scan.reach in
     let decided = subst (λ q. IsDecided d q (drop p.place text) reach) on_top (subst (λ xs. IsDecided d c.top_of-state.result xs reach) c.range_from-rest.ensures.value c.in_ok-scan.ensures.scan.decided) in
     record {
-      rules = record {
+      under_way = record {
         boundary =
             subst (IsCharBoundary text) (sym c.in_ok-push_boundary.ensures.place)
             (IsCharBoundary-from_rest text p.place t.len u.boundary.0 (subst (λ rest. IsCharBoundary rest t.len) c.range_from-rest.ensures.value (rw c.in-Some.is at c.in_ok-scan.ensures.tile).0));

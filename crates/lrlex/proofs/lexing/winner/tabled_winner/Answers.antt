@@ -1,6 +1,6 @@
 use Rattle.std.proofs.Common.{◌<◌, ◌≤◌, length, slice_get, get_or, refl, sym, ap, ◌∙◌, subst, arith}
 use Rattle.std.proofs.lemmas.List.{length-map}
-use Rattle.lrlex_rules.specs.Parts.{as_rule}
+use Rattle.lrlex_rules.specs.RuleParts.{as_rule}
 use Rattle.lrlex.specs.StateTables.{pattern_in}
 use Rattle.lrlex.specs.Active.{is_active}
 use Rattle.lrlex.specs.Tiling.{Wins}
@@ -10,8 +10,8 @@ use Rattle.lrlex.proofs.DecidedLemmas.{decided_look}
 use Rattle.lrlex.proofs.TableLemmas.{active_within, told_none, told_some, told_bytes, best_wins, best_stuck}
 use Rattle.lrlex.proofs.lexing.winner.tabled_winner.Goals as goal
 
-pub look-scan-requires-clause-tables : goal.look-scan-requires-clause-tables
-look-scan-requires-clause-tables g c = ap (λ xs. slice_get xs c.args.rules.list) c.requires.ends.0 ∙ c.requires.rules.list
+pub winner_at-scan-requires-clause-tables : goal.winner_at-scan-requires-clause-tables
+winner_at-scan-requires-clause-tables g c = ap (λ xs. slice_get xs c.args.rules.list) c.requires.ends.0 ∙ c.requires.rules.list
 
 pub returns-in_default-clause-scan : goal.returns-in_default-clause-scan
 returns-in_default-clause-scan g c =
@@ -21,10 +21,10 @@ returns-in_default-clause-scan g c =
     let places = c.args.rules.active.now in
     let t = c.args.rules.tables.now in
     let past : length t.asked.items ≤ 0 = omega (arith, ap length c.requires.tabled) in
-    let told = told_none d q text places t.asked.items c.requires.rules.active t refl c.requires.rules.tables c.look-scan.result.tile c.look-scan.ensures.winner c.in_default.is in
+    let told = told_none d q text places t.asked.items c.requires.rules.active t refl c.requires.rules.tables c.winner_at-scan.result.winner c.winner_at-scan.ensures.winner c.in_default.is in
     record {
       winner = best_stuck d q text places t.asked.items c.requires.rules.active t refl c.requires.rules.tables 0 0 0 past told refl;
-      decided = decided_look d q text places t.asked.items c.requires.rules.active t refl c.requires.rules.tables 0 0 0 past told c.look-scan.result.reach c.requires.tabled c.look-scan.ensures.decided;
+      decided = decided_look d q text places t.asked.items c.requires.rules.active t refl c.requires.rules.tables 0 0 0 past told c.winner_at-scan.result.reach c.requires.tabled c.winner_at-scan.ensures.decided;
     }
 
 pub active_place-rule-requires-clause-within : goal.active_place-rule-requires-clause-within
@@ -35,9 +35,9 @@ active_place-rule-requires-clause-within g c =
     let places = c.args.rules.active.now in
     let t = c.args.rules.tables.now in
     let past : length t.asked.items ≤ 0 = omega (arith, ap length c.requires.tabled) in
-    let tile = c.in-Some.tile in
-    let told = told_some d q text places t.asked.items c.requires.rules.active t refl c.requires.rules.tables c.look-scan.result.tile c.look-scan.ensures.winner tile c.in-Some.is in
-    let some = told_bytes d q text places t.asked.items c.requires.rules.active t refl c.requires.rules.tables c.look-scan.result.tile c.look-scan.ensures.winner tile c.in-Some.is in
+    let found = c.in-Some.found in
+    let told = told_some d q text places t.asked.items c.requires.rules.active t refl c.requires.rules.tables c.winner_at-scan.result.winner c.winner_at-scan.ensures.winner found c.in-Some.is in
+    let some = told_bytes d q text places t.asked.items c.requires.rules.active t refl c.requires.rules.tables c.winner_at-scan.result.winner c.winner_at-scan.ensures.winner found c.in-Some.is in
     omega (arith, told.within some, length-map places (pattern_in d.rules))
 
 pub active_place-rule-requires-clause-all : goal.active_place-rule-requires-clause-all
@@ -56,14 +56,14 @@ returns-clause-scan g c =
     let places = c.args.rules.active.now in
     let t = c.args.rules.tables.now in
     let past : length t.asked.items ≤ 0 = omega (arith, ap length c.requires.tabled) in
-    let tile = c.in-Some.tile in
-    let told = told_some d q text places t.asked.items c.requires.rules.active t refl c.requires.rules.tables c.look-scan.result.tile c.look-scan.ensures.winner tile c.in-Some.is in
-    let some = told_bytes d q text places t.asked.items c.requires.rules.active t refl c.requires.rules.tables c.look-scan.result.tile c.look-scan.ensures.winner tile c.in-Some.is in
+    let found = c.in-Some.found in
+    let told = told_some d q text places t.asked.items c.requires.rules.active t refl c.requires.rules.tables c.winner_at-scan.result.winner c.winner_at-scan.ensures.winner found c.in-Some.is in
+    let some = told_bytes d q text places t.asked.items c.requires.rules.active t refl c.requires.rules.tables c.winner_at-scan.result.winner c.winner_at-scan.ensures.winner found c.in-Some.is in
     record {
       winner =
-          subst (λ r. Wins d q text r tile.len) (sym c.active_place-rule.ensures)
-          (best_wins d q text places t.asked.items c.requires.rules.active t refl c.requires.rules.tables 0 tile.rule tile.len past told some);
-      decided = decided_look d q text places t.asked.items c.requires.rules.active t refl c.requires.rules.tables 0 tile.rule tile.len past told c.look-scan.result.reach c.requires.tabled c.look-scan.ensures.decided;
+          subst (λ r. Wins d q text r found.len) (sym c.active_place-rule.ensures)
+          (best_wins d q text places t.asked.items c.requires.rules.active t refl c.requires.rules.tables 0 found.pattern found.len past told some);
+      decided = decided_look d q text places t.asked.items c.requires.rules.active t refl c.requires.rules.tables 0 found.pattern found.len past told c.winner_at-scan.result.reach c.requires.tabled c.winner_at-scan.ensures.decided;
     }
 
 pub returns-clause-tile : goal.returns-clause-tile
@@ -74,9 +74,9 @@ returns-clause-tile g c =
     let places = c.args.rules.active.now in
     let t = c.args.rules.tables.now in
     let past : length t.asked.items ≤ 0 = omega (arith, ap length c.requires.tabled) in
-    let tile = c.in-Some.tile in
-    let told = told_some d q text places t.asked.items c.requires.rules.active t refl c.requires.rules.tables c.look-scan.result.tile c.look-scan.ensures.winner tile c.in-Some.is in
-    let some = told_bytes d q text places t.asked.items c.requires.rules.active t refl c.requires.rules.tables c.look-scan.result.tile c.look-scan.ensures.winner tile c.in-Some.is in
+    let found = c.in-Some.found in
+    let told = told_some d q text places t.asked.items c.requires.rules.active t refl c.requires.rules.tables c.winner_at-scan.result.winner c.winner_at-scan.ensures.winner found c.in-Some.is in
+    let some = told_bytes d q text places t.asked.items c.requires.rules.active t refl c.requires.rules.tables c.winner_at-scan.result.winner c.winner_at-scan.ensures.winner found c.in-Some.is in
     let rules_len = length-map c.args.table.now.rules.items (as_rule g.S.Numbered.number) in
-    let within : tile.rule < length places = omega (arith, told.within some, length-map places (pattern_in d.rules)) in
-    (told.cuts, omega (arith, c.active_place-rule.ensures, c.args.table.now.rules.ok.0, rules_len, active_within d q places c.requires.rules.active tile.rule within))
+    let within : found.pattern < length places = omega (arith, told.within some, length-map places (pattern_in d.rules)) in
+    (told.cuts, omega (arith, c.active_place-rule.ensures, c.args.table.now.rules.ok.0, rules_len, active_within d q places c.requires.rules.active found.pattern within))

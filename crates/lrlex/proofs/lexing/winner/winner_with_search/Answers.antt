@@ -1,7 +1,7 @@
 use Rattle.std.proofs.Common.{◌≡◌, ℕ, ◌+◌, ◌<◌, ◌≤◌, ◌⊎◌, true, length, slice_get, vec_len, get_or, refl, sym, ap, ◌∙◌, subst, inl, inr, arith}
 use Rattle.std.proofs.lemmas.Option.{slice_get_read}
 use Rattle.std.proofs.lemmas.List.{length-map}
-use Rattle.lrlex_rules.specs.Parts.{as_rule}
+use Rattle.lrlex_rules.specs.RuleParts.{as_rule}
 use Rattle.lrlex_matching.specs.Matching.{match_length}
 use Rattle.lrlex_table.specs.Tables.{IsBestAmong}
 use Rattle.lrlex_rules.specs.Matchers.{IsMatcherOf}
@@ -33,10 +33,10 @@ others-init g c =
       best = elim c.match-scan.branch [
         | in-Some w ↦
             subst told (sym w.best-is)
-            (told_some d q text places t.asked.items c.requires.rules.active t refl c.requires.rules.tables c.look-scan.result.tile c.look-scan.ensures.winner w.in-Some.tile w.in-Some.is)
+            (told_some d q text places t.asked.items c.requires.rules.active t refl c.requires.rules.tables c.winner_at-scan.result.winner c.winner_at-scan.ensures.winner w.in-Some.found w.in-Some.is)
         | in-None w ↦
             subst told (sym w.best-is)
-            (told_none d q text places t.asked.items c.requires.rules.active t refl c.requires.rules.tables c.look-scan.result.tile c.look-scan.ensures.winner w.in-None.is)
+            (told_none d q text places t.asked.items c.requires.rules.active t refl c.requires.rules.tables c.winner_at-scan.result.winner c.winner_at-scan.ensures.winner w.in-None.is)
       ];
     }
 
@@ -91,8 +91,8 @@ offset_bounds-matchers-place g c =
     let place = active_within d c.args.state places c.requires.rules.active (get_or c.asked.result.now c.others.index 0) within in
     omega (arith, c.args.table.now.rules.ok.0, c.args.table.now.rules.ok.1, c.args.table.now.rules.small)
 
-pub ask_by-requires : goal.ask_by-requires
-ask_by-requires g c =
+pub match_rule-requires : goal.match_rule-requires
+match_rule-requires g c =
     let rules = c.args.table.now.rules.items in
     let d = definition_by g.S.Numbered.number c.args.table.now in
     let t = c.args.rules.tables.now in
@@ -137,7 +137,7 @@ others-preserved g c =
       | inl old ↦ inl old
       | inr new ↦ inr (ap (λ xs. get_or xs i 0) c.asked.ensures ∙ new)
     ] in
-    let matchers = matchers_set rules c.others.matchers inv.matchers place r at c.ask_by.new.slot c.in_ok-len.ensures.slot in
+    let matchers = matchers_set rules c.others.matchers inv.matchers place r at c.match_rule.new.slot c.in_ok-len.ensures.slot in
     let best = λ (x : Tile). IsBestAmong ps b text x.rule x.len in
     elim c.if-is_better.branch [
       | then-is_better w ↦ record {
@@ -251,5 +251,5 @@ returns-clause-asked g c =
       );
     }
 
-pub look-scan-requires-clause-tables : goal.look-scan-requires-clause-tables
-look-scan-requires-clause-tables g c = ap (λ xs. slice_get xs c.args.rules.list) c.requires.held.1 ∙ c.requires.rules.list
+pub winner_at-scan-requires-clause-tables : goal.winner_at-scan-requires-clause-tables
+winner_at-scan-requires-clause-tables g c = ap (λ xs. slice_get xs c.args.rules.list) c.requires.held.1 ∙ c.requires.rules.list

@@ -2,7 +2,7 @@
 use Rattle.std.proofs.Common.{◌≡◌, ◌+◌, ◌<◌, true, [], ◌∷◌, length, drop, sym, ap, ◌∙◌, subst, arith, IsCharBoundary, length-append}
 use Rattle.std.proofs.lemmas.Option.{slice_get_within}
 use Rattle.std.proofs.lemmas.Str.{IsCharBoundary-from_rest}
-use Rattle.lrlex_table.specs.Decided.{IsText}
+use Rattle.lrlex_table.specs.Reach.{IsText}
 use Rattle.lrlex_table.proofs.ByteLemmas.{are_bytes}
 use Rattle.lrlex.specs.Active.{is_state}
 use Rattle.lrlex.specs.Searcher.{AreOf}

@@ -1,6 +1,6 @@
 -- The ends of the row are found among boundaries, which rise.
 use Rattle.std.proofs.Common.{◌≡◌, ◌-◌, true, sym, ◌∙◌, arith}
-use Rattle.lrlex_table.specs.Decided.{IsText}
+use Rattle.lrlex_table.specs.Reach.{IsText}
 use Rattle.lrlex_table.proofs.ByteLemmas.{are_bytes}
 use Rattle.lrlex.specs.Active.{is_state}
 use Rattle.lrlex.specs.Pieces.{ArePiecesIn}
