@@ -1,5 +1,5 @@
-//! The tokens of a text, with their places. No clause and no proof file.
-use lrlex::{DefaultLexerTypes, LRNonStreamingLexerDef, Lexeme, Lexer};
+//! The tokens of a text, and where it ends. No clause and no proof file.
+use lrlex::{DefaultLexerTypes, LRNonStreamingLexerDef, Lexeme, Lexer, LexerDef};
 use std::alloc::{AllocError, Global};
 
 /// A token: the name of its rule, its text, and the line and column of its first character, both from 1.
@@ -31,4 +31,22 @@ pub fn tokens<'d, 't>(
         }
     }
     Ok(tokens)
+}
+
+/// The name of the start state in which the text ends, as that of a comment that isn't closed. None where that is `INITIAL`.
+pub fn unclosed<'d>(
+    alloc: Global,
+    definition: &'d LRNonStreamingLexerDef<DefaultLexerTypes<u32>>,
+    text: &str,
+) -> Result<Option<&'d str>, AllocError> {
+    let run = definition.run(alloc, text)?;
+    let Some(last) = run.end_state() else {
+        return Ok(None);
+    };
+    for state in definition.iter_start_states().skip(1) {
+        if state.id() == last.id() {
+            return Ok(Some(state.name()));
+        }
+    }
+    Ok(None)
 }
