@@ -37,6 +37,8 @@ ROWS = [
     Row("tokens", 0, f"--size-limit 100000000 --dfa-size-limit 100000000 {TOKENS}"),
     Row("too_large", 1, f"--size-limit 10 {TOKENS}"),
     Row("missing", 1, "examples/tokens.l missing.txt"),
+    # the example of docs/rules.md
+    Row("rules_example", 0, "rules/example.l tests/cli/rules_example.in"),
     # words that are refused share their outputs
     Row("usage", 1, f"--nonsense {TOKENS}"),
     Row("usage", 1, "-"),

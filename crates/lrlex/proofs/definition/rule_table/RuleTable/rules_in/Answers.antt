@@ -33,7 +33,7 @@ returns-clause-rules g c =
     let places : list_in lists j ≡ held.items = get_or_from_slice_get lists j held.items [] (slice_get-map (λ v. v.items) d.lists.items j ∙ ap (option_map (λ v. v.items)) kept) in
     let are = slice_get_read d.tables.items (length d.tables.items) j c.index-tables.result.now refl inside c.index-tables.ensures in
     record {
-      active = c.deref-active.ensures.value ∙ sym places ∙ active_at lists d.list_at.items states d.rules.items i j c.args.id d.listed found at
+      active = c.deref-2.ensures.value ∙ sym places ∙ active_at lists d.list_at.items states d.rules.items i j c.args.id d.listed found at
           ∙ active_places-by g.S.Numbered.number (map as_state states) d.rules.items c.args.id;
       tables = tables_at_state g.S.Numbered.number lists d.tables.items d.list_at.items d.start_states.items d.rules.items i j c.args.id c.index-tables.result.now
           d.listed d.served found at are;
