@@ -157,8 +157,8 @@ def first_difference(got, wanted):
 
 
 def examples():
-    """The stored runs of the program."""
-    return [Example(row) for row in cli_rows.ROWS]
+    """The stored runs of the program to which memory is refused."""
+    return [Example(row) for row in cli_rows.ROWS if row.is_refused]
 
 
 def calls(folder):
