@@ -141,7 +141,7 @@ def wanted(run, breaks):
     return Outcome(out, err, status), model.trace
 
 
-def came(folder, run, breaks):
+def outcome_of(folder, run, breaks):
     """What comes of the run in its folder where streams break so, and its trace."""
     lines = [f"{stream} {most} {at} {error}" for stream, (most, at, error) in breaks.items()]
     stdin = b"".join(as_bytes(text) for stream, text in run.reads if stream == STDIN)
@@ -277,12 +277,13 @@ class Streams(unittest.TestCase):
         """Checks the run in each of these ways, each of which is a row."""
         with tempfile.TemporaryDirectory() as folder, ThreadPoolExecutor(os.cpu_count()) as pool:
             programs.fill(folder, {path: text for path, text in run.reads if path != STDIN and text is not None})
-            outcomes = pool.map(lambda breaks: came(folder, run, breaks), ways)
+            outcomes = pool.map(lambda breaks: outcome_of(folder, run, breaks), ways)
             differ = 0
             for breaks, outcome in zip(ways, outcomes, strict=True):
+                right = wanted(run, breaks)
+                differ += outcome != right
                 with self.subTest(run=run.name, words=run.words, breaks=breaks):
-                    differ += outcome != wanted(run, breaks)
-                    self.assertEqual(outcome, wanted(run, breaks))
+                    self.assertEqual(outcome, right)
                 self.assertLess(differ, MOST_SHOWN, f"{run.name}: its other ways are not compared")
 
     def check_runs(self, pairs):

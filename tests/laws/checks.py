@@ -1,4 +1,5 @@
 """Laws that hold of all rule texts, texts, edits and maps of ids, and that need no expected answers."""
+
 import json
 
 from laws.random_case import IDS
@@ -139,8 +140,8 @@ def compare_rules(text, rules, tally):
     names = [rule["name"] for rule in named]
     tally.same("ids are places", list(range(len(rules))), [rule["tok_id"] for rule in rules])
     tally.law("names are distinct", len(set(names)) == len(names), f": {names}")
-    stand = [data[slice(*rule["name_span"])].decode(errors="replace") for rule in named]
-    tally.same("names stand in the rule text", names, stand)
+    in_text = [data[slice(*rule["name_span"])].decode(errors="replace") for rule in named]
+    tally.same("names are in the rule text", names, in_text)
 
 
 def compare_faults(text, line, tally):
@@ -188,7 +189,7 @@ def compare_reading(reading, first, tally):
 # Ways of finding winners
 
 
-def compare_ways(case, answers, tally):
+def compare_ways(answers, tally):
     """What wins by tables is what wins by `regex` alone, at each place of a text."""
     regex = answers["regex"]
     for name, lines in regex.items():
@@ -217,7 +218,7 @@ def count_sizes(rules, answers, tally):
 
 
 def compare_lexer(case, lines, run, tally):
-    """A lexer has the items of a run, and tells texts, lines and places of these, of any spans and of any bytes."""
+    """A lexer has the items of a run, and gives texts, lines and places of these, of any spans and of any bytes."""
     data = case.run_text.encode()
     tally.same("items of a lexer", run.items, raw(lines[0], b"items"))
     spans = [item_span(item) for item in json.loads(run.items)] + case.spans
@@ -249,7 +250,7 @@ class DocumentState:
     def __init__(self, lines):
         self.lines = lines
         counts, text, items, pieces = lines
-        self.tiles, self.lexed, self.asked = value(counts, b"document")
+        self.tiles, self.recut, self.searches = value(counts, b"document")
         self.text, self.items, self.pieces = value(text, b"text"), raw(items, b"items"), raw(pieces, b"pieces")
 
 
@@ -277,7 +278,7 @@ def compare_relexed(shown, recomputed, again, tally):
     few = again.counts[4] <= recomputed.counts[4] and again.counts[5] <= recomputed.counts[5]
     tally.law("no more searches and tiles than recomputed", few, f": {recomputed.counts}, {again.counts}")
     counts = [again.counts[0], again.counts[4], again.counts[5]]
-    tally.same("counts of a document", counts, [shown.tiles, shown.lexed, shown.asked])
+    tally.same("counts of a document", counts, [shown.tiles, shown.recut, shown.searches])
 
 
 def compare_unfit(before, shown, tally):
@@ -302,7 +303,7 @@ def compare_edits(case, answers, tally):
             recomputed = one_run(answers["recomputed", number])
             tally.add("edits")
             tally.add("tiles_after", shown.tiles)
-            tally.add("tiles_recut", shown.lexed)
+            tally.add("tiles_recut", shown.recut)
             compare_document(shown, edit.after.decode(), recomputed, tally)
             compare_relexed(shown, recomputed, next(runs), tally)
         else:
@@ -378,7 +379,7 @@ def compare_case(case, answers, tally):
     rules = value(ways["regex"]["definition"][2], b"rules")
     tally.same("rules by each way", 1, len({tuple(way["definition"][1:]) for way in ways.values()}))
     count_sizes(rules, ways, tally)
-    compare_ways(case, ways, tally)
+    compare_ways(ways, tally)
     asked = ways[case.run_way]
     run = one_run(asked["one run"])
     compare_tiling(case.run_text, run, rules, tally)

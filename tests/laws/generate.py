@@ -1,4 +1,5 @@
 """Random rule texts, flags, texts, edits, mistakes and maps of ids."""
+
 from laws.patterns import pattern
 
 # What texts are made of: the characters that the patterns speak of, and some of their words.

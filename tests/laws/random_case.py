@@ -1,4 +1,5 @@
 """A random case of the laws: a rule text, texts, edits and a map of ids, and the steps that ask what comes of them."""
+
 from laws.chance import Chance
 from laws.generate import UNKNOWN, any_ids, edits, rule_text, text, with_mistake
 from support.definitions import Definition

@@ -1,4 +1,5 @@
 """How much was tried, and what differs."""
+
 from collections import Counter
 
 
