@@ -1,0 +1,82 @@
+"""Child processes that end when this program ends, however it ends.
+
+Each child leads a process group of its own. An interrupt of this program ends these groups; a child whose parent was killed
+is ended by the kernel, and rt ends what it has started when rt itself is gone.
+"""
+
+import atexit
+import contextlib
+import ctypes
+import os
+import signal
+import subprocess
+import threading
+import time
+
+PR_SET_PDEATHSIG = 1
+LIBC = ctypes.CDLL(None, use_errno=True)
+RUNNING, ALONE = set(), threading.Lock()
+
+
+def die_with_parent():
+    """Runs in the child: the kernel kills it when the thread that started it ends."""
+    LIBC.prctl(PR_SET_PDEATHSIG, signal.SIGKILL)
+
+
+def start(words, **how):
+    """Starts a child. What it is given as standard input is nothing, unless `how` says so."""
+    how = {"stdin": subprocess.DEVNULL, "start_new_session": True, "preexec_fn": die_with_parent, **how}
+    with ALONE:
+        # pylint: disable-next=consider-using-with,subprocess-popen-preexec-fn
+        child = subprocess.Popen(words, **how)
+        RUNNING.add(child)
+    return child
+
+
+def run(words, **how):
+    """Runs a child to its end, and gives its status and what it wrote to both streams, as text."""
+    how = {"stdout": subprocess.PIPE, "stderr": subprocess.STDOUT, "text": True, "errors": "replace", **how}
+    child = start(words, **how)
+    told = child.communicate()[0]
+    ended(child)
+    return child.returncode, told
+
+
+def ended(child):
+    """Waits for the child, and forgets it."""
+    child.wait()
+    with ALONE:
+        RUNNING.discard(child)
+    return child.returncode
+
+
+def give_way(words):
+    """The words that run these with what processor time others leave, also where the kernel weighs sessions."""
+    return ["sh", "-c", '{ echo 19 >/proc/self/autogroup; } 2>/dev/null; exec nice -n 19 "$@"', "sh", *words]
+
+
+def end_all(seconds=5):
+    """Ends the groups of all children that still run: they are asked to, and then killed."""
+    with ALONE:
+        left = list(RUNNING)
+        RUNNING.clear()
+    for sign in (signal.SIGTERM, signal.SIGKILL):
+        for it in left:
+            with contextlib.suppress(OSError):
+                os.killpg(it.pid, sign)
+        until = time.monotonic() + seconds
+        while sign == signal.SIGTERM and time.monotonic() < until and any(it.poll() is None for it in left):
+            time.sleep(0.05)
+
+
+def end_all_at_exit():
+    """Has an interrupt, a request to end and a lost terminal end the children first."""
+
+    def end(number, _frame):
+        end_all()
+        signal.signal(number, signal.SIG_DFL)
+        os.kill(os.getpid(), number)
+
+    for number in (signal.SIGINT, signal.SIGTERM, signal.SIGHUP):
+        signal.signal(number, end)
+    atexit.register(end_all)
