@@ -10,7 +10,7 @@ trap 'exit 1' HUP INT TERM
 
 if [ ! -x "$program" ] ||
     [ -n "$(find "$top/crates/lrlex_base" "$top/crates/lrlex_tokens" "$top/crates/lrlex_matching" "$top/crates/lrlex_rules" \
-        "$top/crates/lrlex_table" "$top/crates/lrlex_boundaries" "$top/crates/lrlex" "$top/crates/lrlex_timing" \
+        "$top/crates/lrlex_table" "$top/crates/lrlex_boundaries" "$top/crates/lrlex" "$top/crates/lrlex_bench_lib" \
         "$top/crates/lrlex_bench" \
         -path '*/out' -prune -o -name '*.rt' -newer "$program" -print)" ]; then
     if ! command -v rt >/dev/null 2>&1; then

@@ -24,8 +24,8 @@ use Rattle.lrlex.specs.Tiling.{Done, Item, asked_at, top}
 use Rattle.lrlex.specs.UnderWay.{HasAdvanced, HasCutAnew, HasEnded, HasMet, IsEditOf, IsUnderWay, StandsAt, Front, front_of}
 use Rattle.lrlex.specs.Views.{definition_by, items_by}
 use Rattle.lrlex.specs.declared.errors.LRLexError.{LRLexError}
-use Rattle.lrlex.specs.declared.lexer.definition.RuleTable.{RuleTable}
-use Rattle.lrlex.specs.declared.lexer.lexing.Progress.{Progress}
+use Rattle.lrlex.specs.declared.definition.rule_table.RuleTable.{RuleTable}
+use Rattle.lrlex.specs.declared.lexing.step.Progress.{Progress}
 use Rattle.lrlex.proofs.AheadLemmas.{looks_known}
 use Rattle.lrlex.proofs.AskedLemmas.{asks_nowhere, next_asked, cut_to_meeting, cut_to_stop, cut_to_end}
 use Rattle.lrlex.proofs.FrontLemmas.{joined}

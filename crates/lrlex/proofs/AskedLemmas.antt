@@ -15,7 +15,7 @@ use Rattle.lrlex_boundaries.specs.Boundaries.{Boundary, place_and_stack, no_boun
 use Rattle.lrlex_boundaries.specs.Moves.{Meets}
 use Rattle.lrlex.specs.Reach.{Reached}
 use Rattle.lrlex.specs.Asked.{tables_in, untabled_count, asks_at, asks_by, IsLastSafe, IsFirstMeeting, WasCutAnew}
-use Rattle.lrlex.specs.declared.lexer.definition.RuleTable.{RuleTable}
+use Rattle.lrlex.specs.declared.definition.rule_table.RuleTable.{RuleTable}
 use Rattle.lrlex.proofs.ReachLemmas.{length_now}
 use Rattle.lrlex.proofs.MeetLemmas.{meets_front, front_at, last_at}
 

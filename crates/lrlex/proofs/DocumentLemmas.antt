@@ -18,8 +18,8 @@ use Rattle.lrlex.specs.Reach.{IsRun}
 use Rattle.lrlex.specs.Relexed.{AreCountsOf}
 use Rattle.lrlex.specs.Views.{definition_by, items_by}
 use Rattle.lrlex.specs.declared.errors.LRLexError.{LRLexError}
-use Rattle.lrlex.specs.declared.lexer.definition.RuleTable.{RuleTable}
-use Rattle.lrlex.specs.declared.lexer.document.LexedText.{LexedText}
+use Rattle.lrlex.specs.declared.definition.rule_table.RuleTable.{RuleTable}
+use Rattle.lrlex.specs.declared.editing.document.LexedText.{LexedText}
 use Rattle.lrlex.proofs.InPlaceLemmas.{counts_moved}
 use Rattle.lrlex.proofs.ItemLemmas.{have_laws}
 

@@ -20,8 +20,8 @@ use Rattle.lrlex.specs.Tiling.{Item, Item-set, rebased}
 use Rattle.lrlex.specs.UnderWay.{HasCutAnew, HasMet, IsEditOf, IsPutBehind, IsPutBetween, front_of}
 use Rattle.lrlex.specs.Views.{definition_by, item_of, items_by}
 use Rattle.lrlex.specs.declared.errors.LRLexError.{LRLexError}
-use Rattle.lrlex.specs.declared.lexer.definition.RuleTable.{RuleTable}
-use Rattle.lrlex.specs.declared.lexer.relexing.Anew.{Anew}
+use Rattle.lrlex.specs.declared.definition.rule_table.RuleTable.{RuleTable}
+use Rattle.lrlex.specs.declared.editing.relex.Anew.{Anew}
 use Rattle.lrlex.proofs.AheadLemmas.{looks_known}
 use Rattle.lrlex.proofs.AnewLemmas.{old_lexed, old_looks, old_sorted}
 use Rattle.lrlex.proofs.FrontLemmas.{last_behind}

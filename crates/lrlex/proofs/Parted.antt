@@ -8,7 +8,7 @@ use Rattle.lrlex_rules.specs.Declaration.{initial}
 use Rattle.lrlex_rules.specs.Builder.{as_definition}
 use Rattle.lrlex_rules.specs.declared.parser.builder.RuleFile.{RuleFile}
 use Rattle.lrlex.specs.Views.{definition_by}
-use Rattle.lrlex.specs.declared.lexer.definition.RuleTable.{RuleTable}
+use Rattle.lrlex.specs.declared.definition.rule_table.RuleTable.{RuleTable}
 
 pub definition_by-parts : {S : Type 0} (number : S → ℕ) (t : RuleTable S) (file : RuleFile S) →
     t.rules ≡ file.rules → t.start_states ≡ file.states → t.flags ≡ file.flags → definition_by number t ≡ as_definition number file

@@ -13,7 +13,7 @@ use Rattle.lrlex_boundaries.specs.Moves.{AreSorted}
 use Rattle.lrlex.specs.Reach.{IsLexed}
 use Rattle.lrlex_boundaries.specs.Entries.{plain}
 use Rattle.lrlex.specs.Tiling.{Item, Tile, Wins, top, stack_past}
-use Rattle.lrlex.specs.declared.lexer.pieces.Piece.{Piece}
+use Rattle.lrlex.specs.declared.reading.pieces.Piece.{Piece}
 use Rattle.lrlex.proofs.ItemLemmas.{Wins-cut}
 use Rattle.lrlex.proofs.PeakLemmas.{tiles_are}
 use Rattle.lrlex.proofs.ReachLemmas.{AreStates, one_state, sound_after, top_is_state}

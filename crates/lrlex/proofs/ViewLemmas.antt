@@ -15,7 +15,7 @@ use Rattle.lrlex.specs.Active.{is_active, is_inclusive, taken_by, taken_by_any, 
 use Rattle.lrlex_rules.specs.Parts.{RuleParts, as_rule, as_state}
 use Rattle.lrlex.specs.Views.{definition_by}
 use Rattle.lrlex.specs.StateTables.{ArePlaced}
-use Rattle.lrlex.specs.declared.lexer.definition.RuleTable.{RuleTable}
+use Rattle.lrlex.specs.declared.definition.rule_table.RuleTable.{RuleTable}
 use Rattle.lrlex_rules.specs.declared.states.StartState as start
 
 pub list_any-map : {A B : Type 0} (f : A → B) (p : B → Bool) (xs : List A) → list_any p (map f xs) ≡ list_any (λ x. p (f x)) xs

@@ -7,8 +7,8 @@ use Rattle.lrlex.specs.Tiling.{top}
 use Rattle.lrlex_boundaries.specs.Boundaries.{Boundary, place_and_stack}
 use Rattle.lrlex_boundaries.specs.Moves.{Meets}
 use Rattle.lrlex.specs.Kept.{IsSafe}
-use Rattle.lrlex.specs.declared.lexer.definition.LRNonStreamingLexerDef.{LRNonStreamingLexerDef}
-use Rattle.lrlex.specs.declared.lexer.definition.RuleTable.{RuleTable}
+use Rattle.lrlex.specs.declared.definition.non_streaming.LRNonStreamingLexerDef.{LRNonStreamingLexerDef}
+use Rattle.lrlex.specs.declared.definition.rule_table.RuleTable.{RuleTable}
 
 -- the tables of the first state with the id
 abbrev pub tables_in : {S : Type 0} → RuleTable S → ℕ → Option Tables

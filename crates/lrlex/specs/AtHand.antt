@@ -9,10 +9,10 @@ use Rattle.lrlex_rules.specs.Matchers.{AreMatchers}
 use Rattle.lrlex.specs.StateTables.{patterns_on}
 use Rattle.lrlex.specs.Asked.{untabled_count}
 use Rattle.lrlex.specs.Views.{definition_by}
-use Rattle.lrlex.specs.declared.lexer.definition.RuleTable.{RuleTable}
-use Rattle.lrlex.specs.declared.lexer.definition.RulesIn.{RulesIn}
-use Rattle.lrlex.specs.declared.lexer.searching.Searcher.{Searcher}
-use Rattle.lrlex.specs.declared.lexer.searching.Sight.{Sight}
+use Rattle.lrlex.specs.declared.definition.rule_table.RuleTable.{RuleTable}
+use Rattle.lrlex.specs.declared.definition.rule_table.RulesIn.{RulesIn}
+use Rattle.lrlex.specs.declared.lexing.winner.Searcher.{Searcher}
+use Rattle.lrlex.specs.declared.lexing.winner.Sight.{Sight}
 
 -- these are the rules that are active in state q of the definition, and their tables
 pub record AreOf {S : Type 0} (number : S → ℕ) (d : RuleTable S) (q : ℕ) (here : RulesIn) : Type 0 where

@@ -11,8 +11,8 @@ use Rattle.lrlex.specs.Reach.{IsRun}
 use Rattle.lrlex.specs.Relexed.{AreCountsOf}
 use Rattle.lrlex.specs.UnderWay.{HasSame}
 use Rattle.lrlex.specs.Views.{definition_by, items_by}
-use Rattle.lrlex.specs.declared.lexer.definition.RuleTable.{RuleTable}
-use Rattle.lrlex.specs.declared.lexer.document.LexedText.{LexedText}
+use Rattle.lrlex.specs.declared.definition.rule_table.RuleTable.{RuleTable}
+use Rattle.lrlex.specs.declared.editing.document.LexedText.{LexedText}
 
 -- the newlines are those of the text, and what was found is what it gives
 abbrev pub IsLexedBy : {S X : Type 0} → (S → ℕ) → (X → Seen S) → RuleTable S → LexedText X → Type 0

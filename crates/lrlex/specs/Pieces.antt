@@ -6,7 +6,7 @@ use Rattle.lrlex.specs.Active.{is_state, rule_at}
 use Rattle.lrlex_boundaries.specs.Boundaries.{Boundary, boundary_at}
 use Rattle.lrlex.specs.Reach.{IsLexed}
 use Rattle.lrlex.specs.Tiling.{Item, Tile}
-use Rattle.lrlex.specs.declared.lexer.pieces.Piece.{Piece}
+use Rattle.lrlex.specs.declared.reading.pieces.Piece.{Piece}
 
 -- the piece is this tile, which begins at the place
 pub record IsPiece (d : Definition) (text : List ℕ) (place : ℕ) (t : Tile) (p : Piece) : Type 0 where

@@ -6,7 +6,7 @@ use Rattle.lrlex.specs.ItemLaws.{HaveLaws}
 use Rattle.lrlex.specs.Reach.{IsRun}
 use Rattle.lrlex.specs.Views.{definition_of, items_by}
 use Rattle.lrlex.specs.declared.errors.LRLexError.{LRLexError}
-use Rattle.lrlex.specs.declared.lexer.definition.LRNonStreamingLexerDef.{LRNonStreamingLexerDef}
+use Rattle.lrlex.specs.declared.definition.non_streaming.LRNonStreamingLexerDef.{LRNonStreamingLexerDef}
 
 -- The definition that a run went by, its text, what it gave, its boundaries, for each of them how many bytes past its place
 -- the tiles before it looked (255 stands for more), and what the call that made it took: searches, and tiles cut anew.

@@ -10,7 +10,7 @@ use Rattle.lrlex_boundaries.specs.Boundaries.{Boundary}
 use Rattle.lrlex.specs.Ran.{Ran}
 use Rattle.lrlex.specs.Reach.{searches}
 use Rattle.lrlex.specs.Views.{definition_of}
-use Rattle.lrlex.specs.declared.lexer.definition.LRNonStreamingLexerDef.{LRNonStreamingLexerDef}
+use Rattle.lrlex.specs.declared.definition.non_streaming.LRNonStreamingLexerDef.{LRNonStreamingLexerDef}
 
 -- The counts of lexing again, by this definition and these searches at boundaries, where the old run had these boundaries, with
 -- these numbers of bytes that the tiles before each looked past it, and the bytes of the span gave way to so many others: no more

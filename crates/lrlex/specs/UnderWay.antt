@@ -17,10 +17,10 @@ use Rattle.lrlex_boundaries.specs.Entries.{AreEntries, plain}
 use Rattle.lrlex.specs.Tiling.{Item, rebased, stack_after, top}
 use Rattle.lrlex.specs.Views.{definition_by, items_by}
 use Rattle.lrlex.specs.declared.errors.LRLexError.{LRLexError}
-use Rattle.lrlex.specs.declared.lexer.definition.RuleTable.{RuleTable}
-use Rattle.lrlex.specs.declared.lexer.lexing.Progress.{Progress}
-use Rattle.lrlex.specs.declared.lexer.relexing.Anew.{Anew}
-use Rattle.lrlex.specs.declared.lexer.run.Lexed.{Lexed}
+use Rattle.lrlex.specs.declared.definition.rule_table.RuleTable.{RuleTable}
+use Rattle.lrlex.specs.declared.lexing.step.Progress.{Progress}
+use Rattle.lrlex.specs.declared.editing.relex.Anew.{Anew}
+use Rattle.lrlex.specs.declared.lexing.run.Lexed.{Lexed}
 
 -- The next boundary was entered: it stands at this place, the rule's target moved the stack, the tiles looked so far
 -- past the place, and nothing else was found.

@@ -9,8 +9,8 @@ use Rattle.lrlex_rules.specs.Parts.{RuleParts, as_rule, as_state, state_number}
 use Rattle.lrlex.specs.Tiling.{Item, Lexeme, Error}
 use Rattle.lrlex.specs.declared.errors.LRLexError.{LRLexError}
 use Rattle.lrlex_rules.specs.declared.states.StartState as start
-use Rattle.lrlex.specs.declared.lexer.definition.LRNonStreamingLexerDef.{LRNonStreamingLexerDef}
-use Rattle.lrlex.specs.declared.lexer.definition.RuleTable.{RuleTable}
+use Rattle.lrlex.specs.declared.definition.non_streaming.LRNonStreamingLexerDef.{LRNonStreamingLexerDef}
+use Rattle.lrlex.specs.declared.definition.rule_table.RuleTable.{RuleTable}
 
 -- what a rule table says, where `number` gives the number that an id stands for
 abbrev pub definition_by : {S : Type 0} → (S → ℕ) → RuleTable S → Definition

@@ -1,19 +1,21 @@
 //! Lexers from rule files: a `.l` text gives start states and rules, and these cut an input into lexemes.
 #![tactic(auto)]
 
-mod definitions;
+mod definition;
+mod editing;
 mod errors;
-mod ids;
-mod lexer;
-mod lookups;
-mod names;
+mod lexing;
+mod reading;
 
-pub use crate::definitions::LexerDef;
+pub use crate::definition::lexer_def::LexerDef;
+pub use crate::definition::non_streaming::LRNonStreamingLexerDef;
+pub use crate::editing::document::{Document, EditError};
+pub use crate::editing::restart::{ahead_laws, decided_laws, resume_laws};
 pub use crate::errors::LRLexError;
-pub use crate::lexer::{
-    Document, EditError, LRNonStreamingLexer, LRNonStreamingLexerDef, LexRun, Piece, ahead_laws,
-    decided_laws, item_laws, resume_laws, run_laws, tiling_laws, utf16_laws,
-};
+pub use crate::lexing::laws::{item_laws, run_laws, tiling_laws, utf16_laws};
+pub use crate::lexing::run::LexRun;
+pub use crate::reading::lexer::LRNonStreamingLexer;
+pub use crate::reading::pieces::Piece;
 pub use lrlex_base::{
     DefaultLexeme, Edit, Id, Items, LexError, Lexeme, Lexer, LexerTypes, NewlineCache,
     NonStreamingLexer, Span, Spanned, SpansKind,

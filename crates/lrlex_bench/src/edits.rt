@@ -5,7 +5,7 @@ ghost use Rattle.lrlex_base.specs.Edits.{edited};
 
 use crate::measure::{Definition, Run, time_runs};
 use lrlex_base::{Edit, Span};
-use lrlex_timing::{Fault, Relexed, Watch, boundary_from, tell_anew};
+use lrlex_bench_lib::{Fault, Relexed, Watch, boundary_from, tell_anew};
 
 /// What each edit inserts: one byte, of which any of the rule files in `bench` makes a tile or part of one.
 const PUT: &str = " ";

@@ -1,7 +1,7 @@
 //! Times a document while keys are typed.
 use crate::measure::Definition;
 use lrlex::{DefaultLexerTypes, EditError};
-use lrlex_timing::{Fault, Typed, Typing, Watch, boundary_from, peak};
+use lrlex_bench_lib::{Fault, Typed, Typing, Watch, boundary_from, peak};
 use std::alloc::Global;
 
 type Document<'d> = lrlex::Document<'d, DefaultLexerTypes<u32>>;

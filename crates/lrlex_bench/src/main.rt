@@ -6,7 +6,7 @@ mod keys;
 mod measure;
 
 use crate::measure::{Definition, definition_by, tell_run};
-use lrlex_timing::{Fault, Task, Watch, asked, tell_usage};
+use lrlex_bench_lib::{Fault, Task, Watch, asked, tell_usage};
 use std::process::ExitCode;
 
 /// Measures what is asked for. The watch took how long the definition's build was.

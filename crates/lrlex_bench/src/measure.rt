@@ -3,7 +3,7 @@ use lrlex::{
     Budget, DefaultLexerTypes, LRNonStreamingLexerDef, LexBuildResult, LexRun, LexerDef,
     UNSPECIFIED_LEX_FLAGS,
 };
-use lrlex_timing::{Counts, Fault, Lexed, Sizes, Spread, Watch, lexemes, lines_times, peak};
+use lrlex_bench_lib::{Counts, Fault, Lexed, Sizes, Spread, Watch, lexemes, lines_times, peak};
 use std::alloc::{AllocError, Global};
 
 /// The definition that is timed.

@@ -2,9 +2,9 @@
 use lrlex::{
     Budget, DefaultLexerTypes, LRNonStreamingLexerDef, LexBuildResult, LexFlags, LexerDef,
 };
-use lrlex_cases::facts::Refusal;
-use lrlex_cases::parts::{rules_of, states_of};
-use lrlex_cases::reading::{Trouble, budget_in, flags_in, list_in, text_in};
+use lrlex_replay_cases::facts::Refusal;
+use lrlex_replay_cases::parts::{rules_of, states_of};
+use lrlex_replay_cases::reading::{Trouble, budget_in, flags_in, list_in, text_in};
 use serde_json::Value;
 use std::alloc::{AllocError, Global};
 

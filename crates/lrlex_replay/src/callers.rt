@@ -1,13 +1,13 @@
-//! Steps that make what the callers of `lrlex_callers` make of a definition.
+//! Steps that make what the callers of `lrlex_doc_callers` make of a definition.
 use crate::building::Definition;
 use crate::lexers::tell_lexed;
 use lrlex::{Edit, LexerDef};
-use lrlex_callers::lending::lexed_and_replaced;
-use lrlex_callers::lexing::lexer_after;
-use lrlex_cases::edits::edits_of;
-use lrlex_cases::facts::tell_no_items;
-use lrlex_cases::reading::Trouble;
-use lrlex_cases::told::Told;
+use lrlex_doc_callers::lending::lexed_and_replaced;
+use lrlex_doc_callers::lexing::lexer_after;
+use lrlex_replay_cases::edits::edits_of;
+use lrlex_replay_cases::facts::tell_no_items;
+use lrlex_replay_cases::reading::Trouble;
+use lrlex_replay_cases::told::Told;
 use serde_json::Value;
 use std::alloc::{AllocError, Global};
 

@@ -3,12 +3,12 @@ use crate::building::Definition;
 use crate::items::tell_items;
 use crate::runs::{most_of, tell_pieces};
 use lrlex::{DefaultLexerTypes, Document, EditError};
-use lrlex_callers::editing::{typed, visible};
-use lrlex_callers::serving::range_of;
-use lrlex_cases::facts::tell_words;
-use lrlex_cases::reading::{Change, Trouble, bytes_of, change_of, count_of, loose_span_of};
-use lrlex_cases::steps::Shown;
-use lrlex_cases::told::Told;
+use lrlex_doc_callers::editing::{typed, visible};
+use lrlex_doc_callers::serving::range_of;
+use lrlex_replay_cases::facts::tell_words;
+use lrlex_replay_cases::reading::{Change, Trouble, bytes_of, change_of, count_of, loose_span_of};
+use lrlex_replay_cases::steps::Shown;
+use lrlex_replay_cases::told::Told;
 use serde_json::Value;
 use std::alloc::AllocError;
 

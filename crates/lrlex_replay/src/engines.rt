@@ -1,11 +1,11 @@
 //! Steps of the engine and of the program, over writers that break.
 use lrlex::{DefaultLexerTypes, Edit, LRNonStreamingLexerDef, LexerDef, UNSPECIFIED_LEX_FLAGS};
-use lrlex_cases::reading::Trouble;
-use lrlex_cases::steps::Engine;
-use lrlex_cases::told::Told;
-use lrlex_cases::writers::{BrokenWriter, Came, tell_came, tell_served};
 use lrlex_cli::engine::{Ended, EngineFault};
 use lrlex_cli::{engine, program};
+use lrlex_replay_cases::reading::Trouble;
+use lrlex_replay_cases::steps::Engine;
+use lrlex_replay_cases::told::Told;
+use lrlex_replay_cases::writers::{BrokenWriter, Came, tell_came, tell_served};
 use serde_json::Value;
 use std::alloc::{AllocError, Global};
 

@@ -1,8 +1,8 @@
 //! Lexemes and errors of `lrlex`, as facts.
 use lrlex::{DefaultLexeme, LRLexError};
 use lrlex_base::{Id, LexError, Lexeme};
-use lrlex_cases::facts::{Item, tell_item};
-use lrlex_cases::told::Told;
+use lrlex_replay_cases::facts::{Item, tell_item};
+use lrlex_replay_cases::told::Told;
 
 /// An error, as plain numbers.
 fn error_seen(error: &LRLexError) -> Item {

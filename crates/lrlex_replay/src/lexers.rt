@@ -6,9 +6,9 @@ use crate::building::Definition;
 use crate::items::{item_seen, tell_items};
 use lrlex::{DefaultLexeme, DefaultLexerTypes, LRLexError, LRNonStreamingLexer};
 use lrlex_base::{Lexer, NonStreamingLexer, Span};
-use lrlex_cases::facts::{Fitting, tell_fitting};
-use lrlex_cases::reading::{Trouble, count_of, loose_span_of};
-use lrlex_cases::told::Told;
+use lrlex_replay_cases::facts::{Fitting, tell_fitting};
+use lrlex_replay_cases::reading::{Trouble, count_of, loose_span_of};
+use lrlex_replay_cases::told::Told;
 use serde_json::Value;
 use std::alloc::{AllocError, Global};
 

@@ -1,10 +1,10 @@
 //! Look-ups by id and by name, and token ids that are set.
 use crate::building::Definition;
 use lrlex::{LexerDef, Rule};
-use lrlex_cases::facts::{tell_by_id, tell_by_name, tell_name_sets, tell_rules, tell_sets};
-use lrlex_cases::parts::{id_of, ids_of};
-use lrlex_cases::reading::{Trouble, text_of};
-use lrlex_cases::told::Told;
+use lrlex_replay_cases::facts::{tell_by_id, tell_by_name, tell_name_sets, tell_rules, tell_sets};
+use lrlex_replay_cases::parts::{id_of, ids_of};
+use lrlex_replay_cases::reading::{Trouble, text_of};
+use lrlex_replay_cases::told::Told;
 use serde_json::{Map, Value};
 use std::collections::HashMap;
 

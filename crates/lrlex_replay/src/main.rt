@@ -17,9 +17,9 @@ mod steps;
 
 use crate::replay::replay;
 use crate::steps::tell_case;
-use lrlex_cases::findings::{Findings, value_of};
-use lrlex_cases::reading::Trouble;
-use lrlex_cases::tally::Tally;
+use lrlex_replay_cases::findings::{Findings, value_of};
+use lrlex_replay_cases::reading::Trouble;
+use lrlex_replay_cases::tally::Tally;
 use serde_json::Value;
 use std::alloc::{AllocError, Global};
 use std::io;

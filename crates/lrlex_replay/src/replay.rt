@@ -8,13 +8,13 @@ use crate::lexers::LexerOf;
 use crate::runs::most_of;
 use lrlex::{Budget, LexFlags, LexerDef};
 use lrlex_base::{Id, NewlineCache, NonStreamingLexer, Span};
-use lrlex_cases::facts::{
+use lrlex_replay_cases::facts::{
     Item, tell_counts, tell_faults, tell_items, tell_refusal, tell_rules, tell_sets, tell_states,
 };
-use lrlex_cases::findings::Findings;
-use lrlex_cases::parts::ids_of;
-use lrlex_cases::reading::{Trouble, text_in, texts_in};
-use lrlex_cases::told::Told;
+use lrlex_replay_cases::findings::Findings;
+use lrlex_replay_cases::parts::ids_of;
+use lrlex_replay_cases::reading::{Trouble, text_in, texts_in};
+use lrlex_replay_cases::told::Told;
 use serde_json::{Map, Value};
 use std::alloc::{AllocError, Global};
 

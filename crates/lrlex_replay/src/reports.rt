@@ -3,11 +3,11 @@ use lrlex::{
     DefaultLexerTypes, LRLexError, LRNonStreamingLexerDef, LexBuildError, LexerDef, Span,
     StartStateId,
 };
-use lrlex_callers::reporting::{complaints, complaints_of_file};
-use lrlex_cases::facts::tell_report;
-use lrlex_cases::reading::{Trouble, file_of};
-use lrlex_cases::steps::Report;
-use lrlex_cases::told::Told;
+use lrlex_doc_callers::reporting::{complaints, complaints_of_file};
+use lrlex_replay_cases::facts::tell_report;
+use lrlex_replay_cases::reading::{Trouble, file_of};
+use lrlex_replay_cases::steps::Report;
+use lrlex_replay_cases::told::Told;
 use lrlex_report::{fault_text, place_text, stop_text};
 use serde_json::Value;
 use std::alloc::{AllocError, Global};

@@ -3,10 +3,10 @@ use crate::building::Definition;
 use crate::items::tell_items;
 use lrlex::{DefaultLexerTypes, LexRun, Piece};
 use lrlex_base::Edit;
-use lrlex_cases::edits::{Made, all_made_of, tell_unfit};
-use lrlex_cases::facts::{tell_boundary, tell_piece};
-use lrlex_cases::reading::Trouble;
-use lrlex_cases::told::Told;
+use lrlex_replay_cases::edits::{Made, all_made_of, tell_unfit};
+use lrlex_replay_cases::facts::{tell_boundary, tell_piece};
+use lrlex_replay_cases::reading::Trouble;
+use lrlex_replay_cases::told::Told;
 use serde_json::Value;
 use std::alloc::AllocError;
 

@@ -1,0 +1,18 @@
+use Rattle.std.proofs.Common.{◌∷◌, [], length, map, refl, sym, subst, IfSome}
+use Rattle.std.proofs.lemmas.Option.{slice_get_read}
+use Rattle.lrlex_rules.specs.Parts.{as_rule}
+use Rattle.lrlex_table.specs.Merged.{IsTableOf}
+use Rattle.lrlex.specs.StateTables.{pattern_in}
+use Rattle.lrlex.proofs.TableLemmas.{single_set, pattern_in_at}
+use Rattle.lrlex.proofs.definition.state_tables.try_single.Goals as goal
+
+pub returns-in_ok-table : goal.returns-in_ok-table
+returns-in_ok-table g c single =
+    let rules = c.args.rules.now in
+    let i = c.args.place in
+    let r = c.index-rules-place.result in
+    let pattern = pattern_in (map (as_rule (λ _. 0)) rules) in
+    let own = pattern_in_at rules i r (slice_get_read rules (length rules) i r refl c.if-place-rules.true c.index-rules-place.is) in
+    single_set pattern c.args.singles.now i c.tried.new.self single c.if-place-singles.true
+    (subst (λ o. IfSome o (IsTableOf (pattern i ∷ []))) (sym c.tried.ensures.table)
+    (subst (λ re. IfSome c.in_ok-table.table (IsTableOf (re ∷ []))) (sym own) c.in_ok-table.ensures))

@@ -1,0 +1,5 @@
+use Rattle.lrlex.proofs.ItemLemmas.{have_laws}
+use Rattle.lrlex.proofs.editing.document.Document.new.Goals as goal
+
+pub returns-clause-laws : goal.returns-clause-laws
+returns-clause-laws g c = have_laws _ _ _ _ c.in_ok-held.ensures.run

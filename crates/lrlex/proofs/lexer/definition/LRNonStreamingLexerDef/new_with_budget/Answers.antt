@@ -1,9 +1,0 @@
-use Rattle.std.proofs.Common.{subst}
-use Rattle.lrlex_rules.specs.Answer.{IsAnswer}
-use Rattle.lrlex.specs.Views.{definition_by}
-use Rattle.lrlex.proofs.lexer.definition.LRNonStreamingLexerDef.new_with_budget.Goals as goal
-
-pub returns-in-Ok-clause-answer : goal.returns-in-Ok-clause-answer
-returns-in-Ok-clause-answer g c =
-    let number = g.L.StorageT.Id.number in
-    subst (IsAnswer (definition_by number) c.args.flags g.L.StorageT.Id.greatest c.args.text.now) c.in-Ok.is c.in_ok-table.ensures.answer

@@ -1,7 +1,0 @@
-use Rattle.std.proofs.Common.{ℕ}
-use Rattle.regex.specs.Patterns.{Re}
-use Rattle.lrlex_table.specs.Tables.{AreSingle}
-use Rattle.lrlex.proofs.lexer.tables.singles_in.Given as goal
-
-abbrev pub invariant-lists : goal.invariant-lists
-invariant-lists l = (pattern : ℕ → Re) → AreSingle pattern l.singles.items

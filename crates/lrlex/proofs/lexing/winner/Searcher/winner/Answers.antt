@@ -1,0 +1,23 @@
+use Rattle.std.proofs.Common.{◌∙◌, length, drop, sym, ap, subst, arith}
+use Rattle.lrlex_rules.specs.Matchers.{AreMatchers}
+use Rattle.lrlex.proofs.ViewLemmas.{taken_back}
+use Rattle.lrlex.proofs.lexing.winner.Searcher.winner.Goals as goal
+
+pub winner_by-requires-clause-held : goal.winner_by-requires-clause-held
+winner_by-requires-clause-held g c =
+    let is = c.requires.searcher.1 in (
+      subst (AreMatchers c.args.table.now.rules.items) (sym c.deref_mut.ensures.value) is.matchers,
+      is.lists,
+      c.requires.searcher.2 ∙ ap (drop c.args.place) (sym is.text),
+      omega (arith, c.requires.searcher.3, ap length is.text),
+    )
+
+pub returns-clause-searcher : goal.returns-clause-searcher
+returns-clause-searcher g c input is = record {
+  matchers = subst (AreMatchers c.args.table.now.rules.items)
+      (sym (taken_back c.winner_by.new.matchers (drop (length c.winner_by.new.matchers) c.args.self.now.matchers.items) c.args.self.now.matchers.len
+      (omega (arith, c.args.self.now.matchers.ok.0, c.in_ok-sight.ensures.matchers.0, is.matchers.0))))
+      c.in_ok-sight.ensures.matchers;
+  lists = ap (λ x. x.now) c.in_ok-sight.ensures.ends.0 ∙ is.lists;
+  text = ap (λ x. x.now) c.in_ok-sight.ensures.ends.1 ∙ is.text;
+}

@@ -1,0 +1,245 @@
+ghost use Rattle.std.specs.Prelude.{◌≡◌, ◌<◌, All, length, map, true, IsTrue};
+ghost use Rattle.lrlex.specs.Active.{active_places, is_state, lacks_target};
+ghost use Rattle.lrlex_rules.specs.Parts.{as_rule, as_state};
+ghost use Rattle.lrlex.specs.StateTables.{AreServed, ArePlaced, list_in};
+ghost use Rattle.lrlex.specs.Ids.{HaveDistinctIds};
+
+use crate::definition::active::{are_placed, has_state, position_of};
+use crate::definition::active_lists::lists_for;
+use crate::definition::names::have_own_ids;
+use crate::definition::state_tables::tables_for;
+use lrlex_base::Numbered;
+use lrlex_rules::{LexBuildResult, LexFlags, Rule, RuleFile, StartState, read_rules};
+use lrlex_table::{Budget, Tables};
+use std::alloc::{AllocError, Global};
+
+/// What the tables of a definition may cost: rows, of some 512 bytes each, and work, in units of about a nanosecond.
+const MOST_ROWS: usize = 7_000;
+
+const MOST_WORK: usize = 40_000_000;
+
+/// The usual budget.
+pub(crate) fn usual_budget() -> Budget {
+    Budget::new(MOST_ROWS, MOST_WORK)
+}
+
+/// Rules, start states and flags, with the places of the rules that are active in each state, and their tables.
+#[derive(Drop)]
+pub(crate) struct RuleTable<S> {
+    pub(crate) rules: Vec<Rule<S>>,
+    pub(crate) start_states: Vec<StartState>,
+    pub(crate) flags: LexFlags,
+    /// Whether the id of each rule that has one is its place, as in every definition that was read.
+    pub(crate) own_ids: bool,
+    /// Whether the id of each state is its place, as in every definition that was read.
+    placed: bool,
+    /// The places of active rules: each list once, since states with the same rules share theirs.
+    lists: Vec<Vec<usize>>,
+    /// The tables of each list.
+    pub(crate) tables: Vec<Tables>,
+    /// Which of the lists each state has.
+    list_at: Vec<usize>,
+    ghost distinct: { IsTrue own_ids → HaveDistinctIds rules.items },
+    ghost at_places: { IsTrue placed → ArePlaced start_states.items },
+    ghost listed: { map (list_in (map (λ v. v.items) lists.items)) list_at.items ≡ map (λ s. active_places (map as_state start_states.items) (map (as_rule (λ _. 0)) rules.items) (as_state s).id) start_states.items },
+    ghost served: { ∥ AreServed rules.items (map (λ v. v.items) lists.items) tables.items ∥₁ },
+    ghost each: { length tables.items ≡ length lists.items },
+    ghost within: { All (λ j. j < length lists.items) list_at.items },
+}
+
+impl<S: Copy> RuleTable<S> {
+    ghost use Rattle.std.specs.Prelude.{IfOk};
+
+    /// Of these start states and rules, in order, with tables that cost no more than this.
+    fn of_parts(
+        alloc: Global,
+        start_states: Vec<StartState>,
+        rules: Vec<Rule<S>>,
+        flags: LexFlags,
+        own_ids: bool,
+        budget: Budget,
+    ) -> Result<Self, AllocError>
+        requires { IsTrue own_ids → HaveDistinctIds rules.items }
+        ensures rules { IfOk result (λ t. t.rules ≡ rules) }
+        ensures states { IfOk result (λ t. t.start_states ≡ start_states) }
+        ensures flags { IfOk result (λ t. t.flags ≡ flags) }
+    {
+        let placed = are_placed(&start_states);
+        let (lists, list_at) = lists_for(alloc, &start_states, placed, &rules)?;
+        let tables = tables_for(alloc, &rules, &lists, budget)?;
+        Ok(RuleTable {
+            rules,
+            start_states,
+            flags,
+            own_ids,
+            placed,
+            lists,
+            tables,
+            list_at,
+        })
+    }
+}
+
+impl<S: Numbered> RuleTable<S> {
+    ghost use Rattle.std.specs.Prelude.{IfOk, IfErr};
+    ghost use Rattle.lrlex_rules.specs.Answer.{IsAnswer, AreOwnRefusals};
+    ghost use Rattle.lrlex_rules.specs.Faults.{IsPlaced};
+    ghost use Rattle.lrlex_rules.specs.Laws.{IsLawful};
+    ghost use Rattle.lrlex.specs.Views.{definition_by};
+
+    /// Of these start states, rules and flags, in order, with tables that cost no more than this.
+    pub(crate) fn made(
+        alloc: Global,
+        start_states: Vec<StartState>,
+        rules: Vec<Rule<S>>,
+        flags: LexFlags,
+        budget: Budget,
+    ) -> Result<Self, AllocError>
+        ensures rules { IfOk result (λ t. t.rules ≡ rules) }
+        ensures states { IfOk result (λ t. t.start_states ≡ start_states) }
+        ensures flags { IfOk result (λ t. t.flags ≡ flags) }
+    {
+        let own_ids = have_own_ids(&rules);
+        RuleTable::of_parts(alloc, start_states, rules, flags, own_ids, budget)
+    }
+
+    /// That of a rule text, with tables that cost no more than this. The inner `Err` has each fault of the text.
+    pub(crate) fn read(
+        alloc: Global,
+        text: &str,
+        flags: LexFlags,
+        budget: Budget,
+    ) -> Result<LexBuildResult<Self>, AllocError>
+        ensures answer { IfOk result (IsAnswer (definition_by S.number) flags S.greatest
+            text.now) }
+        ensures refusals { IfOk result (AreOwnRefusals flags S.greatest text.now) }
+        ensures placed { IfOk result (λ built. IfErr built
+            (λ faults. All (IsPlaced text.now) faults.items)) }
+        ensures lawful { IfOk result (λ built. IfOk built
+            (λ t. IsLawful text.now (definition_by S.number t))) }
+        ensures initial { IfOk result (λ built. IfOk built
+            (λ t. is_state (definition_by S.number t) 0 ≡ true)) }
+    {
+        match read_rules::<S>(alloc, text, flags)? {
+            Ok(file) => {
+                let RuleFile {
+                    states,
+                    rules,
+                    flags,
+                } = file;
+                Ok(Ok(RuleTable::made(alloc, states, rules, flags, budget)?))
+            }
+            Err(faults) => Ok(Err(faults)),
+        }
+    }
+
+    /// A table with these rules, start states and flags, with tables that cost no more than this.
+    pub(crate) fn within(self, alloc: Global, budget: Budget) -> Result<Self, AllocError>
+        ensures { IfOk result (λ t. definition_by S.number t ≡ definition_by S.number self) }
+    {
+        let RuleTable {
+            rules,
+            start_states,
+            flags,
+            ..
+        } = self;
+        Ok(RuleTable::made(alloc, start_states, rules, flags, budget)?)
+    }
+}
+
+/// The rules that are active in a start state, as places, and their tables.
+#[derive(Clone, Copy)]
+pub(crate) struct RulesIn<'d> {
+    pub(crate) state: usize,
+    pub(crate) active: &'d [usize],
+    /// The place of the tables among those of the definition.
+    pub(crate) list: usize,
+    pub(crate) tables: &'d Tables,
+}
+
+impl<S: Numbered> RuleTable<S> {
+    ghost use Rattle.lrlex.specs.Views.{definition_by};
+    ghost use Rattle.std.specs.Prelude.{Some, slice_get};
+    ghost use Rattle.lrlex_table.specs.Tables.{AreTablesOf};
+    ghost use Rattle.lrlex.specs.StateTables.{patterns_on};
+    ghost use Rattle.lrlex.specs.AtHand.{AreOf};
+    ghost use Rattle.lrlex.specs.Asked.{untabled_count};
+
+    /// Whether a state has the id.
+    #[inline(always)]
+    pub(crate) fn is_state(&self, id: usize) -> bool
+        ensures { result ≡ is_state (definition_by S.number self.now) id }
+    {
+        has_state(&self.start_states, self.placed, id)
+    }
+
+    /// The places of the rules that are active in the first state with the id, in order.
+    #[inline(always)]
+    pub(crate) fn active_in(&self, id: usize) -> &[usize]
+        requires { is_state (definition_by S.number self.now) id ≡ true }
+        ensures { result.now ≡ active_places (definition_by S.number self.now).states
+            (definition_by S.number self.now).rules id }
+    {
+        let index = position_of(&self.start_states, self.placed, id).unwrap_or(0);
+        &self.lists[self.list_at[index]]
+    }
+
+    /// The tables of the rules that are active in the first state with the id, with their place among all.
+    #[inline(always)]
+    pub(crate) fn tables_in(&self, id: usize) -> (usize, &Tables)
+        requires { is_state (definition_by S.number self.now) id ≡ true }
+        ensures list { slice_get self.now.tables.items result.0 ≡ Some result.1.now }
+        ensures served { ∥ AreTablesOf (patterns_on (definition_by S.number self.now).rules
+            (active_places (definition_by S.number self.now).states
+            (definition_by S.number self.now).rules id)) result.1.now ∥₁ }
+        ensures untabled { length result.1.now.asked.items ≡ untabled_count self.now id }
+    {
+        let index = position_of(&self.start_states, self.placed, id).unwrap_or(0);
+        let list = self.list_at[index];
+        (list, &self.tables[list])
+    }
+
+    /// The rules that are active in the first state with the id.
+    #[inline(always)]
+    pub(crate) fn rules_in(&self, id: usize) -> RulesIn<'_>
+        requires { is_state (definition_by S.number self.now) id ≡ true }
+        ensures state { result.state ≡ id }
+        ensures rules { AreOf S.number self.now id result }
+    {
+        let (list, tables) = self.tables_in(id);
+        RulesIn {
+            state: id,
+            active: self.active_in(id),
+            list,
+            tables,
+        }
+    }
+
+    /// The rules that are active in the first state with the id. These are the ones at hand, where they are that state's:
+    /// lexing mostly stays in a state.
+    #[inline(always)]
+    pub(crate) fn rules_at<'d>(&'d self, here: RulesIn<'d>, id: usize) -> RulesIn<'d>
+        requires id { is_state (definition_by S.number self.now) id ≡ true }
+        requires here { AreOf S.number self.now here.state here }
+        ensures state { result.state ≡ id }
+        ensures rules { AreOf S.number self.now id result }
+    {
+        if here.state == id {
+            here
+        } else {
+            self.rules_in(id)
+        }
+    }
+
+    /// Whether the rule's target is no state.
+    #[inline(always)]
+    pub(crate) fn lacks_target(&self, rule: &Rule<S>) -> bool
+        ensures { result ≡ lacks_target (definition_by S.number self.now)
+            (as_rule S.number rule.now) }
+    {
+        match rule.target_state() {
+            Some((id, _)) => !self.is_state(id),
+            None => false,
+        }
+    }
+}

@@ -1,0 +1,369 @@
+//! A text that is edited, with what lexing it gives.
+ghost use Rattle.std.specs.Prelude.{◌≡◌, ◌↔◌, ℕ, ◌+◌, ◌-◌, ◌≤◌, [], length, IfOk, IfErr, IfSome, IsNone, OnOk, OnErr, IsCharBoundary, IsUtf8, slice_range};
+ghost use Rattle.std.specs.String.{string_bytes, string_len, string_capacity};
+ghost use Rattle.lrlex_base.specs.Edits.{edited};
+ghost use Rattle.lrlex_base.specs.Places.{AreBreaksOf, place_of};
+ghost use Rattle.lrlex_base.specs.Spans.{Fits, as_span, span, span_start, span_end};
+ghost use Rattle.lrlex.specs.Editing.{IsLexedBy, WasEdited, WasLeft};
+ghost use Rattle.lrlex.specs.Kept.{LooksAhead};
+ghost use Rattle.lrlex.specs.Nearest.{IsNearest, FitsAt};
+ghost use Rattle.lrlex.specs.Pieces.{ArePieces, ArePiecesIn};
+ghost use Rattle.lrlex.specs.Ran.{IsRunOf, HasItemLaws};
+ghost use Rattle.lrlex.specs.Reach.{IsRun};
+ghost use Rattle.lrlex.specs.Relexed.{WasRelexed};
+ghost use Rattle.lrlex.specs.Utf16.{utf16_position};
+ghost use Rattle.lrlex.specs.Views.{definition_by, definition_of, items_by};
+ghost use Rattle.lrlex.specs.declared.editing.document.EditError.TheVariants.{DoesNotFit};
+
+use crate::definition::non_streaming::LRNonStreamingLexerDef;
+use crate::definition::rule_table::RuleTable;
+use crate::editing::relex::relex_in_place;
+use crate::errors::LRLexError;
+use crate::lexing::run::{Lexed, lex};
+use crate::reading::pieces::{Piece, pieces_in, pieces_of};
+use crate::reading::positions::{place_of, text_of, utf16_position};
+use lrlex_base::{Edit, Lexeme, LexerTypes, NewlineCache, Numbered, Span};
+use std::alloc::{AllocError, Global};
+use std::marker::Model;
+
+/// Why an edit was not made.
+#[derive(Clone, Copy, Debug, PartialEq, Eq)]
+pub enum EditError {
+    /// An end of the bytes to remove is past the text's end or inside a character, or the first stands behind the second.
+    DoesNotFit,
+    OutOfMemory,
+}
+
+impl From<AllocError> for EditError {
+    ghost use Rattle.std.specs.Prelude.{◌≡◌};
+    ghost use Rattle.lrlex.specs.declared.editing.document.EditError.TheVariants.{OutOfMemory};
+
+    ghost from_gives = { λ _ e. e ≡ OutOfMemory };
+
+    fn from(_: AllocError) -> EditError {
+        EditError::OutOfMemory
+    }
+}
+
+/// The edit that puts the text in the place of the bytes from `from` up to `to`, if it fits.
+fn edit_at<'put>(text: &str, from: usize, to: usize, put: &'put str) -> Option<Edit<'put>>
+    ensures fits { IfSome result (λ _. FitsAt text.now from to) }
+    ensures removed { IfSome result (λ edit. as_span edit.removed ≡ span from to) }
+    ensures put { IfSome result (λ edit. edit.put.now ≡ put.now) }
+    ensures none { IsNone result → ¬ (FitsAt text.now from to) }
+{
+    if from > to {
+        return None;
+    }
+    let edit = Edit {
+        removed: Span::new(from, to),
+        put,
+    };
+    if edit.fits(text) { Some(edit) } else { None }
+}
+
+/// Puts a text in the place of the bytes from `from` up to `to`. There is room for it beside all that is there.
+fn put_text(text: &mut String, from: usize, to: usize, put: &str)
+    requires fits { FitsAt (string_bytes text.old) from to }
+    requires room { string_len text.old + length put.now ≤ string_capacity text.old }
+    ensures text { string_bytes text.new ≡ edited (string_bytes text.old) (span from to) put.now }
+    ensures capacity { string_capacity text.old ≤ string_capacity text.new }
+{
+    // it fails only where there is no room
+    let _ = text.replace_range(from..to, put);
+}
+
+/// A text that it owns, with the places of its newlines and with what lexing it gave.
+#[derive(Drop)]
+struct LexedText<X> {
+    text: String,
+    newlines: NewlineCache,
+    lexed: Lexed<X>,
+}
+
+/// Lexes a copy of the text.
+fn lexed_text<S: Numbered, X: Lexeme<S>>(
+    alloc: Global,
+    table: &RuleTable<S>,
+    text: &str,
+) -> Result<LexedText<X>, AllocError>
+    ensures text { IfOk result (λ t. string_bytes t.text ≡ text.now) }
+    ensures breaks { IfOk result (λ t. AreBreaksOf text.now t.newlines) }
+    ensures run { IfOk result (λ t. IsRun (definition_by S.number table.now) text.now
+        (items_by S.number X.seen t.lexed.items.items) t.lexed.boundaries) }
+    ensures looks { IfOk result (λ t. LooksAhead (definition_by S.number table.now) text.now
+        t.lexed.boundaries t.lexed.ahead.items) }
+{
+    let newlines = NewlineCache::from_str(alloc, text)?;
+    let lexed = lex(alloc, table, text)?;
+    Ok(LexedText {
+        text: String::from_str(alloc, text)?,
+        newlines,
+        lexed,
+    })
+}
+
+/// What an edit needs to be made, and unmade, without asking for memory: the places of the newlines after it, the bytes that it
+/// removes, and room for those that it puts.
+fn prepared(
+    alloc: Global,
+    text: &mut String,
+    newlines: &NewlineCache,
+    removed: Span,
+    put: &str,
+) -> Result<(NewlineCache, String), AllocError>
+    requires breaks { AreBreaksOf (string_bytes text.old) newlines.now }
+    requires fits { Fits (string_bytes text.old) removed }
+    ensures text { string_bytes text.new ≡ string_bytes text.old }
+    ensures room { IfOk result (λ _. string_len text.new + length put.now
+        ≤ string_capacity text.new) }
+    ensures breaks { IfOk result (λ made. AreBreaksOf (edited (string_bytes text.old)
+        (as_span removed) put.now) made.0) }
+    ensures gone { IfOk result (λ made. string_bytes made.1 ≡ slice_range (string_bytes text.old)
+        (span_start removed) (span_end removed)) }
+    ensures old_utf8 { IfOk result (λ _. IsUtf8 (string_bytes text.old)) }
+    ensures put_utf8 { IfOk result (λ _. IsUtf8 put.now) }
+{
+    let mut newlines = newlines.clone()?;
+    newlines.edit(removed, put)?;
+    let gone = String::from_str(alloc, &text[removed.start()..removed.end()])?;
+    text.reserve(put.len())?;
+    Ok((newlines, gone))
+}
+
+/// Makes the edit, which fits, and lexes again what that changes. After a refusal all is what it was.
+fn edit_in_place<S: Numbered, X: Lexeme<S>>(
+    alloc: Global,
+    table: &RuleTable<S>,
+    it: &mut LexedText<X>,
+    edit: &Edit<'_>,
+) -> Result<(), AllocError>
+    requires fits { Fits (string_bytes it.old.text) edit.now.removed }
+    requires known { IsLexedBy S.number X.seen table.now it.old }
+    ensures made { OnOk result (WasEdited S.number X.seen table.now (as_span edit.now.removed)
+        edit.now.put.now it.old it.new) }
+    ensures kept { OnErr result (WasLeft it.old it.new) }
+{
+    let (newlines, gone) = prepared(alloc, &mut it.text, &it.newlines, edit.removed, edit.put)?;
+    let from = edit.removed.start();
+    let to = edit.removed.end();
+    put_text(&mut it.text, from, to, edit.put);
+    match relex_in_place(alloc, table, &mut it.lexed, edit, &it.text) {
+        Ok((asked, anew)) => {
+            it.newlines = newlines;
+            it.lexed.asked = asked;
+            it.lexed.anew = anew;
+            Ok(())
+        }
+        Err(refused) => {
+            put_text(&mut it.text, from, from + edit.put.len(), &gone);
+            Err(refused)
+        }
+    }
+}
+
+/// Makes the edit of these bytes, if it fits.
+fn edit_bytes<S: Numbered, X: Lexeme<S>>(
+    alloc: Global,
+    table: &RuleTable<S>,
+    it: &mut LexedText<X>,
+    from: usize,
+    to: usize,
+    put: &str,
+) -> Result<(), EditError>
+    requires { IsLexedBy S.number X.seen table.now it.old }
+    ensures fits { OnOk result (FitsAt (string_bytes it.old.text) from to) }
+    ensures made { OnOk result (WasEdited S.number X.seen table.now (span from to) put.now it.old
+        it.new) }
+    ensures refused { IfErr result (λ e. e ≡ DoesNotFit
+        ↔ ¬ (FitsAt (string_bytes it.old.text) from to)) }
+    ensures kept { OnErr result (WasLeft it.old it.new) }
+{
+    match edit_at(&it.text, from, to, put) {
+        Some(edit) => Ok(edit_in_place(alloc, table, it, &edit)?),
+        None => Err(EditError::DoesNotFit),
+    }
+}
+
+/// A text that it owns, with its lexemes, its boundaries and the places of its newlines. An edit lexes again what it has to.
+#[derive(Drop)]
+pub struct Document<'lexer, L: LexerTypes<LexErrorT = LRLexError>> {
+    definition: &'lexer LRNonStreamingLexerDef<L>,
+    held: LexedText<L::LexemeT>,
+}
+
+impl<'lexer, L: LexerTypes<LexErrorT = LRLexError>> Model for Document<'lexer, L> {
+    ghost use Rattle.std.specs.Coded.{codes};
+    ghost use Rattle.std.specs.String.{string_bytes};
+    ghost use Rattle.regex_hir.specs.contracts.hir.Hir as hir;
+    ghost use Rattle.lrlex.specs.Editing.{IsLexedBy};
+    ghost use Rattle.lrlex.specs.Ran.{Ran};
+    ghost use Rattle.lrlex.specs.declared.errors.LRLexError.{LRLexError};
+    ghost use Rattle.lrlex.specs.declared.definition.non_streaming.LRNonStreamingLexerDef.{LRNonStreamingLexerDef};
+
+    ghost Value = { Ran (LRNonStreamingLexerDef L L.LexemeT L.StorageT LRLexError L.StorageT.FromStrRadixErr L.StorageT.Error) L.LexemeT };
+
+    ghost coded = { Prim.hlevel (codes, hir.the_row.coded) };
+
+    ghost view = { λ d. record {
+      definition = d.definition.now;
+      text = string_bytes d.held.text;
+      items = d.held.lexed.items.items;
+      boundaries = d.held.lexed.boundaries;
+      ahead = d.held.lexed.ahead.items;
+      asked = d.held.lexed.asked;
+      anew = d.held.lexed.anew;
+    } };
+
+    ghost invariant = { λ d. IsLexedBy L.StorageT.number L.LexemeT.seen d.definition.now.table d.held };
+}
+
+impl<'lexer, L: LexerTypes<LexErrorT = LRLexError>> Document<'lexer, L> {
+    /// A document that has this text.
+    pub fn new(
+        alloc: Global,
+        definition: &'lexer LRNonStreamingLexerDef<L>,
+        text: &str,
+    ) -> Result<Self, AllocError>
+        ensures run { IfOk result (IsRunOf L.StorageT.number L.LexemeT.seen definition.now
+            text.now) }
+        ensures laws { IfOk result (HasItemLaws L.StorageT.number L.LexemeT.seen definition.now
+            text.now) }
+        ensures definition { IfOk result (λ d. d.definition ≡ definition.now) }
+        ensures text { IfOk result (λ d. d.text ≡ text.now) }
+    {
+        let held = lexed_text(alloc, &definition.table, text)?;
+        Ok(Document { definition, held })
+    }
+
+    /// Puts a text in the place of the bytes from `from` up to `to`, and lexes again what that changes. After a refusal the
+    /// document is what it was.
+    pub fn edit(
+        &mut self,
+        alloc: Global,
+        from: usize,
+        to: usize,
+        put: &str,
+    ) -> Result<(), EditError>
+        ensures definition { self.new.definition ≡ self.old.definition }
+        ensures fits { OnOk result (FitsAt self.old.text from to) }
+        ensures text { OnOk result (self.new.text ≡ edited self.old.text (span from to) put.now) }
+        ensures run { OnOk result (IsRunOf L.StorageT.number L.LexemeT.seen self.new.definition
+            self.new.text self.new) }
+        ensures laws { OnOk result (HasItemLaws L.StorageT.number L.LexemeT.seen self.new.definition
+            self.new.text self.new) }
+        ensures counts { OnOk result (WasRelexed L.StorageT.number self.old.boundaries
+            self.old.ahead (span from to) put.now self.new) }
+        ensures refused { IfErr result (λ e. e ≡ DoesNotFit ↔ ¬ (FitsAt self.old.text from to)) }
+        ensures kept { OnErr result (self.new ≡ self.old) }
+    {
+        edit_bytes(alloc, &self.definition.table, &mut self.held, from, to, put)
+    }
+
+    /// The text as it is now.
+    pub fn text(&self) -> &str
+        ensures { result.now ≡ self.now.text }
+    {
+        &self.held.text
+    }
+
+    /// The definition that it is lexed by.
+    pub fn definition(&self) -> &'lexer LRNonStreamingLexerDef<L>
+        ensures { result.now ≡ self.now.definition }
+    {
+        self.definition
+    }
+
+    /// The lexemes, and an error at the end where lexing stopped early.
+    pub fn items(&self) -> &[Result<L::LexemeT, LRLexError>]
+        ensures { result.now ≡ self.now.items }
+    {
+        &self.held.lexed.items
+    }
+
+    /// The whole text up to its end or to the error, as it was cut (`LexRun::pieces`).
+    pub fn pieces(&self, alloc: Global) -> Result<Vec<Piece<'lexer, '_>>, AllocError>
+        ensures { IfOk result (λ pieces. ArePieces
+            (definition_of L.StorageT.number self.now.definition) self.now.text
+            self.now.boundaries pieces.items) }
+    {
+        pieces_of(
+            alloc,
+            &self.definition.table,
+            &self.held.text,
+            &self.held.lexed.boundaries,
+        )
+    }
+
+    /// The pieces that have a byte in `from..to` (`LexRun::pieces_in`).
+    pub fn pieces_in(
+        &self,
+        alloc: Global,
+        from: usize,
+        to: usize,
+    ) -> Result<Vec<Piece<'lexer, '_>>, AllocError>
+        ensures { IfOk result (λ pieces. ArePiecesIn
+            (definition_of L.StorageT.number self.now.definition) self.now.text
+            self.now.boundaries from to pieces.items) }
+    {
+        pieces_in(
+            alloc,
+            &self.definition.table,
+            &self.held.text,
+            &self.held.lexed.boundaries,
+            from,
+            to,
+        )
+    }
+
+    /// How many tiles the text was cut into.
+    pub fn tiles(&self) -> usize
+        ensures { result ≡ length self.now.boundaries - 1 }
+    {
+        self.held.lexed.boundaries.len().saturating_sub(1)
+    }
+
+    /// How many searches the last edit needed, or, where there was none yet, the text as a whole.
+    pub fn asked(&self) -> u128
+        ensures { result ≡ self.now.asked }
+    {
+        self.held.lexed.asked
+    }
+
+    /// How many tiles the last edit cut anew, or, where there was none yet, all. The others were taken over.
+    pub fn lexed(&self) -> usize
+        ensures { result ≡ self.now.anew }
+    {
+        self.held.lexed.anew
+    }
+
+    /// The text of the span, or the empty text where the span doesn't fit.
+    pub fn text_of(&self, span: Span) -> &str
+        ensures fits { Fits self.now.text span
+            → result.now ≡ slice_range self.now.text (span_start span) (span_end span) }
+        ensures none { ¬ (Fits self.now.text span) → result.now ≡ [] }
+    {
+        text_of(&self.held.text, span)
+    }
+
+    /// Line and column of the place before this byte, both from 1; a column counts characters. Inside a character it is the
+    /// place before that, and past the text's end the end.
+    pub fn place(&self, byte: usize) -> (usize, usize)
+        ensures fits { IsCharBoundary self.now.text byte → result ≡ place_of self.now.text byte }
+        ensures nearest { (at : ℕ) → IsNearest self.now.text byte at
+            → result ≡ place_of self.now.text at }
+    {
+        place_of(&self.held.newlines, &self.held.text, byte)
+    }
+
+    /// Line and column of the place before this byte as the Language Server Protocol counts them: both from 0, the column in
+    /// code units of UTF-16. Inside a character it is the place before that, and past the text's end the end.
+    pub fn position(&self, byte: usize) -> (usize, usize)
+        ensures fits { IsCharBoundary self.now.text byte
+            → result ≡ utf16_position self.now.text byte }
+        ensures nearest { (at : ℕ) → IsNearest self.now.text byte at
+            → result ≡ utf16_position self.now.text at }
+    {
+        utf16_position(&self.held.newlines, &self.held.text, byte)
+    }
+}

@@ -1,0 +1,454 @@
+ghost use Rattle.std.specs.Prelude.{◌≡◌, ◌≢◌, ℕ, ◌+◌, ◌-◌, ◌<◌, ◌≤◌, ◌^◌, true, false, max, All, ◌++◌, length, map, drop, take, IfOk, OnOk, OnErr};
+ghost use Rattle.lrlex.specs.Active.{is_state};
+ghost use Rattle.lrlex_base.specs.Spans.{span_start, span_end, as_span, Fits};
+ghost use Rattle.lrlex_base.specs.Edits.{edited};
+ghost use Rattle.lrlex.specs.Tiling.{rebased};
+ghost use Rattle.lrlex_boundaries.specs.Boundaries.{boundary_at, last_entries};
+ghost use Rattle.std.specs.List.Sorted.{IsPartitionedBy};
+ghost use Rattle.lrlex_boundaries.specs.Moves.{IsMovableBoundary, AreSorted};
+ghost use Rattle.lrlex.specs.Moves.{IsMovable, begins_before, items_from};
+ghost use Rattle.lrlex_boundaries.specs.Entries.{plain, AreEntries};
+ghost use Rattle.lrlex.specs.Reach.{IsRun};
+ghost use Rattle.lrlex.specs.Kept.{LooksAhead, items_before};
+ghost use Rattle.lrlex.specs.Asked.{asks_by};
+ghost use Rattle.lrlex.specs.Ran.{IsRunOf, HasItemLaws};
+ghost use Rattle.lrlex.specs.Relexed.{AreCountsOf, WasRelexed};
+ghost use Rattle.lrlex.specs.Views.{definition_by, items_by, item_of};
+ghost use Rattle.lrlex.specs.UnderWay.{HasCutAnew, HasSame, IsEditOf, IsPutBehind, IsPutBetween, TellsMeeting};
+
+use crate::definition::rule_table::RuleTable;
+use crate::editing::restart::{append_raised, last_safe, resume, up_to};
+use crate::errors::LRLexError;
+use crate::lexing::run::{LexRun, Lexed};
+use crate::lexing::step::{Progress, advance};
+use crate::lexing::winner::Searcher;
+use lrlex_base::{Edit, LexError, Lexeme, LexerTypes, Numbered, Span};
+use lrlex_boundaries::Boundaries;
+use lrlex_boundaries::room::splice;
+use std::alloc::{AllocError, Global};
+
+/// The item once what stood at `from` stands at `to`.
+fn moved<S: Numbered, X: Lexeme<S>>(
+    item: &Result<X, LRLexError>,
+    from: usize,
+    to: usize,
+) -> Result<X, LRLexError>
+    requires { IsMovable from to (item_of S.number X.seen item.now) }
+    ensures { item_of S.number X.seen result
+        ≡ rebased from to (item_of S.number X.seen item.now) }
+{
+    match item {
+        Ok(lexeme) => {
+            let id = lexeme.tok_id();
+            let span = lexeme.span();
+            let start = span.start() - from + to;
+            if lexeme.faulty() {
+                Ok(Lexeme::new_faulty(id, start, span.len()))
+            } else {
+                Ok(Lexeme::new(id, start, span.len()))
+            }
+        }
+        Err(error) => {
+            let span = error.span();
+            let span = Span::new(span.start() - from + to, span.end() - from + to);
+            match error.lexing_state() {
+                Some(state) => Err(LRLexError::new_with_lexing_state(span, state)),
+                None => Err(LRLexError::new(span)),
+            }
+        }
+    }
+}
+
+/// Whether the item begins before the place.
+pub(crate) fn begins_before<S: Numbered, X: Lexeme<S>>(
+    item: &Result<X, LRLexError>,
+    place: usize,
+) -> bool
+    ensures { result ≡ begins_before place (item_of S.number X.seen item.now) }
+{
+    match item {
+        Ok(lexeme) => lexeme.span().start() < place,
+        Err(error) => error.span().start() < place,
+    }
+}
+
+/// How many items begin before the place, of items in order.
+fn many_before<S: Numbered, X: Lexeme<S>>(items: &[Result<X, LRLexError>], place: usize) -> usize
+    requires { IsPartitionedBy (begins_before place)
+        (map (item_of S.number X.seen) items.now) }
+    ensures within { result ≤ length items.now }
+    ensures before { map (item_of S.number X.seen) (take result items.now)
+        ≡ items_before place (map (item_of S.number X.seen) items.now) }
+    ensures from { map (item_of S.number X.seen) (drop result items.now)
+        ≡ items_from place (map (item_of S.number X.seen) items.now) }
+{
+    items.partition_point(
+        |item: &Result<X, LRLexError>| -> bool
+            ensures { result ≡ begins_before place
+                (item_of S.number X.seen item.now) }
+        { begins_before::<S, X>(item, place) },
+    )
+}
+
+/// Moves the items from the one at `first` on: what stood at `from` stands at `to`.
+fn move_items<S: Numbered, X: Lexeme<S>>(
+    items: &mut [Result<X, LRLexError>],
+    first: usize,
+    from: usize,
+    to: usize,
+)
+    requires within { first ≤ length items.old }
+    requires movable { All (IsMovable from to)
+        (map (item_of S.number X.seen) (drop first items.old)) }
+    ensures { map (item_of S.number X.seen) items.new
+        ≡ map (item_of S.number X.seen) (take first items.old)
+        ++ map (rebased from to)
+        (map (item_of S.number X.seen) (drop first items.old)) }
+{
+    if from == to {
+        return;
+    }
+    'items: for index in first..items.len() {
+        items[index] = moved::<S, X>(&items[index], from, to);
+    }
+}
+
+/// The first boundary from `cursor` on that doesn't stand before the place.
+fn first_from(boundaries: &Boundaries, cursor: usize, place: usize) -> usize
+    requires { cursor ≤ length boundaries.now }
+    ensures within { result ≤ length boundaries.now }
+    ensures skipped { (j : ℕ) → cursor ≤ j → j < result
+        → (boundary_at boundaries.now j).place < place }
+    ensures forward { cursor ≤ result }
+    ensures stops { result < length boundaries.now
+        → place ≤ (boundary_at boundaries.now result).place }
+{
+    let mut next = cursor;
+    'walk: while next < boundaries.len() {
+        if boundaries.place(next) >= place {
+            break;
+        }
+        next += 1;
+    }
+    next
+}
+
+/// Whether the boundary is there, stands at the place and has the stack.
+fn is_at(boundaries: &Boundaries, index: usize, place: usize, stack: &[(usize, usize)]) -> bool
+    ensures within { result ≡ true → index < length boundaries.now }
+    ensures place { result ≡ true → (boundary_at boundaries.now index).place ≡ place }
+    ensures stack { result ≡ true → (boundary_at boundaries.now index).entries ≡ stack.now }
+    ensures none { result ≡ false → index < length boundaries.now
+        → (boundary_at boundaries.now index).place ≡ place
+        → (boundary_at boundaries.now index).entries ≢ stack.now }
+{
+    if index >= boundaries.len() || boundaries.place(index) != place {
+        return false;
+    }
+    boundaries.stack(index) == stack
+}
+
+/// How many old boundaries stand before what follows the edit.
+fn behind(old: &Boundaries, edit: &Edit<'_>) -> usize
+    requires { AreSorted old.now }
+    ensures within { result ≤ length old.now }
+    ensures before { (j : ℕ) → j < result
+        → (boundary_at old.now j).place < span_end edit.now.removed }
+{
+    let end = edit.removed.end();
+    if end == 0 { 0 } else { up_to(old, end - 1) }
+}
+
+/// Whether an old boundary stands where the new one stood before the edit, with the same stack.
+/// The cursor moves forward to the place.
+fn meets(
+    old: &Boundaries,
+    edit: &Edit<'_>,
+    cursor: &mut usize,
+    place: usize,
+    stack: &[(usize, usize)],
+) -> bool
+    requires sorted { AreSorted old.now }
+    requires stack { AreEntries stack.now }
+    requires put { span_start edit.now.removed + length edit.now.put.now < 2 ^ 64 }
+    requires room { place + span_end edit.now.removed < span_start edit.now.removed + length
+        edit.now.put.now + 2 ^ 64 }
+    requires cursor { cursor.old ≤ length old.now }
+    requires behind { (j : ℕ) → j < cursor.old
+        → (boundary_at old.now j).place
+        + (span_start edit.now.removed + length edit.now.put.now) < max
+        place (span_start edit.now.removed + length edit.now.put.now) + span_end edit.now.removed }
+    ensures at { TellsMeeting old.now edit.now.removed edit.now.put.now place stack.now cursor.new
+        result }
+    ensures none { result ≡ false → span_start edit.now.removed + length edit.now.put.now ≤ place
+        → (j : ℕ) → j < length old.now
+        → (boundary_at old.now j).place + (span_start edit.now.removed + length edit.now.put.now)
+        ≡ place + span_end edit.now.removed
+        → plain (boundary_at old.now j).entries ≢ plain stack.now }
+{
+    let put_end = edit.removed.start() + edit.put.len();
+    if place < put_end {
+        return false;
+    }
+    let back = place - put_end + edit.removed.end();
+    *cursor = first_from(old, *cursor, back);
+    is_at(old, *cursor, back, stack)
+}
+
+/// What lexing again reads of an old run.
+#[derive(Drop)]
+pub(crate) struct Old<'a, X> {
+    pub(crate) items: &'a [Result<X, LRLexError>],
+    pub(crate) boundaries: &'a Boundaries,
+    pub(crate) ahead: &'a [u8],
+}
+
+/// The tiles that were cut anew.
+#[derive(Drop)]
+pub(crate) struct Anew<X> {
+    /// The old boundary from which on, and how many old items stand before it.
+    pub(crate) index: usize,
+    pub(crate) first: usize,
+    /// What was found from there on.
+    pub(crate) progress: Progress<X>,
+    /// The old boundary that was met, unless lexing came to an end before.
+    pub(crate) met: Option<usize>,
+}
+
+/// Lexes the text after an edit of the old run's, from the last boundary before which no tile looked at what the edit changes,
+/// as far as the old run knows, up to the first that meets an old one.
+fn cut_anew<S: Numbered, X: Lexeme<S>>(
+    alloc: Global,
+    table: &RuleTable<S>,
+    old: &Old<'_, X>,
+    edit: &Edit<'_>,
+    new: &str,
+) -> Result<Anew<X>, AllocError>
+    requires initial { is_state (definition_by S.number table.now) 0 ≡ true }
+    requires known { IsEditOf S.number X.seen table.now old.now.items.now
+        old.now.boundaries.now old.now.ahead.now edit.now.removed edit.now.put.now new.now }
+    ensures { IfOk result (HasCutAnew S.number X.seen table.now
+        old.now.items.now old.now.boundaries.now old.now.ahead.now edit.now.removed
+        edit.now.put.now new.now) }
+{
+    let index = last_safe(old.boundaries, old.ahead, edit.removed.start());
+    let first = many_before::<S, X>(old.items, old.boundaries.place(index));
+    let mut progress = resume(alloc, old.boundaries, old.ahead, index)?;
+    let mut searcher = Searcher::new(alloc, table, new)?;
+    let mut cursor = behind(old.boundaries, edit);
+    let mut here = table.rules_in(0);
+    'tiles: while progress.place < new.len() {
+        if meets(
+            old.boundaries,
+            edit,
+            &mut cursor,
+            progress.place,
+            &progress.stack,
+        ) {
+            return Ok(Anew {
+                index,
+                first,
+                progress,
+                met: Some(cursor),
+            });
+        }
+        if !advance(alloc, table, new, &mut here, &mut searcher, &mut progress)? {
+            return Ok(Anew {
+                index,
+                first,
+                progress,
+                met: None,
+            });
+        }
+    }
+    Ok(Anew {
+        index,
+        first,
+        progress,
+        met: None,
+    })
+}
+
+/// Puts what was cut anew in the place of all old ones behind its front. After a refusal all is what it was.
+fn put_behind<X: Copy>(
+    items: &mut Vec<Result<X, LRLexError>>,
+    boundaries: &mut Boundaries,
+    ahead: &mut Vec<u8>,
+    anew: &Anew<X>,
+) -> Result<(), AllocError>
+    requires first { anew.now.first ≤ length items.old.items }
+    requires within { anew.now.index ≤ length boundaries.old }
+    requires numbers { length ahead.old.items ≡ length boundaries.old }
+    requires some { 0 < length anew.now.progress.boundaries }
+    ensures put { OnOk result (IsPutBehind items.old.items boundaries.old ahead.old.items anew.now
+        items.new.items boundaries.new ahead.new.items) }
+    ensures kept { OnErr result ((items.new.items ≡ items.old.items)
+        × (boundaries.new ≡ boundaries.old) × (ahead.new.items ≡ ahead.old.items)) }
+{
+    let found = &anew.progress;
+    items.reserve(found.items.len())?;
+    ahead.reserve(found.ahead.len())?;
+    boundaries.replace_from(anew.index, &found.boundaries)?;
+    let many = items.len();
+    splice(items, anew.first, many, &found.items);
+    let many = ahead.len();
+    splice(ahead, anew.index, many, &found.ahead);
+    Ok(())
+}
+
+/// Puts what was cut anew in the place of the old ones between its front and the old boundary that it met, and moves what follows that
+/// one. After a refusal all is what it was.
+fn put_between<S: Numbered, X: Lexeme<S>>(
+    items: &mut Vec<Result<X, LRLexError>>,
+    boundaries: &mut Boundaries,
+    ahead: &mut Vec<u8>,
+    anew: Anew<X>,
+    met: usize,
+) -> Result<(), AllocError>
+    requires first { (anew.first ≤ length items.old.items)
+        × (items_by S.number X.seen (take anew.first items.old.items)
+        ≡ items_before (boundary_at boundaries.old anew.index).place
+        (items_by S.number X.seen items.old.items)) }
+    requires within { (anew.index ≤ met) × (met < length boundaries.old) }
+    requires sorted { AreSorted boundaries.old }
+    requires numbers { length ahead.old.items ≡ length boundaries.old }
+    requires last { (0 < length anew.progress.boundaries)
+        × (last_entries anew.progress.boundaries ≡ (boundary_at boundaries.old met).entries) }
+    requires movable { IsPartitionedBy (begins_before (boundary_at boundaries.old met).place)
+        (items_by S.number X.seen items.old.items)
+        × All (IsMovable (boundary_at boundaries.old met).place anew.progress.place)
+        (items_from (boundary_at boundaries.old met).place
+        (items_by S.number X.seen items.old.items))
+        × All (IsMovableBoundary (boundary_at boundaries.old met).place anew.progress.place)
+        (drop (met + 1) boundaries.old) }
+    ensures put { OnOk result (IsPutBetween S.number X.seen items.old.items
+        boundaries.old ahead.old.items anew met items.new.items boundaries.new ahead.new.items) }
+    ensures kept { OnErr result ((items.new.items ≡ items.old.items)
+        × (boundaries.new ≡ boundaries.old) × (ahead.new.items ≡ ahead.old.items)) }
+{
+    let Anew {
+        index,
+        first,
+        progress,
+        met: _,
+    } = anew;
+    let Progress {
+        place: to,
+        stack: _,
+        items: found,
+        boundaries: between,
+        asked: _,
+        ahead: mut numbers,
+        over,
+    } = progress;
+    let from = boundaries.place(met);
+    let last = many_before::<S, X>(items, from);
+    let far = append_raised(&mut numbers, boundaries, ahead, met, over)?;
+    items.reserve(found.len())?;
+    ahead.reserve(numbers.len())?;
+    boundaries.splice(index, met, &between, to)?;
+    splice(items, first, last, &found);
+    move_items::<S, X>(items, first + found.len(), from, to);
+    splice(ahead, index, far, &numbers);
+    Ok(())
+}
+
+/// Lexes the text after an edit in place, and answers how many searches that needed and how many tiles it cut anew, which the run
+/// has yet to be told. What stands before these stays, and what follows is moved. After a refusal all is what it was.
+pub(crate) fn relex_in_place<S: Numbered, X: Lexeme<S>>(
+    alloc: Global,
+    table: &RuleTable<S>,
+    lexed: &mut Lexed<X>,
+    edit: &Edit<'_>,
+    new: &str,
+) -> Result<(u128, usize), AllocError>
+    requires known { IsEditOf S.number X.seen table.now lexed.old.items.items
+        lexed.old.boundaries lexed.old.ahead.items edit.now.removed edit.now.put.now new.now }
+    ensures run { OnOk result (IsRun (definition_by S.number table.now) new.now
+        (items_by S.number X.seen lexed.new.items.items) lexed.new.boundaries) }
+    ensures looks { OnOk result (LooksAhead (definition_by S.number table.now)
+        new.now lexed.new.boundaries lexed.new.ahead.items) }
+    ensures counts { IfOk result (λ n. AreCountsOf (definition_by S.number table.now)
+        (asks_by table.now new.now) lexed.old.boundaries lexed.old.ahead.items
+        (as_span edit.now.removed) edit.now.put.now new.now lexed.new.boundaries n.0 n.1) }
+    ensures kept { OnErr result (HasSame lexed.old lexed.new) }
+{
+    if !table.is_state(0) {
+        return Ok((0, 0));
+    }
+    lexed.boundaries.tidy(alloc)?;
+    let old = Old {
+        items: lexed.items.as_slice(),
+        boundaries: &lexed.boundaries,
+        ahead: lexed.ahead.as_slice(),
+    };
+    let anew = cut_anew(alloc, table, &old, edit, new)?;
+    let asked = anew.progress.asked;
+    let cut = anew.progress.boundaries.len() - 1;
+    let Lexed {
+        items,
+        boundaries,
+        ahead,
+        ..
+    } = lexed;
+    match anew.met {
+        Some(met) => put_between::<S, X>(items, boundaries, ahead, anew, met)?,
+        None => put_behind(items, boundaries, ahead, &anew)?,
+    }
+    Ok((asked, cut))
+}
+
+/// What lexing the text after an edit gives. The old run stays what it is.
+fn relexed<S: Numbered, X: Lexeme<S>>(
+    alloc: Global,
+    table: &RuleTable<S>,
+    old: &Lexed<X>,
+    edit: &Edit<'_>,
+    new: &str,
+) -> Result<Lexed<X>, AllocError>
+    requires known { IsEditOf S.number X.seen table.now old.now.items.items
+        old.now.boundaries old.now.ahead.items edit.now.removed edit.now.put.now new.now }
+    ensures run { IfOk result (λ r. IsRun (definition_by S.number table.now) new.now
+        (items_by S.number X.seen r.items.items) r.boundaries) }
+    ensures looks { IfOk result (λ r. LooksAhead (definition_by S.number table.now)
+        new.now r.boundaries r.ahead.items) }
+    ensures counts { IfOk result (λ r. AreCountsOf (definition_by S.number table.now)
+        (asks_by table.now new.now) old.now.boundaries old.now.ahead.items
+        (as_span edit.now.removed) edit.now.put.now new.now r.boundaries r.asked r.anew) }
+{
+    let mut lexed = old.copied(alloc)?;
+    let (asked, anew) = relex_in_place(alloc, table, &mut lexed, edit, new)?;
+    lexed.asked = asked;
+    lexed.anew = anew;
+    Ok(lexed)
+}
+
+impl<'lexer, L: LexerTypes<LexErrorT = LRLexError>> LexRun<'lexer, '_, L> {
+    /// Lexes the text after an edit. The old items are taken over up to the last boundary before which no tile is known to
+    /// have looked at what the edit changes, and again from the first boundary on where place and stack meet the old ones.
+    pub fn relex<'new>(
+        &self,
+        alloc: Global,
+        edit: &Edit<'_>,
+        new: &'new str,
+    ) -> Result<LexRun<'lexer, 'new, L>, AllocError>
+        requires fits { Fits self.now.text edit.now.removed }
+        requires gives { new.now ≡ edited self.now.text
+            (as_span edit.now.removed) edit.now.put.now }
+        ensures run { IfOk result (IsRunOf L.StorageT.number L.LexemeT.seen self.now.definition
+            new.now) }
+        ensures laws { IfOk result (HasItemLaws L.StorageT.number L.LexemeT.seen self.now.definition
+            new.now) }
+        ensures definition { IfOk result (λ r. r.definition ≡ self.now.definition) }
+        ensures text { IfOk result (λ r. r.text ≡ new.now) }
+        ensures counts { IfOk result (WasRelexed L.StorageT.number self.now.boundaries
+            self.now.ahead (as_span edit.now.removed) edit.now.put.now) }
+    {
+        let lexed = relexed(alloc, &self.definition.table, &self.lexed, edit, new)?;
+        Ok(LexRun {
+            definition: self.definition,
+            text: new,
+            lexed,
+        })
+    }
+}

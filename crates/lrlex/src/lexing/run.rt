@@ -1,0 +1,284 @@
+ghost use Rattle.std.specs.Prelude.{◌≡◌, ℕ, ◌+◌, ◌-◌, ◌*◌, ◌<◌, ◌≤◌, false, List, [], length, vec_len, IfOk, slice_index};
+ghost use Rattle.lrlex_rules.specs.Definition.{Definition};
+ghost use Rattle.lrlex.specs.Active.{is_state};
+ghost use Rattle.lrlex_boundaries.specs.Boundaries.{boundary_at, most_entries};
+ghost use Rattle.lrlex_boundaries.specs.Entries.{AreEntries};
+ghost use Rattle.lrlex.specs.Reach.{Reached, IsLexed, IsRun, searches};
+ghost use Rattle.lrlex.specs.Asked.{asks, asks_by};
+ghost use Rattle.lrlex.specs.Kept.{LooksAhead};
+ghost use Rattle.lrlex.specs.Views.{definition_by, definition_of, items_by};
+ghost use Rattle.lrlex.specs.Ran.{IsRunOf, HasItemLaws};
+ghost use Rattle.lrlex.specs.UnderWay.{HasFinished};
+
+use crate::definition::non_streaming::LRNonStreamingLexerDef;
+use crate::definition::rule_table::RuleTable;
+use crate::errors::LRLexError;
+use crate::lexing::step::{Progress, advance, begin, give_error};
+use crate::lexing::winner::Searcher;
+use lrlex_base::{Lexeme, LexerTypes, Numbered};
+use lrlex_boundaries::Boundaries;
+use lrlex_boundaries::room::copied;
+use std::alloc::{AllocError, Global};
+use std::marker::Model;
+
+/// What lexing a text gave.
+#[derive(Drop)]
+pub struct LexRun<'lexer, 'input, L: LexerTypes<LexErrorT = LRLexError>> {
+    pub(crate) definition: &'lexer LRNonStreamingLexerDef<L>,
+    pub(crate) text: &'input str,
+    pub(crate) lexed: Lexed<L::LexemeT>,
+}
+
+impl<'lexer, 'input, L: LexerTypes<LexErrorT = LRLexError>> Model for LexRun<'lexer, 'input, L> {
+    ghost use Rattle.std.specs.Coded.{codes};
+    ghost use Rattle.regex_hir.specs.contracts.hir.Hir as hir;
+    ghost use Rattle.lrlex.specs.Reach.{IsRun};
+    ghost use Rattle.lrlex.specs.Kept.{LooksAhead};
+    ghost use Rattle.lrlex.specs.Views.{definition_of, items_by};
+    ghost use Rattle.lrlex.specs.Ran.{Ran};
+    ghost use Rattle.lrlex.specs.declared.errors.LRLexError.{LRLexError};
+    ghost use Rattle.lrlex.specs.declared.definition.non_streaming.LRNonStreamingLexerDef.{LRNonStreamingLexerDef};
+
+    ghost Value = { Ran (LRNonStreamingLexerDef L L.LexemeT L.StorageT LRLexError L.StorageT.FromStrRadixErr L.StorageT.Error) L.LexemeT };
+
+    ghost coded = { Prim.hlevel (codes, hir.the_row.coded) };
+
+    ghost view = { λ r. record {
+      definition = r.definition.now;
+      text = r.text.now;
+      items = r.lexed.items.items;
+      boundaries = r.lexed.boundaries;
+      ahead = r.lexed.ahead.items;
+      asked = r.lexed.asked;
+      anew = r.lexed.anew;
+    } };
+
+    ghost invariant = { λ r. ∥ LooksAhead (definition_of L.StorageT.number r.definition.now) r.text.now r.lexed.boundaries r.lexed.ahead.items ∥₁
+        × ∥ IsRun (definition_of L.StorageT.number r.definition.now) r.text.now (items_by L.StorageT.number L.LexemeT.seen r.lexed.items.items) r.lexed.boundaries ∥₁ };
+}
+
+impl<'lexer, 'input, L: LexerTypes<LexErrorT = LRLexError>> LexRun<'lexer, 'input, L> {
+    /// The lexemes, and an error at the end where lexing stopped early.
+    pub fn items(&self) -> &[Result<L::LexemeT, LRLexError>]
+        ensures { result.now ≡ self.now.items }
+    {
+        &self.lexed.items
+    }
+
+    /// The text that was lexed.
+    pub fn text(&self) -> &'input str
+        ensures { result.now ≡ self.now.text }
+    {
+        self.text
+    }
+
+    /// The definition that it was lexed by.
+    pub fn definition(&self) -> &'lexer LRNonStreamingLexerDef<L>
+        ensures { result.now ≡ self.now.definition }
+    {
+        self.definition
+    }
+
+    /// How many tiles the text was cut into.
+    pub fn tiles(&self) -> usize
+        ensures { result ≡ length self.now.boundaries - 1 }
+    {
+        self.lexed.boundaries.len().saturating_sub(1)
+    }
+
+    /// How many searches the call that made this run needed.
+    pub fn asked(&self) -> u128
+        ensures { result ≡ self.now.asked }
+    {
+        self.lexed.asked
+    }
+
+    /// How many tiles the call that made this run cut anew. It took over the others.
+    pub fn lexed(&self) -> usize
+        ensures { result ≡ self.now.anew }
+    {
+        self.lexed.anew
+    }
+
+    /// The greatest number of entries of a boundary's stack.
+    pub fn entries_peak(&self) -> usize
+        ensures { result ≡ most_entries self.now.boundaries }
+    {
+        self.lexed.boundaries.peak()
+    }
+
+    /// One more than the tiles, or 0 without a state 0.
+    pub fn boundaries(&self) -> usize
+        ensures { result ≡ length self.now.boundaries }
+    {
+        self.lexed.boundaries.len()
+    }
+
+    /// Where the boundary stands.
+    pub fn place(&self, index: usize) -> usize
+        requires { index < length self.now.boundaries }
+        ensures { result ≡ (boundary_at self.now.boundaries index).place }
+    {
+        self.lexed.boundaries.place(index)
+    }
+
+    /// How many bytes past the boundary's place the tiles before it looked. 255 stands for more.
+    pub fn ahead(&self, index: usize) -> u8
+        requires { index < length self.now.boundaries }
+        ensures { result ≡ slice_index self.now.ahead index }
+    {
+        self.lexed.ahead[index]
+    }
+
+    /// The boundary's stack from bottom to top, as entries: each a count of equal neighbours and their state.
+    pub fn stack(&self, index: usize) -> &[(usize, usize)]
+        requires { index < length self.now.boundaries }
+        ensures stack { result.now ≡ (boundary_at self.now.boundaries index).entries }
+        ensures entries { AreEntries result.now }
+    {
+        self.lexed.boundaries.stack(index)
+    }
+}
+
+/// What lexing a text gave, by a rule table.
+#[derive(Drop)]
+pub(crate) struct Lexed<X> {
+    pub(crate) items: Vec<Result<X, LRLexError>>,
+    pub(crate) boundaries: Boundaries,
+    pub(crate) asked: u128,
+    /// For each boundary, how many bytes past its place the tiles before it looked. 255 stands for more.
+    pub(crate) ahead: Vec<u8>,
+    /// How many tiles were cut anew.
+    pub(crate) anew: usize,
+}
+
+impl<X: Copy> Lexed<X> {
+    ghost use Rattle.lrlex.specs.UnderWay.{HasSame};
+
+    /// A copy of it.
+    pub(crate) fn copied(&self, alloc: Global) -> Result<Lexed<X>, AllocError>
+        ensures { IfOk result (HasSame self.now) }
+    {
+        Ok(Lexed {
+            items: copied(alloc, &self.items)?,
+            boundaries: self.boundaries.copied(alloc)?,
+            asked: self.asked,
+            ahead: copied(alloc, &self.ahead)?,
+            anew: self.anew,
+        })
+    }
+}
+
+impl<X> Lexed<X> {
+    /// The items alone.
+    pub(crate) fn into_items(self) -> Vec<Result<X, LRLexError>>
+        ensures { result.items ≡ self.items.items }
+    {
+        self.items
+    }
+}
+
+/// Without a state 0: an error alone.
+fn stateless<S: Numbered, X: Lexeme<S>>(alloc: Global) -> Result<Lexed<X>, AllocError>
+    ensures run { (d : Definition) (text : List ℕ) → is_state d 0 ≡ false → IfOk result (λ r.
+        IsRun d text (items_by S.number X.seen r.items.items) r.boundaries) }
+    ensures looks { (d : Definition) (text : List ℕ) → IfOk result (λ r.
+        LooksAhead d text r.boundaries r.ahead.items) }
+    ensures asked { IfOk result (λ r. r.asked ≡ 0) }
+    ensures none { IfOk result (λ r. r.boundaries ≡ []) }
+    ensures lexed { IfOk result (λ r. r.anew ≡ 0) }
+{
+    let mut items = Vec::new(alloc);
+    give_error::<S, X>(&mut items, 0, None)?;
+    Ok(Lexed {
+        items,
+        boundaries: Boundaries::new(alloc),
+        asked: 0,
+        ahead: Vec::new(alloc),
+        anew: 0,
+    })
+}
+
+/// What was found, once lexing has come to its end.
+fn finished<X>(progress: Progress<X>) -> Lexed<X>
+    ensures { HasFinished progress (length progress.boundaries - 1) result }
+{
+    let Progress {
+        place: _,
+        stack: _,
+        items,
+        boundaries,
+        asked,
+        ahead,
+        over: _,
+    } = progress;
+    let anew = boundaries.len().saturating_sub(1);
+    Lexed {
+        items,
+        boundaries,
+        asked,
+        ahead,
+        anew,
+    }
+}
+
+/// Cuts the text into tiles, from state 0 on.
+pub(crate) fn lex<S: Numbered, X: Lexeme<S>>(
+    alloc: Global,
+    table: &RuleTable<S>,
+    text: &str,
+) -> Result<Lexed<X>, AllocError>
+    ensures run { IfOk result (λ r. IsRun (definition_by S.number table.now) text.now
+        (items_by S.number X.seen r.items.items) r.boundaries) }
+    ensures looks { IfOk result (λ r. LooksAhead (definition_by S.number table.now) text.now
+        r.boundaries r.ahead.items) }
+    ensures asked { IfOk result (λ r. r.asked ≤ searches
+        (definition_by S.number table.now) text.now r.boundaries) }
+    ensures few { IfOk result (λ r. r.asked ≤ length r.boundaries * length
+        (definition_by S.number table.now).rules) }
+    ensures exact { IfOk result (λ r. r.asked ≡ asks_by table.now text.now r.boundaries) }
+    ensures lexed { IfOk result (λ r. r.anew ≡ length r.boundaries - 1) }
+{
+    if !table.is_state(0) {
+        return stateless::<S, X>(alloc);
+    }
+    let mut searcher = Searcher::new(alloc, table, text)?;
+    let mut progress = begin(alloc, text)?;
+    let mut here = table.rules_in(0);
+    'tiles: while progress.place < text.len() {
+        if !advance(alloc, table, text, &mut here, &mut searcher, &mut progress)? {
+            return Ok(finished(progress));
+        }
+    }
+    Ok(finished(progress))
+}
+
+impl<L: LexerTypes<LexErrorT = LRLexError>> LRNonStreamingLexerDef<L> {
+    /// Cuts the text into tiles, from state 0 on: at each place the rule wins that matches the most bytes there, and of
+    /// several the earliest. It stops where no rule matches, where the winner has a name and no id, and where its target
+    /// is no state.
+    pub fn run<'lexer, 'input>(
+        &'lexer self,
+        alloc: Global,
+        text: &'input str,
+    ) -> Result<LexRun<'lexer, 'input, L>, AllocError>
+        ensures run { IfOk result (IsRunOf L.StorageT.number L.LexemeT.seen self.now text.now) }
+        ensures laws { IfOk result (HasItemLaws L.StorageT.number L.LexemeT.seen self.now
+            text.now) }
+        ensures definition { IfOk result (λ r. r.definition ≡ self.now) }
+        ensures text { IfOk result (λ r. r.text ≡ text.now) }
+        ensures asked { IfOk result (λ r. r.asked ≤ searches
+            (definition_of L.StorageT.number self.now) text.now r.boundaries) }
+        ensures few { IfOk result (λ r. r.asked ≤ length r.boundaries * length
+            (definition_of L.StorageT.number self.now).rules) }
+        ensures exact { IfOk result (λ r. r.asked ≡ asks self.now text.now r.boundaries) }
+        ensures lexed { IfOk result (λ r. r.anew ≡ length r.boundaries - 1) }
+    {
+        let lexed = lex(alloc, &self.table, text)?;
+        Ok(LexRun {
+            definition: self,
+            text,
+            lexed,
+        })
+    }
+}

@@ -1,0 +1,205 @@
+ghost use Rattle.std.specs.Prelude.{◌≡◌, ◌+◌, ◌-◌, ◌^◌, ◌<◌, ◌≤◌, true, false, [], ◌∷◌, ◌++◌, length, map, IfOk, OnOk, IsCharBoundary};
+ghost use Rattle.lrlex.specs.Active.{is_state, lexeme_id};
+ghost use Rattle.lrlex_rules.specs.Parts.{as_rule};
+ghost use Rattle.lrlex.specs.Asked.{untabled_count};
+ghost use Rattle.lrlex.specs.Tiling.{Error, top, stack_after, lexeme_of};
+ghost use Rattle.lrlex_boundaries.specs.Entries.{plain, AreEntries};
+ghost use Rattle.lrlex_boundaries.specs.Boundaries.{Boundary, last_entries};
+ghost use Rattle.lrlex.specs.Reach.{Reached, IsLexed, searches};
+ghost use Rattle.lrlex.specs.Kept.{HasLooked, capped};
+ghost use Rattle.lrlex.specs.AtHand.{AreOf, IsSearcherOf};
+ghost use Rattle.lrlex.specs.Views.{definition_by, item_of, items_by};
+ghost use Rattle.lrlex.specs.UnderWay.{Front, HasAdvanced, HasEnded, HasEntered, HasSearched, IsUnderWay};
+
+use crate::definition::active::{lacks_id, lexeme_id};
+use crate::definition::rule_table::{RuleTable, RulesIn};
+use crate::errors::LRLexError;
+use crate::lexing::stack::{step, top_of};
+use crate::lexing::winner::Searcher;
+use lrlex_base::{Lexeme, Numbered, Span};
+use lrlex_boundaries::Boundaries;
+use lrlex_boundaries::room::append;
+use lrlex_rules::{Rule, StartStateId};
+use std::alloc::{AllocError, Global};
+
+/// What a run has found so far. Its last boundary is its place with its stack.
+#[derive(Drop)]
+pub(crate) struct Progress<X> {
+    pub(crate) place: usize,
+    pub(crate) stack: Vec<(usize, usize)>,
+    pub(crate) items: Vec<Result<X, LRLexError>>,
+    pub(crate) boundaries: Boundaries,
+    pub(crate) asked: u128,
+    /// For each boundary, how many bytes past its place the tiles before it looked. 255 stands for more.
+    pub(crate) ahead: Vec<u8>,
+    /// How many bytes past the place the tiles looked.
+    pub(crate) over: usize,
+}
+
+/// The most tiles for which room is made ahead.
+const MOST_EXPECTED: usize = 1 << 20;
+
+/// For how many tiles room is made ahead.
+fn tiles_expected(text: &str) -> usize {
+    (text.len() / 4).min(MOST_EXPECTED)
+}
+
+/// Nothing found yet, in state 0.
+pub(crate) fn begin<X: Copy>(alloc: Global, text: &str) -> Result<Progress<X>, AllocError>
+    ensures place { IfOk result (λ p. p.place ≡ 0) }
+    ensures stack { IfOk result (λ p. p.stack.items ≡ (1, 0) ∷ []) }
+    ensures items { IfOk result (λ p. p.items.items ≡ []) }
+    ensures boundaries { IfOk result (λ p. p.boundaries
+        ≡ record { place = 0; entries = (1, 0) ∷ [] } ∷ []) }
+    ensures asked { IfOk result (λ p. p.asked ≡ 0) }
+    ensures ahead { IfOk result (λ p. p.ahead.items ≡ 0 ∷ []) }
+    ensures over { IfOk result (λ p. p.over ≡ 0) }
+{
+    let room = tiles_expected(text);
+    let mut progress = Progress {
+        place: 0,
+        stack: Vec::new(alloc),
+        items: Vec::new(alloc),
+        boundaries: Boundaries::with_capacity(alloc, room)?,
+        asked: 0,
+        ahead: Vec::new(alloc),
+        over: 0,
+    };
+    progress.items.reserve(room)?;
+    progress.ahead.reserve(room)?;
+    progress.ahead.push(0)?;
+    progress.stack.push((1, 0))?;
+    progress.boundaries.push(0, &progress.stack, 0)?;
+    Ok(progress)
+}
+
+/// Gives the tile's lexeme, if its rule gives one.
+#[inline(always)]
+fn give<S: Numbered, X: Lexeme<S>>(
+    items: &mut Vec<Result<X, LRLexError>>,
+    rule: &Rule<S>,
+    place: usize,
+    len: usize,
+) -> Result<(), AllocError>
+    requires { place + len < 2 ^ 64 }
+    ensures { OnOk result (map (item_of S.number X.seen) items.new.items
+        ≡ map (item_of S.number X.seen) items.old.items
+        ++ lexeme_of (lexeme_id (as_rule S.number rule.now)) place len) }
+{
+    if let Some(id) = lexeme_id(rule) {
+        append(items, Ok(Lexeme::new(id, place, len)))?;
+    }
+    Ok(())
+}
+
+/// Gives an error at the place, with the state in which no rule matches there, if that is why.
+#[inline(never)]
+pub(crate) fn give_error<S: Numbered, X: Lexeme<S>>(
+    items: &mut Vec<Result<X, LRLexError>>,
+    place: usize,
+    state: Option<usize>,
+) -> Result<(), AllocError>
+    ensures { OnOk result (items_by S.number X.seen items.new.items
+        ≡ items_by S.number X.seen items.old.items
+        ++ Error place place state ∷ []) }
+{
+    let span = Span::new(place, place);
+    let error = match state {
+        Some(state) => LRLexError::new_with_lexing_state(span, StartStateId::new(state)),
+        None => LRLexError::new(span),
+    };
+    items.push(Err(error))?;
+    Ok(())
+}
+
+/// The number that stands for so many bytes.
+#[inline(always)]
+pub(crate) fn capped(over: usize) -> u8
+    ensures { result ≡ capped over }
+{
+    if over < 255 { over as u8 } else { 255 }
+}
+
+/// Enters the next boundary: moves the stack by the rule's target. The tiles looked `over` bytes past its place.
+#[inline(always)]
+#[tactic(auto, unfolding(crate::specs::Tiling::stack_after))]
+fn enter<S, X: Copy>(
+    progress: &mut Progress<X>,
+    rule: &Rule<S>,
+    place: usize,
+    over: usize,
+) -> Result<(), AllocError>
+    requires entries { AreEntries progress.old.stack.items }
+    requires room { length (plain progress.old.stack.items) + 1 < 2 ^ 64 }
+    requires last { last_entries progress.old.boundaries ≡ progress.old.stack.items }
+    ensures { OnOk result (HasEntered progress.old progress.new rule.now.target place over) }
+{
+    progress.place = place;
+    progress.over = over;
+    append(&mut progress.ahead, capped(over))?;
+    // read as a whole only where there is one, so that the tiles of other rules don't pay for it
+    if rule.target_state().is_none() {
+        progress.boundaries.repeat(place)?;
+    } else {
+        let kept = step(&mut progress.stack, rule.target_state())?;
+        progress.boundaries.push(place, &progress.stack, kept)?;
+    }
+    Ok(())
+}
+
+/// Takes the tile at the place, and answers whether lexing goes on after it. `here` are the rules of some state, and then
+/// those of the state that the tile was looked for in.
+#[inline(always)]
+pub(crate) fn advance<'d, S: Numbered, X: Lexeme<S>>(
+    alloc: Global,
+    table: &'d RuleTable<S>,
+    text: &str,
+    here: &mut RulesIn<'d>,
+    searcher: &mut Searcher<'d, '_>,
+    progress: &mut Progress<X>,
+) -> Result<bool, AllocError>
+    requires here { AreOf S.number table.now here.old.state here.old }
+    requires inside { progress.old.place < length text.now }
+    requires searcher { IsSearcherOf table.now text.now searcher.old }
+    requires under_way { (f : Front) × IsUnderWay (definition_by S.number table.now)
+        S.number X.seen text.now f progress.old }
+    ensures held { IfOk result (λ _. AreOf S.number table.now here.new.state here.new
+        × IsSearcherOf table.now text.now searcher.new) }
+    ensures goes_on { IfOk result (λ on. on ≡ true → (f : Front)
+        → IsUnderWay (definition_by S.number table.now) S.number
+        X.seen text.now f progress.old
+        → HasAdvanced (definition_by S.number table.now) S.number
+        X.seen text.now f progress.old progress.new) }
+    ensures ends { IfOk result (λ on. on ≡ false → (f : Front)
+        → IsUnderWay (definition_by S.number table.now) S.number
+        X.seen text.now f progress.old
+        → HasEnded (definition_by S.number table.now) S.number
+        X.seen text.now f progress.old progress.new) }
+    ensures asked { IfOk result (λ _. (f : Front)
+        → IsUnderWay (definition_by S.number table.now) S.number
+        X.seen text.now f progress.old
+        → HasSearched S.number table.now text.now f progress.old progress.new) }
+{
+    let place = progress.place;
+    let state = top_of(&progress.stack);
+    *here = table.rules_at(*here, state);
+    let rest = &text[place..];
+    let sight = searcher.winner(alloc, table, state, *here, place, rest, &mut progress.asked)?;
+    let Some(tile) = sight.tile else {
+        give_error::<S, X>(&mut progress.items, place, Some(state))?;
+        return Ok(false);
+    };
+    let rule = &table.rules[tile.rule];
+    if lacks_id(rule) {
+        give_error::<S, X>(&mut progress.items, place, None)?;
+        return Ok(false);
+    }
+    give::<S, X>(&mut progress.items, rule, place, tile.len)?;
+    if table.lacks_target(rule) {
+        give_error::<S, X>(&mut progress.items, place, None)?;
+        return Ok(false);
+    }
+    let over = progress.over.max(sight.reach).saturating_sub(tile.len);
+    enter(progress, rule, place + tile.len, over)?;
+    Ok(true)
+}
