@@ -4,15 +4,13 @@ rt fmt knows the crate of the current folder alone. With --check, a copy is laid
 """
 
 import concurrent.futures
-import os
 import re
-import shutil
 import tempfile
 
 import crates
 import processes
+import rooms
 
-PARTS = ("src", "specs", "proofs")
 CHANGED = re.compile(r"^rt: formatted (.*)$", re.M)
 
 
@@ -22,13 +20,6 @@ def laid_out(folder):
     return CHANGED.findall(told), told if status else ""
 
 
-def copied(folder, to):
-    """Copies the files of the crate that have a layout, and what names the crate."""
-    for part in PARTS:
-        if os.path.isdir(f"{folder}/{part}"):
-            shutil.copytree(f"{folder}/{part}", f"{to}/{part}")
-
-
 def changes(names, is_checked):
     """The files that aren't in the layout, by their paths in the tree, and what rt says where it can't read one."""
     files, faults = [], []
@@ -36,7 +27,7 @@ def changes(names, is_checked):
         folders = {name: f"{crates.TOP}/crates/{name}" for name in names}
         if is_checked:
             for name, folder in folders.items():
-                copied(folder, f"{room}/{name}")
+                rooms.copy_sources(folder, f"{room}/{name}")
                 folders[name] = f"{room}/{name}"
         for name, (changed, fault) in zip(folders, pool.map(laid_out, folders.values())):
             files += [f"crates/{name}/{it}" for it in changed]

@@ -1,34 +1,34 @@
-"""Tries must-fail edits, each over the function that it changes: edits.py [--beside LOG] [CRATE..], of all crates without words.
+"""Tries must-fail edits: wrong bodies that the prover must refuse.
 
-A crate's must-fail/GATE.md has them: below a heading with the edit's name stands, in backquotes, the path of the function
-whose contract it breaks, and then the edit as rt reads one, lines file, old and new. The crate, which rt ci has proved, is
-copied, all its edits are made there, and the prover must refuse each of these functions at a goal of its own. One check does
-for all: what the others change is their bodies, and a function is proved by the contracts of those that it calls. Crates are
-tried side by side. The last line is 'edits: N refused, M failed'.
+A crate's must-fail/GATE.md and MORE.md have them: below a heading with the edit's name is, in backquotes, the path of the
+function whose contract it breaks (GATE.md alone), and then the edit as rt reads one, lines file, old and new.
 
-With --beside, rt ci is still at work and writes what it says to LOG: the edits of a crate are tried once the libraries below
-it are proved, or rt ci has come to its end, and only with what processor time rt ci leaves. Where not all are refused then,
-they are tried once more when rt ci has ended.
+By function, as the gate tries those of GATE.md: the crate is copied, all its edits are made there, and the prover must refuse
+each of these functions at a goal of its own. One check does for all: what the others change is their bodies, and a function is
+proved by the contracts of those that it calls. In the gate a crate's edits are tried once rt ci has proved the libraries below
+it, with what processor time rt ci leaves; where not all are refused then, they are tried once more when rt ci has ended.
+
+By rt, as ./dev edits tries those of both files: rt must-fail checks the whole crate with each edit in turn.
 """
 
 import concurrent.futures
 import os
 import re
-import shutil
 import sys
 import tempfile
-import time
 
-from prover import TOP, checked, crates, libraries_below
+import crates
+import processes
+import prover
+import rooms
 
 EDIT = re.compile(r"^## (\S+)\n\n`(\S+)`[^\n]*\n\n```\n((?:file: .*\nold: .*\nnew: .*\n)+)```$", re.M)
 LEFT = re.compile(r"`search` did not prove `([^`]+)`")
-ENDED = re.compile(r"\d+ passed, \d+ failed$")
 
 
 def edits_of(crate):
     """The edits of the crate: its name, theirs, function and changes."""
-    path = f"{TOP}/crates/{crate}/must-fail/GATE.md"
+    path = f"{crates.TOP}/crates/{crate}/must-fail/GATE.md"
     if not os.path.isfile(path):
         return []
     with open(path, encoding="utf-8") as it:
@@ -83,80 +83,105 @@ def judged(edit, why, told):
     return True, f"{label}: refused, as it must be: {goal}"
 
 
-def tried(edits, listed):
+def tried(edits, listed, much=0):
     """The same of all edits of a crate, which change a function each."""
     crate = edits[0][0]
     functions = [function for _, _, function, _ in edits]
     if len({*functions}) < len(edits):
         sys.exit(f"edits: two of {crate} change one function, so which of them is refused couldn't be told")
     with tempfile.TemporaryDirectory(prefix="lrlex-edits-") as folder:
-        for part in ("src", "specs", "proofs"):
-            shutil.copytree(f"{TOP}/crates/{crate}/{part}", f"{folder}/{part}")
+        rooms.copy_sources(listed[crate].folder, folder)
         whys = [changed(folder, changes) for *_, changes in edits]
-        told = checked(folder, crate, listed[crate], [word for it in functions for word in ("--only", it)])
+        more = [word for it in functions for word in ("--only", it)]
+        told = prover.checked(folder, crate, listed[crate].needs, more, much)
     return [judged(edit, why, told) for edit, why in zip(edits, whys)]
 
 
-def lines_of(log):
-    """What rt ci has said so far."""
-    with open(log, encoding="utf-8", errors="replace") as it:
-        return it.read().splitlines()
-
-
-def is_there(name, said):
-    """Whether rt ci has proved the library, or has it of an earlier run."""
-    return any(line == f"rt: {name} proved" or line.startswith(f"rt: {name} is kept: ") for line in said)
-
-
-def has_ended(said):
-    """Whether rt ci has come to its end."""
-    return any(ENDED.match(line) for line in said)
-
-
-def tried_beside(edits, listed, log):
-    """The same while rt ci is at work."""
-    below = libraries_below(listed[edits[0][0]], listed)
-    while not has_ended(said := lines_of(log)) and not all(is_there(name, said) for name in below):
-        time.sleep(2)
-    found = tried(edits, listed)
-    if has_ended(said) or all(is_refused for is_refused, _ in found):
+def tried_beside(edits, listed, proofs):
+    """The same while rt ci is at work, which `proofs` tells of."""
+    has_ended = proofs.wait_for(crates.below(edits[0][0], listed))
+    found = tried(edits, listed, 19)
+    if has_ended or all(is_refused for is_refused, _ in found):
         return found
-    while not has_ended(lines_of(log)):
-        time.sleep(2)
+    proofs.wait_for(None)
     return tried(edits, listed)
 
 
-def give_way():
-    """Takes what processor time others leave, also where the kernel weighs sessions."""
-    os.setsid()
-    os.nice(19)
-    try:
-        with open("/proc/self/autogroup", "w", encoding="utf-8") as it:
-            it.write("19")
-    except OSError:
-        pass
-
-
-def main(words):
-    log = words[1] if words[:1] == ["--beside"] else ""
-    names = words[2:] if log else words
-    listed = crates()
-    groups = [edits_of(crate) for crate in listed if not names or crate in names]
+def by_function(names=(), proofs=None):
+    """Tries the edits of GATE.md of these crates, or of all, and gives for each whether it is refused and what to say."""
+    listed = crates.read()
+    groups = [edits_of(it) for it in crates.with_below(listed, listed) if not names or it in names]
     groups = [edits for edits in groups if edits]
-    if log:
-        give_way()
-    else:
+    if not proofs:
         groups.sort(key=len, reverse=True)
-    work = (lambda edits: tried_beside(edits, listed, log)) if log else (lambda edits: tried(edits, listed))
-    refused = failed = 0
+    work = (lambda edits: tried_beside(edits, listed, proofs)) if proofs else (lambda edits: tried(edits, listed))
     with concurrent.futures.ThreadPoolExecutor(len(os.sched_getaffinity(0))) as pool:
         for found in pool.map(work, groups):
-            for is_refused, said in found:
-                print(said, flush=True)
-                refused, failed = refused + is_refused, failed + (not is_refused)
+            yield from found
+
+
+def edits_for_rt(crate):
+    """The edits of the crate that rt must-fail is to try, by name, as it reads them."""
+    found, name = {}, ""
+    for file in ("GATE.md", "MORE.md"):
+        path, is_inside = f"{crates.TOP}/crates/{crate}/must-fail/{file}", False
+        if not os.path.isfile(path):
+            continue
+        with open(path, encoding="utf-8") as it:
+            for line in it:
+                if line.startswith("## "):
+                    name = line.split()[1]
+                elif line.startswith("```"):
+                    is_inside = not is_inside
+                elif is_inside:
+                    found[name] = found.get(name, "") + line
+    return found
+
+
+def by_rt(crate, listed):
+    """Tries the edits of the crate by rt must-fail, in a copy over what earlier checks here kept. Gives its status."""
+    edits = edits_for_rt(crate)
+    folder = f"{crates.TOP}/crates/{crate}/must-fail"
+    own = {it: "" for it in os.listdir(folder) if it.endswith(".edit")} if os.path.isdir(folder) else {}
+    if not edits and not own:
+        return None
+    with tempfile.TemporaryDirectory(prefix="lrlex-edits-") as room:
+        for it in [*crates.below(crate, listed), crate]:
+            rooms.copy_sources(listed[it].folder, f"{room}/crates/{it}")
+            rooms.copy_built(listed[it].folder, f"{room}/crates/{it}")
+        rooms.write_list([listed[it] for it in [*crates.below(crate, listed), crate]], room)
+        os.mkdir(f"{room}/crates/{crate}/must-fail")
+        for name in own:
+            with open(f"{folder}/{name}", encoding="utf-8") as it:
+                edits[name.removesuffix(".edit")] = it.read()
+        for name, text in edits.items():
+            with open(f"{room}/crates/{crate}/must-fail/{name}.edit", "w", encoding="utf-8") as it:
+                it.write(text)
+        child = processes.start(["rt", "must-fail", crate], cwd=room, stdout=-1, stderr=-2, text=True, errors="replace")
+        for line in child.stdout:
+            print(line.replace(f"{room}/", ""), end="", flush=True)
+        return processes.ended(child)
+
+
+def main(names=(), is_of_gate=False):
+    """Tries the edits of these crates, or of all. The status is 0 where each is refused."""
+    listed = crates.read()
+    if unknown := [it for it in names if it not in listed]:
+        print(f"edits: crates.txt has no {unknown[0]}", file=sys.stderr)
+        return 1
+    if not is_of_gate:
+        came = [by_rt(it, listed) for it in crates.with_below(listed, listed) if not names or it in names]
+        if came.count(None) == len(came):
+            print("edits: these crates have none", file=sys.stderr)
+            return 1
+        return 1 if any(came) else 0
+    wanted = [it for it in crates.with_below(listed, listed) if (not names or it in names) and edits_of(it)]
+    if lost := prover.lacking([one for it in wanted for one in crates.below(it, listed)]):
+        print(f"edits: the library {lost} isn't built from its sources: ./dev build {lost}", file=sys.stderr)
+        return 1
+    refused = failed = 0
+    for is_refused, said in by_function(names):
+        print(said, flush=True)
+        refused, failed = refused + is_refused, failed + (not is_refused)
     print(f"edits: {refused} refused, {failed} failed")
     return 1 if failed or not refused else 0
-
-
-if __name__ == "__main__":
-    sys.exit(main(sys.argv[1:]))

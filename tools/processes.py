@@ -50,9 +50,9 @@ def ended(child):
     return child.returncode
 
 
-def give_way(words):
-    """The words that run these with what processor time others leave, also where the kernel weighs sessions."""
-    return ["sh", "-c", '{ echo 19 >/proc/self/autogroup; } 2>/dev/null; exec nice -n 19 "$@"', "sh", *words]
+def give_way(words, much=19):
+    """The words that run these so that they leave processor time to others, also where the kernel weighs sessions."""
+    return ["sh", "-c", f'{{ echo {much} >/proc/self/autogroup; }} 2>/dev/null; exec nice -n {much} "$@"', "sh", *words] if much else words
 
 
 def end_all(seconds=5):
