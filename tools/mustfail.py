@@ -23,6 +23,8 @@ import prover
 import rooms
 
 EDIT = re.compile(r"^## (\S+)\n\n`(\S+)`[^\n]*\n\n```\n((?:file: .*\nold: .*\nnew: .*\n)+)```$", re.M)
+# How much the edits leave processor time to rt ci.
+BESIDE = 19
 LEFT = re.compile(r"`search` did not prove `([^`]+)`")
 
 
@@ -100,7 +102,7 @@ def tried(edits, listed, much=0):
 def tried_beside(edits, listed, proofs):
     """The same while rt ci is at work, which `proofs` tells of."""
     has_ended = proofs.wait_for(crates.below(edits[0][0], listed))
-    found = tried(edits, listed, 19)
+    found = tried(edits, listed, BESIDE)
     if has_ended or all(is_refused for is_refused, _ in found):
         return found
     proofs.wait_for(None)
