@@ -5,20 +5,20 @@ use Rattle.std.proofs.Math.Logic.{∥∥₁_elim}
 use Rattle.std.proofs.lemmas.Bool.{cases_lt}
 use Rattle.regex.specs.Patterns.{Re}
 use Rattle.lrlex_table.specs.Tables.{AreTablesOf, IsBestAmong}
-use Rattle.lrlex_table.specs.declared.tables.Tables.{Tables}
+use Rattle.lrlex_table.specs.declared.merged_tables.Tables.{Tables}
 use Rattle.lrlex.specs.StateTables.{patterns_on}
 use Rattle.std.proofs.lemmas.List.{length-take-le, get_or-take, take_all}
 use Rattle.std.proofs.lemmas.List.Elements.{All-from_get_or}
 use Rattle.lrlex_rules.specs.Definition.{Definition}
-use Rattle.lrlex_table.specs.Merged.{IsLongest, NoneMatches}
-use Rattle.lrlex_table.specs.Decided.{IsText, BeginsAlike, IsDecidedBy}
+use Rattle.lrlex_table.specs.Table.{IsLongest, NoneMatches}
+use Rattle.lrlex_table.specs.Reach.{IsText, BeginsAlike, IsDecidedBy}
 use Rattle.lrlex_table.proofs.PrefixLemmas.{alike_less, alike_len}
 use Rattle.lrlex.specs.Active.{is_state, active_places}
 use Rattle.lrlex.specs.Tiling.{Item, Wins, top}
 use Rattle.lrlex_boundaries.specs.Entries.{plain}
 use Rattle.lrlex_boundaries.specs.Boundaries.{Boundary, no_boundary, boundary_at}
 use Rattle.lrlex.specs.Reach.{IsLexed}
-use Rattle.lrlex.specs.Kept.{IsDecided, IsDecidedAt, AreDecided, LooksAhead, IsSafe}
+use Rattle.lrlex.specs.Lookahead.{IsDecided, IsDecidedAt, AreDecided, LooksAhead, IsSafe}
 use Rattle.lrlex.proofs.TilingLemmas.{one_len, one_rule, stuck_or_wins}
 use Rattle.lrlex.proofs.TableLemmas.{patterns_at, longest_wins, none_stuck, looked_at, looked_all, longest_of, none_of}
 use Rattle.lrlex.proofs.ResumeLemmas.{alike_from, kept_up_to, taken_old, taken_new, tile}

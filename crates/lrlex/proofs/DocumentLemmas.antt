@@ -4,18 +4,18 @@ use Rattle.std.proofs.lemmas.List.{drop-drop, drop_at, length-take-le, take_at}
 use Rattle.std.proofs.lemmas.Str.{IsCharBoundary-at_seam, IsUtf8-append, IsUtf8-drop}
 use Rattle.lrlex_base.specs.Edits.{edited}
 use Rattle.lrlex_base.specs.Places.{AreBreaksOf, Breaks}
-use Rattle.lrlex_base.specs.Seen.{Seen}
+use Rattle.lrlex_base.specs.LexemeParts.{LexemeParts}
 use Rattle.lrlex_base.specs.Spans.{Fits, Span, span}
 use Rattle.lrlex_base.specs.declared.spans.Span.{Span as TheSpan}
 use Rattle.lrlex_boundaries.specs.Boundaries.{Boundary}
 use Rattle.std.specs.String.{string_bytes}
-use Rattle.lrlex.specs.Asked.{asks_by}
-use Rattle.lrlex.specs.Editing.{IsLexedBy, WasEdited, WasLeft}
+use Rattle.lrlex.specs.Searches.{asks_by}
+use Rattle.lrlex.specs.Document.{IsLexedBy, WasEdited, WasLeft}
 use Rattle.lrlex.specs.ItemLaws.{HaveLaws}
-use Rattle.lrlex.specs.Kept.{LooksAhead}
+use Rattle.lrlex.specs.Lookahead.{LooksAhead}
 use Rattle.lrlex.specs.Nearest.{FitsAt}
 use Rattle.lrlex.specs.Reach.{IsRun}
-use Rattle.lrlex.specs.Relexed.{AreCountsOf}
+use Rattle.lrlex.specs.Relex.{AreCountsOf}
 use Rattle.lrlex.specs.Views.{definition_by, items_by}
 use Rattle.lrlex.specs.declared.errors.LRLexError.{LRLexError}
 use Rattle.lrlex.specs.declared.definition.rule_table.RuleTable.{RuleTable}
@@ -63,7 +63,7 @@ module _ (was put : List ℕ) (from to : ℕ) (fits : FitsAt was from to) where
 
 -- ---- what is as it was
 
-still_known : {S X : Type 0} (number : S → ℕ) (seen : X → Seen S) (d : RuleTable S) (breaks breaks' : Breaks) (text text' : List ℕ) (found found' : List (Result X LRLexError))
+still_known : {S X : Type 0} (number : S → ℕ) (seen : X → LexemeParts S) (d : RuleTable S) (breaks breaks' : Breaks) (text text' : List ℕ) (found found' : List (Result X LRLexError))
     (bounds bounds' : List Boundary) (numbers numbers' : List ℕ) → breaks' ≡ breaks → text' ≡ text → found' ≡ found → bounds' ≡ bounds → numbers' ≡ numbers →
     AreBreaksOf text breaks × ∥ LooksAhead (definition_by number d) text bounds numbers ∥₁ × ∥ IsRun (definition_by number d) text (items_by number seen found) bounds ∥₁ →
     AreBreaksOf text' breaks' × ∥ LooksAhead (definition_by number d) text' bounds' numbers' ∥₁ × ∥ IsRun (definition_by number d) text' (items_by number seen found') bounds' ∥₁
@@ -71,7 +71,7 @@ still_known number seen d breaks breaks' text text' found found' bounds bounds' 
 
 -- ---- what an edit leaves, and its refusal
 
-module _ {S X : Type 0} (number : S → ℕ) (seen : X → Seen S) (d : RuleTable S) (removed : Span) (put : List ℕ) (old new : LexedText X) where
+module _ {S X : Type 0} (number : S → ℕ) (seen : X → LexemeParts S) (d : RuleTable S) (removed : Span) (put : List ℕ) (old new : LexedText X) where
   pub still_lexed : {A E : Type 0} (r : Result A E) → OnOk r (WasEdited number seen d removed put old new) → OnErr r (WasLeft old new) → IsLexedBy number seen d old → IsLexedBy number seen d new
   still_lexed (Ok x) made kept known = (made.breaks, ∣ made.looks ∣₁, ∣ made.run ∣₁)
   still_lexed (Err e) made kept known =
@@ -85,6 +85,6 @@ module _ {S X : Type 0} (number : S → ℕ) (seen : X → Seen S) (d : RuleTabl
 
   pub edited_counts : {A E : Type 0} (r : Result A E) (bounds : List Boundary) (numbers : List ℕ) → OnOk r (WasEdited number seen d removed put old new) →
       old.lexed.boundaries ≡ bounds → old.lexed.ahead.items ≡ numbers →
-      OnOk r (AreCountsOf (definition_by number d) (asks_by d (string_bytes new.text)) bounds numbers removed put (string_bytes new.text) new.lexed.boundaries new.lexed.asked new.lexed.anew)
+      OnOk r (AreCountsOf (definition_by number d) (asks_by d (string_bytes new.text)) bounds numbers removed put (string_bytes new.text) new.lexed.boundaries new.lexed.asked new.lexed.recut)
   edited_counts (Ok x) bounds numbers made is_bounds is_numbers = counts_moved (asks_by d) is_bounds is_numbers refl refl made.counts
   edited_counts (Err e) bounds numbers made is_bounds is_numbers = tt

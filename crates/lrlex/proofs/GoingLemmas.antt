@@ -6,18 +6,18 @@ use Rattle.std.proofs.lemmas.List.{length-take-le, take-take}
 use Rattle.lrlex_base.specs.Spans.{span}
 use Rattle.lrlex_base.specs.Edits.{edited}
 use Rattle.lrlex_rules.specs.Definition.{Definition}
-use Rattle.lrlex_table.specs.Decided.{IsText}
+use Rattle.lrlex_table.specs.Reach.{IsText}
 use Rattle.lrlex.specs.Active.{is_state}
 use Rattle.lrlex.specs.Tiling.{Item}
 use Rattle.lrlex_boundaries.specs.Boundaries.{Boundary, no_boundary, boundary_at}
 use Rattle.lrlex.specs.Moves.{begins_before}
 use Rattle.lrlex.specs.Reach.{IsLexed}
-use Rattle.lrlex.specs.Kept.{IsDecidedAt, AreDecided, LooksAhead, IsSafe, HasLooked, GoesOn}
+use Rattle.lrlex.specs.Lookahead.{IsDecidedAt, AreDecided, LooksAhead, IsSafe, HasLooked, GoesOn}
 use Rattle.lrlex.proofs.PeakLemmas.{tiles_are}
 use Rattle.lrlex.proofs.SpliceLemmas.{AtBoundary, in_order}
 use Rattle.lrlex.proofs.ResumeLemmas.{alike-edited, first_boundary, goes_on_from}
 use Rattle.lrlex.proofs.DecidedLemmas.{decided_safe, decided_kept}
-use Rattle.lrlex.proofs.AheadLemmas.{looks_kept}
+use Rattle.lrlex.proofs.LookaheadLemmas.{looks_kept}
 
 -- an old run has a boundary
 pub some_boundary : (d : Definition) (text : List ℕ) (found : List Item) (bounds : List Boundary) → IsLexed d text found bounds → 0 < length bounds
@@ -49,15 +49,15 @@ module _ (d : Definition) (old new put : List ℕ) (low high : ℕ) (found : Lis
     front_len : length (take (k + 1) bounds) ≡ k + 1
     front_len = length-take-le (k + 1) bounds (omega arith)
 
-    pub going_looked : (over : ℕ) → over ≡ get_or numbers k 0 → HasLooked d new (take (k + 1) bounds) (take (k + 1) numbers) (boundary_at bounds k).place over
-    going_looked over over_is =
+    pub going_looked : (lookahead : ℕ) → lookahead ≡ get_or numbers k 0 → HasLooked d new (take (k + 1) bounds) (take (k + 1) numbers) (boundary_at bounds k).place lookahead
+    going_looked lookahead over_is =
         let far : ℕ = (boundary_at bounds k).place + get_or numbers k 0 in
-        let to : far ≡ (boundary_at bounds k).place + over = omega (arith, over_is) in
+        let to : far ≡ (boundary_at bounds k).place + lookahead = omega (arith, over_is) in
         let at : k ≡ length (take (k + 1) bounds) - 1 = omega (arith, front_len) in
         let kept : AreDecided d new bounds k far = decided_kept d old new low found bounds h is alike initial k far within safe.before (looks.decided k within safe.known) in
         let P = IsDecidedAt d new far in
         let shorter : AreDecided d new (take (k + 1) bounds) k far = subst (λ (ms : List Boundary). (j : ℕ) (x : Boundary) → j < length ms → P (get_or ms j x)) (sym (take-take k (k + 1) bounds (omega arith))) kept in
         record {
           looks = looks_kept d old new low found bounds h is alike initial numbers k within looks safe;
-          all = subst (λ n. AreDecided d new (take (k + 1) bounds) n ((boundary_at bounds k).place + over)) at (subst (λ i. AreDecided d new (take (k + 1) bounds) k i) to shorter);
+          all = subst (λ n. AreDecided d new (take (k + 1) bounds) n ((boundary_at bounds k).place + lookahead)) at (subst (λ i. AreDecided d new (take (k + 1) bounds) k i) to shorter);
         }

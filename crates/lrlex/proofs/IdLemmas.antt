@@ -15,7 +15,7 @@ use Rattle.std.specs.HashSet.{HashSet, contains, contains_by, PutsKey}
 use Rattle.lrlex.specs.Active.{is_active, places_from, active_places}
 use Rattle.lrlex_rules.specs.Definition.{Rule, StartState}
 use Rattle.lrlex.specs.Ids.{is_named, ids_of, HoldsNames, HoldsTexts, HoldsPlaces, is_key_at, with_own_id}
-use Rattle.lrlex_rules.specs.Parts.{RuleParts, as_rule}
+use Rattle.lrlex_rules.specs.RuleParts.{RuleParts, as_rule}
 use Rattle.std.specs.declared.string.String.{String}
 use Rattle.std.specs.String.{string_eq}
 use Rattle.lrlex_base.specs.Spans.{Span, as_span, same_span}

@@ -4,32 +4,32 @@ use Rattle.std.proofs.Math.Logic.{∥∥₁_elim}
 use Rattle.std.proofs.Props.{props}
 use Rattle.std.proofs.lemmas.Bool.{cases_lt, true≢false}
 use Rattle.std.proofs.lemmas.List.{map-append, nil_from_length}
-use Rattle.lrlex_base.specs.Seen.{Seen}
+use Rattle.lrlex_base.specs.LexemeParts.{LexemeParts}
 use Rattle.lrlex_base.specs.Spans.{as_span, Span as Cut}
 use Rattle.lrlex_base.specs.declared.spans.Span.{Span}
 use Rattle.lrlex_rules.specs.Definition.{Definition}
 use Rattle.lrlex.specs.Active.{is_state}
-use Rattle.lrlex.specs.Asked.{asks_by}
+use Rattle.lrlex.specs.Searches.{asks_by}
 use Rattle.lrlex_boundaries.specs.Boundaries.{Boundary, boundary_at, last_entries}
-use Rattle.lrlex.specs.Kept.{LooksAhead, items_before}
+use Rattle.lrlex.specs.Lookahead.{LooksAhead, items_before}
 use Rattle.lrlex_boundaries.specs.Moves.{IsMovableBoundary, moved_boundary}
 use Rattle.lrlex.specs.Moves.{IsMovable, items_from}
 use Rattle.lrlex.specs.Reach.{IsLexed, IsRun}
-use Rattle.lrlex.specs.Relexed.{AreCountsOf}
+use Rattle.lrlex.specs.Relex.{AreCountsOf}
 use Rattle.lrlex.specs.Tiling.{Item, Item-set, rebased}
-use Rattle.lrlex.specs.UnderWay.{HasCutAnew, HasMet, IsEditOf, IsPutBehind, IsPutBetween, front_of}
+use Rattle.lrlex.specs.Progress.{HasRecut, HasMet, IsEditOf, HasReplacedTail, HasReplacedMiddle, front_of}
 use Rattle.lrlex.specs.Views.{definition_by, item_of, items_by}
 use Rattle.lrlex.specs.declared.errors.LRLexError.{LRLexError}
 use Rattle.lrlex.specs.declared.definition.rule_table.RuleTable.{RuleTable}
-use Rattle.lrlex.specs.declared.editing.relex.Anew.{Anew}
-use Rattle.lrlex.proofs.AheadLemmas.{looks_known}
-use Rattle.lrlex.proofs.AnewLemmas.{old_lexed, old_looks, old_sorted}
+use Rattle.lrlex.specs.declared.editing.relex.Recut.{Recut}
+use Rattle.lrlex.proofs.LookaheadLemmas.{looks_known}
+use Rattle.lrlex.proofs.RecutLemmas.{old_lexed, old_looks, old_sorted}
 use Rattle.lrlex.proofs.FrontLemmas.{last_behind}
 use Rattle.lrlex.proofs.MeetLemmas.{items_movable, bounds_movable, rest_same, whole}
 use Rattle.lrlex.proofs.RaisedLemmas.{looks_taken_over}
 use Rattle.lrlex.proofs.ReachLemmas.{last_now, run_of}
 
-module _ {S X : Type 0} (number : S → ℕ) (seen : X → Seen S) (def : RuleTable S) (found : List (Result X LRLexError)) (olds : List Boundary) (numbers : List ℕ)
+module _ {S X : Type 0} (number : S → ℕ) (seen : X → LexemeParts S) (def : RuleTable S) (found : List (Result X LRLexError)) (olds : List Boundary) (numbers : List ℕ)
     (removed : Span) (put new : List ℕ) (e : IsEditOf number seen def found olds numbers removed put new) where
   -- ---- without a state 0 nothing changes
 
@@ -57,7 +57,7 @@ module _ {S X : Type 0} (number : S → ℕ) (seen : X → Seen S) (def : RuleTa
       exact = λ z. absurd (true≢false (sym z ∙ none));
     }
 
-  module _ (initial : is_state (definition_by number def) 0 ≡ true) (a : Anew X) (h : HasCutAnew number seen def found olds numbers removed put new a) where
+  module _ (initial : is_state (definition_by number def) 0 ≡ true) (a : Recut X) (h : HasRecut number seen def found olds numbers removed put new a) where
     -- ---- at a meeting
 
     module _ (j : ℕ) (m : HasMet (definition_by number def) number seen olds removed put new (front_of (items_by number seen found) olds numbers a.index) a.progress j) where
@@ -91,7 +91,7 @@ module _ {S X : Type 0} (number : S → ℕ) (seen : X → Seen S) (def : RuleTa
           bounds_movable (definition_by number def) e.text new removed.start removed.end put (items_by number seen found) olds (old_lexed number seen def found olds numbers removed put new e initial)
           a.progress.place a.progress.stack.items found_now bounds_now a.progress.asked m.under_way.reached j m.within removed.in_order e.fits.1.0 e.gives m.past m.place m.stack m.under_way.boundary.0 small
 
-      module _ (found' : List (Result X LRLexError)) (bounds' : List Boundary) (numbers' : List ℕ) (is : IsPutBetween number seen found olds numbers a j found' bounds' numbers') where
+      module _ (found' : List (Result X LRLexError)) (bounds' : List Boundary) (numbers' : List ℕ) (is : HasReplacedMiddle number seen found olds numbers a j found' bounds' numbers') where
         pub between_run : IsRun (definition_by number def) new (items_by number seen found') bounds'
         between_run =
             let D = definition_by number def in
@@ -110,14 +110,14 @@ module _ {S X : Type 0} (number : S → ℕ) (seen : X → Seen S) (def : RuleTa
             p.place p.stack.items found_now bounds_now p.asked m.under_way.reached j m.within removed.in_order e.fits.1.0 e.gives m.past m.place m.stack in
             subst (λ ms. LooksAhead D new ms numbers') (sym is.boundaries)
             (looks_taken_over D e.text new olds numbers (old_looks number seen def found olds numbers removed put new e initial) (old_sorted number seen def found olds numbers removed put new e initial)
-            m.under_way.reached.before bounds_now (take a.index numbers ++ p.ahead.items) p.place p.stack.items p.over m.under_way.reached.kept m.under_way.looked j m.within same m.stack numbers' is.ahead)
+            m.under_way.reached.before bounds_now (take a.index numbers ++ p.ahead.items) p.place p.stack.items p.lookahead m.under_way.reached.kept m.under_way.looked j m.within same m.stack numbers' is.ahead)
 
         pub between_counts : a.met ≢ None → AreCountsOf (definition_by number def) (asks_by def new) olds numbers (as_span removed) put new bounds' a.progress.asked (length a.progress.boundaries - 1)
         between_counts met = h.counts (map (moved_boundary (boundary_at olds j).place a.progress.place) (drop (j + 1) olds)) bounds' (λ none. absurd (met none)) is.boundaries
 
     -- ---- at an end
 
-    module _ (none : a.met ≡ None) (found' : List (Result X LRLexError)) (bounds' : List Boundary) (numbers' : List ℕ) (is : IsPutBehind found olds numbers a found' bounds' numbers') where
+    module _ (none : a.met ≡ None) (found' : List (Result X LRLexError)) (bounds' : List Boundary) (numbers' : List ℕ) (is : HasReplacedTail found olds numbers a found' bounds' numbers') where
       pub behind_run : IsRun (definition_by number def) new (items_by number seen found') bounds'
       behind_run =
           let D = definition_by number def in
@@ -134,6 +134,6 @@ module _ {S X : Type 0} (number : S → ℕ) (seen : X → Seen S) (def : RuleTa
       behind_counts = h.counts [] bounds' (λ _. refl) (is.boundaries ∙ sym (append-nil (take a.index olds ++ a.progress.boundaries)))
 
 -- the same counts, of what is known to be the same
-pub counts_moved : {d : Definition} (asks : List ℕ → List Boundary → ℕ) {old old' : List Boundary} {ahead ahead' : List ℕ} {removed removed' : Cut} {put text text' : List ℕ} {new : List Boundary} {many anew : ℕ} →
-    old' ≡ old → ahead' ≡ ahead → removed' ≡ removed → text' ≡ text → AreCountsOf d (asks text') old' ahead' removed' put text' new many anew → AreCountsOf d (asks text) old ahead removed put text new many anew
+pub counts_moved : {d : Definition} (asks : List ℕ → List Boundary → ℕ) {old old' : List Boundary} {ahead ahead' : List ℕ} {removed removed' : Cut} {put text text' : List ℕ} {new : List Boundary} {many recut : ℕ} →
+    old' ≡ old → ahead' ≡ ahead → removed' ≡ removed → text' ≡ text → AreCountsOf d (asks text') old' ahead' removed' put text' new many recut → AreCountsOf d (asks text) old ahead removed put text new many recut
 counts_moved asks is_old is_ahead is_removed is_text h = rw (sym is_old, sym is_ahead, sym is_removed, sym is_text) h

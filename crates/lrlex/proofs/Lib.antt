@@ -1,4 +1,4 @@
-pub mod AnewLemmas
+pub mod RecutLemmas
 pub mod BegunLemmas
 pub mod BestLemmas
 pub mod CountLemmas
@@ -23,12 +23,12 @@ pub mod WithinLemmas
 pub mod TableLemmas
 pub mod ResumeLemmas
 pub mod DecidedLemmas
-pub mod AheadLemmas
+pub mod LookaheadLemmas
 pub mod RaisedLemmas
 pub mod FrontLemmas
 pub mod PutLemmas
 pub mod GoingLemmas
-pub mod AskedLemmas
+pub mod SearchLemmas
 pub mod RestLemmas
 pub mod PieceLemmas
 pub mod DocumentLemmas

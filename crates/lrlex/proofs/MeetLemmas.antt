@@ -13,7 +13,7 @@ use Rattle.lrlex_boundaries.specs.Boundaries.{Boundary, place_and_stack, no_boun
 use Rattle.lrlex_boundaries.specs.Moves.{IsMovableBoundary, moved_boundary, Meets}
 use Rattle.lrlex.specs.Moves.{IsMovable, items_from}
 use Rattle.lrlex.specs.Reach.{Reached, IsLexed, searches}
-use Rattle.lrlex.specs.Kept.{IsSafe}
+use Rattle.lrlex.specs.Lookahead.{IsSafe}
 use Rattle.lrlex.proofs.TailLemmas.{tail_tiling}
 use Rattle.lrlex_base.specs.Spans.{span}
 use Rattle.lrlex_base.specs.Edits.{edited}
@@ -155,8 +155,8 @@ none_met d text olds low high len place stack found bounds asked r unmet none k 
 
 -- ---- how many tiles are cut anew
 
-module _ (olds bounds tail all : List Boundary) (numbers : List ℕ) (low high len kept anew : ℕ) (unmet : (k : ℕ) → k + 1 < length bounds → Meets olds bounds low high len k → ⊥)
-    (e : all ≡ bounds ++ tail) (reused : (k : ℕ) → k < length olds → IsSafe olds numbers low k → k < kept) (some : kept ≤ length bounds) (is : anew ≡ length bounds - kept) where
+module _ (olds bounds tail all : List Boundary) (numbers : List ℕ) (low high len kept recut : ℕ) (unmet : (k : ℕ) → k + 1 < length bounds → Meets olds bounds low high len k → ⊥)
+    (e : all ≡ bounds ++ tail) (reused : (k : ℕ) → k < length olds → IsSafe olds numbers low k → k < kept) (some : kept ≤ length bounds) (is : recut ≡ length bounds - kept) where
   met_late : (j : ℕ) → Meets olds all low high len j → length bounds ≤ j + 1
   met_late j m = elim (cases_lt (j + 1) (length bounds)) [
     | inl early ↦ absurd (unmet j early (meets_front olds bounds tail all low high len j e (omega arith) m))
@@ -164,7 +164,7 @@ module _ (olds bounds tail all : List Boundary) (numbers : List ℕ) (low high l
   ]
 
   -- those from a safe boundary to a meeting
-  pub few_anew : (k : ℕ) → k < length olds → IsSafe olds numbers low k → (anew + k ≤ length all - 1) × ((j : ℕ) → Meets olds all low high len j → anew + k ≤ j)
+  pub few_anew : (k : ℕ) → k < length olds → IsSafe olds numbers low k → (recut + k ≤ length all - 1) × ((j : ℕ) → Meets olds all low high len j → recut + k ≤ j)
   few_anew k within safe = (
     omega (arith, is, some, reused k within safe, ap length e, length-append bounds tail),
     λ j m. omega (arith, is, some, reused k within safe, met_late j m),

@@ -5,7 +5,7 @@ use Rattle.std.proofs.lemmas.Option.{same_Some, none-some}
 use Rattle.std.specs.Option.{option_map, option_map_or, option_and_then}
 use Rattle.std.specs.List.{find}
 use Rattle.lrlex_rules.specs.Definition.{Rule}
-use Rattle.lrlex_rules.specs.Parts.{RuleParts, as_rule}
+use Rattle.lrlex_rules.specs.RuleParts.{RuleParts, as_rule}
 use Rattle.lrlex.specs.Ids.{gives, name_of, HaveDistinctIds}
 use Rattle.lrlex.proofs.ViewLemmas.{find-map}
 

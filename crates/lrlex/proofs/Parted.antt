@@ -5,8 +5,8 @@ use Rattle.std.specs.List.{list_any}
 use Rattle.std.proofs.lemmas.Option.{same_Some}
 use Rattle.lrlex_rules.specs.Definition.{StartState}
 use Rattle.lrlex_rules.specs.Declaration.{initial}
-use Rattle.lrlex_rules.specs.Builder.{as_definition}
-use Rattle.lrlex_rules.specs.declared.parser.builder.RuleFile.{RuleFile}
+use Rattle.lrlex_rules.specs.LexParser.{as_definition}
+use Rattle.lrlex_rules.specs.declared.parser.lex_parser.RuleFile.{RuleFile}
 use Rattle.lrlex.specs.Views.{definition_by}
 use Rattle.lrlex.specs.declared.definition.rule_table.RuleTable.{RuleTable}
 

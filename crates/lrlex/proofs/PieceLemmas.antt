@@ -5,7 +5,7 @@ use Rattle.std.proofs.lemmas.List.{length_push, get_or_append_left, get_or_push}
 use Rattle.std.proofs.lemmas.Option.{slice_get-get_or, slice_get_within, get_or_from_slice_get}
 use Rattle.std.proofs.lemmas.Str.{IsCharBoundary-start, IsCharBoundary-from_rest}
 use Rattle.lrlex_rules.specs.Definition.{Definition}
-use Rattle.lrlex_table.specs.Decided.{IsText}
+use Rattle.lrlex_table.specs.Reach.{IsText}
 use Rattle.lrlex.specs.Active.{is_state, rule_at}
 use Rattle.lrlex_boundaries.specs.Boundaries.{Boundary, boundary_at}
 use Rattle.lrlex.specs.Pieces.{IsPiece, HasByteIn}

@@ -5,7 +5,7 @@ use Rattle.std.proofs.lemmas.List.{length-map, length-take-le, map_more}
 use Rattle.regex_hir.specs.Text.{is_some_and}
 use Rattle.lrlex_rules.specs.Definition.{StartState, Rule}
 use Rattle.lrlex.specs.Active.{is_active, is_active_where, is_inclusive, places_from, active_places}
-use Rattle.lrlex_rules.specs.Parts.{RuleParts, as_rule}
+use Rattle.lrlex_rules.specs.RuleParts.{RuleParts, as_rule}
 
 -- the first place that passes stands n rules on
 pub record IsNext (p : Rule → Bool) (k : ℕ) (rules : List Rule) (j : ℕ) (rest : List ℕ) : Type 0 where

@@ -7,7 +7,7 @@ use Rattle.lrlex.specs.Tiling.{Item, Lexeme, Error, rebased}
 use Rattle.lrlex_boundaries.specs.Boundaries.{Boundary, boundary_at}
 use Rattle.lrlex_boundaries.specs.Moves.{AreSorted}
 use Rattle.lrlex.specs.Moves.{begins_before}
-use Rattle.lrlex.specs.Kept.{items_before}
+use Rattle.lrlex.specs.Lookahead.{items_before}
 
 -- ---- items that are moved where they are
 

@@ -7,55 +7,55 @@ use Rattle.std.proofs.Math.Seq.{take-append-add}
 use Rattle.lrlex_rules.specs.Definition.{Definition}
 use Rattle.lrlex_boundaries.specs.Boundaries.{Boundary, no_boundary, boundary_at}
 use Rattle.lrlex_boundaries.specs.Moves.{moved_boundary, AreSorted}
-use Rattle.lrlex.specs.Kept.{IsDecidedAt, AreDecided, LooksAhead, HasLooked, IsEnough, AreRaised, capped}
+use Rattle.lrlex.specs.Lookahead.{IsDecidedAt, AreDecided, LooksAhead, HasLooked, IsEnough, AreRaised, capped}
 use Rattle.lrlex.proofs.DecidedLemmas.{decided_moved}
-use Rattle.lrlex.proofs.AheadLemmas.{at_more, all_more, all_longer}
+use Rattle.lrlex.proofs.LookaheadLemmas.{at_more, all_more, all_longer}
 
 -- ---- the numbers, one by one
 
 -- a number that is raised is enough
-pub enough_raised : (bounds : List Boundary) (ahead : List ℕ) (j over k n : ℕ) → AreSorted bounds → j < k → k < length bounds →
-    n ≡ max (get_or ahead k 0) (capped (over - ((boundary_at bounds k).place - (boundary_at bounds j).place))) → IsEnough bounds ahead j over k n
-enough_raised bounds ahead j over k n sorted lt within is known = (omega (arith, is), omega (arith, is, known, sorted.rising j k lt within))
+pub enough_raised : (bounds : List Boundary) (ahead : List ℕ) (j lookahead k n : ℕ) → AreSorted bounds → j < k → k < length bounds →
+    n ≡ max (get_or ahead k 0) (capped (lookahead - ((boundary_at bounds k).place - (boundary_at bounds j).place))) → IsEnough bounds ahead j lookahead k n
+enough_raised bounds ahead j lookahead k n sorted lt within is known = (omega (arith, is), omega (arith, is, known, sorted.rising j k lt within))
 
 -- one that needn't be
-pub enough_far : (bounds : List Boundary) (ahead : List ℕ) (j over k : ℕ) → (boundary_at bounds j).place + over < (boundary_at bounds k).place → IsEnough bounds ahead j over k (get_or ahead k 0)
-enough_far bounds ahead j over k far known = (omega arith, omega (arith, far))
+pub enough_far : (bounds : List Boundary) (ahead : List ℕ) (j lookahead k : ℕ) → (boundary_at bounds j).place + lookahead < (boundary_at bounds k).place → IsEnough bounds ahead j lookahead k (get_or ahead k 0)
+enough_far bounds ahead j lookahead k far known = (omega arith, omega (arith, far))
 
-module _ (bounds : List Boundary) (ahead : List ℕ) (j over : ℕ) (front : List ℕ) where
+module _ (bounds : List Boundary) (ahead : List ℕ) (j lookahead : ℕ) (front : List ℕ) where
   -- numbers that are added
-  pub raised_more : (end to : ℕ) (all more : List ℕ) → AreRaised bounds ahead j over end front all → j < end → end + length more ≡ to →
-      ((k : ℕ) → end ≤ k → k < to → IsEnough bounds ahead j over k (get_or more (k - end) 0)) → AreRaised bounds ahead j over to front (all ++ more)
+  pub raised_more : (end to : ℕ) (all more : List ℕ) → AreRaised bounds ahead j lookahead end front all → j < end → end + length more ≡ to →
+      ((k : ℕ) → end ≤ k → k < to → IsEnough bounds ahead j lookahead k (get_or more (k - end) 0)) → AreRaised bounds ahead j lookahead to front (all ++ more)
   raised_more end to all more r past count enough = record {
     kept = take-append-le (length front) all more (omega (arith, r.len)) ∙ r.kept;
     len = omega (arith, r.len, length-append all more);
     each = λ k lt below. elim (cases_lt k end) [
-      | inl old ↦ subst (IsEnough bounds ahead j over k) (sym (get_or_append_left all more 0 ((length front + k) - (j + 1)) (omega (arith, r.len)))) (r.each k lt old)
+      | inl old ↦ subst (IsEnough bounds ahead j lookahead k) (sym (get_or_append_left all more 0 ((length front + k) - (j + 1)) (omega (arith, r.len)))) (r.each k lt old)
       | inr new ↦
           let at : ((length front + k) - (j + 1)) - length all ≡ k - end = omega (arith, r.len) in
           let here : get_or (all ++ more) ((length front + k) - (j + 1)) 0 ≡ get_or more (k - end) 0 =
           get_or-append_right all more (length all) ((length front + k) - (j + 1)) 0 refl (omega (arith, r.len)) ∙ ap (λ i. get_or more i 0) at in
-          subst (IsEnough bounds ahead j over k) (sym here) (enough k new below)
+          subst (IsEnough bounds ahead j lookahead k) (sym here) (enough k new below)
     ];
   }
 
   -- one that is raised
-  pub raised_push : (end : ℕ) (all : List ℕ) (n : ℕ) → AreRaised bounds ahead j over end front all → j < end → IsEnough bounds ahead j over end n → AreRaised bounds ahead j over (end + 1) front (all ++ n ∷ [])
+  pub raised_push : (end : ℕ) (all : List ℕ) (n : ℕ) → AreRaised bounds ahead j lookahead end front all → j < end → IsEnough bounds ahead j lookahead end n → AreRaised bounds ahead j lookahead (end + 1) front (all ++ n ∷ [])
   raised_push end all n r past enough = raised_more end (end + 1) all (n ∷ []) r past refl (λ k ge lt.
       let here : end ≡ k = omega arith in
       let none : 0 ≡ k - end = omega arith in
-      subst (λ i. IsEnough bounds ahead j over i (get_or (n ∷ []) (k - end) 0)) here (subst (λ i. IsEnough bounds ahead j over end (get_or (n ∷ []) i 0)) none enough))
+      subst (λ i. IsEnough bounds ahead j lookahead i (get_or (n ∷ []) (k - end) 0)) here (subst (λ i. IsEnough bounds ahead j lookahead end (get_or (n ∷ []) i 0)) none enough))
 
   -- the others as they are
-  pub raised_rest : (end : ℕ) (all : List ℕ) → AreRaised bounds ahead j over end front all → j < end → end ≤ length bounds → length ahead ≡ length bounds →
-      ((k : ℕ) → end ≤ k → k < length bounds → (boundary_at bounds j).place + over < (boundary_at bounds k).place) → AreRaised bounds ahead j over (length bounds) front (all ++ drop end ahead)
+  pub raised_rest : (end : ℕ) (all : List ℕ) → AreRaised bounds ahead j lookahead end front all → j < end → end ≤ length bounds → length ahead ≡ length bounds →
+      ((k : ℕ) → end ≤ k → k < length bounds → (boundary_at bounds j).place + lookahead < (boundary_at bounds k).place) → AreRaised bounds ahead j lookahead (length bounds) front (all ++ drop end ahead)
   raised_rest end all r past le count far = raised_more end (length bounds) all (drop end ahead) r past (omega (arith, length-drop end ahead)) (λ k ge lt.
       let at : end + (k - end) ≡ k = omega arith in
       let number : get_or ahead k 0 ≡ get_or (drop end ahead) (k - end) 0 = sym (get_or-drop end ahead (k - end) 0 ∙ ap (λ i. get_or ahead i 0) at) in
-      subst (IsEnough bounds ahead j over k) number (enough_far bounds ahead j over k (far k ge lt)))
+      subst (IsEnough bounds ahead j lookahead k) number (enough_far bounds ahead j lookahead k (far k ge lt)))
 
   -- with numbers in front of all
-  pub raised_behind : (before : List ℕ) (end : ℕ) (all : List ℕ) → AreRaised bounds ahead j over end front all → AreRaised bounds ahead j over end (before ++ front) (before ++ all)
+  pub raised_behind : (before : List ℕ) (end : ℕ) (all : List ℕ) → AreRaised bounds ahead j lookahead end front all → AreRaised bounds ahead j lookahead end (before ++ front) (before ++ all)
   raised_behind before end all r =
       let long = length-append before front in
       record {
@@ -65,15 +65,15 @@ module _ (bounds : List Boundary) (ahead : List ℕ) (j over : ℕ) (front : Lis
             let at : length before + ((length front + k) - (j + 1)) ≡ (length (before ++ front) + k) - (j + 1) = omega arith in
             let here : get_or all ((length front + k) - (j + 1)) 0 ≡ get_or (before ++ all) ((length (before ++ front) + k) - (j + 1)) 0 =
             sym (get_or-append-add before all ((length front + k) - (j + 1)) 0) ∙ ap (λ i. get_or (before ++ all) i 0) at in
-            subst (IsEnough bounds ahead j over k) here (r.each k lt below);
+            subst (IsEnough bounds ahead j lookahead k) here (r.each k lt below);
       }
 
 -- ---- the run that takes over
 
 module _ (d : Definition) (old new : List ℕ) (olds : List Boundary) (numbers : List ℕ) (known : LooksAhead d old olds numbers) (sorted : AreSorted olds)
-    (before bounds : List Boundary) (ahead : List ℕ) (place : ℕ) (stack : List (ℕ × ℕ)) (over : ℕ) (kept : bounds ≡ before ++ record { place = place; entries = stack } ∷ [])
-    (h : HasLooked d new bounds ahead place over) (j : ℕ) (within : j < length olds) (same : drop (boundary_at olds j).place old ≡ drop place new)
-    (stacks : (boundary_at olds j).entries ≡ stack) (all : List ℕ) (raised : AreRaised olds numbers j over (length olds) ahead all) where
+    (before bounds : List Boundary) (ahead : List ℕ) (place : ℕ) (stack : List (ℕ × ℕ)) (lookahead : ℕ) (kept : bounds ≡ before ++ record { place = place; entries = stack } ∷ [])
+    (h : HasLooked d new bounds ahead place lookahead) (j : ℕ) (within : j < length olds) (same : drop (boundary_at olds j).place old ≡ drop place new)
+    (stacks : (boundary_at olds j).entries ≡ stack) (all : List ℕ) (raised : AreRaised olds numbers j lookahead (length olds) ahead all) where
   from : ℕ
   from = (boundary_at olds j).place
 
@@ -135,11 +135,11 @@ module _ (d : Definition) (old new : List ℕ) (olds : List Boundary) (numbers :
     unfolding o
     o_within = omega (arith, count, tail_len, length-append bounds tail)
 
-    enough : (get_or numbers o 0 ≤ get_or all k 0) × (from + over ≤ (boundary_at olds o).place + get_or all k 0)
+    enough : (get_or numbers o 0 ≤ get_or all k 0) × (from + lookahead ≤ (boundary_at olds o).place + get_or all k 0)
     unfolding o from
     enough =
         let at : (length ahead + o) - (j + 1) ≡ k = omega (arith, count, h.looks.len) in
-        (subst (λ i. IsEnough olds numbers j over o (get_or all i 0)) at (raised.each o o_behind o_within)) few
+        (subst (λ i. IsEnough olds numbers j lookahead o (get_or all i 0)) at (raised.each o o_behind o_within)) few
 
     far : ℕ
     far = (boundary_at (bounds ++ tail) k).place + get_or all k 0
@@ -155,7 +155,7 @@ module _ (d : Definition) (old new : List ℕ) (olds : List Boundary) (numbers :
         let here : get_or (take (length bounds - 1) bounds) i no_boundary ≡ boundary_at (bounds ++ tail) i =
         get_or-take (length bounds - 1) bounds i no_boundary (omega (arith, count)) ∙ sym (get_or_append_left bounds tail no_boundary i (omega (arith, count))) in
         subst (IsDecidedAt d new far) here
-        (at_more d new (get_or (take (length bounds - 1) bounds) i no_boundary) (place + over) far (omega (arith, enough.1, place_k, not_before o (omega (arith, o_behind)) o_within))
+        (at_more d new (get_or (take (length bounds - 1) bounds) i no_boundary) (place + lookahead) far (omega (arith, enough.1, place_k, not_before o (omega (arith, o_behind)) o_within))
         (h.all i no_boundary (omega (arith, length-take-le (length bounds - 1) bounds (omega arith), count))))
 
     -- what the old run cut

@@ -13,15 +13,15 @@ use Rattle.regex.specs.Patterns.{Re, SameCaptures, empty}
 use Rattle.lrlex_rules.specs.Definition.{Definition, Rule}
 use Rattle.lrlex_matching.specs.Matching.{match_length}
 use Rattle.lrlex_rules.specs.Patterns.{pattern_of}
-use Rattle.lrlex_rules.specs.Parts.{RuleParts, as_rule, as_state}
+use Rattle.lrlex_rules.specs.RuleParts.{RuleParts, as_rule, as_state}
 use Rattle.lrlex_rules.specs.declared.states.StartState as start
-use Rattle.lrlex_table.specs.Merged.{next_rows, pattern_at, IsTableOf, IsLongest, NoneMatches}
-use Rattle.lrlex_table.specs.Tables.{AreSingle, is_among, is_tabled, AreRising, AreTablesOf, IsBestAmong}
-use Rattle.lrlex_table.specs.declared.single.Single.{Single}
+use Rattle.lrlex_table.specs.Table.{next_rows, pattern_at, IsTableOf, IsLongest, NoneMatches}
+use Rattle.lrlex_table.specs.Tables.{AreCached, is_among, is_tabled, AreRising, AreTablesOf, IsBestAmong}
+use Rattle.lrlex_table.specs.declared.cached_table.CachedTable.{CachedTable}
 use Rattle.lrlex_table.specs.declared.table.Table.{Table}
-use Rattle.lrlex_table.specs.declared.tables.Part.{Part}
-use Rattle.lrlex_table.specs.declared.tables.Tables.{Tables}
-use Rattle.lrlex_table.specs.declared.walk.Tile.{Tile}
+use Rattle.lrlex_table.specs.declared.merged_tables.Part.{Part}
+use Rattle.lrlex_table.specs.declared.merged_tables.Tables.{Tables}
+use Rattle.lrlex_table.specs.declared.walk.PatternMatch.{PatternMatch}
 use Rattle.lrlex_table.proofs.ForCallers.{serves_alike}
 use Rattle.lrlex.specs.StateTables.{list_in, pattern_in, patterns_on, AreServed}
 use Rattle.lrlex.specs.Active.{is_active, active_places, taken, taken_by_any, rule_at, no_rule}
@@ -276,24 +276,24 @@ module _ (d : Definition) (q : ℕ) (text places others : List ℕ) (are : place
       or_right (is_tabled t.parts.items k) (is_among (take n others) k) (λ bare.
       ap (λ xs. is_among xs k) (take_all n others le ∙ listed) ∙ s.each k (omega arith) (omega (arith, count, length-map places (pattern_in d.rules))) bare))
 
-  module _ (o : Option Tile)
-      (answers : (ps : List Re) → AreTablesOf ps t → MatchOption o (IsBestAmong ps (is_tabled t.parts.items) text 0 0) (λ w. (0 < w.len) × IsBestAmong ps (is_tabled t.parts.items) text w.rule w.len)) where
+  module _ (o : Option PatternMatch)
+      (answers : (ps : List Re) → AreTablesOf ps t → MatchOption o (IsBestAmong ps (is_tabled t.parts.items) text 0 0) (λ w. (0 < w.len) × IsBestAmong ps (is_tabled t.parts.items) text w.pattern w.len)) where
     served_here : ∥ AreTablesOf here t ∥₁
     served_here = subst (λ xs. ∥ AreTablesOf (patterns_on d.rules xs) t ∥₁) (sym are) served
 
     pub told_none : o ≡ None → IsBestAmong here (looked_at t.parts.items others 0) text 0 0
     told_none e =
         best_less here text (is_tabled t.parts.items) (looked_at t.parts.items others 0) (looked_none t.parts.items others) 0 0
-        (∥∥₁_elim served_here (best_prop here (is_tabled t.parts.items) text 0 0) (λ s. MatchOption-at_none (IsBestAmong here (is_tabled t.parts.items) text 0 0) (λ (w : Tile). (0 < w.len) × IsBestAmong here (is_tabled t.parts.items) text w.rule w.len) e (answers here s)))
+        (∥∥₁_elim served_here (best_prop here (is_tabled t.parts.items) text 0 0) (λ s. MatchOption-at_none (IsBestAmong here (is_tabled t.parts.items) text 0 0) (λ (w : PatternMatch). (0 < w.len) × IsBestAmong here (is_tabled t.parts.items) text w.pattern w.len) e (answers here s)))
 
-    pub told_some : (w : Tile) → o ≡ Some w → IsBestAmong here (looked_at t.parts.items others 0) text w.rule w.len
+    pub told_some : (w : PatternMatch) → o ≡ Some w → IsBestAmong here (looked_at t.parts.items others 0) text w.pattern w.len
     told_some w e =
-        best_less here text (is_tabled t.parts.items) (looked_at t.parts.items others 0) (looked_none t.parts.items others) w.rule w.len
-        (∥∥₁_elim served_here (best_prop here (is_tabled t.parts.items) text w.rule w.len) (λ s. (MatchOption-at_some (IsBestAmong here (is_tabled t.parts.items) text 0 0) (λ (w : Tile). (0 < w.len) × IsBestAmong here (is_tabled t.parts.items) text w.rule w.len) w e (answers here s)).1))
+        best_less here text (is_tabled t.parts.items) (looked_at t.parts.items others 0) (looked_none t.parts.items others) w.pattern w.len
+        (∥∥₁_elim served_here (best_prop here (is_tabled t.parts.items) text w.pattern w.len) (λ s. (MatchOption-at_some (IsBestAmong here (is_tabled t.parts.items) text 0 0) (λ (w : PatternMatch). (0 < w.len) × IsBestAmong here (is_tabled t.parts.items) text w.pattern w.len) w e (answers here s)).1))
 
-    pub told_bytes : (w : Tile) → o ≡ Some w → 0 < w.len
+    pub told_bytes : (w : PatternMatch) → o ≡ Some w → 0 < w.len
     told_bytes w e =
-        ∥∥₁_elim served_here (lt_prop _ _) (λ s. (MatchOption-at_some (IsBestAmong here (is_tabled t.parts.items) text 0 0) (λ (w : Tile). (0 < w.len) × IsBestAmong here (is_tabled t.parts.items) text w.rule w.len) w e (answers here s)).0)
+        ∥∥₁_elim served_here (lt_prop _ _) (λ s. (MatchOption-at_some (IsBestAmong here (is_tabled t.parts.items) text 0 0) (λ (w : PatternMatch). (0 < w.len) × IsBestAmong here (is_tabled t.parts.items) text w.pattern w.len) w e (answers here s)).0)
 
   module _ (n k len : ℕ) (past : length others ≤ n) (best : IsBestAmong here (looked_at t.parts.items others n) text k len) where
     pub best_wins : 0 < len → Wins d q text (get_or places k 0) len
@@ -366,21 +366,21 @@ pub pattern_in_at : {S : Type 0} (rules : List (RuleParts S)) (i : ℕ) (r : Rul
 pattern_in_at rules i r at = ap (λ u. pattern_of (unwrap_or u no_rule)) (slice_get-map (as_rule (λ _. 0)) rules i ∙ ap (option_map (as_rule (λ _. 0))) at)
 
 -- what came of trying one
-pub single_set : (pattern : ℕ → Re) (singles : List Single) (i : ℕ) (s : Single) → AreSingle pattern singles → i < length singles →
-    IfSome s.table (IsTableOf (pattern i ∷ [])) → AreSingle pattern (set singles i s)
+pub single_set : (pattern : ℕ → Re) (singles : List CachedTable) (i : ℕ) (s : CachedTable) → AreCached pattern singles → i < length singles →
+    IfSome s.table (IsTableOf (pattern i ∷ [])) → AreCached pattern (set singles i s)
 single_set pattern singles i s old lt new k other is =
     let within : k < length (set singles i s) = slice_get_within (set singles i s) k other is in
     let here : get_or (set singles i s) k s ≡ other = get_or_from_slice_get (set singles i s) k other s is in
     elim (cases_eq k i) [
       | inl e ↦
           let now : s ≡ other = sym (get_or-set_same singles i s s lt) ∙ sym (ap (λ j. get_or (set singles i s) j s) e) ∙ here in
-          subst (λ (u : Single). IfSome u.table (IsTableOf (pattern k ∷ []))) now (subst (λ j. IfSome s.table (IsTableOf (pattern j ∷ []))) (sym e) new)
+          subst (λ (u : CachedTable). IfSome u.table (IsTableOf (pattern k ∷ []))) now (subst (λ j. IfSome s.table (IsTableOf (pattern j ∷ []))) (sym e) new)
       | inr ne ↦
           old k other (slice_get-get_or singles k s (omega (arith, length-set singles i s)) ∙ ap Some (sym (get_or-set_other singles i k s s ne) ∙ here))
     ]
 
 -- what a call leaves of the rules that it was lent
-pub single_back : (pattern : ℕ → Re) (new old : List Single) (n : ℕ) → AreSingle pattern new → AreSingle pattern old → AreSingle pattern (take n (new ++ drop (length new) old))
+pub single_back : (pattern : ℕ → Re) (new old : List CachedTable) (n : ℕ) → AreCached pattern new → AreCached pattern old → AreCached pattern (take n (new ++ drop (length new) old))
 single_back pattern new old n made kept k s is =
     let rest = drop (length new) old in
     let within : k < length (take n (new ++ rest)) = slice_get_within (take n (new ++ rest)) k s is in

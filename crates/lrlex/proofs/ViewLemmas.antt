@@ -12,7 +12,7 @@ use Rattle.lrlex_rules.specs.Definition.{Definition, Rule, StartState}
 use Rattle.lrlex_matching.specs.Matching.{match_length}
 use Rattle.lrlex_rules.specs.Patterns.{pattern_of}
 use Rattle.lrlex.specs.Active.{is_active, is_inclusive, taken_by, taken_by_any, no_rule, rule_at}
-use Rattle.lrlex_rules.specs.Parts.{RuleParts, as_rule, as_state}
+use Rattle.lrlex_rules.specs.RuleParts.{RuleParts, as_rule, as_state}
 use Rattle.lrlex.specs.Views.{definition_by}
 use Rattle.lrlex.specs.StateTables.{ArePlaced}
 use Rattle.lrlex.specs.declared.definition.rule_table.RuleTable.{RuleTable}

@@ -4,11 +4,11 @@ use Rattle.std.specs.List.{sum_by}
 use Rattle.std.specs.declared.alloc.Global.{Global}
 use Rattle.regex.specs.Patterns.{Re}
 use Rattle.lrlex_rules.specs.Definition.{Rule}
-use Rattle.lrlex_rules.specs.Parts.{RuleParts, as_rule, as_state}
+use Rattle.lrlex_rules.specs.RuleParts.{RuleParts, as_rule, as_state}
 use Rattle.lrlex_rules.specs.Patterns.{pattern_of}
 use Rattle.lrlex_rules.specs.declared.states.StartState as start
 use Rattle.lrlex_table.specs.Tables.{AreTablesOf, rows_of}
-use Rattle.lrlex_table.specs.declared.tables.Tables.{Tables}
+use Rattle.lrlex_table.specs.declared.merged_tables.Tables.{Tables}
 use Rattle.lrlex.specs.Active.{no_rule}
 
 -- the id of each state is its place

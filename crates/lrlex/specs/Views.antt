@@ -1,11 +1,11 @@
 -- What a definition of the program says, and what a run of it answers.
 use Rattle.std.specs.Prelude.{ℕ, List, option_map, Result, Ok, Err, map}
 use Rattle.lrlex_base.specs.Spans.{span_start, span_end}
-use Rattle.lrlex_base.specs.Seen.{Seen}
+use Rattle.lrlex_base.specs.LexemeParts.{LexemeParts}
 use Rattle.lrlex_rules.specs.Definition.{Definition}
-use Rattle.lrlex_table.specs.declared.tables.Tables.{Tables}
-use Rattle.lrlex.specs.Stops.{lex_error_span, lex_error_state}
-use Rattle.lrlex_rules.specs.Parts.{RuleParts, as_rule, as_state, state_number}
+use Rattle.lrlex_table.specs.declared.merged_tables.Tables.{Tables}
+use Rattle.lrlex.specs.Errors.{lex_error_span, lex_error_state}
+use Rattle.lrlex_rules.specs.RuleParts.{RuleParts, as_rule, as_state, state_number}
 use Rattle.lrlex.specs.Tiling.{Item, Lexeme, Error}
 use Rattle.lrlex.specs.declared.errors.LRLexError.{LRLexError}
 use Rattle.lrlex_rules.specs.declared.states.StartState as start
@@ -36,11 +36,11 @@ abbrev pub definition_tables : {L X S E P Q : Type 0} → LRNonStreamingLexerDef
 definition_tables d = d.table.tables.items
 
 -- an item of the program, by the number that an id stands for and what can be seen of a lexeme
-abbrev pub item_of : {S X : Type 0} → (S → ℕ) → (X → Seen S) → Result X LRLexError → Item
+abbrev pub item_of : {S X : Type 0} → (S → ℕ) → (X → LexemeParts S) → Result X LRLexError → Item
 item_of number seen (Ok x) = Lexeme (number (seen x).id) (seen x).start (seen x).len (seen x).faulty
 item_of number seen (Err e) =
     Error (span_start (lex_error_span e)) (span_end (lex_error_span e)) (option_map state_number (lex_error_state e))
 
 -- the items of the program
-abbrev pub items_by : {S X : Type 0} → (S → ℕ) → (X → Seen S) → List (Result X LRLexError) → List Item
+abbrev pub items_by : {S X : Type 0} → (S → ℕ) → (X → LexemeParts S) → List (Result X LRLexError) → List Item
 items_by number seen xs = map (item_of number seen) xs

@@ -3,13 +3,13 @@ pub use Rattle.lrlex_base.specs.Spans.{Fits, as_span, span_start, span_end}
 pub use Rattle.lrlex_base.specs.Places.{place_of, line_of, column_of}
 pub use Rattle.lrlex_base.specs.Edits.{edited}
 pub use Rattle.lrlex_base.specs.declared.edits.Edit.{Edit}
-pub use Rattle.lrlex_base.specs.Seen.{Seen}
+pub use Rattle.lrlex_base.specs.LexemeParts.{LexemeParts}
 pub use Rattle.lrlex_base.specs.Lexemes.{lexeme_seen}
 pub use Rattle.lrlex_base.specs.Items.{items_left}
 pub use Rattle.lrlex_rules.specs.Definition.{Definition, Rule, StartState}
-pub use Rattle.lrlex_rules.specs.Parts.{RuleParts, as_rule, as_state}
-pub use Rattle.lrlex_rules.specs.Answer.{IsAnswer}
-pub use Rattle.lrlex_rules.specs.Faults.{IsPlaced, fault_kind, fault_spans}
-pub use Rattle.lrlex_rules.specs.Laws.{IsLawful}
+pub use Rattle.lrlex_rules.specs.RuleParts.{RuleParts, as_rule, as_state}
+pub use Rattle.lrlex_rules.specs.LexBuildResult.{IsAnswer}
+pub use Rattle.lrlex_rules.specs.LexBuildError.{IsPlaced, fault_kind, fault_spans}
+pub use Rattle.lrlex_rules.specs.DefinitionLaws.{IsLawful}
 unfoldable pub use Rattle.lrlex_matching.specs.Matching.{match_length}
 pub use Rattle.lrlex_rules.specs.Patterns.{rule_pattern}

@@ -2,6 +2,6 @@ pub mod Classes
 pub mod Spans
 pub mod Places
 pub mod Edits
-pub mod Seen
+pub mod LexemeParts
 pub mod Lexemes
 pub mod Items

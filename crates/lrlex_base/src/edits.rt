@@ -6,20 +6,20 @@ ghost use Rattle.lrlex_base.specs.Edits.{edited};
 use crate::spans::Span;
 use std::alloc::{AllocError, Allocator};
 
-/// A change of a text: the bytes of `removed` give way to `put`.
+/// A change of a text: `put` replaces the bytes of `removed`.
 #[derive(Clone, Copy, Debug)]
 pub struct Edit<'e> {
     pub removed: Span,
     pub put: &'e str,
 }
 
-// What stands behind this front, or none where the bytes have another.
-fn behind<'t>(bytes: &'t [u8], front: &[u8]) -> Option<&'t [u8]>
+// The bytes after this prefix, or none where they don't begin with it.
+fn after_prefix<'t>(bytes: &'t [u8], prefix: &[u8]) -> Option<&'t [u8]>
     ensures { MatchOption result
-        ((rest : List ℕ) → bytes.now ≢ front.now ++ rest)
-        (λ rest. bytes.now ≡ front.now ++ rest.now) }
+        ((rest : List ℕ) → bytes.now ≢ prefix.now ++ rest)
+        (λ rest. bytes.now ≡ prefix.now ++ rest.now) }
 {
-    bytes.strip_prefix(front)
+    bytes.strip_prefix(prefix)
 }
 
 impl<'e> Edit<'e> {
@@ -40,8 +40,8 @@ impl<'e> Edit<'e> {
         }
         let front = old[..self.removed.start()].as_bytes();
         let tail = old[self.removed.end()..].as_bytes();
-        match behind(new.as_bytes(), front) {
-            Some(rest) => match behind(rest, self.put.as_bytes()) {
+        match after_prefix(new.as_bytes(), front) {
+            Some(rest) => match after_prefix(rest, self.put.as_bytes()) {
                 Some(rest) => rest == tail,
                 None => false,
             },
@@ -49,7 +49,7 @@ impl<'e> Edit<'e> {
         }
     }
 
-    /// The text that the edit makes of `old`, which it fits.
+    /// The text that the edit makes of `old`. The edit fits `old`.
     pub fn apply<A: Allocator>(&self, alloc: A, old: &str) -> Result<String<A>, AllocError>
         requires { Fits old.now self.now.removed }
         ensures { IfOk result (λ s.

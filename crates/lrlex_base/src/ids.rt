@@ -5,13 +5,12 @@ use num_traits::{PrimInt, Unsigned};
 use std::fmt::{Debug, Display};
 use std::hash::Hash;
 
-/// A type of token ids: an unsigned number that stands for a count, and a greatest one.
-/// A parser's tokens are told apart by these ids.
+/// A type of token ids: unsigned numbers up to a greatest one. A parser tells tokens apart by their ids.
 pub trait Id: Copy + Debug + Display + Eq + Hash + PrimInt + Unsigned + TryFrom<usize> {
-    // The number that an id stands for.
+    // The number of an id.
     ghost number: { Self → ℕ };
 
-    // The greatest number that an id of the type stands for.
+    // The greatest number of an id of the type.
     ghost greatest: { ℕ };
 
     /// The id whose number is `n`, or none where `n` is above the type's greatest number.
@@ -22,7 +21,7 @@ pub trait Id: Copy + Debug + Display + Eq + Hash + PrimInt + Unsigned + TryFrom<
     // Two ids are the same exactly where their numbers are.
     ghost same_law: { (a b : Self) → number a ≡ number b → a ≡ b };
 
-    // `==` tells two ids apart exactly where their numbers differ.
+    // Two ids are equal by `==` exactly where their numbers are.
     ghost equal_law: { (a b : Self) → IsTrue (Self.eq a b) ↔ (number a ≡ number b) };
 }
 

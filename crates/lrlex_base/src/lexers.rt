@@ -49,21 +49,21 @@ impl<'a, L: LexerTypes> Iterator for Items<'a, L> {
     }
 }
 
-/// What gives lexemes, and an error as the last item where it stopped.
+/// A source of lexemes, with an error as the last item where lexing stopped.
 pub trait Lexer<L: LexerTypes> {
     ghost use Rattle.std.specs.Prelude.{◌≡◌, List, Result};
     ghost use Rattle.lrlex_base.specs.Items.{items_left};
 
-    // What it found.
+    // The lexemes, and the error.
     ghost items: { Self → List (Result L.LexemeT L.LexErrorT) };
 
-    /// Its items, each once and in order.
+    /// The lexer's items, each once and in order.
     fn iter(&self) -> Items<'_, L>
         ensures { items_left result ≡ items self.now };
 }
 
-/// A lexer that has its whole text. Its answers on a span ask that the span fits that text (`Span::fits`), and the texts that it
-/// hands out live as long as the input.
+/// A lexer that has its whole text. Calls with a span require that it fits that text (`Span::fits`). The texts that they
+/// return live as long as the input.
 pub trait NonStreamingLexer<'input, L: LexerTypes>: Lexer<L> {
     // The input.
     ghost text: { Self → List ℕ };

@@ -7,8 +7,8 @@ use crate::spans::Span;
 use std::alloc::{AllocError, Allocator, Global};
 use std::marker::Model;
 
-/// Where the lines of a text begin: how many bytes were fed, and the offsets of the lines but the first, ascending. It keeps no
-/// text. A line ends by U+000A alone.
+/// Where the lines of a text begin: how many bytes were fed, and the offsets of the lines but the first, ascending. The cache
+/// keeps no text. A line ends at U+000A alone.
 #[derive(Drop)]
 pub struct NewlineCache<A: Allocator = Global> {
     starts: Vec<usize, A>,
@@ -26,7 +26,7 @@ impl<A: Allocator> Model for NewlineCache<A> {
     ghost invariant = { λ c. All (λ s. 0 < s) c.starts.items × AreStartsOfSome c.bytes c.starts.items };
 }
 
-// Adds where lines begin in a text that stands at this offset. Where memory runs out, nothing has changed.
+// Adds where lines begin in a text that is at this offset. Where memory runs out, nothing has changed.
 fn add_starts<A: Allocator>(
     starts: &mut Vec<usize, A>,
     at: usize,
@@ -50,7 +50,7 @@ fn add_starts<A: Allocator>(
     Ok(())
 }
 
-// Moves the line beginnings from this one on: what stood at `from` stands at `to`.
+// Moves the line beginnings from this one on: one at `from` moves to `to`, the others by as much.
 fn move_starts(starts: &mut [usize], first: usize, from: usize, to: usize)
     requires within { first ≤ length starts.old }
     requires movable { All (λ s. (from ≤ s) × (s - from + to < 2 ^ 64)) (drop first starts.old) }
@@ -62,8 +62,8 @@ fn move_starts(starts: &mut [usize], first: usize, from: usize, to: usize)
     }
 }
 
-// Puts line beginnings in place of those from `first` on and before `behind`, and moves those behind. Where memory runs
-// out, nothing has changed.
+// Replaces the line beginnings from `first` on and before `behind`, and moves those from `behind` on. Where memory runs out,
+// nothing has changed.
 fn put_starts<A: Allocator + Clone>(
     starts: &mut Vec<usize, A>,
     first: usize,
@@ -100,7 +100,7 @@ fn lines_begun(starts: &[usize], at: usize) -> usize
     )
 }
 
-// Where the line begins that n lines stand before.
+// Where the line begins that has n lines before it.
 fn line_begin(starts: &[usize], n: usize) -> usize
     requires { n ≤ length starts.now }
     ensures { result ≡ slice_index (0 ∷ starts.now) n }
@@ -137,7 +137,7 @@ impl<A: Allocator> NewlineCache<A> {
         self.bytes
     }
 
-    /// Adds a piece behind what was fed, so that feeding a text in pieces equals feeding it whole. A piece without U+000A takes no
+    /// Adds a piece after what was fed, so that feeding a text in pieces equals feeding it whole. A piece without U+000A takes no
     /// memory. The bytes fed in all fit `usize`.
     pub fn feed(&mut self, piece: &str) -> Result<(), AllocError>
         requires { self.old.fed + length piece.now < 2 ^ 64 }
@@ -196,8 +196,8 @@ impl<A: Allocator> NewlineCache<A> {
 }
 
 impl<A: Allocator + Clone> NewlineCache<A> {
-    /// Makes the cache of a text that of the text after an edit, in which `put` stands in place of the bytes of `removed`. The
-    /// text isn't looked at. The bytes after the edit fit `usize`. Where memory runs out, nothing has changed.
+    /// Turns the cache of a text into that of the text after an edit, in which `put` replaces the bytes of `removed`. The text
+    /// isn't looked at. The bytes after the edit fit `usize`. Where memory runs out, nothing has changed.
     pub fn edit(&mut self, removed: Span, put: &str) -> Result<(), AllocError>
         requires removed { span_end removed ≤ self.old.fed }
         requires put { self.old.fed - (span_end removed - span_start removed) + length put.now

@@ -2,29 +2,29 @@ ghost use Rattle.std.specs.Prelude.{◌≡◌, ◌<◌, ◌↔◌, ℕ, IfSome, 
 
 use crate::ids::Id;
 
-/// What stands for a number, as each id does. Code that hands ids on, or makes them of a count, asks for this alone: `Id` stands for
-/// some forty traits.
+/// A value with a number, as each id is. Code that passes ids on, or makes them from a count, needs this bound alone: `Id` brings
+/// about forty traits.
 pub trait Numbered: Copy {
-    // The number that it stands for.
+    // The value's number.
     ghost number: { Self → ℕ };
 
-    // The greatest number that one of the type stands for.
+    // The greatest number of a value of the type.
     ghost greatest: { ℕ };
 
-    /// The one whose number is `n`, or none where `n` is above the type's greatest number.
+    /// The value whose number is `n`, or none where `n` is above the type's greatest number.
     fn of_count(n: usize) -> Option<Self>
         ensures value { IfSome result (λ it. number it ≡ n) }
         ensures none { IsNone result ↔ (greatest < n) };
 
-    /// Whether both stand for the same number.
+    /// Whether both values have the same number.
     fn is(self, other: Self) -> bool
         ensures { IsTrue result ↔ (number self ≡ number other) };
 
-    /// Its number as a count; none where no count is it.
+    /// The value's number as a count, or none where it doesn't fit `usize`.
     fn as_count(self) -> Option<usize>
         ensures { IfSome result (λ n. number self ≡ n) };
 
-    // Two are the same exactly where their numbers are.
+    // Two values are the same exactly where their numbers are.
     ghost same_law: { (a b : Self) → number a ≡ number b → a ≡ b };
 }
 

@@ -20,21 +20,21 @@ impl Span {
         Span { start, end }
     }
 
-    /// The offset of its first byte.
+    /// The offset of the span's first byte.
     pub fn start(&self) -> usize
         ensures { result ≡ span_start self.now }
     {
         self.start
     }
 
-    /// The offset behind its last byte.
+    /// The offset after the span's last byte.
     pub fn end(&self) -> usize
         ensures { result ≡ span_end self.now }
     {
         self.end
     }
 
-    /// How many bytes it has.
+    /// How many bytes the span has.
     pub fn len(&self) -> usize
         ensures { result ≡ span_end self.now - span_start self.now }
     {
@@ -49,7 +49,7 @@ impl Span {
     }
 }
 
-/// What the spans of a fault stand for.
+/// What the spans of a fault mean.
 #[derive(Clone, Copy, PartialEq, Eq, Debug)]
 pub enum SpansKind {
     /// The place of an error.
@@ -66,14 +66,14 @@ pub trait Spanned {
     // The places.
     ghost spans_of: { Self → List Span };
 
-    // What they stand for.
+    // What the places mean.
     ghost kind_of: { Self → SpansKind };
 
-    /// The places, in the order in which they are told.
+    /// The places, in the order in which they are shown.
     fn spans(&self) -> &[Span]
         ensures { result.now ≡ spans_of self.now };
 
-    /// What the places stand for.
+    /// What the places mean.
     fn spanskind(&self) -> SpansKind
         ensures { result ≡ kind_of self.now };
 }

@@ -2,20 +2,24 @@
 use lrlex_tokens::{CTTokenMapBuilder, TokenMapFault, ct_token_map};
 use std::alloc::Global;
 use std::collections::HashMap;
+use std::error::Error;
 use std::process::Abort;
 
-/// The text, or the fault in a few words.
-fn told(rt: &impl Abort, alloc: Global, answer: Result<String, TokenMapFault>) -> String {
-    let (fault, name) = match answer {
-        Ok(text) => return text,
-        Err(TokenMapFault::BadModuleName) => ("bad module", String::new(alloc)),
-        Err(TokenMapFault::BadTypeName) => ("bad type", String::new(alloc)),
-        Err(TokenMapFault::BadTokenName(name)) => ("bad ", name),
-        Err(TokenMapFault::SameConstant(name)) => ("same ", name),
-    };
-    let mut text = String::from_str(alloc, fault).expect(rt, "memory");
-    text.push_str(name.as_str()).expect(rt, "memory");
-    text
+/// The message of an error.
+fn message<E: Error>(rt: &impl Abort, alloc: Global, error: &E) -> String {
+    error.to_string(alloc).expect(rt, "memory")
+}
+
+/// The module's text, or the message of the fault.
+fn text_or_message(
+    rt: &impl Abort,
+    alloc: Global,
+    answer: Result<String, TokenMapFault>,
+) -> String {
+    match answer {
+        Ok(text) => text,
+        Err(fault) => message(rt, alloc, &fault),
+    }
 }
 
 /// A map of these names, which commas part, to the ids from `first` on.
@@ -57,7 +61,7 @@ fn built(rt: &impl Abort, alloc: Global, names: &str, first: u8, from: &str, to:
     let builder = builder
         .rename_map(alloc, Some(&renames))
         .expect(rt, "memory");
-    told(rt, alloc, builder.build(alloc).expect(rt, "memory"))
+    text_or_message(rt, alloc, builder.build(alloc).expect(rt, "memory"))
 }
 
 /// Names, the first id, a name and what it is renamed to; the text or the fault.
@@ -83,12 +87,12 @@ const MODULES: &[(&str, u8, &str, &str, &str)] = &[
         "a",
         "mod x {\n    pub const T_é: u8 = 3;\n    #[allow(dead_code)]\n    pub const TOK_IDS: &[u8] = &[3];\n}\n",
     ),
-    ("id,ID", 0, "-", "a", "same id"),
-    ("b,B", 0, "-", "a", "same b"),
-    ("+,PLUS", 0, "+", "PLUS", "same PLUS"),
-    ("+", 0, "-", "a", "bad +"),
-    ("+", 0, "+", "a b", "bad +"),
-    ("❤", 0, "-", "a", "bad ❤"),
+    ("id,ID", 0, "-", "a", "Constant of token 'id' is that of an earlier token"),
+    ("b,B", 0, "-", "a", "Constant of token 'b' is that of an earlier token"),
+    ("+,PLUS", 0, "+", "PLUS", "Constant of token 'PLUS' is that of an earlier token"),
+    ("+", 0, "-", "a", "Constant of token '+' is not an identifier"),
+    ("+", 0, "+", "a b", "Constant of token '+' is not an identifier"),
+    ("❤", 0, "-", "a", "Constant of token '❤' is not an identifier"),
 ];
 
 #[test]
@@ -106,26 +110,26 @@ const EMPTY: &str =
 /// Module and type; the text or the fault.
 const NAMES: &[(&str, &str, &str)] = &[
     ("x", "u8", EMPTY),
-    ("_", "", "bad module"),
-    ("1x", "u8", "bad module"),
-    ("", "u8", "bad module"),
-    ("x", "u 8", "bad type"),
-    ("x", "_", "bad type"),
+    ("_", "", "Module name is not an identifier"),
+    ("1x", "u8", "Module name is not an identifier"),
+    ("", "u8", "Module name is not an identifier"),
+    ("x", "u 8", "Type name is not an identifier"),
+    ("x", "_", "Type name is not an identifier"),
 ];
 
 /// What the call gives for no tokens, with the attribute for dead code.
 fn of_call(rt: &impl Abort, alloc: Global, module: &str, kind: &str) -> String {
     let none: HashMap<String, u8> = HashMap::new(alloc);
     let written = ct_token_map(alloc, module, kind, &none, None).expect(rt, "memory");
-    told(rt, alloc, written)
+    text_or_message(rt, alloc, written)
 }
 
-/// What the builder gives for the same.
+/// What the builder gives for no tokens, with the attribute for dead code.
 fn of_builder(rt: &impl Abort, alloc: Global, module: &str, kind: &str) -> String {
     let none: HashMap<String, u8> = HashMap::new(alloc);
     let builder = CTTokenMapBuilder::new(alloc, module, kind, &none).expect(rt, "memory");
     let written = builder.allow_dead_code(true).build(alloc);
-    told(rt, alloc, written.expect(rt, "memory"))
+    text_or_message(rt, alloc, written.expect(rt, "memory"))
 }
 
 #[test]

@@ -24,7 +24,7 @@ fn time_relex(
     watch.start(rt);
     let after = run.relex(rt.alloc(), edit, new)?;
     watch.stop(rt);
-    Ok((after.lexed(), after.asked()))
+    Ok((after.recut_tiles(), after.asked()))
 }
 
 /// Lexes so many times again after the edit.

@@ -43,7 +43,7 @@ fn type_keys(
     let mut place = from;
     for _ in 0..keys {
         time_key(rt, document, place, watch)?;
-        most = most.max(document.lexed());
+        most = most.max(document.recut_tiles());
         place = place.saturating_add(KEY.len());
     }
     let spread = watch.spread()?;

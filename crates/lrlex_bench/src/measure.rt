@@ -33,19 +33,10 @@ pub fn definition_by(alloc: Global, rules: &str, tables: bool) -> Result<Definit
     }
 }
 
-/// The place, in bytes, up to which the text was lexed.
-fn end_of(run: &Run<'_, '_>) -> usize {
-    if run.boundaries() > 0 {
-        run.place(run.tiles())
-    } else {
-        0
-    }
-}
-
 /// What the run counts.
 fn counts_of(run: &Run<'_, '_>) -> Counts {
     Counts {
-        end: end_of(run),
+        end: run.end(),
         lexemes: lexemes(run.items()),
         tiles: run.tiles(),
         asked: run.asked(),

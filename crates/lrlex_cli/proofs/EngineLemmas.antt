@@ -12,9 +12,9 @@ use Rattle.lrlex.specs.Active.{is_state}
 use Rattle.lrlex.specs.Boundaries.{Boundary}
 use Rattle.lrlex_rules.specs.Outcome.{outcome}
 use Rattle.lrlex.specs.Reach.{IsRun}
-use Rattle.lrlex_rules.specs.Answer.{seen, settings, refused_by, as_faults}
+use Rattle.lrlex_rules.specs.LexBuildResult.{seen, settings, refused_by, as_faults}
 use Rattle.lrlex.specs.Tiling.{Tile, Item, Lexeme, Error, End, Done, NoMatch, NoId, NoTarget, items, tile_items, lexeme_of}
-use Rattle.lrlex_base.specs.Seen.{Seen}
+use Rattle.lrlex_base.specs.LexemeParts.{LexemeParts}
 use Rattle.lrlex.specs.Views.{item_of, items_by}
 use Rattle.lrlex_cli.specs.Engine.{Request, Lexing, lines_in, IsEngineRun, EndsWriting, EndsLexing}
 use Rattle.lrlex_cli.specs.Lines.{lines}
@@ -51,7 +51,7 @@ error_at_end d place [] (NoTarget t) = behind d place t (Error place place None 
 error_at_end d place (t ∷ ts) e = behind d place t (items d (place + t.len) ts e) ∙ error_at_end d (place + t.len) ts e
 
 -- the same of the items of the program
-errors_seen : {S X : Type 0} (number : S → ℕ) (see : X → Seen S) (xs : List (Result X LRLexError))
+errors_seen : {S X : Type 0} (number : S → ℕ) (see : X → LexemeParts S) (xs : List (Result X LRLexError))
     → list_any (λ x. is_err x) xs ≡ list_any is_error (map (item_of number see) xs)
 errors_seen number see [] = refl
 errors_seen number see (Ok x ∷ xs) = errors_seen number see xs
@@ -86,7 +86,7 @@ ended q x old new (Err Memory) text stopped same ends h = h
 ended q x old new (Err (Write e)) text stopped same ends h = (x, subst (AppendsFront old new) same h)
 
 -- A run of the definition that the rule text says has found these items, and their lines were written.
-pub ran : {D S X : Type 0} (number : S → ℕ) (see : X → Seen S) (view : D → Definition)
+pub ran : {D S X : Type 0} (number : S → ℕ) (see : X → LexemeParts S) (view : D → Definition)
     (q : Request) (built : Result D (Vec LexBuildError Global)) (def : D) (xs : List (Result X LRLexError)) (bounds : List Boundary)
     (rules : List Rule) (old new : Option (List ℕ)) (r : Result Ended EngineFault)
     → built ≡ Ok def → seen view as_faults built ≡ outcome (settings q.flags q.greatest (refused_by built)) q.rules
@@ -103,7 +103,7 @@ ran number see view q built def xs bounds rules old new r is says initial run sa
     ended q x old new r _ _ text ends wrote
 
 -- A run has found items, and their lines were written.
-pub lexing_ends : {S X : Type 0} (number : S → ℕ) (see : X → Seen S) (d : Definition) (text : List ℕ)
+pub lexing_ends : {S X : Type 0} (number : S → ℕ) (see : X → LexemeParts S) (d : Definition) (text : List ℕ)
     (xs : List (Result X LRLexError)) (bounds : List Boundary) (old new : Option (List ℕ)) (r : Result Ended EngineFault)
     → IsRun d text (items_by number see xs) bounds
     → EndsWriting old new r (lines d.rules text (items_by number see xs)) (list_any (λ x. is_err x) xs)
@@ -113,14 +113,14 @@ lexing_ends number see d text xs bounds old new (Err Memory) run wrote = wrote
 lexing_ends number see d text xs bounds old new (Err (Write e)) run wrote = (xs, bounds, run, wrote)
 
 -- for want of memory nothing was written of a run
-pub lexing_without_memory : {S X : Type 0} (number : S → ℕ) (see : X → Seen S) (d : Definition) (text : List ℕ)
+pub lexing_without_memory : {S X : Type 0} (number : S → ℕ) (see : X → LexemeParts S) (d : Definition) (text : List ℕ)
     (bytes : Option (List ℕ)) (r : Result Ended EngineFault) → IsErrAnd r (λ e. e ≡ Memory) → EndsLexing number see d text bytes bytes r
 lexing_without_memory number see d text bytes (Ok x) h = absurd h
 lexing_without_memory number see d text bytes (Err Memory) h = kept bytes
 lexing_without_memory number see d text bytes (Err (Write e)) h = cc
 
 -- Lexing by the definition that the rule text says ends as a run does.
-pub lexing_runs : {D S X : Type 0} (number : S → ℕ) (see : X → Seen S) (view : D → Definition)
+pub lexing_runs : {D S X : Type 0} (number : S → ℕ) (see : X → LexemeParts S) (view : D → Definition)
     (q : Request) (built : Result D (Vec LexBuildError Global)) (def : D)
     (old new : Option (List ℕ)) (r : Result Ended EngineFault)
     → built ≡ Ok def → seen view as_faults built ≡ outcome (settings q.flags q.greatest (refused_by built)) q.rules

@@ -3,11 +3,11 @@ use Rattle.std.specs.Prelude.{◌≡◌, ◌≢◌, ℕ, Bool, true, false, List
 use Rattle.std.specs.Io.KnownBytes.{Appends, Keeps}
 use Rattle.lrlex_rules.specs.declared.flags.LexFlags.{LexFlags}
 use Rattle.lrlex_rules.specs.Definition.{Definition}
-use Rattle.lrlex_rules.specs.Faults.{IsPlaced}
+use Rattle.lrlex_rules.specs.LexBuildError.{IsPlaced}
 use Rattle.lrlex_rules.specs.Outcome.{outcome}
-use Rattle.lrlex_rules.specs.Answer.{settings, refused_in, as_faults, AreByRegex}
+use Rattle.lrlex_rules.specs.LexBuildResult.{settings, refused_in, as_faults, AreByRegex}
 use Rattle.std.specs.List.{list_any}
-use Rattle.lrlex_base.specs.Seen.{Seen}
+use Rattle.lrlex_base.specs.LexemeParts.{LexemeParts}
 use Rattle.lrlex.specs.Boundaries.{Boundary}
 use Rattle.lrlex.specs.Reach.{IsRun}
 use Rattle.lrlex.specs.Views.{items_by}
@@ -67,13 +67,13 @@ EndsWriting old new (Err Memory) text stopped = Keeps old new
 EndsWriting old new (Err (Write e)) text stopped = AppendsFront old new text
 
 -- a run of the definition on the text has found items, whose lines were written, as far as the answer says
-abbrev pub WritesRun : {S X : Type 0} → (S → ℕ) → (X → Seen S) → Definition → List ℕ → Option (List ℕ) → Option (List ℕ) → Result Ended EngineFault → Type 0
+abbrev pub WritesRun : {S X : Type 0} → (S → ℕ) → (X → LexemeParts S) → Definition → List ℕ → Option (List ℕ) → Option (List ℕ) → Result Ended EngineFault → Type 0
 WritesRun {S} {X} number see d text old new r =
     (xs : List (Result X LRLexError)) × (bounds : List Boundary) × IsRun d text (items_by number see xs) bounds
     × EndsWriting old new r (lines d.rules text (items_by number see xs)) (list_any (λ x. is_err x) xs)
 
 -- the lines of a run of the definition on the text were written, as far as the answer says; nothing where memory runs out
-abbrev pub EndsLexing : {S X : Type 0} → (S → ℕ) → (X → Seen S) → Definition → List ℕ → Option (List ℕ) → Option (List ℕ) → Result Ended EngineFault → Type 0
+abbrev pub EndsLexing : {S X : Type 0} → (S → ℕ) → (X → LexemeParts S) → Definition → List ℕ → Option (List ℕ) → Option (List ℕ) → Result Ended EngineFault → Type 0
 EndsLexing number see d text old new (Ok x) = WritesRun number see d text old new (Ok x)
 EndsLexing number see d text old new (Err Memory) = Keeps old new
 EndsLexing number see d text old new (Err (Write e)) = WritesRun number see d text old new (Err (Write e))

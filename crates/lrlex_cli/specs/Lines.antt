@@ -1,7 +1,7 @@
 -- The lines that are written of a text's items.
 use Rattle.std.specs.Prelude.{ℕ, List, [], ◌∷◌, ◌++◌, take, drop, flat_map, unwrap_or}
 use Rattle.lrlex_rules.specs.Definition.{Rule}
-use Rattle.lrlex.specs.Stops.{stop_text}
+use Rattle.lrlex.specs.Errors.{stop_text}
 use Rattle.lrlex.specs.Ids.{name_of}
 use Rattle.lrlex.specs.Tiling.{Item, Lexeme, Error}
 

@@ -4,7 +4,7 @@ use Rattle.std.specs.Fmt.{decimal}
 use Rattle.lrlex_base.specs.Places.{line_of, column_of}
 use Rattle.lrlex_base.specs.Spans.{span_start}
 use Rattle.lrlex_base.specs.declared.spans.Span.{Span}
-use Rattle.lrlex_rules.specs.Faults.{message, fault_kind, fault_spans}
+use Rattle.lrlex_rules.specs.LexBuildError.{message, fault_kind, fault_spans}
 use Rattle.lrlex_rules.specs.declared.faults.LexErrorKind.{LexErrorKind}
 use Rattle.lrlex_rules.specs.declared.faults.LexBuildError.{LexBuildError}
 

@@ -6,7 +6,7 @@ ghost use Rattle.lrlex_base.specs.Edits.{edited};
 ghost use Rattle.lrlex_cli.specs.Engine.{IsEngineRun, EndsWriting, EndsLexing, IsReport};
 ghost use Rattle.lrlex_cli.specs.Lines.{lines};
 ghost use Rattle.lrlex_cli.specs.declared.engine.EngineFault.TheVariants.{Memory};
-ghost use Rattle.lrlex_rules.specs.Faults.{IsPlaced};
+ghost use Rattle.lrlex_rules.specs.LexBuildError.{IsPlaced};
 ghost use Rattle.lrlex.specs.ItemLaws.{FitsText};
 ghost use Rattle.lrlex.specs.Views.{definition_of, item_of, items_by};
 ghost use Rattle.lrlex_cli.specs.Report.{fault_lines};

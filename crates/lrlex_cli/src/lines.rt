@@ -1,6 +1,6 @@
 ghost use Rattle.std.specs.Prelude.{◌≡◌, [], ◌∷◌, ◌++◌, All, IfOk, OnOk, map};
 ghost use Rattle.lrlex_base.specs.Spans.{span_start};
-ghost use Rattle.lrlex.specs.Stops.{lex_error_span, stop_text};
+ghost use Rattle.lrlex.specs.Errors.{lex_error_span, stop_text};
 ghost use Rattle.lrlex.specs.ItemLaws.{FitsText};
 ghost use Rattle.lrlex.specs.Views.{definition_of, item_of};
 ghost use Rattle.lrlex_cli.specs.Lines.{line, lines};

@@ -1,6 +1,6 @@
 //! Lexing a text, and lexing it again after edits.
 ghost use Rattle.std.specs.Prelude.{◌≡◌, ◌↔◌, List, IfOk, IfSome, IsSome, map};
-ghost use Rattle.lrlex.specs.Lexers.{lexer_items, lexer_text};
+ghost use Rattle.lrlex.specs.Lexer.{lexer_items, lexer_text};
 ghost use Rattle.lrlex.specs.Boundaries.{Boundary};
 ghost use Rattle.lrlex.specs.Reach.{IsRun};
 ghost use Rattle.lrlex.specs.Views.{definition_of, items_by};

@@ -2,7 +2,7 @@
 use Rattle.std.specs.Prelude.{◌≡◌, ℕ, List, [], ◌∷◌, ◌++◌, codes, flat_map, MatchOption, ◌==◌, if◌then◌else◌}
 use Rattle.lrlex_base.specs.Spans.{as_span, span_start, span_end}
 use Rattle.lrlex_base.specs.declared.spans.Span.{Span}
-use Rattle.lrlex_rules.specs.Faults.{message, kind_text, fault_kind, fault_spans}
+use Rattle.lrlex_rules.specs.LexBuildError.{message, kind_text, fault_kind, fault_spans}
 use Rattle.lrlex_rules.specs.declared.faults.LexErrorKind.{LexErrorKind}
 use Rattle.lrlex_rules.specs.declared.faults.LexErrorKind.TheVariants.{UnknownDeclaration}
 use Rattle.lrlex_rules.specs.declared.faults.LexBuildError.{LexBuildError}

@@ -1,6 +1,6 @@
 //! What is wrong with a rule text.
 ghost use Rattle.std.specs.Prelude.{◌≡◌, ◌++◌, IfOk, OnOk, string_bytes};
-ghost use Rattle.lrlex_rules.specs.Faults.{fault_kind, fault_spans};
+ghost use Rattle.lrlex_rules.specs.LexBuildError.{fault_kind, fault_spans};
 ghost use Rattle.lrlex_faults.specs.FaultTexts.{IsMessageOf, fault_note, at_each, first_text, places_text, IsFaultText, AreFaultTexts};
 
 use crate::encoding::mark_note;

@@ -1,2 +1,2 @@
-pub mod FoundLemmas
+pub mod FindLemmas
 pub mod ForCallers

@@ -7,9 +7,9 @@ ghost use Rattle.lrlex_matching.specs.Matching.{match_length};
 
 use regex::Matcher;
 
-/// How many bytes of the text its pattern matches, by the leftmost match, where that starts at the text's beginning; else 0.
-/// No other function searches.
-pub fn matched(matcher: &mut Matcher<'_>, text: &str) -> usize
+/// How many bytes the pattern matches at the beginning of the text: the length of the leftmost match that `regex` finds, if that
+/// match starts there, else 0. No other function searches by `regex`.
+pub fn match_len(matcher: &mut Matcher<'_>, text: &str) -> usize
     ensures length { result ≡ match_length (matcher_pattern matcher.old) text.now }
     ensures boundary { IsCharBoundary text.now result }
     ensures same { matcher_pattern matcher.new ≡ matcher_pattern matcher.old }

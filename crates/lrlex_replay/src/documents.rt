@@ -20,7 +20,7 @@ fn tell_shown(told: &mut Told, document: &Edited<'_>) -> Result<(), AllocError> 
     told.key("document");
     told.numbers(&[
         document.tiles(),
-        document.lexed(),
+        document.recut_tiles(),
         most_of(document.asked()),
     ]);
     told.key("text");

@@ -1,6 +1,6 @@
 //! What a lexer tells of its items, and of any span and byte.
 ghost use Rattle.std.specs.Prelude.{◌≡◌};
-ghost use Rattle.lrlex.specs.Lexers.{lexer_text};
+ghost use Rattle.lrlex.specs.Lexer.{lexer_text};
 
 use crate::building::Definition;
 use crate::items::{item_seen, tell_items};

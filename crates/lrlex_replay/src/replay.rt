@@ -1,6 +1,6 @@
 //! Does what a case says and compares what comes of it.
 ghost use Rattle.std.specs.Prelude.{◌≡◌};
-ghost use Rattle.lrlex.specs.Lexers.{lexer_text};
+ghost use Rattle.lrlex.specs.Lexer.{lexer_text};
 
 use crate::building::{Definition, build};
 use crate::items::item_seen;

@@ -1,7 +1,7 @@
 //! What runs answer.
 use crate::building::Definition;
 use crate::items::tell_items;
-use lrlex::{DefaultLexerTypes, LexRun, Piece};
+use lrlex::{DefaultLexerTypes, Document, LexRun, Piece, StartStateId};
 use lrlex_base::Edit;
 use lrlex_replay_cases::edits::{Made, all_made_of, tell_unfit};
 use lrlex_replay_cases::facts::{tell_boundary, tell_piece};
@@ -77,7 +77,7 @@ fn tell_counts(told: &mut Told, run: &Run<'_, '_>) {
         run.items().len(),
         run.entries_peak(),
         last_entries(run),
-        run.lexed(),
+        run.recut_tiles(),
         most_of(run.asked()),
     ]);
 }
@@ -145,4 +145,29 @@ pub fn cut_run(
 ) -> Result<(), AllocError> {
     let run = definition.run(told.alloc(), text)?;
     tell_pieces(told, text, run.pieces_in(told.alloc(), ends.0, ends.1))
+}
+
+/// Tells a place and the start state there, null where there is none.
+fn tell_state_at(told: &mut Told, place: usize, state: Option<StartStateId>) {
+    told.key("end");
+    told.open("[");
+    told.number(place);
+    match state {
+        Some(state) => told.number(state.id()),
+        None => told.null(),
+    }
+    told.close("]");
+}
+
+/// Tells where lexing the text ends and the start state there, by a run and by a document.
+pub fn tell_end(
+    told: &mut Told,
+    definition: &Definition<u32>,
+    text: &str,
+) -> Result<(), AllocError> {
+    let run = definition.run(told.alloc(), text)?;
+    tell_state_at(told, run.end(), run.end_state());
+    let document = Document::new(told.alloc(), definition, text)?;
+    tell_state_at(told, document.end(), document.end_state());
+    Ok(())
 }

@@ -6,7 +6,7 @@ use crate::engines::{drive, serve};
 use crate::lexers::ask_lexer;
 use crate::lookups::{find, set_ids};
 use crate::reports::report;
-use crate::runs::{cut_run, lex};
+use crate::runs::{cut_run, lex, tell_end};
 use lrlex::{DEFAULT_LEX_FLAGS, LexerDef};
 use lrlex_doc_callers::editing::highlighted;
 use lrlex_doc_callers::lexing::words;
@@ -74,6 +74,7 @@ fn ask(told: &mut Told, definition: &Definition<u32>, asked: Asked<'_>) -> Resul
             let words = highlighted(told.alloc(), definition, text);
             tell_words(told, words)
         }
+        Asked::End(text) => Ok(tell_end(told, definition, text)?),
         Asked::After(text, edits) => keep_run(told, definition, text, edits),
     }
 }

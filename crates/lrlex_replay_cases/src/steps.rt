@@ -28,6 +28,8 @@ pub enum Asked<'v> {
     Words(&'v str),
     /// The whole of a text as it was cut.
     Highlighted(&'v str),
+    /// Where lexing a text ends, and the start state there.
+    End(&'v str),
     /// The items of a run's lexer after edits, each of which has the text that it makes.
     After(&'v str, &'v [Value]),
 }
@@ -108,6 +110,7 @@ fn of_text<'v>(name: &str, text: &'v str) -> Result<Step<'v>, Trouble> {
     match name {
         "words" => Ok(Step::Asks(Asked::Words(text))),
         "highlighted" => Ok(Step::Asks(Asked::Highlighted(text))),
+        "end" => Ok(Step::Asks(Asked::End(text))),
         "first_fault" => Ok(Step::Reports(Report::FirstFault(text))),
         _ => Err(Trouble::Malformed),
     }

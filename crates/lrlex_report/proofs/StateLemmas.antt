@@ -3,7 +3,7 @@ use Rattle.std.proofs.Common.{◌≡◌, ◌≢◌, ne_eqb, ℕ, ◌==◌, List,
 use Rattle.std.specs.List.{find}
 use Rattle.std.specs.Option.{option_map}
 use Rattle.std.proofs.lemmas.Bool.{cond-false}
-use Rattle.lrlex_rules.specs.Parts.{as_state}
+use Rattle.lrlex_rules.specs.RuleParts.{as_state}
 use Rattle.lrlex_rules.specs.declared.states.StartState.{StartState}
 use Rattle.lrlex_report.specs.StopTexts.{state_name}
 

@@ -2,9 +2,9 @@
 use Rattle.std.specs.Prelude.{ℕ, ◌==◌, List, ◌++◌, find, Option, None, option_map, if◌then◌else◌}
 use Rattle.std.specs.Option.{option_and_then}
 use Rattle.lrlex_base.specs.Spans.{as_span, span_start}
-use Rattle.lrlex_rules.specs.Parts.{as_state, state_number}
+use Rattle.lrlex_rules.specs.RuleParts.{as_state, state_number}
 use Rattle.lrlex_rules.specs.declared.states.StartState.{StartState}
-use Rattle.lrlex.specs.Stops.{lex_error_span, lex_error_state}
+use Rattle.lrlex.specs.Errors.{lex_error_span, lex_error_state}
 use Rattle.lrlex.specs.declared.errors.LRLexError.{LRLexError}
 use Rattle.lrlex_faults.specs.Encoding.{mark_note}
 use Rattle.lrlex_faults.specs.PlaceTexts.{nearest, place_text}

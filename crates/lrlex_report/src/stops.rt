@@ -2,7 +2,7 @@
 ghost use Rattle.std.specs.Prelude.{◌≡◌, ◌==◌, None, IfOk, find, option_map, string_bytes};
 ghost use Rattle.std.specs.Option.{option_copied};
 ghost use Rattle.std.specs.Slice.Iter.{iter_rest};
-ghost use Rattle.lrlex_rules.specs.Parts.{as_state};
+ghost use Rattle.lrlex_rules.specs.RuleParts.{as_state};
 ghost use Rattle.lrlex.specs.Views.{definition_states};
 ghost use Rattle.lrlex_report.specs.StopTexts.{state_name, error_state, stop_text, name_in};
 

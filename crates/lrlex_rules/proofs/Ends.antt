@@ -2,7 +2,7 @@
 use Rattle.std.proofs.Common.{◌≡◌, ℕ, ◌≤◌, List, [], ◌∷◌, ◌++◌, sym, subst, arith}
 use Rattle.std.proofs.lemmas.Grind.{common_steps}
 use Rattle.lrlex_rules.specs.declared.parser.text.Line.{Line}
-use Rattle.lrlex_rules.specs.Builder.{EndBy, line_end}
+use Rattle.lrlex_rules.specs.LexParser.{EndBy, line_end}
 
 ends_more : (e : ℕ) (xs : List Line) (x : Line) → EndBy e xs → line_end x ≤ e → EndBy e (xs ++ x ∷ [])
 ends_more e xs x h k i d lt = grind (arith, common_steps, h i d)

@@ -13,7 +13,7 @@ use Rattle.lrlex_rules.specs.Event.FaultKind.{PrematureEnd, RoutinesNotSupported
 use Rattle.lrlex_rules.specs.Flags.{resolved, config_of}
 use Rattle.lrlex_rules.specs.Escape.{unescape, trim_head}
 use Rattle.lrlex_rules.specs.RuleLine.{listed_ids, listed_names}
-use Rattle.lrlex_rules.specs.Builder.{settings}
+use Rattle.lrlex_rules.specs.LexParser.{settings}
 use Rattle.lrlex_rules.specs.Outcome.{Settings, outcome}
 
 abbrev unset : LexFlags

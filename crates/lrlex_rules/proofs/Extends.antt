@@ -11,11 +11,11 @@ use Rattle.lrlex_rules.specs.Event.{Fault, fault, FaultKind, Subject}
 use Rattle.lrlex_base.specs.Spans.{Span, as_span, same_span}
 use Rattle.lrlex_base.specs.declared.spans.Span.{Span as TheSpan}
 use Rattle.lrlex_rules.specs.declared.faults.LexBuildError.{LexBuildError}
-use Rattle.lrlex_rules.specs.Answer.{as_fault}
+use Rattle.lrlex_rules.specs.LexBuildResult.{as_fault}
 use Rattle.lrlex_rules.specs.Outcome.{kind_of, same_subject}
 use Rattle.lrlex_rules.specs.Event.Subject.{StateName, RuleName}
-use Rattle.lrlex_rules.specs.Merge.{is_kind_of, first_is, tells_duplicates, with_place, with_duplicate, is_fault_of, is_place, IsOnlyPlace}
-use Rattle.lrlex_rules.proofs.Merges.{or_false, same_subjects, same_spans, fault_kind}
+use Rattle.lrlex_rules.specs.Duplicates.{is_kind_of, first_is, tells_duplicates, with_place, with_duplicate, is_fault_of, is_place, IsOnlyPlace}
+use Rattle.lrlex_rules.proofs.DuplicateLemmas.{or_false, same_subjects, same_spans, fault_kind}
 
 pub map_at : {Y X : Type 0} (f : Y → X) (xs : List Y) (i : ℕ) (d : Y) → get_or (map f xs) i (f d) ≡ f (get_or xs i d)
 map_at f [] i d = refl

@@ -28,7 +28,7 @@ use Rattle.lrlex_rules.specs.Declaration.Declared.{Name, Wrong}
 use Rattle.lrlex_rules.specs.Escape.{trim_head, unescape}
 use Rattle.lrlex_rules.specs.RuleLine.{is_greater, in_angles, after_angles, target_of, name_part, is_unnamed, is_quoted_by, is_quoted, RuleLabel, label_of, LineParts, parts_of_word, split, Pattern, cons_both, state_id, state_ids, all_ids, listed_ids, listed_names, read_pattern}
 use Rattle.lrlex_rules.specs.Outcome.{Settings, events_after, then_fatal, has_name, rule_with_name, rule_event, pattern_event, parts_event, split_event, is_verbatim, line_event, rules_section, end_events, rules_events, events_of, faults_after, definition_or_faults, outcome}
-use Rattle.lrlex_rules.specs.Laws.{RuleIdsArePlaces, StateIdsArePlaces, RuleNamesDiffer, StateNamesDiffer, IsNameAt, RuleNamesStand, StateNamesStand, PatternsAreRewritten, IsLawful}
+use Rattle.lrlex_rules.specs.DefinitionLaws.{RuleIdsArePlaces, StateIdsArePlaces, RuleNamesDiffer, StateNamesDiffer, IsNameAt, RuleNamesStand, StateNamesStand, PatternsAreRewritten, IsLawful}
 use Rattle.lrlex_rules.proofs.Placed.{IsPiece, suffix, cut_pieces, trimmed_end, last_at}
 use Rattle.lrlex_rules.proofs.PlacedFaults.{either, DeclaredFits, all_declared, either_quote, EndsWord, name_stands, section_pieces, trimmed_pieces, section_fits, MarkFits, mark_fits}
 use Rattle.lrlex_rules.proofs.Blanks.{blank_low}

@@ -1,8 +1,8 @@
 mod Examples
 pub mod Angles
-pub mod Answer
+pub mod LexBuildResultLemmas
 pub mod Blanks
-pub mod Builders
+pub mod LexParserLemmas
 pub mod CutLaws
 pub mod Cuts
 pub mod Declares
@@ -16,7 +16,7 @@ pub mod Lawful
 pub mod Lists
 pub mod Marks
 pub mod MatcherLemmas
-pub mod Merges
+pub mod DuplicateLemmas
 pub mod PatternLemmas
 pub mod Placed
 pub mod PlacedFaults

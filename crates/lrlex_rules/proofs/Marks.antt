@@ -8,7 +8,7 @@ use Rattle.std.proofs.lemmas.Str.{IsCharBoundary-after_ascii}
 use Rattle.std.proofs.lemmas.List.{get_or-drop, get_or-take, drop-drop}
 use Rattle.lrlex_rules.specs.declared.parser.text.Line.{Line}
 use Rattle.lrlex_rules.specs.Declaration.{ends_section}
-use Rattle.lrlex_rules.specs.Builder.{StandsIn, MarkAt}
+use Rattle.lrlex_rules.specs.LexParser.{StandsIn, MarkAt}
 
 pub percent : (t : List ℕ) → ends_section t ≡ true → (1 < length t) × (get_or t 1 0 ≡ 37)
 percent [] h = cc

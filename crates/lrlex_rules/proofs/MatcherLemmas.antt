@@ -6,7 +6,7 @@ use Rattle.std.proofs.lemmas.Bool.{cases_eq, cases_lt}
 use Rattle.std.proofs.lemmas.Option.{none-some, same_Some, slice_get-get_or, slice_get_within, get_or_from_slice_get}
 use Rattle.std.proofs.lemmas.List.{length-set, length_push, get_or_append_left, get_or_push, get_or-set_same, get_or-set_other}
 use Rattle.regex.specs.declared.string.matcher.Matcher.{Matcher}
-use Rattle.lrlex_rules.specs.Parts.{RuleParts}
+use Rattle.lrlex_rules.specs.RuleParts.{RuleParts}
 use Rattle.lrlex_rules.specs.Matchers.{IsMatcherOf, AreMatchers}
 
 module _ {S : Type 0} (rules : List (RuleParts S)) (made : List (Option (Box Matcher Global))) where

@@ -27,8 +27,8 @@ use Rattle.lrlex_rules.specs.Declaration.Declared.{Name, Wrong}
 use Rattle.lrlex_rules.specs.Escape.{trim_head, unescape}
 use Rattle.lrlex_rules.specs.RuleLine.{is_greater, in_angles, after_angles, target, target_name, operation_of, state_id, target_of, name_part, is_unnamed, is_quoted_by, is_quoted, RuleLabel, label_of, LineParts, parts_of_word, split, Pattern, listed_ids, listed_names, read_pattern}
 use Rattle.lrlex_rules.specs.Outcome.{Settings, events_after, then_fatal, has_name, rule_with_name, rule_event, pattern_event, parts_event, split_event, is_verbatim, line_event, rules_section, end_events, rules_events, events_of, same_subject, duplicate_of, kind_of, fault_of, faults_after, definition_or_faults, outcome}
-use Rattle.lrlex_rules.specs.Faults.{IsPlaced}
-use Rattle.lrlex_rules.specs.Builder.{as_fault}
+use Rattle.lrlex_rules.specs.LexBuildError.{IsPlaced}
+use Rattle.lrlex_rules.specs.LexParser.{as_fault}
 use Rattle.lrlex_rules.proofs.Angles.{quoted_start}
 use Rattle.lrlex_rules.proofs.Blanks.{blank_low}
 use Rattle.lrlex_rules.proofs.Marks.{percent}

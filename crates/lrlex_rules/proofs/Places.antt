@@ -12,15 +12,15 @@ use Rattle.std.specs.List.{find, position, position_or_len, slice_get}
 use Rattle.std.specs.Str.{bytes_eq}
 use Rattle.std.proofs.lemmas.List.Folds.{find_at, position_or_len_push}
 use Rattle.std.proofs.lemmas.Slice.Eq.{bytes_eq-Decides}
-use Rattle.lrlex_rules.specs.Parts.{is_name, index_if_named}
+use Rattle.lrlex_rules.specs.Names.{is_name, index_if_named}
 use Rattle.lrlex_base.specs.Spans.{Span, span, as_span, span_start, span_end}
 use Rattle.lrlex_base.specs.declared.spans.Span.{Span as TheSpan}
 use Rattle.lrlex_rules.specs.declared.faults.LexBuildError.{LexBuildError}
 use Rattle.lrlex_rules.specs.declared.faults.LexErrorKind.{LexErrorKind}
-use Rattle.lrlex_rules.specs.Faults.{fault_kind, fault_spans}
+use Rattle.lrlex_rules.specs.LexBuildError.{fault_kind, fault_spans}
 use Rattle.lrlex_rules.specs.Event.{fault}
-use Rattle.lrlex_rules.specs.Kinds.{as_kind}
-use Rattle.lrlex_rules.specs.Builder.{as_fault}
+use Rattle.lrlex_rules.specs.LexErrorKind.{as_kind}
+use Rattle.lrlex_rules.specs.LexParser.{as_fault}
 
 pub span_from : (s : TheSpan) (start end : ℕ) → span_start s ≡ start → span_end s ≡ end → as_span s ≡ span start end
 span_from s start end h k = ap (λ (n : ℕ). span n (span_end s)) h ∙ ap (λ (n : ℕ). span start n) k

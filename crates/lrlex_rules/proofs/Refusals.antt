@@ -14,9 +14,9 @@ use Rattle.lrlex_rules.specs.Event.Event.{NewState, NewRule, Duplicate, Verbatim
 use Rattle.lrlex_rules.specs.Event.FaultKind.{RegexError}
 use Rattle.lrlex_rules.specs.Event.Subject.{StateName, RuleName}
 use Rattle.lrlex_rules.specs.Outcome.{faults_after, fault_of}
-use Rattle.lrlex_rules.specs.Kinds.{as_kind, is_regex_error}
-use Rattle.lrlex_rules.specs.Builder.{first_start, refused_in, as_fault, regex_error, kind_error, regex_errors, IsRefused, AreRefusals}
-use Rattle.lrlex_rules.proofs.Merges.{faults_other, or_false}
+use Rattle.lrlex_rules.specs.LexErrorKind.{as_kind, is_regex_error}
+use Rattle.lrlex_rules.specs.LexParser.{first_start, refused_in, as_fault, regex_error, kind_error, regex_errors, IsRefused, AreRefusals}
+use Rattle.lrlex_rules.proofs.DuplicateLemmas.{faults_other, or_false}
 
 abbrev pub has_regex_error : List Fault → Bool
 has_regex_error fs = list_any (λ (f : Fault). is_regex_error f.kind) fs

@@ -6,11 +6,12 @@ use Rattle.std.specs.Char.{len_utf8}
 use Rattle.std.specs.Str.{chars}
 use Rattle.std.proofs.lemmas.Str.{len_utf8_bounds}
 use Rattle.std.proofs.lemmas.List.{length-map}
+use Rattle.lrlex_rules.specs.declared.parser.text.Margins.TheVariants as margins
 use Rattle.lrlex_rules.specs.declared.parser.text.Line.{Line}
-use Rattle.lrlex_rules.specs.Text.{Piece, piece, cut_chars, onto_first_piece, cut_lines, laid_out}
+use Rattle.lrlex_rules.specs.Text.{Piece, piece, cut_chars, onto_first_piece, cut_lines}
 use Rattle.lrlex_base.specs.Classes.{is_line_sep}
 use Rattle.lrlex_rules.specs.Declaration.{section_lines, is_skipped, ends_section}
-use Rattle.lrlex_rules.specs.Builder.{as_piece, AreApart}
+use Rattle.lrlex_rules.specs.LexParser.{as_piece, AreApart, laid_out}
 use Rattle.lrlex_rules.proofs.Extends.{map_at}
 
 abbrev Rise : ℕ → List Piece → Type 0
@@ -76,16 +77,16 @@ filter_rise : (q : Piece → Bool) (a : ℕ) (xs : List Piece) → Rise a xs →
 filter_rise q a [] r = tt
 filter_rise q a (x ∷ xs) r = kept_rise (q x) a x (filter q xs) r.0 (filter_rise q (x.at + 1) xs r.1)
 
-pub as_written : (xs : List Piece) → map (laid_out false) xs ≡ xs
+pub as_written : (xs : List Piece) → map (laid_out margins.Kept) xs ≡ xs
 as_written [] = refl
 as_written (x ∷ xs) = ap (λ (ys : List Piece). x ∷ ys) (as_written xs)
 
-section_rise : (comments : Bool) (x : Piece) → Rise x.at (section_lines comments (map (laid_out false) (cut_lines x)))
+section_rise : (comments : Bool) (x : Piece) → Rise x.at (section_lines comments (map (laid_out margins.Kept) (cut_lines x)))
 section_rise comments x =
-    let all : Rise x.at (map (laid_out false) (cut_lines x)) = subst (λ (ys : List Piece). Rise x.at ys) (sym (as_written (cut_lines x))) (from_cut x.at (cut_lines x) (cut_rise is_line_sep x.at (chars x.text))) in
-    filter_rise (λ (line : Piece). not (is_skipped comments line.text)) x.at _ (take_rise x.at (prefix_len (λ (line : Piece). not (ends_section line.text)) (map (laid_out false) (cut_lines x))) (map (laid_out false) (cut_lines x)) all)
+    let all : Rise x.at (map (laid_out margins.Kept) (cut_lines x)) = subst (λ (ys : List Piece). Rise x.at ys) (sym (as_written (cut_lines x))) (from_cut x.at (cut_lines x) (cut_rise is_line_sep x.at (chars x.text))) in
+    filter_rise (λ (line : Piece). not (is_skipped comments line.text)) x.at _ (take_rise x.at (prefix_len (λ (line : Piece). not (ends_section line.text)) (map (laid_out margins.Kept) (cut_lines x))) (map (laid_out margins.Kept) (cut_lines x)) all)
 
-pub lines_apart : (comments : Bool) (x : Piece) (ls : List Line) → map as_piece ls ≡ section_lines comments (map (laid_out false) (cut_lines x)) → AreApart ls
+pub lines_apart : (comments : Bool) (x : Piece) (ls : List Line) → map as_piece ls ≡ section_lines comments (map (laid_out margins.Kept) (cut_lines x)) → AreApart ls
 lines_apart comments x ls e i j d h k =
     let rise : Rise x.at (map as_piece ls) = subst (λ (ys : List Piece). Rise x.at ys) (sym e) (section_rise comments x) in
     let same = length-map ls as_piece in

@@ -4,7 +4,7 @@ use Rattle.std.specs.Prelude.{nat_lt, unwrap_or}
 use Rattle.std.proofs.lemmas.List.{length-map}
 use Rattle.std.proofs.lemmas.Bool.Decides.{nat_tests}
 use Rattle.lrlex_rules.specs.declared.flags.LexFlags.{LexFlags}
-use Rattle.lrlex_rules.specs.declared.parser.builder.Builder.{Builder}
+use Rattle.lrlex_rules.specs.declared.parser.lex_parser.LexParser.{LexParser}
 use Rattle.lrlex_rules.specs.Flags.{resolved, has_posix_escapes, config_of}
 use Rattle.lrlex_rules.specs.Event.{Fault, fault_at, Event, states_of, rules_of, span_of}
 use Rattle.lrlex_rules.specs.Definition.{StartState, Rule}
@@ -15,12 +15,12 @@ use Rattle.lrlex_rules.specs.Text.{Piece}
 use Rattle.lrlex_rules.specs.Escape.{trim_head}
 use Rattle.lrlex_rules.specs.RuleLine.{LineParts, Pattern, read_pattern, split}
 use Rattle.lrlex_rules.specs.Outcome.{Settings, rule_event, pattern_event, parts_event, split_event, rule_with_name, is_verbatim, line_event}
-use Rattle.lrlex_rules.specs.Builder.{Represents, Adds, AddsRefused, AddsLine, Suits, IsRefused, hits, refused_in, refused_of, as_fault}
-use Rattle.lrlex_rules.specs.Parts.{as_state, as_rule}
-use Rattle.lrlex_rules.specs.Merge.{with_duplicate}
+use Rattle.lrlex_rules.specs.LexParser.{Represents, Adds, AddsRefused, AddsLine, Suits, IsRefused, hits, refused_in, refused_of, as_fault}
+use Rattle.lrlex_rules.specs.RuleParts.{as_state, as_rule}
+use Rattle.lrlex_rules.specs.Duplicates.{with_duplicate}
 use Rattle.regex.specs.declared.error.Error.{Error}
 use Rattle.lrlex_rules.proofs.Refusals.{none_refused, pattern_refused}
-use Rattle.lrlex_rules.proofs.Builders.{adds_duplicate}
+use Rattle.lrlex_rules.proofs.LexParserLemmas.{adds_duplicate}
 
 -- ---- the number of rules
 lt_test : (a b : ℕ) → a < b → nat_lt a b ≡ true
@@ -32,11 +32,11 @@ le_test a b h = grind (arith, nat_tests)
 eq_test : (a : ℕ) → eqb a a ≡ true
 eq_test a = grind (arith, nat_tests)
 
-pub count_of : {S : Type 0} (number : S → ℕ) (flags : LexFlags) (b : Builder S) (events : List Event) → Represents number flags b events → length b.rules.list.items ≡ length (rules_of events)
+pub count_of : {S : Type 0} (number : S → ℕ) (flags : LexFlags) (b : LexParser S) (events : List Event) → Represents number flags b events → length b.rules.list.items ≡ length (rules_of events)
 count_of number flags b events was = sym (length-map b.rules.list.items (as_rule number)) ∙ ap (length {A = Rule}) was.rules
 
 -- ---- what an event comes from
-module _ {S : Type 0} (number : S → ℕ) (flags : LexFlags) (greatest : ℕ) (old new : Builder S) (o : ℕ) where
+module _ {S : Type 0} (number : S → ℕ) (flags : LexFlags) (greatest : ℕ) (old new : LexParser S) (o : ℕ) where
   -- one that does not look at the settings
   pub line_from : (e : Settings → List Event → Event) (f : List Event → Event)
       → ((s : Settings) → Suits s flags greatest → (events : List Event) → Represents number flags old events → f events ≡ e s events) → Adds number old new f → AddsLine number flags greatest old new o e
@@ -64,7 +64,7 @@ module _ {S : Type 0} (number : S → ℕ) (flags : LexFlags) (greatest : ℕ) (
         let n = count_of number flags old events was in
         let g = suits.greatest_is in
         let now = adds flags pattern.text why events was in
-        let told : refused_of new ≡ Some o = ap refused_in now.errors ∙ pattern_refused events o pattern.text (sym was.refused ∙ calm) in
+        let told : refused_of new ≡ Some o = ap refused_in now.faults ∙ pattern_refused events o pattern.text (sym was.refused ∙ calm) in
         let yes : hits s.refused o ≡ true = hit ∙ ap (λ (x : Option ℕ). hits x o) told ∙ eq_test o in
         let P : Event → Type 0 = λ x. Represents number flags new (events ++ x ∷ []) in
         subst P (regex_refused s (rules_of events) (omega arith) yes) now
@@ -76,13 +76,13 @@ module _ {S : Type 0} (number : S → ℕ) (flags : LexFlags) (greatest : ℕ) (
     kept : (s : Settings) (rules : List Rule) → length rules ≤ s.greatest_id → hits s.refused o ≡ false → NewRule (with_id (length rules) s.flags) ≡ rule_event s rules o parts pattern
     kept s rules h k = sym (rw (le_test s.greatest_id (length rules) h, k) refl)
 
-    pub line_kept : old.is_refused ≡ false → length old.rules.list.items ≤ greatest → new.errors ≡ old.errors
+    pub line_kept : old.is_refused ≡ false → length old.rules.list.items ≤ greatest → new.faults ≡ old.faults
         → ((r : Rule) → r ≡ with_id (length old.rules.list.items) flags → (events : List Event) → Represents number flags old events → Represents number flags new (events ++ NewRule r ∷ []))
         → AddsLine number flags greatest old new o (λ s events. rule_event s (rules_of events) o parts pattern)
     line_kept calm h same adds s suits events was hit =
         let n = count_of number flags old events was in
         let g = suits.greatest_is in
-        let told : refused_of new ≡ None = ap (λ v. refused_in (map as_fault v.list.items)) same ∙ ap refused_in was.errors ∙ none_refused events (sym was.refused ∙ calm) in
+        let told : refused_of new ≡ None = ap (λ v. refused_in (map as_fault v.list.items)) same ∙ ap refused_in was.faults ∙ none_refused events (sym was.refused ∙ calm) in
         let no : hits s.refused o ≡ false = hit ∙ ap (λ (x : Option ℕ). hits x o) told in
         let P : Event → Type 0 = λ x. Represents number flags new (events ++ x ∷ []) in
         let as_one : with_id (length (rules_of events)) s.flags ≡ with_id (length old.rules.list.items) flags = ap (λ (k : ℕ). with_id k s.flags) (sym n) ∙ ap (λ (f : LexFlags). with_id (length old.rules.list.items) f) suits.flags_are in
@@ -103,7 +103,7 @@ at_most greatest n h = omega arith
 posix_is : (flags : LexFlags) (s : Settings) → resolved s.flags ≡ flags → has_posix_escapes s.flags ≡ unwrap_or flags.posix_escapes false
 posix_is flags s h = ap (λ (f : LexFlags). unwrap_or f.posix_escapes false) h
 
-module _ {S : Type 0} (number : S → ℕ) (flags : LexFlags) (greatest : ℕ) (old : Builder S) (o : ℕ) (parts : LineParts) where
+module _ {S : Type 0} (number : S → ℕ) (flags : LexFlags) (greatest : ℕ) (old : LexParser S) (o : ℕ) (parts : LineParts) where
   pub duplicate_is : (original : Rule) → Some original ≡ rule_with_name (map (as_rule number) old.rules.list.items) parts.label.name
       → (s : Settings) (events : List Event) → Represents number flags old events → Duplicate RuleName original.name_span parts.label.span ≡ split_event s events o (Ok parts)
   duplicate_is original found s events was = ap (parts_event s events o parts) (found ∙ ap (λ (rs : List Rule). rule_with_name rs parts.label.name) was.rules)
@@ -132,13 +132,13 @@ module _ {S : Type 0} (number : S → ℕ) (flags : LexFlags) (greatest : ℕ) (
 pub verbatim_is : (s : Settings) (events : List Event) (line : Piece) → is_verbatim line ≡ true → Verbatim (span_of line) ≡ line_event s events line
 verbatim_is s events line h = sym (rw h refl)
 
-pub split_is : {S : Type 0} (number : S → ℕ) (flags : LexFlags) (old : Builder S) (s : Settings) (events : List Event) (line : Piece) (r : Result LineParts Fault) → Represents number flags old events → is_verbatim line ≡ false → r ≡ split (map as_state old.states.list.items) line → split_event s events line.at r ≡ line_event s events line
+pub split_is : {S : Type 0} (number : S → ℕ) (flags : LexFlags) (old : LexParser S) (s : Settings) (events : List Event) (line : Piece) (r : Result LineParts Fault) → Represents number flags old events → is_verbatim line ≡ false → r ≡ split (map as_state old.states.list.items) line → split_event s events line.at r ≡ line_event s events line
 split_is number flags old s events line r was h e =
     let there : r ≡ split (states_of events) line = e ∙ ap (λ (ss : List StartState). split ss line) was.states in
     ap (split_event s events line.at) there ∙ sym (rw h refl)
 
-pub line_duplicate : {S : Type 0} (number : S → ℕ) (flags : LexFlags) (greatest : ℕ) (old new : Builder S) (o : ℕ) (parts : LineParts) (original : Rule) → old.is_refused ≡ false → Some original ≡ rule_with_name (map (as_rule number) old.rules.list.items) parts.label.name
-    → new.states ≡ old.states → new.rules ≡ old.rules → new.is_refused ≡ old.is_refused → map as_fault new.errors.list.items ≡ with_duplicate RuleName original.name_span parts.label.span (map as_fault old.errors.list.items)
+pub line_duplicate : {S : Type 0} (number : S → ℕ) (flags : LexFlags) (greatest : ℕ) (old new : LexParser S) (o : ℕ) (parts : LineParts) (original : Rule) → old.is_refused ≡ false → Some original ≡ rule_with_name (map (as_rule number) old.rules.list.items) parts.label.name
+    → new.states ≡ old.states → new.rules ≡ old.rules → new.is_refused ≡ old.is_refused → map as_fault new.faults.list.items ≡ with_duplicate RuleName original.name_span parts.label.span (map as_fault old.faults.list.items)
     → AddsLine number flags greatest old new o (λ s events. split_event s events o (Ok parts))
 line_duplicate number flags greatest old new o parts original calm found ss rs re errors s suits events was hit =
     let P : Event → Type 0 = λ x. Represents number flags new (events ++ x ∷ []) in

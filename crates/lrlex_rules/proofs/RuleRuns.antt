@@ -2,10 +2,10 @@
 use Rattle.std.proofs.Common.{◌≡◌, ℕ, zero, suc, ◌+◌, ◌<◌, false, List, [], ◌∷◌, length, get_or, take, map, Option, None, refl, sym, ap, subst, ◌∙◌, arith}
 use Rattle.lrlex_rules.specs.declared.flags.LexFlags.{LexFlags}
 use Rattle.lrlex_rules.specs.declared.parser.text.Line.{Line}
-use Rattle.lrlex_rules.specs.declared.parser.builder.Builder.{Builder}
+use Rattle.lrlex_rules.specs.declared.parser.lex_parser.LexParser.{LexParser}
 use Rattle.lrlex_rules.specs.Event.{Event, is_refused}
 use Rattle.lrlex_rules.specs.Outcome.{Settings, events_after, line_event}
-use Rattle.lrlex_rules.specs.Builder.{Represents, AddsLine, Suits, AreApart, HitAlike, hits, refused_in, refused_of, as_piece}
+use Rattle.lrlex_rules.specs.LexParser.{Represents, AddsLine, Suits, AreApart, HitAlike, hits, refused_in, refused_of, as_piece}
 use Rattle.lrlex_rules.proofs.Refusals.{none_refused}
 use Rattle.lrlex_rules.proofs.Runs.{events_after_more}
 use Rattle.lrlex_rules.proofs.Tells.{IsAt, refused_here, misses}
@@ -15,7 +15,7 @@ same_default [] i d e h = absurd (omega arith)
 same_default (x ∷ xs) zero d e h = refl
 same_default (x ∷ xs) (suc i) d e h = same_default xs i d e (omega arith)
 
-module _ {S : Type 0} (number : S → ℕ) (flags : LexFlags) (greatest : ℕ) (begun b new : Builder S) (ls : List Line) (i : ℕ) (d : Line) (lt : i < length ls) (calm : b.is_refused ≡ false) (apart : AreApart ls)
+module _ {S : Type 0} (number : S → ℕ) (flags : LexFlags) (greatest : ℕ) (begun b new : LexParser S) (ls : List Line) (i : ℕ) (d : Line) (lt : i < length ls) (calm : b.is_refused ≡ false) (apart : AreApart ls)
     (inv : (s : Settings) → Suits s flags greatest → (events : List Event) → Represents number flags begun events → HitAlike s.refused (refused_of b) ls i → Represents number flags b (events_after (line_event s) events (map as_piece (take i ls))))
     (adds : AddsLine number flags greatest b new (get_or ls i d).at (λ s events. line_event s events (as_piece (get_or ls i d)))) where
   pub line_more : (s : Settings) → Suits s flags greatest → (events : List Event) → Represents number flags begun events → HitAlike s.refused (refused_of new) ls (i + 1) → Represents number flags new (events_after (line_event s) events (map as_piece (take (i + 1) ls)))
@@ -26,7 +26,7 @@ module _ {S : Type 0} (number : S → ℕ) (flags : LexFlags) (greatest : ℕ) (
       let first = inv (record s { refused = refused_of b }) (suits_all (refused_of b)) events was (λ j e h. refl) in
       let es = events_after (line_event (record s { refused = refused_of b })) events (map as_piece (take i ls)) in
       let quiet : is_refused es ≡ false = sym first.refused ∙ calm in
-      let none : refused_of b ≡ None = ap refused_in first.errors ∙ none_refused es quiet in
+      let none : refused_of b ≡ None = ap refused_in first.faults ∙ none_refused es quiet in
       let next = adds (record s { refused = refused_of new }) (suits_all (refused_of new)) es first refl in
       let here : IsAt line.at (refused_of new) = refused_here number flags new (record s { refused = refused_of new }) es (as_piece line) quiet next in
       let before : HitAlike s.refused (refused_of b) ls i = λ j e h.

@@ -5,7 +5,7 @@ use Rattle.std.specs.List.{list_any, before_last, after_last}
 use Rattle.std.specs.Option.{ok_or, option_map, option_map_or}
 use Rattle.std.proofs.lemmas.Bool.Decides.{nat_tests}
 use Rattle.lrlex_rules.specs.declared.flags.LexFlags.{LexFlags}
-use Rattle.lrlex_rules.specs.declared.parser.builder.Builder.{Builder}
+use Rattle.lrlex_rules.specs.declared.parser.lex_parser.LexParser.{LexParser}
 use Rattle.lrlex_rules.specs.Event.{Fault, fault_at, span_of, Event, is_refused, states_of, rules_of, ◌>>=◌}
 use Rattle.lrlex_base.specs.Spans.{span, at_place}
 use Rattle.lrlex_rules.specs.Definition.{StartState, Rule}
@@ -17,8 +17,8 @@ use Rattle.lrlex_rules.specs.Text.{Piece, trim_end, begins_with}
 use Rattle.lrlex_base.specs.Classes.{is_blank}
 use Rattle.lrlex_rules.specs.RuleLine.{LineParts, RuleLabel, Pattern, is_greater, in_angles, after_angles, operation_of, target_name, state_id, is_unnamed, is_quoted, label_in, name_part, listed_ids, listed_names, target, target_of, label_of, split, read_pattern, parts_of_word}
 use Rattle.lrlex_rules.specs.Outcome.{Settings, faults_after, rule_event, pattern_event, parts_event, split_event, rule_with_name, is_verbatim, line_event}
-use Rattle.lrlex_rules.specs.Builder.{Represents, hits, refused_in, refused_of}
-use Rattle.lrlex_rules.proofs.Builders.{refused-push}
+use Rattle.lrlex_rules.specs.LexParser.{Represents, hits, refused_in, refused_of}
+use Rattle.lrlex_rules.proofs.LexParserLemmas.{refused-push}
 use Rattle.lrlex_rules.specs.declared.states.StartStateOperation.{StartStateOperation}
 use Rattle.lrlex_rules.proofs.Refusals.{none_refused, fatal_refused, pattern_refused}
 
@@ -127,8 +127,8 @@ by_event o events (NewRule x) h t = inl (none_refused (events ++ NewRule x ∷ [
 by_event o events (Duplicate a b c) h t = inl (none_refused (events ++ Duplicate a b c ∷ []) (refused-push events (Duplicate a b c) h))
 by_event o events (Verbatim x) h t = inl (none_refused (events ++ Verbatim x ∷ []) (refused-push events (Verbatim x) h))
 
-pub refused_here : {S : Type 0} (number : S → ℕ) (flags : LexFlags) (new : Builder S) (s : Settings) (events : List Event) (line : Piece) → is_refused events ≡ false → Represents number flags new (events ++ line_event s events line ∷ []) → IsAt line.at (refused_of new)
-refused_here number flags new s events line h now = subst (IsAt line.at) (sym (ap refused_in now.errors)) (by_event line.at events (line_event s events line) h (from_line s events line))
+pub refused_here : {S : Type 0} (number : S → ℕ) (flags : LexFlags) (new : LexParser S) (s : Settings) (events : List Event) (line : Piece) → is_refused events ≡ false → Represents number flags new (events ++ line_event s events line ∷ []) → IsAt line.at (refused_of new)
+refused_here number flags new s events line h now = subst (IsAt line.at) (sym (ap refused_in now.faults)) (by_event line.at events (line_event s events line) h (from_line s events line))
 
 other_place : (o o' : ℕ) → o < o' → eqb o' o ≡ false
 other_place o o' h = grind (arith, nat_tests)

@@ -5,17 +5,18 @@ use Rattle.std.specs.Option.{option_map}
 use Rattle.std.specs.List.{prefix_len, flat_map}
 use Rattle.std.proofs.lemmas.List.{length-drop, drop-drop}
 use Rattle.std.proofs.lemmas.List.Sums.{prefix_len-le-length}
+use Rattle.lrlex_rules.specs.declared.parser.text.Margins.TheVariants as margins
 use Rattle.lrlex_rules.specs.declared.flags.LexFlags.{LexFlags}
 use Rattle.lrlex_rules.specs.declared.parser.text.Line.{Line}
 use Rattle.lrlex_rules.specs.Flags.{resolved, allows_comments}
-use Rattle.lrlex_rules.specs.Text.{Piece, piece, is_white, cut_lines, laid_out, trim}
+use Rattle.lrlex_rules.specs.Text.{Piece, piece, is_white, cut_lines, trim}
 use Rattle.lrlex_base.specs.Classes.{is_blank}
 use Rattle.lrlex_rules.specs.Event.{Event, fault_at, FaultKind, is_refused}
 use Rattle.lrlex_rules.specs.Event.Event.{Fatal}
 use Rattle.lrlex_rules.specs.Event.FaultKind.{RoutinesNotSupported}
 use Rattle.lrlex_rules.specs.Declaration.{section_lines, section_end, declared_by, declarations, trimmed_lines}
 use Rattle.lrlex_rules.specs.Outcome.{Settings, then_fatal, rules_section, rules_events, end_events, events_after, line_event}
-use Rattle.lrlex_rules.specs.Builder.{Suits, MarkAt, as_piece}
+use Rattle.lrlex_rules.specs.LexParser.{Suits, MarkAt, as_piece, laid_out}
 use Rattle.lrlex_rules.proofs.Rising.{as_written}
 
 pub on_any : {T E : Type 0} {P : Type 0} (r : Result T E) → P → OnOk r P
@@ -48,7 +49,7 @@ comments_are flags f h = ap (λ (g : LexFlags). unwrap_or g.allow_wholeline_comm
 
 module _ (flags : LexFlags) (greatest : ℕ) (text section : List ℕ) (at : ℕ) (mark : Line) (ls : List Line) (end : Option Line) (comments : Bool)
     (place : piece at section ≡ rules_section text (as_piece mark)) (here : section ≡ drop at text) (asked : comments ≡ unwrap_or flags.allow_wholeline_comments false)
-    (said : map as_piece ls ≡ section_lines comments (map (laid_out false) (cut_lines (piece at section)))) (ended : option_map as_piece end ≡ section_end (map (laid_out false) (cut_lines (piece at section)))) where
+    (said : map as_piece ls ≡ section_lines comments (map (laid_out margins.Kept) (cut_lines (piece at section)))) (ended : option_map as_piece end ≡ section_end (map (laid_out margins.Kept) (cut_lines (piece at section)))) where
   rules_are : (s : Settings) → Suits s flags greatest → (events : List Event) → rules_events s text events (Some (as_piece mark)) ≡ end_events text (events_after (line_event s) events (map as_piece ls)) (option_map as_piece end)
   rules_are s suits events =
       let ps : section_lines (allows_comments s.flags) (cut_lines (piece at section)) ≡ map as_piece ls =
@@ -79,14 +80,14 @@ module _ (flags : LexFlags) (greatest : ℕ) (text section : List ℕ) (at : ℕ
     rules_routines h s suits events = sym (rules_end s suits events ∙ rw h refl)
 
 -- ---- declarations
-stripped : (xs : List Piece) → map (laid_out true) xs ≡ map trim xs
+stripped : (xs : List Piece) → map (laid_out margins.Trimmed) xs ≡ map trim xs
 stripped [] = refl
 stripped (x ∷ xs) = ap (λ (ys : List Piece). trim x ∷ ys) (stripped xs)
 
-pub declared_all : (text : List ℕ) (comments : Bool) (flags : LexFlags) (ls : List Line) → comments ≡ unwrap_or flags.allow_wholeline_comments false → map as_piece ls ≡ section_lines comments (map (laid_out true) (cut_lines (piece 0 text)))
+pub declared_all : (text : List ℕ) (comments : Bool) (flags : LexFlags) (ls : List Line) → comments ≡ unwrap_or flags.allow_wholeline_comments false → map as_piece ls ≡ section_lines comments (map (laid_out margins.Trimmed) (cut_lines (piece 0 text)))
     → flat_map declared_by (map as_piece ls) ≡ declarations (allows_comments flags) text
 declared_all text comments flags ls asked said =
     ap (flat_map declared_by) (said ∙ ap (section_lines comments) (stripped (cut_lines (piece 0 text))) ∙ ap (λ (b : Bool). section_lines b (trimmed_lines text)) asked)
 
-pub declared_end : (text : List ℕ) (end : Option Line) → option_map as_piece end ≡ section_end (map (laid_out true) (cut_lines (piece 0 text))) → option_map as_piece end ≡ section_end (trimmed_lines text)
+pub declared_end : (text : List ℕ) (end : Option Line) → option_map as_piece end ≡ section_end (map (laid_out margins.Trimmed) (cut_lines (piece 0 text))) → option_map as_piece end ≡ section_end (trimmed_lines text)
 declared_end text end h = h ∙ ap section_end (stripped (cut_lines (piece 0 text)))

@@ -37,7 +37,7 @@ pub data Declared : Type 0 where
 abbrev pub first_word : List ℕ → List ℕ
 first_word text = encode_utf8_all (before_first is_white_space (chars text))
 
--- `%s` declares inclusive states and `%x` exclusive ones, in either case, with any letters and digits behind (POSIX lex)
+-- `%s` declares inclusive states and `%x` exclusive ones, in either case, followed by any letters and digits (POSIX lex)
 abbrev pub declares_exclusive : List ℕ → Option Bool
 declares_exclusive word =
     let letter = slice_index word 1 in

@@ -16,11 +16,11 @@ is_one_of set c = list_any (λ d. d == c) set
 abbrev pub is_meta : ℕ → Bool
 is_meta c = is_one_of (codes "\\.+*?()|[]{}^$#&-~") c
 
--- c begins an escape that `regex` reads, where rest comes behind it (POSIX lex's escapes, and the classes of `regex`)
+-- c begins an escape that `regex` reads, where rest comes after it (POSIX lex's escapes, and the classes of `regex`)
 abbrev pub begins_escape : ℕ → List ℕ → Bool
 begins_escape c rest = is_ascii_digit c || is_one_of (codes "afnrtvpPdDsSwWAz") c || (is_one_of (codes "xuU") c && is_ascii_hexdigit (slice_index rest 0))
 
--- what becomes of a backslash and c, where rest comes behind them
+-- what becomes of a backslash and c, where rest comes after them
 abbrev pub escape : Bool → ℕ → List ℕ → List ℕ
 escape posix c rest =
     if c == byte "b" then (if posix then codes "\\x08" else codes "\\b")

@@ -1,10 +1,10 @@
--- The matchers of rules that are asked, each made when its rule is first asked.
+-- The matchers of rules, each made when its rule is first matched by `regex`.
 use Rattle.std.specs.declared.alloc.Global.{Global}
 use Rattle.std.specs.Prelude.{Box, ◌≡◌, ℕ, List, length, Option, Some, slice_get}
 use Rattle.regex.specs.Patterns.{SameCaptures}
 use Rattle.regex.specs.Strings.{matcher_pattern}
 use Rattle.regex.specs.declared.string.matcher.Matcher.{Matcher}
-use Rattle.lrlex_rules.specs.Parts.{RuleParts}
+use Rattle.lrlex_rules.specs.RuleParts.{RuleParts}
 use Rattle.lrlex_rules.specs.Patterns.{rule_pattern}
 
 -- a matcher, where there is one, is that of the rule

@@ -28,7 +28,7 @@ abbrev pub events_after : {X : Type 0} → (List Event → X → Event) → List
 events_after event earlier [] = earlier
 events_after event earlier (x ∷ xs) = if is_refused earlier then earlier else events_after event (earlier ++ event earlier x ∷ []) xs
 
--- the same and this fault, unless an earlier one was fatal
+-- the events and this fault, unless an earlier one was fatal
 abbrev pub then_fatal : List Event → FaultKind → ℕ → List Event
 then_fatal events kind at = if is_refused events then events else events ++ Fatal (fault_at kind at) ∷ []
 
@@ -75,11 +75,11 @@ is_verbatim line = nat_lt 0 (prefix_len is_white_space (chars line.text))
 abbrev pub line_event : Settings → List Event → Piece → Event
 line_event s earlier line = if is_verbatim line then Verbatim (span_of line) else split_event s earlier line.at (split (states_of earlier) line)
 
--- the rules section begins behind the `%%` and the blanks that follow it
+-- the rules section begins after the `%%` and the blanks that follow it
 abbrev pub rules_section : List ℕ → Piece → Piece
 rules_section text mark = let o = mark.at + 2 in let n = prefix_len is_blank (drop o text) in piece (o + n) (drop (o + n) text)
 
--- behind a second `%%` stand routines, which are not supported
+-- routines come after a second `%%`; they are not supported
 abbrev pub end_events : List ℕ → List Event → Option Piece → List Event
 end_events text events None = events
 end_events text events (Some mark) = if is_white (drop (mark.at + 2) text) then events else then_fatal events RoutinesNotSupported mark.at
@@ -90,7 +90,7 @@ rules_events s text declared (Some mark) =
     let rest = rules_section text mark in
     end_events text (events_after (line_event s) declared (section_lines (allows_comments s.flags) (cut_lines rest))) (section_end (cut_lines rest))
 
--- the events of a rule file behind those before it, where comments are allowed or not in its declarations
+-- the events of a rule file after earlier events, where comments are allowed or not in its declarations
 abbrev pub file_events : Settings → Bool → List ℕ → List Event → List Event
 file_events s comments text earlier = rules_events s text (events_after state_event earlier (declarations comments text)) (section_end (trimmed_lines text))
 

@@ -5,8 +5,8 @@ use Rattle.std.specs.Str.{chars}
 use Rattle.regex_syntax.specs.Grammar.{read}
 use Rattle.regex.specs.Patterns.{Config, Re, empty}
 use Rattle.lrlex_rules.specs.Definition.{Rule}
-use Rattle.lrlex_rules.specs.Parts.{RuleParts, as_rule}
-use Rattle.lrlex_rules.specs.Wrapping.{wrapped}
+use Rattle.lrlex_rules.specs.RuleParts.{RuleParts, as_rule}
+use Rattle.lrlex_rules.specs.WrappedPattern.{wrapped}
 
 -- the pattern that `regex`'s grammar reads in a text under these options; `empty` stands for a text that has no reading
 unfoldable pub pattern_read : Config → List ℕ → Re

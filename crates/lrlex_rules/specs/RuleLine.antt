@@ -17,7 +17,7 @@ use Rattle.lrlex_rules.specs.Escape.{unescape}
 abbrev pub is_greater : ℕ → Bool
 is_greater c = c == byte ">"
 
--- `<..>` at the front of a text: what stands inside, and what follows
+-- `<..>` at the front of a text: what is inside, and what follows
 abbrev pub in_angles : List ℕ → List ℕ
 in_angles text = before_first is_greater (drop 1 text)
 
@@ -35,7 +35,7 @@ operation_of text = if begins_with (codes "+") text then Push else (if begins_wi
 abbrev pub target_name : List ℕ → List ℕ
 target_name text = if begins_with (codes "+") text || begins_with (codes "-") text then drop 1 text else text
 
--- the target between the angles, in a word that stands behind the blank at this place
+-- the target between the angles, in the word after the blank at this place
 abbrev pub target : List StartState → ℕ → List ℕ → Result (ℕ × StartStateOperation) Fault
 target states blank text = ok_or (option_map (λ (id : ℕ). (id, operation_of text)) (state_id states (target_name text))) (fault_at UnknownStartState (blank + 1))
 
@@ -59,19 +59,19 @@ is_quoted_by quote part = nat_lt 2 (length part) && ((slice_index part 0 == quot
 abbrev pub is_quoted : List ℕ → Bool
 is_quoted part = is_quoted_by (byte "'") part || is_quoted_by (byte "\"") part
 
--- a rule's name, or none, and where it stands
+-- a rule's name, or none, and where it is
 pub record RuleLabel : Type 0 where
   pub name : Option (List ℕ)
   pub span : Span
 
--- the name in the part that ends here, in a word behind the blank at this place
+-- the name in the part that ends here, in the word after the blank at this place
 abbrev pub label_in : ℕ → ℕ → List ℕ → Result RuleLabel Fault
 label_in blank end part =
     if is_unnamed part then Ok (record { name = None; span = at_place (blank + 1) })
     else (if is_quoted part then Ok (record { name = Some (take (length part - 2) (drop 1 part)); span = span (end - length part + 1) (end - 1) })
     else Err (fault_at InvalidName (blank + 1)))
 
--- the name in the word behind the blank at this place; it ends where the word does
+-- the name in the word after the blank at this place; it ends where the word does
 abbrev pub label_of : ℕ → List ℕ → Result RuleLabel Fault
 label_of blank word = label_in blank (blank + 1 + length word) (name_part word)
 
@@ -122,12 +122,12 @@ names_left (Some rest) = listed_names rest
 abbrev pub all_ids : List StartState → List ℕ
 all_ids states = map (λ (s : StartState). s.id) states
 
--- the ids that a list of names stands for; `*` alone stands for all states (this project's own)
+-- the ids that a list of names means; `*` alone means all states (this project's own)
 abbrev pub listed_ids : List StartState → List (List ℕ) → Option (List ℕ)
 listed_ids states (name ∷ []) = if same_text (trim_text name) (codes "*") then Some (all_ids states) else state_ids states (name ∷ [])
 listed_ids states names = state_ids states names
 
--- the start states and the pattern of a rule line at o. Behind a start-state list the escapes are not rewritten.
+-- the start states and the pattern of a rule line at o. After a start-state list the escapes are not rewritten.
 abbrev pub read_pattern : Bool → List StartState → ℕ → List ℕ → Result Pattern Fault
 read_pattern posix states o head =
     if not (begins_with (codes "<") head) then Ok (record { start_states = []; text = unescape posix head })

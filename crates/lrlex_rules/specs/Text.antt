@@ -1,6 +1,6 @@
 -- The text of a rule file: its lines, and the white space round a piece of it.
 -- A text is a list of bytes in UTF-8, and an offset counts bytes.
-use Rattle.std.specs.Prelude.{◌≡◌, ℕ, true, false, ◌+◌, ◌-◌, Bool, Option, Some, None, if◌then◌else◌, List, All, [], ◌∷◌, ◌++◌, length, nat_eq, ◌==◌, encode_utf8_all}
+use Rattle.std.specs.Prelude.{◌≡◌, ℕ, true, ◌+◌, ◌-◌, Bool, Option, Some, None, if◌then◌else◌, List, All, [], ◌∷◌, ◌++◌, length, nat_eq, ◌==◌, encode_utf8_all}
 use Rattle.std.specs.Char.{encode_utf8, len_utf8}
 use Rattle.std.specs.List.{starts_with, list_all, list_any, before_last, after_last}
 use Rattle.std.specs.Str.{chars, bytes_eq, NonePass}
@@ -60,7 +60,7 @@ abbrev pub skip_leading : (ℕ → Bool) → List ℕ → List ℕ
 skip_leading p [] = []
 skip_leading p (c ∷ cs) = if p c then skip_leading p cs else c ∷ cs
 
--- c, and what is kept behind it; with nothing behind it, c stays only if it fails p
+-- c, and what is kept after it; with nothing after it, c stays only if it fails p
 abbrev pub unless_last : (ℕ → Bool) → ℕ → List ℕ → List ℕ
 unless_last p c [] = if p c then [] else c ∷ []
 unless_last p c (d ∷ ds) = c ∷ d ∷ ds
@@ -82,11 +82,6 @@ trim_text text = trim_end (trim_start text)
 -- a piece without the white space round it
 abbrev pub trim : Piece → Piece
 trim x = piece (x.at + (length x.text - length (trim_start x.text))) (trim_text x.text)
-
--- a piece, or the same without the white space round it
-abbrev pub laid_out : Bool → Piece → Piece
-laid_out true x = trim x
-laid_out false x = x
 
 -- a text of white space alone
 abbrev pub is_white : List ℕ → Bool

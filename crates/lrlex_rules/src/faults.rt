@@ -4,7 +4,7 @@ use lrlex_base::{Span, Spanned, SpansKind};
 use std::error::Error;
 use std::fmt;
 
-/// What reading a rule text answers: the definition, or all that is wrong with the text.
+/// What parsing a rule text returns: the definition, or all that is wrong with the text.
 pub type LexBuildResult<T> = Result<T, Vec<LexBuildError>>;
 
 /// What is wrong with a rule text.
@@ -12,11 +12,11 @@ pub type LexBuildResult<T> = Result<T, Vec<LexBuildError>>;
 pub enum LexErrorKind {
     /// The text ends before a line `%%`.
     PrematureEnd,
-    /// Text stands behind the second `%%`.
+    /// There is text after the second `%%`.
     RoutinesNotSupported,
     /// A line before `%%` declares no start states.
     UnknownDeclaration,
-    /// No space or tab parts a rule's pattern from its name.
+    /// No space or tab separates a rule's pattern from its name.
     MissingSpace,
     /// A rule's name is neither `;` nor in quotes.
     InvalidName,
@@ -26,9 +26,9 @@ pub enum LexErrorKind {
     DuplicateStartState,
     /// A `<` has no `>`.
     InvalidStartState,
-    /// A start state's name is no letter with letters, digits, `_` and `.` behind.
+    /// A start state's name isn't a letter followed by letters, digits, `_` and `.`.
     InvalidStartStateName,
-    /// A rule has the name of an earlier one.
+    /// A rule has the name of an earlier rule.
     DuplicateName,
     /// `regex` refuses the pattern.
     RegexError(regex::Error),
@@ -39,9 +39,9 @@ pub enum LexErrorKind {
 }
 
 impl LexErrorKind {
-    ghost use Rattle.lrlex_rules.specs.Faults.{message};
+    ghost use Rattle.lrlex_rules.specs.LexBuildError.{message};
 
-    /// What is wrong, in English, without a full stop. Why `regex` refuses a pattern isn't told.
+    /// What is wrong, in English, without a full stop. The reason why `regex` refuses a pattern isn't part of it.
     pub fn message(&self) -> &'static str
         ensures { result.now ≡ message self.now }
     {
@@ -63,7 +63,7 @@ impl LexErrorKind {
     }
 }
 
-/// A fault of a rule text, and the places that it names: for a duplicate the first of its name, then the others.
+/// A fault of a rule text, and its places: for a duplicate, the first place of the name, then the others.
 #[derive(Debug, Drop)]
 pub struct LexBuildError {
     pub(crate) kind: LexErrorKind,
@@ -71,7 +71,7 @@ pub struct LexBuildError {
 }
 
 impl LexBuildError {
-    ghost use Rattle.lrlex_rules.specs.Faults.{fault_kind, fault_spans};
+    ghost use Rattle.lrlex_rules.specs.LexBuildError.{fault_kind, fault_spans};
 
     pub(crate) fn new(kind: LexErrorKind, spans: Vec<Span>) -> LexBuildError
         ensures kind { fault_kind result ≡ kind }
@@ -80,7 +80,7 @@ impl LexBuildError {
         LexBuildError { kind, spans }
     }
 
-    /// What is wrong.
+    /// What kind of fault it is.
     pub fn kind(&self) -> &LexErrorKind
         ensures { result.now ≡ fault_kind self.now }
     {
@@ -89,7 +89,7 @@ impl LexBuildError {
 }
 
 impl Spanned for LexBuildError {
-    ghost use Rattle.lrlex_rules.specs.Faults.{fault_kind, fault_spans, kind_of_spans};
+    ghost use Rattle.lrlex_rules.specs.LexBuildError.{fault_kind, fault_spans, kind_of_spans};
 
     ghost spans_of = { fault_spans };
 
@@ -110,7 +110,7 @@ impl Spanned for LexBuildError {
 }
 
 impl fmt::Display for LexBuildError {
-    ghost use Rattle.lrlex_rules.specs.Faults.{fault_kind, kind_text};
+    ghost use Rattle.lrlex_rules.specs.LexBuildError.{fault_kind, kind_text};
 
     ghost output = { λ e. kind_text (fault_kind e) };
 

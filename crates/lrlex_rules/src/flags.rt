@@ -5,13 +5,13 @@ use regex_syntax::{Config, Flags};
 /// The settings of a rule file. What is unset is as in `DEFAULT_LEX_FLAGS`, or as `regex` has it.
 #[derive(Clone, Copy, PartialEq, Eq, Debug)]
 pub struct LexFlags {
-    /// Whether `.` matches U+000A; so unless set to false.
+    /// Whether `.` matches U+000A. True unless set to false.
     pub dot_matches_new_line: Option<bool>,
-    /// Whether `^` and `$` match at the ends of lines; so unless set to false.
+    /// Whether `^` and `$` match at the ends of lines. True unless set to false.
     pub multi_line: Option<bool>,
-    /// Whether `\052` is an octal escape; so unless set to false.
+    /// Whether `\052` is an octal escape. True unless set to false.
     pub octal: Option<bool>,
-    /// Whether `\b` is the backspace, as in POSIX lex, and no word boundary.
+    /// Whether `\b` is the backspace, as in POSIX lex, rather than a word boundary.
     pub posix_escapes: Option<bool>,
     /// Whether a line that begins with `//` is a comment.
     pub allow_wholeline_comments: Option<bool>,
@@ -19,19 +19,19 @@ pub struct LexFlags {
     pub case_insensitive: Option<bool>,
     /// Whether `a*` is lazy and `a*?` greedy.
     pub swap_greed: Option<bool>,
-    /// Whether white space in a pattern says nothing.
+    /// Whether white space in a pattern is ignored.
     pub ignore_whitespace: Option<bool>,
-    /// Whether classes and case folding are Unicode's; so unless set to false.
+    /// Whether classes and case folding are Unicode's. True unless set to false.
     pub unicode: Option<bool>,
     /// About how many bytes a compiled pattern may take; 10 MiB unless set.
     pub size_limit: Option<usize>,
-    /// Kept and handed to nothing: `regex` has no such limit here.
+    /// Kept but not used: `regex` has no such limit here.
     pub dfa_size_limit: Option<usize>,
     /// How deep a pattern may nest; 250 unless set, and at most 1,000. `regex` takes about 1 KB of stack for each level.
     pub nest_limit: Option<u32>,
 }
 
-/// Flags of which nothing is set.
+/// Flags with nothing set.
 pub const UNSPECIFIED_LEX_FLAGS: LexFlags = LexFlags {
     dot_matches_new_line: None,
     multi_line: None,
@@ -47,7 +47,7 @@ pub const UNSPECIFIED_LEX_FLAGS: LexFlags = LexFlags {
     nest_limit: None,
 };
 
-/// The flags that have a default of lrlex's own, set to it.
+/// The flags that lrlex has a default for, set to it.
 pub const DEFAULT_LEX_FLAGS: LexFlags = LexFlags {
     dot_matches_new_line: Some(true),
     multi_line: Some(true),
@@ -110,7 +110,7 @@ impl LexFlags {
         self.allow_wholeline_comments.unwrap_or(false)
     }
 
-    /// The flags, where what is unset and has a default is that.
+    /// The flags, with each unset one that has a default set to it.
     pub(crate) fn resolved(&self) -> LexFlags
         ensures { result ≡ resolved self.now }
     {

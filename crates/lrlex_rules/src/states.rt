@@ -3,14 +3,14 @@ ghost use Rattle.std.specs.Prelude.{◌≡◌, IfOk, string_bytes};
 use lrlex_base::Span;
 use std::alloc::{AllocError, Global};
 
-/// What a rule does to the stack of start states, once its lexeme is given.
+/// What a rule does to the stack of start states, after its lexeme.
 #[derive(Clone, Copy, PartialEq, Eq, Debug)]
 pub enum StartStateOperation {
     /// The stack becomes the rule's target alone.
     ReplaceStack,
-    /// The target is put on top.
+    /// The target becomes the new top.
     Push,
-    /// The top is taken away, whatever it is. An emptied stack becomes state 0 alone.
+    /// The top is removed, whatever it is. An emptied stack becomes state 0 alone.
     Pop,
 }
 
@@ -21,7 +21,7 @@ pub struct StartStateId {
 }
 
 impl StartStateId {
-    ghost use Rattle.lrlex_rules.specs.Parts.{state_number};
+    ghost use Rattle.lrlex_rules.specs.RuleParts.{state_number};
 
     /// The id with this number.
     pub fn new(id: usize) -> StartStateId
@@ -30,7 +30,7 @@ impl StartStateId {
         StartStateId { number: id }
     }
 
-    /// Its number.
+    /// The id's number.
     pub fn id(&self) -> usize
         ensures { result ≡ state_number self.now }
     {
@@ -38,7 +38,7 @@ impl StartStateId {
     }
 }
 
-/// A start state of a lexer. In an inclusive one the rules that list no start states are active too.
+/// A start state of a lexer. In an inclusive state the rules that list no start states are active too.
 #[derive(Debug, Drop)]
 pub struct StartState {
     pub(crate) id: usize,
@@ -49,9 +49,9 @@ pub struct StartState {
 
 impl StartState {
     ghost use Rattle.lrlex_base.specs.Spans.{as_span};
-    ghost use Rattle.lrlex_rules.specs.Parts.{as_state};
+    ghost use Rattle.lrlex_rules.specs.RuleParts.{as_state};
 
-    /// A start state with a copy of this name, which stands at `name_span` in its rule text.
+    /// A start state with a copy of this name, which is at `name_span` in the rule text.
     pub fn new(
         alloc: Global,
         id: usize,
@@ -75,28 +75,28 @@ impl StartState {
         })
     }
 
-    /// Its id, which rules go by.
+    /// The state's id, by which rules refer to it.
     pub fn id(&self) -> usize
         ensures { result ≡ (as_state self.now).id }
     {
         self.id
     }
 
-    /// Its name.
+    /// The state's name.
     pub fn name(&self) -> &str
         ensures { result.now ≡ (as_state self.now).name }
     {
         self.name.as_str()
     }
 
-    /// Whether only the rules that list it are active in it.
+    /// Whether only the rules that list the state are active in it.
     pub fn exclusive(&self) -> bool
         ensures { result ≡ (as_state self.now).exclusive }
     {
         self.exclusive
     }
 
-    /// Where its name stands in its rule text. `INITIAL`, which no text declares, has 0..0.
+    /// Where the state's name is in the rule text. `INITIAL`, which no text declares, has 0..0.
     pub fn name_span(&self) -> Span
         ensures { as_span result ≡ (as_state self.now).name_span }
     {

@@ -5,8 +5,8 @@ use Rattle.std.proofs.lemmas.Option.{slice_get-get_or}
 use Rattle.std.proofs.lemmas.List.{length-map}
 use Rattle.std.proofs.lemmas.Grind.{same_number_lists}
 use Rattle.std.proofs.Math.ListN.{get_or-map}
-use Rattle.lrlex_table.specs.Sound.{row_in, rows_in, is_marked, wins_at}
-use Rattle.lrlex_table.specs.Merged.{next_of, next_rows}
+use Rattle.lrlex_table.specs.Cell.{row_in, rows_in, is_marked, wins_at}
+use Rattle.lrlex_table.specs.Table.{next_of, next_rows}
 use Rattle.lrlex_table.specs.declared.table.Table.{Table}
 
 -- the next row is that of the cell

@@ -1,12 +1,12 @@
--- The parts of a list of rules: their rules rise, and each rule has a table or is asked.
+-- The parts of a list of patterns: their patterns rise, and each pattern has a table or is asked.
 use Rattle.std.proofs.Common.{◌≡◌, ℕ, zero, suc, ◌+◌, ◌-◌, ◌<◌, ◌≤◌, ◌==◌, true, false, List, All, [], ◌∷◌, ◌++◌, length, map, set, get_or, refl, sym, ap, ◌∙◌, subst, inl, inr, arith}
 use Rattle.std.proofs.lemmas.Bool.{cases_lt, or_cases, or_parts, or_from, or_left, or_right, eqb-true, eq-eqb}
 use Rattle.std.proofs.lemmas.List.{map-append, get_or_at, length-append}
 use Rattle.std.proofs.lemmas.List.Elements.{All-nil, All-push, All-get_or, All-weaker}
 use Rattle.std.proofs.lemmas.List.Folds.{list_any-append}
 use Rattle.regex.specs.Patterns.{Re}
-use Rattle.lrlex_table.specs.Merged.{pattern_at, IsTableOf}
-use Rattle.lrlex_table.specs.declared.tables.Part.{Part}
+use Rattle.lrlex_table.specs.Table.{pattern_at, IsTableOf}
+use Rattle.lrlex_table.specs.declared.merged_tables.Part.{Part}
 use Rattle.lrlex_table.specs.Tables.{is_among, is_tabled, AreRising, IsPartOf, AreParts, Covers, ArePartsOf}
 
 -- ---- numbers that rise
@@ -39,7 +39,7 @@ rising_lt lo hi (x ∷ xs) i zero r lt within = absurd (omega arith)
 rising_lt lo hi (x ∷ xs) zero (suc j) r lt within = omega (arith, (rising_within (x + 1) hi xs j r.1 (omega arith)).0)
 rising_lt lo hi (x ∷ xs) (suc i) (suc j) r lt within = rising_lt (x + 1) hi xs i j r.1 (omega arith) (omega arith)
 
--- a lesser number stands earlier
+-- a lesser number is earlier
 pub rising_order : (lo hi : ℕ) (xs : List ℕ) (i j : ℕ) → AreRising lo hi xs → i < length xs → get_or xs i 0 < get_or xs j 0 → i < j
 rising_order lo hi xs i j r within lt = elim (cases_lt i j) [
   | inl less ↦ less
@@ -68,7 +68,7 @@ rising_join lo hi xs (y ∷ ys) a b some other lt =
     ] in
     rising_append lo y hi xs (y ∷ ys) (rising_until lo hi y xs a (omega (arith, first.0, below 0 some)) below) (omega arith, b.1)
 
--- ---- which rules have a table
+-- ---- which patterns have a table
 
 pub among_at : (xs : List ℕ) (k : ℕ) → is_among xs k ≡ true → (i : ℕ) × (i < length xs) × (get_or xs i 0 ≡ k)
 among_at [] k h = absurd (cc)
@@ -86,45 +86,45 @@ among_more xs n all k lt = list_any-append (λ j. j == k) xs (n ∷ []) ∙ elim
   | inr high ↦ or_right (is_among xs k) (is_among (n ∷ []) k) (among_one n k (omega arith))
 ]
 
--- one of the parts takes the rules of another
+-- one of the parts takes the patterns of another
 pub covers_set : (parts : List Part) (at : ℕ) (d both part : Part) → at < length parts →
-    both.rules.items ≡ (get_or parts at d).rules.items ++ part.rules.items → Covers (set parts at both) (part ∷ parts)
+    both.patterns.items ≡ (get_or parts at d).patterns.items ++ part.patterns.items → Covers (set parts at both) (part ∷ parts)
 covers_set [] at d both part lt is k none = absurd (omega arith)
 covers_set (p ∷ ps) zero d both part lt is k none =
-    let old = or_parts (is_among both.rules.items k) (is_tabled ps k) none in
-    let split = or_parts (is_among p.rules.items k) (is_among part.rules.items k)
-    (sym (list_any-append (λ j. j == k) p.rules.items part.rules.items) ∙ sym (ap (λ xs. is_among xs k) is) ∙ old.0) in
-    or_from (is_among part.rules.items k) (is_tabled (p ∷ ps) k) split.1 (or_from (is_among p.rules.items k) (is_tabled ps k) split.0 old.1)
+    let old = or_parts (is_among both.patterns.items k) (is_tabled ps k) none in
+    let split = or_parts (is_among p.patterns.items k) (is_among part.patterns.items k)
+    (sym (list_any-append (λ j. j == k) p.patterns.items part.patterns.items) ∙ sym (ap (λ xs. is_among xs k) is) ∙ old.0) in
+    or_from (is_among part.patterns.items k) (is_tabled (p ∷ ps) k) split.1 (or_from (is_among p.patterns.items k) (is_tabled ps k) split.0 old.1)
 covers_set (p ∷ ps) (suc i) d both part lt is k none =
-    let old = or_parts (is_among p.rules.items k) (is_tabled (set ps i both) k) none in
-    let rest = or_parts (is_among part.rules.items k) (is_tabled ps k) (covers_set ps i d both part (omega arith) is k old.1) in
-    or_from (is_among part.rules.items k) (is_tabled (p ∷ ps) k) rest.0 (or_from (is_among p.rules.items k) (is_tabled ps k) old.0 rest.1)
+    let old = or_parts (is_among p.patterns.items k) (is_tabled (set ps i both) k) none in
+    let rest = or_parts (is_among part.patterns.items k) (is_tabled ps k) (covers_set ps i d both part (omega arith) is k old.1) in
+    or_from (is_among part.patterns.items k) (is_tabled (p ∷ ps) k) rest.0 (or_from (is_among p.patterns.items k) (is_tabled ps k) old.0 rest.1)
 
 pub covers_push : (parts : List Part) (part : Part) → Covers (parts ++ part ∷ []) (part ∷ parts)
 covers_push parts part k none =
-    let split = or_parts (is_tabled parts k) (is_tabled (part ∷ []) k) (sym (list_any-append (λ (p : Part). is_among p.rules.items k) parts (part ∷ [])) ∙ none) in
-    let last = or_parts (is_among part.rules.items k) false split.1 in
-    or_from (is_among part.rules.items k) (is_tabled parts k) last.0 split.0
+    let split = or_parts (is_tabled parts k) (is_tabled (part ∷ []) k) (sym (list_any-append (λ (p : Part). is_among p.patterns.items k) parts (part ∷ [])) ∙ none) in
+    let last = or_parts (is_among part.patterns.items k) false split.1 in
+    or_from (is_among part.patterns.items k) (is_tabled parts k) last.0 split.0
 
--- no rule has a table among two lists of parts
+-- no pattern has a table among two lists of parts
 abbrev pub Neither : List Part → List Part → ℕ → Type 0
 Neither xs ys k = (is_tabled xs k ≡ false) × (is_tabled ys k ≡ false)
 
 pub neither_more : (new old xs ys : List Part) (part : Part) → Covers new (part ∷ old) → ((k : ℕ) → is_tabled old k ≡ false → Neither xs ys k) →
     (k : ℕ) → is_tabled new k ≡ false → Neither xs (ys ++ part ∷ []) k
 neither_more new old xs ys part covers before k none =
-    let split = or_parts (is_among part.rules.items k) (is_tabled old k) (covers k none) in
+    let split = or_parts (is_among part.patterns.items k) (is_tabled old k) (covers k none) in
     let both = before k split.1 in (
       both.0,
-      list_any-append (λ (p : Part). is_among p.rules.items k) ys (part ∷ [])
-          ∙ or_from (is_tabled ys k) (is_tabled (part ∷ []) k) both.1 (or_from (is_among part.rules.items k) false split.0 refl),
+      list_any-append (λ (p : Part). is_among p.patterns.items k) ys (part ∷ [])
+          ∙ or_from (is_tabled ys k) (is_tabled (part ∷ []) k) both.1 (or_from (is_among part.patterns.items k) false split.0 refl),
     )
 
--- ---- parts of a list of rules
+-- ---- parts of a list of patterns
 
 pub part_wider : (ps : List Re) (lo hi low high : ℕ) (p : Part) → low ≤ lo → hi ≤ high → IsPartOf ps lo hi p → IsPartOf ps low high p
 part_wider ps lo hi low high p below above is = record {
-  rises = rising_wider lo hi low high p.rules.items below above is.rises;
+  rises = rising_wider lo hi low high p.patterns.items below above is.rises;
   table = is.table;
 }
 
@@ -132,32 +132,32 @@ pub parts_wider : (ps : List Re) (lo hi low high : ℕ) (parts : List Part) → 
 parts_wider ps lo hi low high parts below above are =
     All-weaker (IsPartOf ps lo hi) (IsPartOf ps low high) (λ p. part_wider ps lo hi low high p below above) parts are
 
-pub part_joined : (ps : List Re) (lo hi : ℕ) (a b p : Part) → IsPartOf ps lo hi a → IsPartOf ps lo hi b → 0 < length a.rules.items → 0 < length b.rules.items →
-    get_or a.rules.items (length a.rules.items - 1) 0 < get_or b.rules.items 0 0 → p.rules.items ≡ a.rules.items ++ b.rules.items →
-    IsTableOf (map (λ k. pattern_at ps k) a.rules.items ++ map (λ k. pattern_at ps k) b.rules.items) p.table → IsPartOf ps lo hi p
+pub part_joined : (ps : List Re) (lo hi : ℕ) (a b p : Part) → IsPartOf ps lo hi a → IsPartOf ps lo hi b → 0 < length a.patterns.items → 0 < length b.patterns.items →
+    get_or a.patterns.items (length a.patterns.items - 1) 0 < get_or b.patterns.items 0 0 → p.patterns.items ≡ a.patterns.items ++ b.patterns.items →
+    IsTableOf (map (λ k. pattern_at ps k) a.patterns.items ++ map (λ k. pattern_at ps k) b.patterns.items) p.table → IsPartOf ps lo hi p
 part_joined ps lo hi a b p left right some other lt is table = record {
-  rises = subst (AreRising lo hi) (sym is) (rising_join lo hi a.rules.items b.rules.items left.rises right.rises some other lt);
-  table = subst (λ qs. IsTableOf qs p.table) (sym (map-append (λ k. pattern_at ps k) a.rules.items b.rules.items) ∙ ap (map (λ k. pattern_at ps k)) (sym is)) table;
+  rises = subst (AreRising lo hi) (sym is) (rising_join lo hi a.patterns.items b.patterns.items left.rises right.rises some other lt);
+  table = subst (λ qs. IsTableOf qs p.table) (sym (map-append (λ k. pattern_at ps k) a.patterns.items b.patterns.items) ∙ ap (map (λ k. pattern_at ps k)) (sym is)) table;
 }
 
-pub one_part : (ps : List Re) (rule : ℕ) (p : Part) → p.rules.items ≡ rule ∷ [] → IsTableOf (pattern_at ps rule ∷ []) p.table → ArePartsOf ps rule (rule + 1) (p ∷ []) []
-one_part ps rule p is table = record {
-  are = All-push (IsPartOf ps rule (rule + 1)) [] p (All-nil (IsPartOf ps rule (rule + 1))) (record {
-    rises = subst (AreRising rule (rule + 1)) (sym is) (omega arith, omega arith);
+pub one_part : (ps : List Re) (pattern : ℕ) (p : Part) → p.patterns.items ≡ pattern ∷ [] → IsTableOf (pattern_at ps pattern ∷ []) p.table → ArePartsOf ps pattern (pattern + 1) (p ∷ []) []
+one_part ps pattern p is table = record {
+  are = All-push (IsPartOf ps pattern (pattern + 1)) [] p (All-nil (IsPartOf ps pattern (pattern + 1))) (record {
+    rises = subst (AreRising pattern (pattern + 1)) (sym is) (omega arith, omega arith);
     table = subst (λ xs. IsTableOf (map (λ k. pattern_at ps k) xs) p.table) (sym is) table;
   });
   rises = omega arith;
   each = λ k ge lt none.
-      let among : is_among p.rules.items k ≡ true = ap (λ xs. is_among xs k) is ∙ among_one rule k (omega arith) in
-      let missing : is_among p.rules.items k ≡ false = (or_parts (is_among p.rules.items k) false none).0 in
+      let among : is_among p.patterns.items k ≡ true = ap (λ xs. is_among xs k) is ∙ among_one pattern k (omega arith) in
+      let missing : is_among p.patterns.items k ≡ false = (or_parts (is_among p.patterns.items k) false none).0 in
       absurd (cc);
 }
 
-pub one_asked : (ps : List Re) (rule : ℕ) → ArePartsOf ps rule (rule + 1) [] (rule ∷ [])
-one_asked ps rule = record {
-  are = All-nil (IsPartOf ps rule (rule + 1));
+pub one_asked : (ps : List Re) (pattern : ℕ) → ArePartsOf ps pattern (pattern + 1) [] (pattern ∷ [])
+one_asked ps pattern = record {
+  are = All-nil (IsPartOf ps pattern (pattern + 1));
   rises = (omega arith, omega arith);
-  each = λ k ge lt none. among_one rule k (omega arith);
+  each = λ k ge lt none. among_one pattern k (omega arith);
 }
 
 -- an element of a list

@@ -1,4 +1,4 @@
--- Where an NFA asks only for the start of the text or of a line, a step that knows whether it stands there is right.
+-- Where an NFA asks only for the start of the text or of a line, a step that knows whether it is there is right.
 use Rattle.std.proofs.Common.{◌≡◌, ℕ, ◌==◌, Bool, true, false, cond, if◌then◌else◌, inl, inr, ◌||◌, List, Option, Some, None, refl, sym, ap, ap₂, ◌∙◌, subst, true≢false, arith}
 use Rattle.std.specs.Coded.{coded_bool}
 use denote.Struct.Props.{≡_prop}
@@ -9,7 +9,7 @@ use Rattle.regex_dfa.specs.Kinds.{sees_lf}
 use Rattle.regex_dfa.specs.Moves.{Test, Agrees}
 use Rattle.regex_dfa.specs.declared.dfa.Dfa.{Dfa}
 use Rattle.regex_dfa.proofs.ClassesLemmas.{state_within}
-use Rattle.lrlex_table.specs.Charts.{AsksForStarts, side_at, no_side, StepsFrom, StepsOn}
+use Rattle.lrlex_table.specs.Determinizer.{AsksForStarts, side_at, no_side, StepsFrom, StepsOn}
 
 pub agrees_at_start : (nfa : Nfa) (hay : List ℕ) (j : ℕ) (before after : Side) → AsksForStarts nfa → is_edge (side_before hay j) ≡ is_edge before →
     is_lf (side_before hay j) ≡ is_lf before → Agrees nfa (λ l. holds l hay j) before after true
@@ -37,7 +37,7 @@ edge_of_row r line other = elim (r == 1) as (λ b. is_edge (record { byte = cond
   | false ↦ refl
 ]
 
--- ---- one step for all that may stand before a row
+-- ---- one step for all that may be before a row
 
 -- in row 1, where nothing does
 pub steps_at_first : (nfa : Nfa) (byte : Option ℕ) (threads next : List ℕ) (matched : Bool) → StepsFrom nfa (side_at 1 false) byte threads next matched →

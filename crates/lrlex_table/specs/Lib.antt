@@ -1,9 +1,9 @@
-pub mod Sound
-pub mod Steps
-pub mod Merged
-pub mod Decided
-pub mod Charts
-pub mod Grids
-pub mod Sources
+pub mod Cell
+pub mod Step
+pub mod Table
+pub mod Reach
+pub mod Determinizer
+pub mod ProductBuilder
+pub mod Source
 pub mod Tables
-pub mod Vain
+pub mod DeadEnds

@@ -1,12 +1,15 @@
 ghost use Rattle.std.specs.Prelude.{◌≡◌, ◌+◌, ◌-◌, ◌/◌, ◌^◌, ◌<◌, ◌≤◌, ◌↔◌, IsTrue};
 
-/// What building the tables of a definition may still cost: so many rows held at once, of some 512 bytes each, and so
-/// much work, in units of about a nanosecond. Once it is spent, rules go without a table.
+/// What building the tables of a definition may still cost: how many rows may be held at once, of about 512 bytes each, and
+/// how much work may be done, in units of about a nanosecond. Once it is spent, patterns have no table.
 #[derive(Drop)]
 pub struct Budget {
     rows: usize,
     work: usize,
 }
+
+/// What it costs to fill a row, in the budget's units of work. The steps of an NFA are paid besides.
+const WORK_OF_A_ROW: usize = 1_000;
 
 impl Budget {
     pub fn new(rows: usize, work: usize) -> Budget
@@ -16,7 +19,7 @@ impl Budget {
         Budget { rows, work }
     }
 
-    /// Pays for so many rows. False where there aren't as many left, and then none is.
+    /// Pays for so many rows. False where fewer are left; then none is left after it.
     pub fn pay_rows(&mut self, rows: usize) -> bool
         ensures enough { IsTrue result ↔ (rows ≤ self.old.rows) }
         ensures left { self.new.rows ≡ self.old.rows - rows }
@@ -27,6 +30,14 @@ impl Budget {
         enough
     }
 
+    /// Pays for a row and for filling it. False where not as much is left.
+    pub(crate) fn pay_row(&mut self) -> bool
+        ensures enough { IsTrue result → 1 ≤ self.old.rows }
+        ensures left { self.new.rows ≡ self.old.rows - 1 }
+    {
+        self.pay_rows(1) && self.pay_work(WORK_OF_A_ROW)
+    }
+
     /// How many rows are left.
     pub fn rows(&self) -> usize
         ensures { result ≡ self.now.rows }
@@ -34,7 +45,7 @@ impl Budget {
         self.rows
     }
 
-    /// Gives so many rows back, which are no longer held.
+    /// Gives back so many rows, which are no longer held.
     pub fn free_rows(&mut self, rows: usize)
         ensures left { self.old.rows + rows < 2 ^ 64 → self.new.rows ≡ self.old.rows + rows }
         ensures work { self.new.work ≡ self.old.work }
@@ -42,7 +53,7 @@ impl Budget {
         self.rows = self.rows.saturating_add(rows);
     }
 
-    /// Pays for so much work. False where there isn't as much left, and then none is.
+    /// Pays for so much work. False where less is left; then nothing is left after it.
     pub fn pay_work(&mut self, work: usize) -> bool
         ensures enough { IsTrue result ↔ (work ≤ self.old.work) }
         ensures left { self.new.work ≡ self.old.work - work }
@@ -53,7 +64,7 @@ impl Budget {
         enough
     }
 
-    /// Sets half of the rows and of the work aside, and answers them.
+    /// Sets half of the rows and half of the work aside, and returns them.
     pub fn set_aside(&mut self) -> Budget
         ensures half_rows { result.rows ≡ self.old.rows / 2 }
         ensures half_work { result.work ≡ self.old.work / 2 }
@@ -69,7 +80,7 @@ impl Budget {
         half
     }
 
-    /// Puts back what was set aside.
+    /// Adds what was set aside to this budget again.
     pub fn put_back(&mut self, aside: Budget)
         ensures rows { self.old.rows + aside.rows < 2 ^ 64 →
             self.new.rows ≡ self.old.rows + aside.rows }

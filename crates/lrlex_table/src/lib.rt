@@ -1,26 +1,28 @@
-//! Tables for the rules of a state, as few as can be had within a budget.
+//! Tables for a list of patterns, as few as can be had within a budget. A table finds the longest match of its patterns in one
+//! walk over the text.
 #![tactic(auto)]
 
 mod budget;
-mod chart;
+mod cached_table;
+mod dead_ends;
+mod determinize;
+mod hash;
 mod index;
 mod marking;
-mod merging;
+mod merged_tables;
 mod nfa;
+mod pattern_table;
 mod product;
-mod single;
 mod source;
 mod step;
 mod table;
-mod tables;
-mod vain;
 mod walk;
 
 pub use budget::Budget;
-pub use merging::table_of;
-pub use single::Single;
+pub use cached_table::CachedTable;
+pub use dead_ends::{DeadEnd, DeadEnds};
+pub use merged_tables::{Part, Tables, joined_tables, tables_between};
+pub use pattern_table::table_of;
 pub use source::Source;
 pub use table::Table;
-pub use tables::{Part, Tables, joined_tables, tables_between};
-pub use vain::{DeadEnd, DeadEnds};
-pub use walk::{Sight, Tile};
+pub use walk::{PatternMatch, TableScan};

@@ -1,12 +1,12 @@
-//! How a table is made of its rows: its cells are marked.
+//! Makes a table of finished rows: marks the cells that lead to rows where some pattern matches.
 ghost use Rattle.std.specs.Prelude.{◌≡◌, ℕ, ◌*◌, ◌<◌, List, length, IfSome, vec_len, slice_index_or};
 ghost use Rattle.regex.specs.Patterns.{Re};
-ghost use Rattle.lrlex_table.specs.Sound.{row_in, is_marked, wins_at};
-ghost use Rattle.lrlex_table.specs.Merged.{IsTableOf, Serves};
+ghost use Rattle.lrlex_table.specs.Cell.{row_in, is_marked, wins_at};
+ghost use Rattle.lrlex_table.specs.Table.{IsTableOf, Serves};
 
 use crate::table::{MARK, Table, win_in};
 
-/// The cell that leads to the row.
+/// The cell that leads to the row, with the mark where some pattern matches there.
 fn cell_of(wins: &[Option<u16>], row: u16) -> u16
     requires { row < 32768 }
     ensures row { row_in result ≡ row }
@@ -32,8 +32,8 @@ fn mark(cells: &mut [u16], wins: &[Option<u16>])
     }
 }
 
-/// The table with these rows. None where they are too many for marks, where some pattern matches at row 0, and where that
-/// is the first.
+/// The table with these rows. None where they are too many for marks, where some pattern matches at row 0, and where a walk
+/// would begin at row 0.
 pub(crate) fn marked_table(mut next: Vec<u16>, wins: Vec<Option<u16>>, start: u16) -> Option<Table>
     requires wide { vec_len next ≡ vec_len wins * 256 }
     requires start { start < vec_len wins }

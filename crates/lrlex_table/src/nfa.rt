@@ -1,6 +1,6 @@
 ghost use Rattle.std.specs.Prelude.{◌≡◌, IfOk, IfSome};
 ghost use Rattle.regex.specs.Strings.{regex_pattern, regex_config, IsReadFromSource};
-ghost use Rattle.lrlex_table.specs.Merged.{Measures};
+ghost use Rattle.lrlex_table.specs.Table.{Measures};
 
 use regex::Regex;
 use regex_nfa::Nfa;
@@ -10,7 +10,7 @@ use std::alloc::{AllocError, Global};
 /// The most bytes that an NFA's tables take.
 const MOST: usize = 2 << 20;
 
-/// An NFA for the regex, which was read under these options. None where it would be too big.
+/// The NFA of a pattern, which `regex` read under these options. None where it would be too big.
 pub fn nfa_of(alloc: Global, regex: &Regex, config: &Config) -> Result<Option<Nfa>, AllocError>
     requires read { ∥ IsReadFromSource regex.now ∥₁ }
     requires config { regex_config regex.now ≡ config.now }

@@ -1,24 +1,21 @@
-//! The table of the rules of two tables. Each row stands for a row of each.
+//! The product of two tables: the table of the patterns of both. Each of its rows stands for a row of one and a row of the
+//! other.
 ghost use Rattle.std.specs.Prelude.{◌≡◌, ◌≢◌, ◌+◌, ◌-◌, ◌*◌, ◌<◌, ◌≤◌, ◌++◌, List, length, vec_len, IsTrue, IfOk, IfSome, None, Some};
 ghost use Rattle.regex.specs.Patterns.{Re};
-ghost use Rattle.lrlex_table.specs.Merged.{next_of, IsTableOf};
-ghost use Rattle.lrlex_table.specs.Grids.{first_win, pair_at, AreEqualCells, HasPairOf, IsGridBelow};
+ghost use Rattle.lrlex_table.specs.Table.{next_of, IsTableOf};
+ghost use Rattle.lrlex_table.specs.ProductBuilder.{first_win, pair_at, AreEqualCells, HasPairOf, IsProductBelow};
 
 use crate::budget::Budget;
 use crate::index::{Index, hash_of_pair};
 use crate::marking::marked_table;
-use crate::table::Table;
+use crate::table::{START, Table};
 use std::alloc::{AllocError, Global};
 
-/// The row of the two first rows.
-const START: u16 = 1;
-
-/// What it costs to fill a row, in the budget's units of work.
-const WORK_OF_A_ROW: usize = 1_000;
-
+/// A product in the making: the rows so far with their pairs, the cells of those that were filled, and the first pattern
+/// that matches at each of these.
 #[derive(Drop)]
-pub struct Grid {
-    /// The first rows of the two tables.
+pub struct ProductBuilder {
+    /// The rows of the two tables where a walk begins.
     first: (u16, u16),
     rows: Vec<(u16, u16)>,
     next: Vec<u16>,
@@ -26,21 +23,22 @@ pub struct Grid {
     index: Index,
 }
 
-/// The first of the rules of two tables, where the second's count from `shift`. None where it has no number.
+/// The first of the patterns of two tables that matches, where the second's patterns count from `shift`. None where its
+/// number is too big.
 fn first_of(one: Option<u16>, other: Option<u16>, shift: u16) -> Option<Option<u16>>
     ensures { IfSome result (λ win. win ≡ first_win shift one other) }
 {
     match (one, other) {
         (Some(k), _) => Some(Some(k)),
         (None, Some(k)) => {
-            let place = k.checked_add(shift)?;
-            Some(Some(place))
+            let shifted = k.checked_add(shift)?;
+            Some(Some(shifted))
         }
         (None, None) => Some(None),
     }
 }
 
-/// The first byte after this one for which one of the two rows has another cell, or 256.
+/// The first byte after this one for which one of the two rows has another cell than for this one, or 256.
 #[inline(always)]
 fn run_end(a: &Table, x: u16, b: &Table, y: u16, byte: usize) -> usize
     requires byte { byte < 256 }
@@ -61,9 +59,15 @@ fn run_end(a: &Table, x: u16, b: &Table, y: u16, byte: usize) -> usize
     256
 }
 
-impl Grid {
-    fn new(alloc: Global, a: &Table, b: &Table, shift: u16) -> Result<Option<Grid>, AllocError>
-        ensures { IfOk result (λ o. IfSome o (λ g. IsGridBelow a.now b.now shift g 0)) }
+impl ProductBuilder {
+    /// The dead row and the row of the two tables' first rows, neither of them filled. None where a table begins at row 0.
+    fn new(
+        alloc: Global,
+        a: &Table,
+        b: &Table,
+        shift: u16,
+    ) -> Result<Option<ProductBuilder>, AllocError>
+        ensures { IfOk result (λ o. IfSome o (λ g. IsProductBelow a.now b.now shift g 0)) }
     {
         if a.start == 0 || b.start == 0 {
             return Ok(None);
@@ -74,7 +78,7 @@ impl Grid {
         let mut index = Index::new(alloc)?;
         index.add(0, hash_of_pair(0, 0));
         let cells = a.rows().saturating_add(b.rows()).saturating_mul(256);
-        Ok(Some(Grid {
+        Ok(Some(ProductBuilder {
             first: (a.start, b.start),
             rows,
             next: Vec::with_capacity(alloc, cells)?,
@@ -83,6 +87,7 @@ impl Grid {
         }))
     }
 
+    /// The row of this pair of rows, other than `START`, where the index has it.
     #[inline(always)]
     fn find(&self, x: u16, y: u16, hash: u32) -> Option<u16>
         ensures other { IfSome result (λ v. v ≢ 1) }
@@ -90,9 +95,7 @@ impl Grid {
         ensures is { IfSome result (λ v. pair_at self.now.rows.items v ≡ (x, y)) }
     {
         for probe in 0..self.index.len() {
-            let (row, other) = self.index.entry(hash, probe)?;
-            if other == hash
-                && row != START
+            if let Some(row) = self.index.candidate(hash, probe)?
                 && let Some(found) = self.rows.get(row as usize)
                 && found.0 == x
                 && found.1 == y
@@ -103,7 +106,7 @@ impl Grid {
         None
     }
 
-    /// The row of these two. None where there would be more than `most`.
+    /// The row of this pair of rows, other than `START`. None where there would be more than `most` rows.
     #[inline(never)]
     fn intern(&mut self, x: u16, y: u16, most: u16) -> Result<Option<u16>, AllocError>
         ensures row { IfOk result (λ o. IfSome o (HasPairOf self.old self.new x y)) }
@@ -137,11 +140,11 @@ impl Grid {
         row: u16,
         most: u16,
     ) -> Result<bool, AllocError>
-        requires filled { IsGridBelow a.now b.now shift self.old row }
+        requires filled { IsProductBelow a.now b.now shift self.old row }
         requires row { row < vec_len self.old.rows }
         ensures first { self.new.first ≡ self.old.first }
         ensures filled { IfOk result (λ t.
-            IsTrue t → IsGridBelow a.now b.now shift self.new (row + 1)) }
+            IsTrue t → IsProductBelow a.now b.now shift self.new (row + 1)) }
     {
         let (x, y) = self.rows[row as usize];
         let Some(win) = first_of(a.win_of(x), b.win_of(y), shift) else {
@@ -164,7 +167,7 @@ impl Grid {
         Ok(true)
     }
 
-    /// Adds the cells of all rows. False past `most` rows or the budget.
+    /// Adds the cells of all rows, each paid from the budget. False past `most` rows, and where the budget is spent.
     fn fill_all(
         &mut self,
         a: &Table,
@@ -173,15 +176,15 @@ impl Grid {
         most: u16,
         budget: &mut Budget,
     ) -> Result<bool, AllocError>
-        requires filled { IsGridBelow a.now b.now shift self.old 0 }
+        requires filled { IsProductBelow a.now b.now shift self.old 0 }
         ensures filled { IfOk result (λ t.
-            IsTrue t → IsGridBelow a.now b.now shift self.new (vec_len self.new.rows)) }
+            IsTrue t → IsProductBelow a.now b.now shift self.new (vec_len self.new.rows)) }
     {
         'rows: for row in 0..most {
             if row as usize == self.rows.len() {
                 return Ok(true);
             }
-            if !budget.pay_rows(1) || !budget.pay_work(WORK_OF_A_ROW) {
+            if !budget.pay_row() {
                 return Ok(false);
             }
             if !self.fill(a, b, shift, row, most)? {
@@ -192,8 +195,8 @@ impl Grid {
     }
 }
 
-/// The table of all rules of both, where those of the second count from `shift`. None past `most` rows, and past the
-/// budget, which pays for each row.
+/// The table of the patterns of both tables, where the second's patterns count from `shift`. None past `most` rows, and
+/// where the budget is spent, which pays for each row.
 pub fn product(
     alloc: Global,
     a: &Table,
@@ -205,12 +208,12 @@ pub fn product(
     ensures { (ps qs : List Re) → IsTableOf ps a.now → IsTableOf qs b.now → shift ≡ length ps →
         IfOk result (λ o. IfSome o (IsTableOf (ps ++ qs))) }
 {
-    let made = Grid::new(alloc, a, b, shift)?;
-    let Some(mut grid) = made else {
+    let made = ProductBuilder::new(alloc, a, b, shift)?;
+    let Some(mut builder) = made else {
         return Ok(None)
     };
-    if !grid.fill_all(a, b, shift, most, budget)? {
+    if !builder.fill_all(a, b, shift, most, budget)? {
         return Ok(None);
     }
-    Ok(marked_table(grid.next, grid.wins, START))
+    Ok(marked_table(builder.next, builder.wins, START))
 }

@@ -1,13 +1,16 @@
 ghost use Rattle.std.specs.Prelude.{◌≡◌, ◌+◌, ◌*◌, None, IfOk, vec_len, slice_index_or};
-ghost use Rattle.lrlex_table.specs.Sound.{row_in, rows_in, IsSound};
+ghost use Rattle.lrlex_table.specs.Cell.{row_in, rows_in, IsSound};
 
 use std::alloc::{AllocError, Global};
 
-/// Added to a cell where some pattern matches at its row.
+/// Added to a cell that leads to a row where some pattern matches.
 pub(crate) const MARK: u16 = 0x8000;
 
-/// A cell for each row and byte: the next row, marked where some pattern matches there. Row 0 is dead. `wins` has the
-/// first pattern that matches at a row.
+/// The row where a walk begins, in each table that is built. No cell leads to it.
+pub(crate) const START: u16 = 1;
+
+/// An automaton for a list of patterns. It has a row for each state, and a row has a cell for each byte: the next row,
+/// marked where some pattern matches there. Row 0 is dead. `wins` has the first pattern that matches at a row.
 #[derive(Drop)]
 pub struct Table {
     pub(crate) cells: Vec<u16>,
@@ -30,13 +33,13 @@ pub(crate) fn win_in(wins: &[Option<u16>], row: u16) -> Option<u16>
     ensures { result ≡ slice_index_or wins.now row None }
 {
     match wins.get(row as usize) {
-        Some(rule) => *rule,
+        Some(pattern) => *pattern,
         None => None,
     }
 }
 
 impl Table {
-    /// Where the row goes on the byte. Row 0 for no row.
+    /// The row to which this row goes on the byte, or row 0 where the table has no such row.
     #[inline(always)]
     pub(crate) fn next_of(&self, row: u16, byte: u8) -> u16
         ensures { result ≡ slice_index_or (rows_in self.now.cells.items) (row * 256 + byte) 0 }
@@ -55,14 +58,14 @@ impl Table {
         win_in(&self.wins, row)
     }
 
-    /// How many rows there are.
+    /// How many rows the table has.
     pub fn rows(&self) -> usize
         ensures { result ≡ vec_len self.now.wins }
     {
         self.wins.len()
     }
 
-    /// The same table again.
+    /// A copy of the table.
     pub(crate) fn copy(&self, alloc: Global) -> Result<Table, AllocError>
         ensures cells { IfOk result (λ t. t.cells.items ≡ self.now.cells.items) }
         ensures wins { IfOk result (λ t. t.wins.items ≡ self.now.wins.items) }

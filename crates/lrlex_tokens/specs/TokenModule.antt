@@ -15,13 +15,20 @@ pub data ModuleFault : Type 0 where
   BadTokenName : List ℕ → ModuleFault
   SameConstant : List ℕ → ModuleFault
 
+-- the text of a fault
+abbrev pub fault_text : ModuleFault → List ℕ
+fault_text BadModuleName = codes "Module name is not an identifier"
+fault_text BadTypeName = codes "Type name is not an identifier"
+fault_text (BadTokenName name) = codes "Constant of token '" ++ (name ++ codes "' is not an identifier")
+fault_text (SameConstant name) = codes "Constant of token '" ++ (name ++ codes "' is that of an earlier token")
+
 -- a token: its own name, the name that it goes by, and its id as text
 pub record Token : Type 0 where
   pub name : List ℕ
   pub shown : List ℕ
   pub id : List ℕ
 
--- what a module is made of; the tokens stand in the byte order of their own names
+-- what a module is made of; the tokens are in the byte order of their own names
 pub record Module : Type 0 where
   pub mod_name : List ℕ
   pub type_name : List ℕ
@@ -41,13 +48,13 @@ is_identifier name = is_identifier_chars (chars name)
 abbrev pub constant_of : Token → List ℕ
 constant_of token = codes "T_" ++ map to_ascii_uppercase token.shown
 
--- what is wrong with a token behind the earlier ones: a character that no identifier goes on with, or an earlier one's constant
+-- what is wrong with a token after the earlier ones: a character that no identifier goes on with, or an earlier one's constant
 abbrev pub token_fault : List Token → Token → Option ModuleFault
 token_fault earlier token =
     if not (list_all is_xid_continue (chars token.shown)) then Some (BadTokenName token.name)
     else (if list_any (bytes_eq (constant_of token)) (map constant_of earlier) then Some (SameConstant token.name) else None)
 
--- the first fault of the tokens behind the earlier ones
+-- the first fault of the tokens after the earlier ones
 abbrev pub first_fault : List Token → List Token → Option ModuleFault
 first_fault earlier [] = None
 first_fault earlier (token ∷ tokens) = option_or (token_fault earlier token) (first_fault (earlier ++ token ∷ []) tokens)

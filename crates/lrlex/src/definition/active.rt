@@ -2,7 +2,7 @@ ghost use Rattle.std.specs.Prelude.{◌≡◌, ◌<◌, ◌==◌, ◌∷◌, ◌
 ghost use Rattle.std.specs.List.{find, list_any, position};
 ghost use Rattle.std.specs.Option.{option_copied};
 ghost use Rattle.lrlex.specs.Active.{is_inclusive, is_active_where, active_places, lacks_id, lexeme_id, lists_none, lists_state, merged, places_from};
-ghost use Rattle.lrlex_rules.specs.Parts.{as_rule, as_state};
+ghost use Rattle.lrlex_rules.specs.RuleParts.{as_rule, as_state};
 ghost use Rattle.lrlex.specs.StateTables.{AreBelow, ArePlaced, list_in};
 
 use lrlex_base::Numbered;

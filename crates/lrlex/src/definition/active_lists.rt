@@ -1,6 +1,6 @@
 //! The rules that are active in each start state, as lists of places: states with the same rules share a list.
 ghost use Rattle.std.specs.Prelude.{◌≡◌, ◌<◌, ◌≤◌, ◌∷◌, ◌++◌, [], ℕ, All, map, length, IfOk, IfSome, IsTrue};
-ghost use Rattle.lrlex_rules.specs.Parts.{as_rule, as_state};
+ghost use Rattle.lrlex_rules.specs.RuleParts.{as_rule, as_state};
 ghost use Rattle.lrlex.specs.Active.{active_places};
 ghost use Rattle.lrlex.specs.StateTables.{ArePlaced, list_in, lists_at};
 
@@ -18,7 +18,7 @@ fn hash_of(places: &[usize]) -> u64 {
     hash
 }
 
-/// Which of the lists has these places, if it is the one that stands under the hash.
+/// Which of the lists has these places, if it is the one with that hash.
 fn same_list(
     known: &HashMap<u64, usize>,
     hash: u64,
@@ -99,7 +99,8 @@ fn lists_by_states<S>(
     Ok((lists, at))
 }
 
-/// The same by rules, each of which is looked at once, and the states that it lists. The id of each state is its place.
+/// The lists of rules that are active in the states, and which list each state has. Goes by rules: each rule is looked at
+/// once, with the states that it lists. The id of each state is its place.
 fn lists_by_rules<S>(
     alloc: Global,
     states: &[StartState],

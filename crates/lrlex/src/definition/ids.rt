@@ -3,7 +3,7 @@ ghost use Rattle.std.specs.Prelude.{◌≡◌, ◌≢◌, IfOk, List, ℕ, map, 
 ghost use Rattle.std.specs.List.{list_any};
 ghost use Rattle.std.specs.Str.{bytes_eq};
 ghost use Rattle.std.specs.HashSet.{contains_by};
-ghost use Rattle.lrlex_rules.specs.Parts.{as_rule};
+ghost use Rattle.lrlex_rules.specs.RuleParts.{as_rule};
 ghost use Rattle.lrlex.specs.Ids.{is_named, ids_of, with_own_id, is_lacking, is_unused, is_unused_at, HoldsNames, HoldsTexts, HoldsPlaces};
 
 use crate::definition::names::have_own_ids;
@@ -134,7 +134,9 @@ impl<S: Numbered> RuleTable<S> {
         take_ids(self.rules.as_mut_slice(), ids);
         self.own_ids = have_own_ids(&self.rules);
     }
-    /// The same, and answers the map's names that no rule has, and the names of rules that the map lacks.
+
+    /// Gives each named rule the map's id for its name, or none. Answers the map's names that no rule has, and the names of
+    /// rules that the map lacks.
     pub(crate) fn set_ids<'a>(
         &mut self,
         alloc: Global,
@@ -157,7 +159,8 @@ impl<S: Numbered> RuleTable<S> {
         Ok((lacking, unused))
     }
 
-    /// The same, and answers the map's names that no rule has, and the names of rules that the map lacks, each with its place.
+    /// Gives each named rule the map's id for its name, or none. Answers the map's names that no rule has, and the names of
+    /// rules that the map lacks, each with its place in the rule text.
     pub(crate) fn set_ids_spanned<'a>(
         &mut self,
         alloc: Global,

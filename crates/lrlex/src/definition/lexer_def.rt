@@ -1,5 +1,5 @@
 ghost use Rattle.std.specs.Prelude.{◌≡◌, IfOk};
-ghost use Rattle.lrlex_rules.specs.Answer.{IsAnswer, AreOwnRefusals};
+ghost use Rattle.lrlex_rules.specs.LexBuildResult.{IsAnswer, AreOwnRefusals};
 
 use crate::definition::lookups::{first_named, first_with_id};
 use crate::definition::non_streaming::LRNonStreamingLexerDef;
@@ -20,10 +20,10 @@ pub trait LexerDef<L: LexerTypes>: Sized {
     ghost use Rattle.std.specs.Slice.Iter.{iter_rest};
     ghost use Rattle.lrlex_rules.specs.declared.states.StartState.{StartState};
     ghost use Rattle.lrlex_rules.specs.Definition.{Definition};
-    ghost use Rattle.lrlex_rules.specs.Answer.{IsAnswer, AreOwnRefusals};
-    ghost use Rattle.lrlex_rules.specs.Faults.{IsPlaced};
-    ghost use Rattle.lrlex_rules.specs.Laws.{IsLawful};
-    ghost use Rattle.lrlex_rules.specs.Parts.{RuleParts, as_rule};
+    ghost use Rattle.lrlex_rules.specs.LexBuildResult.{IsAnswer, AreOwnRefusals};
+    ghost use Rattle.lrlex_rules.specs.LexBuildError.{IsPlaced};
+    ghost use Rattle.lrlex_rules.specs.DefinitionLaws.{IsLawful};
+    ghost use Rattle.lrlex_rules.specs.RuleParts.{RuleParts, as_rule};
     ghost use Rattle.lrlex.specs.Ids.{IsMadeOf, rule_with_id, rule_named, ids_of, with_own_id, with_ids, is_lacking, is_unused, is_unused_at, HoldsNames, HoldsTexts, HoldsPlaces};
 
     // What it says.
@@ -62,7 +62,7 @@ pub trait LexerDef<L: LexerTypes>: Sized {
     fn get_rule(&self, idx: usize) -> Option<&Rule<L::StorageT>>
         ensures { option_copied result ≡ slice_get (rules_of self.now) idx };
 
-    /// The first rule with this id, where there is one. `find_rule_by_id` tells.
+    /// The first rule with this id, where there is one. `find_rule_by_id` is the test.
     fn get_rule_by_id(&self, tok_id: L::StorageT) -> &Rule<L::StorageT>
         requires { IsSome (rule_with_id L.StorageT.number (rules_of self.now)
             (L.StorageT.number tok_id)) }
@@ -102,7 +102,8 @@ pub trait LexerDef<L: LexerTypes>: Sized {
             (map (as_rule L.StorageT.number) (rules_of self.old))) sets.1) }
         ensures unchanged { OnErr result (self.new ≡ self.old) };
 
-    /// The same, where the second set has each name with its place in the rule text.
+    /// Gives each named rule the map's id for its name, or none, as `set_rule_ids` does. The second set has each name of a
+    /// rule that the map lacks with the name's place in the rule text.
     fn set_rule_ids_spanned<'a>(
         &mut self,
         alloc: Global,
@@ -209,8 +210,8 @@ impl<L: LexerTypes> LexerDef<L> for LRNonStreamingLexerDef<L> {
 
 impl<L: LexerTypes> LRNonStreamingLexerDef<L> {
     ghost use Rattle.std.specs.Prelude.{true, IfErr, All};
-    ghost use Rattle.lrlex_rules.specs.Faults.{IsPlaced};
-    ghost use Rattle.lrlex_rules.specs.Laws.{IsLawful};
+    ghost use Rattle.lrlex_rules.specs.LexBuildError.{IsPlaced};
+    ghost use Rattle.lrlex_rules.specs.DefinitionLaws.{IsLawful};
     ghost use Rattle.lrlex.specs.Active.{is_state};
     ghost use Rattle.lrlex.specs.Views.{definition_of, definition_rules};
 
@@ -233,8 +234,8 @@ impl<L: LexerTypes> LRNonStreamingLexerDef<L> {
         LRNonStreamingLexerDef::new_with_budget(alloc, text, flags, usual_budget())
     }
 
-    /// The same, with tables that cost no more than this. Under a budget of nothing each rule is asked by itself. No
-    /// answer depends on it.
+    /// Reads a rule text with these flags, as `new_with_options` does, and makes tables that cost no more than the budget.
+    /// Under a budget of nothing each rule is matched by `regex`. No answer depends on the budget.
     pub fn new_with_budget(
         alloc: Global,
         text: &str,

@@ -1,7 +1,7 @@
 //! The first rule with an id or a name.
 ghost use Rattle.std.specs.Prelude.{◌≡◌};
 ghost use Rattle.std.specs.Option.{option_copied};
-ghost use Rattle.lrlex_rules.specs.Parts.{as_rule};
+ghost use Rattle.lrlex_rules.specs.RuleParts.{as_rule};
 ghost use Rattle.lrlex.specs.Ids.{has_id, is_named, rule_with_id, rule_named};
 
 use lrlex_base::Numbered;

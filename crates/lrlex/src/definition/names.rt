@@ -2,7 +2,7 @@
 ghost use Rattle.std.specs.Prelude.{◌≡◌, Some, IfSome, IsTrue, map, option_map};
 ghost use Rattle.std.specs.List.{find};
 ghost use Rattle.std.specs.Option.{option_copied};
-ghost use Rattle.lrlex_rules.specs.Parts.{as_rule};
+ghost use Rattle.lrlex_rules.specs.RuleParts.{as_rule};
 ghost use Rattle.lrlex.specs.Ids.{gives, name_of, HasOwnId, HaveDistinctIds};
 
 use lrlex_base::Numbered;
@@ -18,7 +18,7 @@ fn gives<S: Numbered>(rule: &Rule<S>, id: S) -> bool
     }
 }
 
-/// The first such rule.
+/// The first rule with a name and this id.
 fn first_with<S: Numbered>(rules: &[Rule<S>], id: S) -> Option<&Rule<S>>
     ensures { option_copied result ≡ find (λ r. gives (S.number id) (as_rule S.number r))
         rules.now }
@@ -51,7 +51,7 @@ pub(crate) fn have_own_ids<S: Numbered>(rules: &[Rule<S>]) -> bool
     true
 }
 
-/// The rule at the place that the id stands for, if it has a name and this id. No other rule has this id.
+/// The rule whose place is the id's number, if it has a name and this id. No other rule has this id.
 fn rule_at<S: Numbered>(rules: &[Rule<S>], id: S) -> Option<&Rule<S>>
     requires { HaveDistinctIds rules.now }
     ensures { IfSome result (λ rule. Some rule.now
@@ -75,7 +75,7 @@ fn rule_of<S: Numbered>(rules: &[Rule<S>], own_ids: bool, id: S) -> Option<&Rule
     first_with(rules, id)
 }
 
-/// Its name.
+/// The name of the first rule with a name and this id.
 pub(crate) fn name_of<S: Numbered>(rules: &[Rule<S>], own_ids: bool, id: S) -> Option<&str>
     requires { IsTrue own_ids → HaveDistinctIds rules.now }
     ensures { option_map (λ t. t.now) result ≡ name_of (map (as_rule S.number) rules.now)

@@ -20,8 +20,8 @@ impl<L: LexerTypes> LRNonStreamingLexerDef<L> {
     ghost use Rattle.lrlex.specs.StateTables.{count_of_tables, count_of_rows, count_of_asked};
     ghost use Rattle.lrlex.specs.Ids.{name_of};
 
-    /// The same definition, with tables that cost no more than this. Under a budget of nothing each rule is asked by
-    /// itself. No answer changes. `new_with_budget` makes such a definition at once.
+    /// This definition with tables that cost no more than the budget. Under a budget of nothing each rule is matched by
+    /// `regex`. No answer changes. `new_with_budget` makes such a definition at once.
     pub fn with_budget(self, alloc: Global, budget: Budget) -> Result<Self, AllocError>
         ensures { IfOk result (λ d. definition_of L.StorageT.number d
             ≡ definition_of L.StorageT.number self) }

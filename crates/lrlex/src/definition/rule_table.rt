@@ -1,6 +1,6 @@
 ghost use Rattle.std.specs.Prelude.{◌≡◌, ◌<◌, All, length, map, true, IsTrue};
 ghost use Rattle.lrlex.specs.Active.{active_places, is_state, lacks_target};
-ghost use Rattle.lrlex_rules.specs.Parts.{as_rule, as_state};
+ghost use Rattle.lrlex_rules.specs.RuleParts.{as_rule, as_state};
 ghost use Rattle.lrlex.specs.StateTables.{AreServed, ArePlaced, list_in};
 ghost use Rattle.lrlex.specs.Ids.{HaveDistinctIds};
 
@@ -9,7 +9,7 @@ use crate::definition::active_lists::lists_for;
 use crate::definition::names::have_own_ids;
 use crate::definition::state_tables::tables_for;
 use lrlex_base::Numbered;
-use lrlex_rules::{LexBuildResult, LexFlags, Rule, RuleFile, StartState, read_rules};
+use lrlex_rules::{LexBuildResult, LexFlags, Rule, RuleFile, StartState, parse_rule_file};
 use lrlex_table::{Budget, Tables};
 use std::alloc::{AllocError, Global};
 
@@ -82,9 +82,9 @@ impl<S: Copy> RuleTable<S> {
 
 impl<S: Numbered> RuleTable<S> {
     ghost use Rattle.std.specs.Prelude.{IfOk, IfErr};
-    ghost use Rattle.lrlex_rules.specs.Answer.{IsAnswer, AreOwnRefusals};
-    ghost use Rattle.lrlex_rules.specs.Faults.{IsPlaced};
-    ghost use Rattle.lrlex_rules.specs.Laws.{IsLawful};
+    ghost use Rattle.lrlex_rules.specs.LexBuildResult.{IsAnswer, AreOwnRefusals};
+    ghost use Rattle.lrlex_rules.specs.LexBuildError.{IsPlaced};
+    ghost use Rattle.lrlex_rules.specs.DefinitionLaws.{IsLawful};
     ghost use Rattle.lrlex.specs.Views.{definition_by};
 
     /// Of these start states, rules and flags, in order, with tables that cost no more than this.
@@ -120,7 +120,7 @@ impl<S: Numbered> RuleTable<S> {
         ensures initial { IfOk result (λ built. IfOk built
             (λ t. is_state (definition_by S.number t) 0 ≡ true)) }
     {
-        match read_rules::<S>(alloc, text, flags)? {
+        match parse_rule_file::<S>(alloc, text, flags)? {
             Ok(file) => {
                 let RuleFile {
                     states,
@@ -149,7 +149,7 @@ impl<S: Numbered> RuleTable<S> {
 
 /// The rules that are active in a start state, as places, and their tables.
 #[derive(Clone, Copy)]
-pub(crate) struct RulesIn<'d> {
+pub(crate) struct StateRules<'d> {
     pub(crate) state: usize,
     pub(crate) active: &'d [usize],
     /// The place of the tables among those of the definition.
@@ -162,8 +162,8 @@ impl<S: Numbered> RuleTable<S> {
     ghost use Rattle.std.specs.Prelude.{Some, slice_get};
     ghost use Rattle.lrlex_table.specs.Tables.{AreTablesOf};
     ghost use Rattle.lrlex.specs.StateTables.{patterns_on};
-    ghost use Rattle.lrlex.specs.AtHand.{AreOf};
-    ghost use Rattle.lrlex.specs.Asked.{untabled_count};
+    ghost use Rattle.lrlex.specs.Searcher.{AreOf};
+    ghost use Rattle.lrlex.specs.Searches.{untabled_count};
 
     /// Whether a state has the id.
     #[inline(always)]
@@ -201,13 +201,13 @@ impl<S: Numbered> RuleTable<S> {
 
     /// The rules that are active in the first state with the id.
     #[inline(always)]
-    pub(crate) fn rules_in(&self, id: usize) -> RulesIn<'_>
+    pub(crate) fn rules_in(&self, id: usize) -> StateRules<'_>
         requires { is_state (definition_by S.number self.now) id ≡ true }
         ensures state { result.state ≡ id }
         ensures rules { AreOf S.number self.now id result }
     {
         let (list, tables) = self.tables_in(id);
-        RulesIn {
+        StateRules {
             state: id,
             active: self.active_in(id),
             list,
@@ -215,17 +215,17 @@ impl<S: Numbered> RuleTable<S> {
         }
     }
 
-    /// The rules that are active in the first state with the id. These are the ones at hand, where they are that state's:
+    /// The rules that are active in the first state with the id. These are the given ones, where they are that state's:
     /// lexing mostly stays in a state.
     #[inline(always)]
-    pub(crate) fn rules_at<'d>(&'d self, here: RulesIn<'d>, id: usize) -> RulesIn<'d>
+    pub(crate) fn rules_at<'d>(&'d self, rules: StateRules<'d>, id: usize) -> StateRules<'d>
         requires id { is_state (definition_by S.number self.now) id ≡ true }
-        requires here { AreOf S.number self.now here.state here }
+        requires rules { AreOf S.number self.now rules.state rules }
         ensures state { result.state ≡ id }
         ensures rules { AreOf S.number self.now id result }
     {
-        if here.state == id {
-            here
+        if rules.state == id {
+            rules
         } else {
             self.rules_in(id)
         }

@@ -1,14 +1,16 @@
 //! The tables of each list of rules.
 ghost use Rattle.std.specs.Prelude.{◌≡◌, ◌<◌, ◌≤◌, ◌^◌, ℕ, List, All, [], ◌∷◌, map, length, IfOk, OnOk, IfSome};
 ghost use Rattle.regex.specs.Patterns.{Re};
-ghost use Rattle.lrlex_table.specs.Merged.{IsTableOf};
-ghost use Rattle.lrlex_table.specs.Tables.{AreSingle, ArePartsOf, AreTablesOf};
-ghost use Rattle.lrlex_rules.specs.Parts.{as_rule};
+ghost use Rattle.lrlex_table.specs.Table.{IsTableOf};
+ghost use Rattle.lrlex_table.specs.Tables.{AreCached, ArePartsOf, AreTablesOf};
+ghost use Rattle.lrlex_rules.specs.RuleParts.{as_rule};
 ghost use Rattle.lrlex_rules.specs.Patterns.{pattern_of};
 ghost use Rattle.lrlex.specs.StateTables.{pattern_in, patterns_on, AreServed, count_of_tables, count_of_rows, count_of_asked};
 
 use lrlex_rules::Rule;
-use lrlex_table::{Budget, Single, Source, Table, Tables, joined_tables, table_of, tables_between};
+use lrlex_table::{
+    Budget, CachedTable, Source, Table, Tables, joined_tables, table_of, tables_between,
+};
 use std::alloc::{AllocError, Global};
 
 /// What it costs to look at a rule of a list, in the budget's units of work.
@@ -36,11 +38,11 @@ fn try_single<S>(
     alloc: Global,
     rules: &[Rule<S>],
     place: usize,
-    singles: &mut [Single],
+    singles: &mut [CachedTable],
     budget: &mut Budget,
 ) -> Result<(), AllocError>
-    ensures { AreSingle (pattern_in (map (as_rule (λ _. 0)) rules.now)) singles.old →
-        OnOk result (AreSingle (pattern_in (map (as_rule (λ _. 0)) rules.now)) singles.new) }
+    ensures { AreCached (pattern_in (map (as_rule (λ _. 0)) rules.now)) singles.old →
+        OnOk result (AreCached (pattern_in (map (as_rule (λ _. 0)) rules.now)) singles.new) }
 {
     if place < rules.len() && place < singles.len() && !singles[place].is_tried() {
         let table = table_alone(alloc, &rules[place], budget)?;
@@ -54,11 +56,11 @@ fn try_singles<S>(
     alloc: Global,
     rules: &[Rule<S>],
     places: &[usize],
-    singles: &mut [Single],
+    singles: &mut [CachedTable],
     budget: &mut Budget,
 ) -> Result<(), AllocError>
-    ensures { AreSingle (pattern_in (map (as_rule (λ _. 0)) rules.now)) singles.old →
-        OnOk result (AreSingle (pattern_in (map (as_rule (λ _. 0)) rules.now)) singles.new) }
+    ensures { AreCached (pattern_in (map (as_rule (λ _. 0)) rules.now)) singles.old →
+        OnOk result (AreCached (pattern_in (map (as_rule (λ _. 0)) rules.now)) singles.new) }
 {
     'places: for place in places {
         try_single(alloc, rules, *place, singles, budget)?;
@@ -69,7 +71,7 @@ fn try_singles<S>(
 /// For how many rules the table of each alone is made before they are joined.
 const RULES_AT_ONCE: usize = 128;
 
-/// Tables for those of the rules at these places that stand from `from` on and below `to` in the list. The tables of rules
+/// Tables for those of the rules at these places whose index in the list is from `from` on and below `to`. The tables of rules
 /// alone have many more rows than one for all, so of a long list one part is joined before the next is begun. In a part at
 /// most half of what is left of the budget goes into these, so that as much is left to join them, and for other lists.
 fn tables_from<S>(
@@ -78,16 +80,16 @@ fn tables_from<S>(
     places: &[usize],
     from: usize,
     to: usize,
-    singles: &mut [Single],
+    singles: &mut [CachedTable],
     budget: &mut Budget,
 ) -> Result<Tables, AllocError>
     requires from { from < to }
     requires to { to ≤ length places.now }
-    ensures tables { AreSingle (pattern_in (map (as_rule (λ _. 0)) rules.now)) singles.old →
+    ensures tables { AreCached (pattern_in (map (as_rule (λ _. 0)) rules.now)) singles.old →
         IfOk result (λ t. ArePartsOf (patterns_on (map (as_rule (λ _. 0)) rules.now) places.now)
         from to t.parts.items t.asked.items) }
-    ensures kept { AreSingle (pattern_in (map (as_rule (λ _. 0)) rules.now)) singles.old →
-        OnOk result (AreSingle (pattern_in (map (as_rule (λ _. 0)) rules.now)) singles.new) }
+    ensures kept { AreCached (pattern_in (map (as_rule (λ _. 0)) rules.now)) singles.old →
+        OnOk result (AreCached (pattern_in (map (as_rule (λ _. 0)) rules.now)) singles.new) }
 {
     if to - from <= RULES_AT_ONCE {
         let joining = budget.set_aside();
@@ -106,13 +108,13 @@ fn tables_on<S>(
     alloc: Global,
     rules: &[Rule<S>],
     places: &[usize],
-    singles: &mut [Single],
+    singles: &mut [CachedTable],
     budget: &mut Budget,
 ) -> Result<Tables, AllocError>
-    ensures tables { AreSingle (pattern_in (map (as_rule (λ _. 0)) rules.now)) singles.old →
+    ensures tables { AreCached (pattern_in (map (as_rule (λ _. 0)) rules.now)) singles.old →
         IfOk result (AreTablesOf (patterns_on (map (as_rule (λ _. 0)) rules.now) places.now)) }
-    ensures kept { AreSingle (pattern_in (map (as_rule (λ _. 0)) rules.now)) singles.old →
-        OnOk result (AreSingle (pattern_in (map (as_rule (λ _. 0)) rules.now)) singles.new) }
+    ensures kept { AreCached (pattern_in (map (as_rule (λ _. 0)) rules.now)) singles.old →
+        OnOk result (AreCached (pattern_in (map (as_rule (λ _. 0)) rules.now)) singles.new) }
 {
     let looking = places.len().saturating_mul(WORK_OF_A_RULE);
     if places.is_empty() || !budget.pay_work(looking) {
@@ -121,7 +123,7 @@ fn tables_on<S>(
     tables_from(alloc, rules, places, 0, places.len(), singles, budget)
 }
 
-/// In how many of the lists each of so many rules stands.
+/// In how many of the lists each of so many rules is.
 fn lists_with(alloc: Global, rules: usize, lists: &[Vec<usize>]) -> Result<Vec<usize>, AllocError> {
     let mut counts = vec![in alloc; 0usize; rules]?;
     for places in lists {
@@ -134,18 +136,18 @@ fn lists_with(alloc: Global, rules: usize, lists: &[Vec<usize>]) -> Result<Vec<u
     Ok(counts)
 }
 
-/// Room for the table of each rule alone, which stands in so many lists.
-fn singles_in(alloc: Global, lists: &[usize]) -> Result<Vec<Single>, AllocError>
-    ensures { (pattern : ℕ → Re) → IfOk result (λ singles. AreSingle pattern singles.items) }
+/// Room for the table of each rule alone, which is in so many lists.
+fn singles_in(alloc: Global, lists: &[usize]) -> Result<Vec<CachedTable>, AllocError>
+    ensures { (pattern : ℕ → Re) → IfOk result (λ singles. AreCached pattern singles.items) }
 {
     let mut singles = Vec::with_capacity(alloc, lists.len())?;
     'lists: for count in lists {
-        singles.push(Single::new(*count))?;
+        singles.push(CachedTable::new(*count))?;
     }
     Ok(singles)
 }
 
-/// Tables for each of the lists of rules, which stand at these places.
+/// Tables for each of the lists of rules, which are at these places.
 pub(crate) fn tables_for<S>(
     alloc: Global,
     rules: &[Rule<S>],

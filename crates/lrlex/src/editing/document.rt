@@ -1,16 +1,17 @@
 //! A text that is edited, with what lexing it gives.
-ghost use Rattle.std.specs.Prelude.{◌≡◌, ◌↔◌, ℕ, ◌+◌, ◌-◌, ◌≤◌, [], length, IfOk, IfErr, IfSome, IsNone, OnOk, OnErr, IsCharBoundary, IsUtf8, slice_range};
+ghost use Rattle.std.specs.Prelude.{◌≡◌, ◌↔◌, ℕ, ◌+◌, ◌-◌, ◌≤◌, [], length, IfOk, IfErr, IfSome, IsNone, OnOk, OnErr, IsCharBoundary, IsUtf8, option_map, slice_range};
 ghost use Rattle.std.specs.String.{string_bytes, string_len, string_capacity};
 ghost use Rattle.lrlex_base.specs.Edits.{edited};
 ghost use Rattle.lrlex_base.specs.Places.{AreBreaksOf, place_of};
 ghost use Rattle.lrlex_base.specs.Spans.{Fits, as_span, span, span_start, span_end};
-ghost use Rattle.lrlex.specs.Editing.{IsLexedBy, WasEdited, WasLeft};
-ghost use Rattle.lrlex.specs.Kept.{LooksAhead};
+ghost use Rattle.lrlex.specs.Document.{IsLexedBy, WasEdited, WasLeft};
+ghost use Rattle.lrlex.specs.Lookahead.{LooksAhead};
 ghost use Rattle.lrlex.specs.Nearest.{IsNearest, FitsAt};
 ghost use Rattle.lrlex.specs.Pieces.{ArePieces, ArePiecesIn};
-ghost use Rattle.lrlex.specs.Ran.{IsRunOf, HasItemLaws};
+ghost use Rattle.lrlex.specs.LexRun.{IsRunOf, HasItemLaws, end_of, end_state_of};
+ghost use Rattle.lrlex_rules.specs.RuleParts.{state_number};
 ghost use Rattle.lrlex.specs.Reach.{IsRun};
-ghost use Rattle.lrlex.specs.Relexed.{WasRelexed};
+ghost use Rattle.lrlex.specs.Relex.{WasRelexed};
 ghost use Rattle.lrlex.specs.Utf16.{utf16_position};
 ghost use Rattle.lrlex.specs.Views.{definition_by, definition_of, items_by};
 ghost use Rattle.lrlex.specs.declared.editing.document.EditError.TheVariants.{DoesNotFit};
@@ -19,17 +20,20 @@ use crate::definition::non_streaming::LRNonStreamingLexerDef;
 use crate::definition::rule_table::RuleTable;
 use crate::editing::relex::relex_in_place;
 use crate::errors::LRLexError;
-use crate::lexing::run::{Lexed, lex};
+use crate::lexing::run::{Lexed, end_of, end_state_of, lex};
 use crate::reading::pieces::{Piece, pieces_in, pieces_of};
 use crate::reading::positions::{place_of, text_of, utf16_position};
 use lrlex_base::{Edit, Lexeme, LexerTypes, NewlineCache, Numbered, Span};
+use lrlex_rules::StartStateId;
 use std::alloc::{AllocError, Global};
+use std::error::Error;
+use std::fmt;
 use std::marker::Model;
 
 /// Why an edit was not made.
 #[derive(Clone, Copy, Debug, PartialEq, Eq)]
 pub enum EditError {
-    /// An end of the bytes to remove is past the text's end or inside a character, or the first stands behind the second.
+    /// An end of the bytes to remove is past the text's end or inside a character, or the first end is after the second.
     DoesNotFit,
     OutOfMemory,
 }
@@ -44,6 +48,22 @@ impl From<AllocError> for EditError {
         EditError::OutOfMemory
     }
 }
+
+impl fmt::Display for EditError {
+    ghost use Rattle.std.specs.Prelude.{Some};
+    ghost use Rattle.lrlex.specs.Errors.{edit_error_text};
+
+    ghost output = { λ e. Some (edit_error_text e) };
+
+    fn fmt<W: fmt::Write>(&self, f: &mut fmt::Formatter<W>) -> fmt::Result {
+        f.write_str(match self {
+            EditError::DoesNotFit => "The edit doesn't fit the text",
+            EditError::OutOfMemory => "Out of memory",
+        })
+    }
+}
+
+impl Error for EditError {}
 
 /// The edit that puts the text in the place of the bytes from `from` up to `to`, if it fits.
 fn edit_at<'put>(text: &str, from: usize, to: usize, put: &'put str) -> Option<Edit<'put>>
@@ -149,10 +169,10 @@ fn edit_in_place<S: Numbered, X: Lexeme<S>>(
     let to = edit.removed.end();
     put_text(&mut it.text, from, to, edit.put);
     match relex_in_place(alloc, table, &mut it.lexed, edit, &it.text) {
-        Ok((asked, anew)) => {
+        Ok((asked, recut)) => {
             it.newlines = newlines;
             it.lexed.asked = asked;
-            it.lexed.anew = anew;
+            it.lexed.recut = recut;
             Ok(())
         }
         Err(refused) => {
@@ -196,12 +216,12 @@ impl<'lexer, L: LexerTypes<LexErrorT = LRLexError>> Model for Document<'lexer, L
     ghost use Rattle.std.specs.Coded.{codes};
     ghost use Rattle.std.specs.String.{string_bytes};
     ghost use Rattle.regex_hir.specs.contracts.hir.Hir as hir;
-    ghost use Rattle.lrlex.specs.Editing.{IsLexedBy};
-    ghost use Rattle.lrlex.specs.Ran.{Ran};
+    ghost use Rattle.lrlex.specs.Document.{IsLexedBy};
+    ghost use Rattle.lrlex.specs.LexRun.{Run};
     ghost use Rattle.lrlex.specs.declared.errors.LRLexError.{LRLexError};
     ghost use Rattle.lrlex.specs.declared.definition.non_streaming.LRNonStreamingLexerDef.{LRNonStreamingLexerDef};
 
-    ghost Value = { Ran (LRNonStreamingLexerDef L L.LexemeT L.StorageT LRLexError L.StorageT.FromStrRadixErr L.StorageT.Error) L.LexemeT };
+    ghost Value = { Run (LRNonStreamingLexerDef L L.LexemeT L.StorageT LRLexError L.StorageT.FromStrRadixErr L.StorageT.Error) L.LexemeT };
 
     ghost coded = { Prim.hlevel (codes, hir.the_row.coded) };
 
@@ -212,7 +232,7 @@ impl<'lexer, L: LexerTypes<LexErrorT = LRLexError>> Model for Document<'lexer, L
       boundaries = d.held.lexed.boundaries;
       ahead = d.held.lexed.ahead.items;
       asked = d.held.lexed.asked;
-      anew = d.held.lexed.anew;
+      recut = d.held.lexed.recut;
     } };
 
     ghost invariant = { λ d. IsLexedBy L.StorageT.number L.LexemeT.seen d.definition.now.table d.held };
@@ -331,10 +351,25 @@ impl<'lexer, L: LexerTypes<LexErrorT = LRLexError>> Document<'lexer, L> {
     }
 
     /// How many tiles the last edit cut anew, or, where there was none yet, all. The others were taken over.
-    pub fn lexed(&self) -> usize
-        ensures { result ≡ self.now.anew }
+    pub fn recut_tiles(&self) -> usize
+        ensures { result ≡ self.now.recut }
     {
-        self.held.lexed.anew
+        self.held.lexed.recut
+    }
+
+    /// The place up to which the text was lexed: its length, or the place of the error that stopped lexing.
+    pub fn end(&self) -> usize
+        ensures { result ≡ end_of self.now.boundaries }
+    {
+        end_of(&self.held.lexed.boundaries)
+    }
+
+    /// The start state at `end()`: the top of the stack there. A text that ends inside a string or a comment ends in the state
+    /// of that string or comment. None where the definition has no state 0.
+    pub fn end_state(&self) -> Option<StartStateId>
+        ensures { option_map state_number result ≡ end_state_of self.now.boundaries }
+    {
+        end_state_of(&self.held.lexed.boundaries)
     }
 
     /// The text of the span, or the empty text where the span doesn't fit.

@@ -9,15 +9,15 @@ ghost use Rattle.lrlex_boundaries.specs.Moves.{IsMovableBoundary, AreSorted};
 ghost use Rattle.lrlex.specs.Moves.{IsMovable, begins_before, items_from};
 ghost use Rattle.lrlex_boundaries.specs.Entries.{plain, AreEntries};
 ghost use Rattle.lrlex.specs.Reach.{IsRun};
-ghost use Rattle.lrlex.specs.Kept.{LooksAhead, items_before};
-ghost use Rattle.lrlex.specs.Asked.{asks_by};
-ghost use Rattle.lrlex.specs.Ran.{IsRunOf, HasItemLaws};
-ghost use Rattle.lrlex.specs.Relexed.{AreCountsOf, WasRelexed};
+ghost use Rattle.lrlex.specs.Lookahead.{LooksAhead, items_before};
+ghost use Rattle.lrlex.specs.Searches.{asks_by};
+ghost use Rattle.lrlex.specs.LexRun.{IsRunOf, HasItemLaws};
+ghost use Rattle.lrlex.specs.Relex.{AreCountsOf, WasRelexed};
 ghost use Rattle.lrlex.specs.Views.{definition_by, items_by, item_of};
-ghost use Rattle.lrlex.specs.UnderWay.{HasCutAnew, HasSame, IsEditOf, IsPutBehind, IsPutBetween, TellsMeeting};
+ghost use Rattle.lrlex.specs.Progress.{HasRecut, HasSame, IsEditOf, HasReplacedTail, HasReplacedMiddle, TellsMeeting};
 
 use crate::definition::rule_table::RuleTable;
-use crate::editing::restart::{append_raised, last_safe, resume, up_to};
+use crate::editing::restart::{append_raised, count_up_to, last_safe, resume};
 use crate::errors::LRLexError;
 use crate::lexing::run::{LexRun, Lexed};
 use crate::lexing::step::{Progress, advance};
@@ -27,7 +27,7 @@ use lrlex_boundaries::Boundaries;
 use lrlex_boundaries::room::splice;
 use std::alloc::{AllocError, Global};
 
-/// The item once what stood at `from` stands at `to`.
+/// The item, once what was at `from` is at `to`.
 fn moved<S: Numbered, X: Lexeme<S>>(
     item: &Result<X, LRLexError>,
     from: usize,
@@ -73,7 +73,7 @@ pub(crate) fn begins_before<S: Numbered, X: Lexeme<S>>(
 }
 
 /// How many items begin before the place, of items in order.
-fn many_before<S: Numbered, X: Lexeme<S>>(items: &[Result<X, LRLexError>], place: usize) -> usize
+fn count_before<S: Numbered, X: Lexeme<S>>(items: &[Result<X, LRLexError>], place: usize) -> usize
     requires { IsPartitionedBy (begins_before place)
         (map (item_of S.number X.seen) items.now) }
     ensures within { result ≤ length items.now }
@@ -90,7 +90,7 @@ fn many_before<S: Numbered, X: Lexeme<S>>(items: &[Result<X, LRLexError>], place
     )
 }
 
-/// Moves the items from the one at `first` on: what stood at `from` stands at `to`.
+/// Moves the items from the one at `first` on: what was at `from` is at `to`.
 fn move_items<S: Numbered, X: Lexeme<S>>(
     items: &mut [Result<X, LRLexError>],
     first: usize,
@@ -113,7 +113,7 @@ fn move_items<S: Numbered, X: Lexeme<S>>(
     }
 }
 
-/// The first boundary from `cursor` on that doesn't stand before the place.
+/// The first boundary from `cursor` on that isn't before the place.
 fn first_from(boundaries: &Boundaries, cursor: usize, place: usize) -> usize
     requires { cursor ≤ length boundaries.now }
     ensures within { result ≤ length boundaries.now }
@@ -133,7 +133,7 @@ fn first_from(boundaries: &Boundaries, cursor: usize, place: usize) -> usize
     next
 }
 
-/// Whether the boundary is there, stands at the place and has the stack.
+/// Whether there is such a boundary, at the place and with the stack.
 fn is_at(boundaries: &Boundaries, index: usize, place: usize, stack: &[(usize, usize)]) -> bool
     ensures within { result ≡ true → index < length boundaries.now }
     ensures place { result ≡ true → (boundary_at boundaries.now index).place ≡ place }
@@ -148,18 +148,22 @@ fn is_at(boundaries: &Boundaries, index: usize, place: usize, stack: &[(usize, u
     boundaries.stack(index) == stack
 }
 
-/// How many old boundaries stand before what follows the edit.
-fn behind(old: &Boundaries, edit: &Edit<'_>) -> usize
+/// How many old boundaries are before what follows the edit.
+fn boundaries_before_rest(old: &Boundaries, edit: &Edit<'_>) -> usize
     requires { AreSorted old.now }
     ensures within { result ≤ length old.now }
     ensures before { (j : ℕ) → j < result
         → (boundary_at old.now j).place < span_end edit.now.removed }
 {
     let end = edit.removed.end();
-    if end == 0 { 0 } else { up_to(old, end - 1) }
+    if end == 0 {
+        0
+    } else {
+        count_up_to(old, end - 1)
+    }
 }
 
-/// Whether an old boundary stands where the new one stood before the edit, with the same stack.
+/// Whether there is an old boundary where the new one was before the edit, with the same stack.
 /// The cursor moves forward to the place.
 fn meets(
     old: &Boundaries,
@@ -205,8 +209,8 @@ pub(crate) struct Old<'a, X> {
 
 /// The tiles that were cut anew.
 #[derive(Drop)]
-pub(crate) struct Anew<X> {
-    /// The old boundary from which on, and how many old items stand before it.
+pub(crate) struct Recut<X> {
+    /// The old boundary from which on, and how many old items are before it.
     pub(crate) index: usize,
     pub(crate) first: usize,
     /// What was found from there on.
@@ -217,26 +221,26 @@ pub(crate) struct Anew<X> {
 
 /// Lexes the text after an edit of the old run's, from the last boundary before which no tile looked at what the edit changes,
 /// as far as the old run knows, up to the first that meets an old one.
-fn cut_anew<S: Numbered, X: Lexeme<S>>(
+fn lex_changed<S: Numbered, X: Lexeme<S>>(
     alloc: Global,
     table: &RuleTable<S>,
     old: &Old<'_, X>,
     edit: &Edit<'_>,
     new: &str,
-) -> Result<Anew<X>, AllocError>
+) -> Result<Recut<X>, AllocError>
     requires initial { is_state (definition_by S.number table.now) 0 ≡ true }
     requires known { IsEditOf S.number X.seen table.now old.now.items.now
         old.now.boundaries.now old.now.ahead.now edit.now.removed edit.now.put.now new.now }
-    ensures { IfOk result (HasCutAnew S.number X.seen table.now
+    ensures { IfOk result (HasRecut S.number X.seen table.now
         old.now.items.now old.now.boundaries.now old.now.ahead.now edit.now.removed
         edit.now.put.now new.now) }
 {
     let index = last_safe(old.boundaries, old.ahead, edit.removed.start());
-    let first = many_before::<S, X>(old.items, old.boundaries.place(index));
+    let first = count_before::<S, X>(old.items, old.boundaries.place(index));
     let mut progress = resume(alloc, old.boundaries, old.ahead, index)?;
     let mut searcher = Searcher::new(alloc, table, new)?;
-    let mut cursor = behind(old.boundaries, edit);
-    let mut here = table.rules_in(0);
+    let mut cursor = boundaries_before_rest(old.boundaries, edit);
+    let mut rules = table.rules_in(0);
     'tiles: while progress.place < new.len() {
         if meets(
             old.boundaries,
@@ -245,15 +249,15 @@ fn cut_anew<S: Numbered, X: Lexeme<S>>(
             progress.place,
             &progress.stack,
         ) {
-            return Ok(Anew {
+            return Ok(Recut {
                 index,
                 first,
                 progress,
                 met: Some(cursor),
             });
         }
-        if !advance(alloc, table, new, &mut here, &mut searcher, &mut progress)? {
-            return Ok(Anew {
+        if !advance(alloc, table, new, &mut rules, &mut searcher, &mut progress)? {
+            return Ok(Recut {
                 index,
                 first,
                 progress,
@@ -261,7 +265,7 @@ fn cut_anew<S: Numbered, X: Lexeme<S>>(
             });
         }
     }
-    Ok(Anew {
+    Ok(Recut {
         index,
         first,
         progress,
@@ -269,69 +273,69 @@ fn cut_anew<S: Numbered, X: Lexeme<S>>(
     })
 }
 
-/// Puts what was cut anew in the place of all old ones behind its front. After a refusal all is what it was.
-fn put_behind<X: Copy>(
+/// Puts what was cut anew in the place of all that the old run has from there on. Where memory is refused, nothing changes.
+fn replace_tail<X: Copy>(
     items: &mut Vec<Result<X, LRLexError>>,
     boundaries: &mut Boundaries,
     ahead: &mut Vec<u8>,
-    anew: &Anew<X>,
+    recut: &Recut<X>,
 ) -> Result<(), AllocError>
-    requires first { anew.now.first ≤ length items.old.items }
-    requires within { anew.now.index ≤ length boundaries.old }
+    requires first { recut.now.first ≤ length items.old.items }
+    requires within { recut.now.index ≤ length boundaries.old }
     requires numbers { length ahead.old.items ≡ length boundaries.old }
-    requires some { 0 < length anew.now.progress.boundaries }
-    ensures put { OnOk result (IsPutBehind items.old.items boundaries.old ahead.old.items anew.now
+    requires some { 0 < length recut.now.progress.boundaries }
+    ensures put { OnOk result (HasReplacedTail items.old.items boundaries.old ahead.old.items recut.now
         items.new.items boundaries.new ahead.new.items) }
     ensures kept { OnErr result ((items.new.items ≡ items.old.items)
         × (boundaries.new ≡ boundaries.old) × (ahead.new.items ≡ ahead.old.items)) }
 {
-    let found = &anew.progress;
+    let found = &recut.progress;
     items.reserve(found.items.len())?;
     ahead.reserve(found.ahead.len())?;
-    boundaries.replace_from(anew.index, &found.boundaries)?;
+    boundaries.replace_from(recut.index, &found.boundaries)?;
     let many = items.len();
-    splice(items, anew.first, many, &found.items);
+    splice(items, recut.first, many, &found.items);
     let many = ahead.len();
-    splice(ahead, anew.index, many, &found.ahead);
+    splice(ahead, recut.index, many, &found.ahead);
     Ok(())
 }
 
-/// Puts what was cut anew in the place of the old ones between its front and the old boundary that it met, and moves what follows that
-/// one. After a refusal all is what it was.
-fn put_between<S: Numbered, X: Lexeme<S>>(
+/// Puts what was cut anew in the place of what the old run has up to the boundary that was met, and moves what follows that
+/// one. Where memory is refused, nothing changes.
+fn replace_middle<S: Numbered, X: Lexeme<S>>(
     items: &mut Vec<Result<X, LRLexError>>,
     boundaries: &mut Boundaries,
     ahead: &mut Vec<u8>,
-    anew: Anew<X>,
+    recut: Recut<X>,
     met: usize,
 ) -> Result<(), AllocError>
-    requires first { (anew.first ≤ length items.old.items)
-        × (items_by S.number X.seen (take anew.first items.old.items)
-        ≡ items_before (boundary_at boundaries.old anew.index).place
+    requires first { (recut.first ≤ length items.old.items)
+        × (items_by S.number X.seen (take recut.first items.old.items)
+        ≡ items_before (boundary_at boundaries.old recut.index).place
         (items_by S.number X.seen items.old.items)) }
-    requires within { (anew.index ≤ met) × (met < length boundaries.old) }
+    requires within { (recut.index ≤ met) × (met < length boundaries.old) }
     requires sorted { AreSorted boundaries.old }
     requires numbers { length ahead.old.items ≡ length boundaries.old }
-    requires last { (0 < length anew.progress.boundaries)
-        × (last_entries anew.progress.boundaries ≡ (boundary_at boundaries.old met).entries) }
+    requires last { (0 < length recut.progress.boundaries)
+        × (last_entries recut.progress.boundaries ≡ (boundary_at boundaries.old met).entries) }
     requires movable { IsPartitionedBy (begins_before (boundary_at boundaries.old met).place)
         (items_by S.number X.seen items.old.items)
-        × All (IsMovable (boundary_at boundaries.old met).place anew.progress.place)
+        × All (IsMovable (boundary_at boundaries.old met).place recut.progress.place)
         (items_from (boundary_at boundaries.old met).place
         (items_by S.number X.seen items.old.items))
-        × All (IsMovableBoundary (boundary_at boundaries.old met).place anew.progress.place)
+        × All (IsMovableBoundary (boundary_at boundaries.old met).place recut.progress.place)
         (drop (met + 1) boundaries.old) }
-    ensures put { OnOk result (IsPutBetween S.number X.seen items.old.items
-        boundaries.old ahead.old.items anew met items.new.items boundaries.new ahead.new.items) }
+    ensures put { OnOk result (HasReplacedMiddle S.number X.seen items.old.items
+        boundaries.old ahead.old.items recut met items.new.items boundaries.new ahead.new.items) }
     ensures kept { OnErr result ((items.new.items ≡ items.old.items)
         × (boundaries.new ≡ boundaries.old) × (ahead.new.items ≡ ahead.old.items)) }
 {
-    let Anew {
+    let Recut {
         index,
         first,
         progress,
         met: _,
-    } = anew;
+    } = recut;
     let Progress {
         place: to,
         stack: _,
@@ -339,11 +343,11 @@ fn put_between<S: Numbered, X: Lexeme<S>>(
         boundaries: between,
         asked: _,
         ahead: mut numbers,
-        over,
+        lookahead,
     } = progress;
     let from = boundaries.place(met);
-    let last = many_before::<S, X>(items, from);
-    let far = append_raised(&mut numbers, boundaries, ahead, met, over)?;
+    let last = count_before::<S, X>(items, from);
+    let far = append_raised(&mut numbers, boundaries, ahead, met, lookahead)?;
     items.reserve(found.len())?;
     ahead.reserve(numbers.len())?;
     boundaries.splice(index, met, &between, to)?;
@@ -354,7 +358,7 @@ fn put_between<S: Numbered, X: Lexeme<S>>(
 }
 
 /// Lexes the text after an edit in place, and answers how many searches that needed and how many tiles it cut anew, which the run
-/// has yet to be told. What stands before these stays, and what follows is moved. After a refusal all is what it was.
+/// has yet to be told. What is before these tiles stays, and what follows is moved. Where memory is refused, nothing changes.
 pub(crate) fn relex_in_place<S: Numbered, X: Lexeme<S>>(
     alloc: Global,
     table: &RuleTable<S>,
@@ -382,18 +386,18 @@ pub(crate) fn relex_in_place<S: Numbered, X: Lexeme<S>>(
         boundaries: &lexed.boundaries,
         ahead: lexed.ahead.as_slice(),
     };
-    let anew = cut_anew(alloc, table, &old, edit, new)?;
-    let asked = anew.progress.asked;
-    let cut = anew.progress.boundaries.len() - 1;
+    let recut = lex_changed(alloc, table, &old, edit, new)?;
+    let asked = recut.progress.asked;
+    let cut = recut.progress.boundaries.len() - 1;
     let Lexed {
         items,
         boundaries,
         ahead,
         ..
     } = lexed;
-    match anew.met {
-        Some(met) => put_between::<S, X>(items, boundaries, ahead, anew, met)?,
-        None => put_behind(items, boundaries, ahead, &anew)?,
+    match recut.met {
+        Some(met) => replace_middle::<S, X>(items, boundaries, ahead, recut, met)?,
+        None => replace_tail(items, boundaries, ahead, &recut)?,
     }
     Ok((asked, cut))
 }
@@ -414,12 +418,12 @@ fn relexed<S: Numbered, X: Lexeme<S>>(
         new.now r.boundaries r.ahead.items) }
     ensures counts { IfOk result (λ r. AreCountsOf (definition_by S.number table.now)
         (asks_by table.now new.now) old.now.boundaries old.now.ahead.items
-        (as_span edit.now.removed) edit.now.put.now new.now r.boundaries r.asked r.anew) }
+        (as_span edit.now.removed) edit.now.put.now new.now r.boundaries r.asked r.recut) }
 {
     let mut lexed = old.copied(alloc)?;
-    let (asked, anew) = relex_in_place(alloc, table, &mut lexed, edit, new)?;
+    let (asked, recut) = relex_in_place(alloc, table, &mut lexed, edit, new)?;
     lexed.asked = asked;
-    lexed.anew = anew;
+    lexed.recut = recut;
     Ok(lexed)
 }
 

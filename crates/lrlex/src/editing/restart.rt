@@ -2,21 +2,21 @@ ghost use Rattle.std.specs.Prelude.{◌≡◌, ℕ, ◌+◌, ◌-◌, ◌<◌, �
 ghost use Rattle.lrlex_base.specs.Spans.{span, span_start, as_span, Fits};
 ghost use Rattle.lrlex_base.specs.Edits.{edited};
 ghost use Rattle.lrlex_rules.specs.Definition.{Definition};
-ghost use Rattle.lrlex_table.specs.Decided.{IsText};
+ghost use Rattle.lrlex_table.specs.Reach.{IsText};
 ghost use Rattle.lrlex.specs.Active.{is_state};
 ghost use Rattle.lrlex.specs.Tiling.{Item};
 ghost use Rattle.lrlex_boundaries.specs.Boundaries.{Boundary, boundary_at};
 ghost use Rattle.lrlex.specs.Reach.{IsLexed, IsRun, Reached};
-ghost use Rattle.lrlex.specs.Asked.{IsLastSafe};
-ghost use Rattle.lrlex.specs.Kept.{IsDecided, IsDecidedAt, AreDecided, LooksAhead, IsSafe, GoesOn, BeginAlike, HasLooked, AreRaised};
+ghost use Rattle.lrlex.specs.Searches.{IsLastSafe};
+ghost use Rattle.lrlex.specs.Lookahead.{IsDecided, IsDecidedAt, AreDecided, LooksAhead, IsSafe, GoesOn, BeginAlike, HasLooked, AreRaised};
 ghost use Rattle.lrlex_boundaries.specs.Moves.{AreSorted};
-ghost use Rattle.lrlex.specs.UnderWay.{StandsAt};
+ghost use Rattle.lrlex.specs.Progress.{StandsAt};
 
 use crate::lexing::step::{Progress, capped};
 use lrlex_boundaries::Boundaries;
 use std::alloc::{AllocError, Global};
 
-/// What an edit leaves of a run. Where what wins at each of the first k boundaries is decided by bytes that stand before the
+/// What an edit leaves of a run. Where what wins at each of the first k boundaries is decided by bytes before the
 /// edit, the new run has the first k tiles of the old one, with their boundaries and items, and lexing may go on from
 /// boundary k.
 pub fn resume_laws()
@@ -34,7 +34,7 @@ pub fn resume_laws()
 {}
 
 /// How far the bytes go that decide what wins: the text and its end decide it, more bytes decide it too, before an edit the
-/// same bytes decide it as before, and behind the edit the same, moved with the text.
+/// same bytes decide it as before, and after the edit the same, moved with the text.
 pub fn decided_laws()
     ensures whole { (d : Definition) (q : ℕ) (text : List ℕ)
         → IsDecided d q text (length text + 1) }
@@ -56,7 +56,7 @@ pub fn decided_laws()
         → IsDecidedAt d new to (record { place = place; entries = m.entries }) }
 {}
 
-/// How the numbers that tell how far the tiles looked grow with a run, and that those up to a safe boundary stay.
+/// How the numbers that say how far the tiles looked grow with a run, and that those up to a safe boundary stay.
 pub fn ahead_laws()
     ensures start { (d : Definition) (text : List ℕ) (m : Boundary)
         → LooksAhead d text (m ∷ []) (0 ∷ []) }
@@ -77,8 +77,8 @@ pub fn ahead_laws()
         → LooksAhead d new (take (k + 1) bounds) (take (k + 1) ahead) }
 {}
 
-/// How many boundaries stand at the place or before it.
-pub(crate) fn up_to(boundaries: &Boundaries, place: usize) -> usize
+/// How many boundaries are at the place or before it.
+pub(crate) fn count_up_to(boundaries: &Boundaries, place: usize) -> usize
     requires { AreSorted boundaries.now }
     ensures within { result ≤ length boundaries.now }
     ensures up_to { (j : ℕ) → j < result → (boundary_at boundaries.now j).place ≤ place }
@@ -121,7 +121,7 @@ pub(crate) fn last_safe(boundaries: &Boundaries, ahead: &[u8], place: usize) -> 
     ensures last { (j : ℕ) → result < j → j < length boundaries.now
         → ¬ (IsSafe boundaries.now ahead.now place j) }
 {
-    let mut index = up_to(boundaries, place);
+    let mut index = count_up_to(boundaries, place);
     'back: while index > 0 {
         index -= 1;
         let safe = is_safe(boundaries, ahead, index, place);
@@ -132,7 +132,7 @@ pub(crate) fn last_safe(boundaries: &Boundaries, ahead: &[u8], place: usize) -> 
     0
 }
 
-/// What stands at an old boundary, with that boundary alone.
+/// What a run has found that begins at an old boundary: that boundary alone.
 pub(crate) fn resume<X: Copy>(
     alloc: Global,
     old: &Boundaries,
@@ -150,7 +150,7 @@ pub(crate) fn resume<X: Copy>(
         boundaries: Boundaries::new(alloc),
         asked: 0,
         ahead: Vec::new(alloc),
-        over: ahead[index] as usize,
+        lookahead: ahead[index] as usize,
     };
     progress.stack.extend_from_slice(old.stack(index))?;
     progress
@@ -160,30 +160,30 @@ pub(crate) fn resume<X: Copy>(
     Ok(progress)
 }
 
-/// Adds the numbers of the boundaries behind the one at `index` that stand no farther than the tiles before that one looked,
-/// which is at most `over` bytes past its place, and answers the first boundary behind these. From there on the numbers stay.
+/// Adds the numbers of the boundaries after the one at `index` that are no farther than the tiles before that one looked,
+/// which is at most `lookahead` bytes past its place, and answers the first boundary after these. From there on the numbers stay.
 pub(crate) fn append_raised(
     ahead: &mut Vec<u8>,
     old: &Boundaries,
     numbers: &[u8],
     index: usize,
-    over: usize,
+    lookahead: usize,
 ) -> Result<usize, AllocError>
     requires within { index < length old.now }
     requires numbers { length numbers.now ≡ length old.now }
     requires sorted { AreSorted old.now }
     ensures behind { IfOk result (λ far. index < far) }
     ensures within { IfOk result (λ far. far ≤ length old.now) }
-    ensures raised { IfOk result (λ far. AreRaised old.now numbers.now index over (length old.now)
+    ensures raised { IfOk result (λ far. AreRaised old.now numbers.now index lookahead (length old.now)
         ahead.old.items (ahead.new.items ++ drop far numbers.now)) }
 {
     let from = old.place(index);
-    let far = match from.checked_add(over) {
-        Some(end) => up_to(old, end),
+    let far = match from.checked_add(lookahead) {
+        Some(end) => count_up_to(old, end),
         None => old.len(),
     };
     'near: for next in index + 1..far {
-        let rest = over.saturating_sub(old.place(next) - from);
+        let rest = lookahead.saturating_sub(old.place(next) - from);
         ahead.push(numbers[next].max(capped(rest)))?;
     }
     Ok(far)

@@ -1,23 +1,26 @@
-ghost use Rattle.std.specs.Prelude.{◌≡◌, ℕ, ◌+◌, ◌-◌, ◌*◌, ◌<◌, ◌≤◌, false, List, [], length, vec_len, IfOk, slice_index};
+ghost use Rattle.std.specs.Prelude.{◌≡◌, ℕ, ◌+◌, ◌-◌, ◌*◌, ◌<◌, ◌≤◌, false, List, [], length, vec_len, IfOk, option_map, slice_index};
 ghost use Rattle.lrlex_rules.specs.Definition.{Definition};
 ghost use Rattle.lrlex.specs.Active.{is_state};
-ghost use Rattle.lrlex_boundaries.specs.Boundaries.{boundary_at, most_entries};
+ghost use Rattle.lrlex_boundaries.specs.Boundaries.{boundary_at, last_entries, most_entries};
 ghost use Rattle.lrlex_boundaries.specs.Entries.{AreEntries};
 ghost use Rattle.lrlex.specs.Reach.{Reached, IsLexed, IsRun, searches};
-ghost use Rattle.lrlex.specs.Asked.{asks, asks_by};
-ghost use Rattle.lrlex.specs.Kept.{LooksAhead};
+ghost use Rattle.lrlex.specs.Searches.{asks, asks_by};
+ghost use Rattle.lrlex.specs.Lookahead.{LooksAhead};
 ghost use Rattle.lrlex.specs.Views.{definition_by, definition_of, items_by};
-ghost use Rattle.lrlex.specs.Ran.{IsRunOf, HasItemLaws};
-ghost use Rattle.lrlex.specs.UnderWay.{HasFinished};
+ghost use Rattle.lrlex.specs.LexRun.{IsRunOf, HasItemLaws, end_of, end_state_of};
+ghost use Rattle.lrlex_rules.specs.RuleParts.{state_number};
+ghost use Rattle.lrlex.specs.Progress.{HasFinished};
 
 use crate::definition::non_streaming::LRNonStreamingLexerDef;
 use crate::definition::rule_table::RuleTable;
 use crate::errors::LRLexError;
-use crate::lexing::step::{Progress, advance, begin, give_error};
+use crate::lexing::stack::top_of;
+use crate::lexing::step::{Progress, advance, begin, push_error};
 use crate::lexing::winner::Searcher;
 use lrlex_base::{Lexeme, LexerTypes, Numbered};
 use lrlex_boundaries::Boundaries;
 use lrlex_boundaries::room::copied;
+use lrlex_rules::StartStateId;
 use std::alloc::{AllocError, Global};
 use std::marker::Model;
 
@@ -33,13 +36,13 @@ impl<'lexer, 'input, L: LexerTypes<LexErrorT = LRLexError>> Model for LexRun<'le
     ghost use Rattle.std.specs.Coded.{codes};
     ghost use Rattle.regex_hir.specs.contracts.hir.Hir as hir;
     ghost use Rattle.lrlex.specs.Reach.{IsRun};
-    ghost use Rattle.lrlex.specs.Kept.{LooksAhead};
+    ghost use Rattle.lrlex.specs.Lookahead.{LooksAhead};
     ghost use Rattle.lrlex.specs.Views.{definition_of, items_by};
-    ghost use Rattle.lrlex.specs.Ran.{Ran};
+    ghost use Rattle.lrlex.specs.LexRun.{Run};
     ghost use Rattle.lrlex.specs.declared.errors.LRLexError.{LRLexError};
     ghost use Rattle.lrlex.specs.declared.definition.non_streaming.LRNonStreamingLexerDef.{LRNonStreamingLexerDef};
 
-    ghost Value = { Ran (LRNonStreamingLexerDef L L.LexemeT L.StorageT LRLexError L.StorageT.FromStrRadixErr L.StorageT.Error) L.LexemeT };
+    ghost Value = { Run (LRNonStreamingLexerDef L L.LexemeT L.StorageT LRLexError L.StorageT.FromStrRadixErr L.StorageT.Error) L.LexemeT };
 
     ghost coded = { Prim.hlevel (codes, hir.the_row.coded) };
 
@@ -50,7 +53,7 @@ impl<'lexer, 'input, L: LexerTypes<LexErrorT = LRLexError>> Model for LexRun<'le
       boundaries = r.lexed.boundaries;
       ahead = r.lexed.ahead.items;
       asked = r.lexed.asked;
-      anew = r.lexed.anew;
+      recut = r.lexed.recut;
     } };
 
     ghost invariant = { λ r. ∥ LooksAhead (definition_of L.StorageT.number r.definition.now) r.text.now r.lexed.boundaries r.lexed.ahead.items ∥₁
@@ -93,11 +96,11 @@ impl<'lexer, 'input, L: LexerTypes<LexErrorT = LRLexError>> LexRun<'lexer, 'inpu
         self.lexed.asked
     }
 
-    /// How many tiles the call that made this run cut anew. It took over the others.
-    pub fn lexed(&self) -> usize
-        ensures { result ≡ self.now.anew }
+    /// How many tiles the call that made this run cut anew. `relex` takes over the others from the old run.
+    pub fn recut_tiles(&self) -> usize
+        ensures { result ≡ self.now.recut }
     {
-        self.lexed.anew
+        self.lexed.recut
     }
 
     /// The greatest number of entries of a boundary's stack.
@@ -107,6 +110,21 @@ impl<'lexer, 'input, L: LexerTypes<LexErrorT = LRLexError>> LexRun<'lexer, 'inpu
         self.lexed.boundaries.peak()
     }
 
+    /// The place up to which the text was lexed: its length, or the place of the error that stopped lexing.
+    pub fn end(&self) -> usize
+        ensures { result ≡ end_of self.now.boundaries }
+    {
+        end_of(&self.lexed.boundaries)
+    }
+
+    /// The start state at `end()`: the top of the stack there. A text that ends inside a string or a comment ends in the state
+    /// of that string or comment. None where the definition has no state 0.
+    pub fn end_state(&self) -> Option<StartStateId>
+        ensures { option_map state_number result ≡ end_state_of self.now.boundaries }
+    {
+        end_state_of(&self.lexed.boundaries)
+    }
+
     /// One more than the tiles, or 0 without a state 0.
     pub fn boundaries(&self) -> usize
         ensures { result ≡ length self.now.boundaries }
@@ -114,7 +132,7 @@ impl<'lexer, 'input, L: LexerTypes<LexErrorT = LRLexError>> LexRun<'lexer, 'inpu
         self.lexed.boundaries.len()
     }
 
-    /// Where the boundary stands.
+    /// The offset of the boundary in the text, in bytes. Boundary `index` comes after so many tiles.
     pub fn place(&self, index: usize) -> usize
         requires { index < length self.now.boundaries }
         ensures { result ≡ (boundary_at self.now.boundaries index).place }
@@ -122,7 +140,7 @@ impl<'lexer, 'input, L: LexerTypes<LexErrorT = LRLexError>> LexRun<'lexer, 'inpu
         self.lexed.boundaries.place(index)
     }
 
-    /// How many bytes past the boundary's place the tiles before it looked. 255 stands for more.
+    /// How many bytes past the boundary's place the tiles before it looked. 255 means more, or unknown.
     pub fn ahead(&self, index: usize) -> u8
         requires { index < length self.now.boundaries }
         ensures { result ≡ slice_index self.now.ahead index }
@@ -146,14 +164,14 @@ pub(crate) struct Lexed<X> {
     pub(crate) items: Vec<Result<X, LRLexError>>,
     pub(crate) boundaries: Boundaries,
     pub(crate) asked: u128,
-    /// For each boundary, how many bytes past its place the tiles before it looked. 255 stands for more.
+    /// For each boundary, how many bytes past its place the tiles before it looked. 255 means more, or unknown.
     pub(crate) ahead: Vec<u8>,
     /// How many tiles were cut anew.
-    pub(crate) anew: usize,
+    pub(crate) recut: usize,
 }
 
 impl<X: Copy> Lexed<X> {
-    ghost use Rattle.lrlex.specs.UnderWay.{HasSame};
+    ghost use Rattle.lrlex.specs.Progress.{HasSame};
 
     /// A copy of it.
     pub(crate) fn copied(&self, alloc: Global) -> Result<Lexed<X>, AllocError>
@@ -164,7 +182,7 @@ impl<X: Copy> Lexed<X> {
             boundaries: self.boundaries.copied(alloc)?,
             asked: self.asked,
             ahead: copied(alloc, &self.ahead)?,
-            anew: self.anew,
+            recut: self.recut,
         })
     }
 }
@@ -178,6 +196,27 @@ impl<X> Lexed<X> {
     }
 }
 
+/// The place up to which a text with these boundaries was lexed, or 0 without a boundary.
+pub(crate) fn end_of(boundaries: &Boundaries) -> usize
+    ensures { result ≡ end_of boundaries.now }
+{
+    match boundaries.len().checked_sub(1) {
+        Some(last) => boundaries.place(last),
+        None => 0,
+    }
+}
+
+/// The start state at the last boundary, if there is one: the top of its stack.
+pub(crate) fn end_state_of(boundaries: &Boundaries) -> Option<StartStateId>
+    requires { 0 < length boundaries.now → AreEntries (last_entries boundaries.now) }
+    ensures { option_map state_number result ≡ end_state_of boundaries.now }
+{
+    match boundaries.len().checked_sub(1) {
+        Some(last) => Some(StartStateId::new(top_of(boundaries.stack(last)))),
+        None => None,
+    }
+}
+
 /// Without a state 0: an error alone.
 fn stateless<S: Numbered, X: Lexeme<S>>(alloc: Global) -> Result<Lexed<X>, AllocError>
     ensures run { (d : Definition) (text : List ℕ) → is_state d 0 ≡ false → IfOk result (λ r.
@@ -186,16 +225,16 @@ fn stateless<S: Numbered, X: Lexeme<S>>(alloc: Global) -> Result<Lexed<X>, Alloc
         LooksAhead d text r.boundaries r.ahead.items) }
     ensures asked { IfOk result (λ r. r.asked ≡ 0) }
     ensures none { IfOk result (λ r. r.boundaries ≡ []) }
-    ensures lexed { IfOk result (λ r. r.anew ≡ 0) }
+    ensures lexed { IfOk result (λ r. r.recut ≡ 0) }
 {
     let mut items = Vec::new(alloc);
-    give_error::<S, X>(&mut items, 0, None)?;
+    push_error::<S, X>(&mut items, 0, None)?;
     Ok(Lexed {
         items,
         boundaries: Boundaries::new(alloc),
         asked: 0,
         ahead: Vec::new(alloc),
-        anew: 0,
+        recut: 0,
     })
 }
 
@@ -210,15 +249,15 @@ fn finished<X>(progress: Progress<X>) -> Lexed<X>
         boundaries,
         asked,
         ahead,
-        over: _,
+        lookahead: _,
     } = progress;
-    let anew = boundaries.len().saturating_sub(1);
+    let recut = boundaries.len().saturating_sub(1);
     Lexed {
         items,
         boundaries,
         asked,
         ahead,
-        anew,
+        recut,
     }
 }
 
@@ -237,16 +276,16 @@ pub(crate) fn lex<S: Numbered, X: Lexeme<S>>(
     ensures few { IfOk result (λ r. r.asked ≤ length r.boundaries * length
         (definition_by S.number table.now).rules) }
     ensures exact { IfOk result (λ r. r.asked ≡ asks_by table.now text.now r.boundaries) }
-    ensures lexed { IfOk result (λ r. r.anew ≡ length r.boundaries - 1) }
+    ensures lexed { IfOk result (λ r. r.recut ≡ length r.boundaries - 1) }
 {
     if !table.is_state(0) {
         return stateless::<S, X>(alloc);
     }
     let mut searcher = Searcher::new(alloc, table, text)?;
     let mut progress = begin(alloc, text)?;
-    let mut here = table.rules_in(0);
+    let mut rules = table.rules_in(0);
     'tiles: while progress.place < text.len() {
-        if !advance(alloc, table, text, &mut here, &mut searcher, &mut progress)? {
+        if !advance(alloc, table, text, &mut rules, &mut searcher, &mut progress)? {
             return Ok(finished(progress));
         }
     }
@@ -272,7 +311,7 @@ impl<L: LexerTypes<LexErrorT = LRLexError>> LRNonStreamingLexerDef<L> {
         ensures few { IfOk result (λ r. r.asked ≤ length r.boundaries * length
             (definition_of L.StorageT.number self.now).rules) }
         ensures exact { IfOk result (λ r. r.asked ≡ asks self.now text.now r.boundaries) }
-        ensures lexed { IfOk result (λ r. r.anew ≡ length r.boundaries - 1) }
+        ensures lexed { IfOk result (λ r. r.recut ≡ length r.boundaries - 1) }
     {
         let lexed = lex(alloc, &self.table, text)?;
         Ok(LexRun {

@@ -1,18 +1,18 @@
 ghost use Rattle.std.specs.Prelude.{◌≡◌, ◌+◌, ◌-◌, ◌^◌, ◌<◌, ◌≤◌, true, false, [], ◌∷◌, ◌++◌, length, map, IfOk, OnOk, IsCharBoundary};
 ghost use Rattle.lrlex.specs.Active.{is_state, lexeme_id};
-ghost use Rattle.lrlex_rules.specs.Parts.{as_rule};
-ghost use Rattle.lrlex.specs.Asked.{untabled_count};
+ghost use Rattle.lrlex_rules.specs.RuleParts.{as_rule};
+ghost use Rattle.lrlex.specs.Searches.{untabled_count};
 ghost use Rattle.lrlex.specs.Tiling.{Error, top, stack_after, lexeme_of};
 ghost use Rattle.lrlex_boundaries.specs.Entries.{plain, AreEntries};
 ghost use Rattle.lrlex_boundaries.specs.Boundaries.{Boundary, last_entries};
 ghost use Rattle.lrlex.specs.Reach.{Reached, IsLexed, searches};
-ghost use Rattle.lrlex.specs.Kept.{HasLooked, capped};
-ghost use Rattle.lrlex.specs.AtHand.{AreOf, IsSearcherOf};
+ghost use Rattle.lrlex.specs.Lookahead.{HasLooked, capped};
+ghost use Rattle.lrlex.specs.Searcher.{AreOf, IsSearcherOf};
 ghost use Rattle.lrlex.specs.Views.{definition_by, item_of, items_by};
-ghost use Rattle.lrlex.specs.UnderWay.{Front, HasAdvanced, HasEnded, HasEntered, HasSearched, IsUnderWay};
+ghost use Rattle.lrlex.specs.Progress.{Front, HasAdvanced, HasEnded, HasEntered, HasSearched, IsUnderWay};
 
 use crate::definition::active::{lacks_id, lexeme_id};
-use crate::definition::rule_table::{RuleTable, RulesIn};
+use crate::definition::rule_table::{RuleTable, StateRules};
 use crate::errors::LRLexError;
 use crate::lexing::stack::{step, top_of};
 use crate::lexing::winner::Searcher;
@@ -30,10 +30,10 @@ pub(crate) struct Progress<X> {
     pub(crate) items: Vec<Result<X, LRLexError>>,
     pub(crate) boundaries: Boundaries,
     pub(crate) asked: u128,
-    /// For each boundary, how many bytes past its place the tiles before it looked. 255 stands for more.
+    /// For each boundary, how many bytes past its place the tiles before it looked. 255 means more, or unknown.
     pub(crate) ahead: Vec<u8>,
     /// How many bytes past the place the tiles looked.
-    pub(crate) over: usize,
+    pub(crate) lookahead: usize,
 }
 
 /// The most tiles for which room is made ahead.
@@ -53,7 +53,7 @@ pub(crate) fn begin<X: Copy>(alloc: Global, text: &str) -> Result<Progress<X>, A
         ≡ record { place = 0; entries = (1, 0) ∷ [] } ∷ []) }
     ensures asked { IfOk result (λ p. p.asked ≡ 0) }
     ensures ahead { IfOk result (λ p. p.ahead.items ≡ 0 ∷ []) }
-    ensures over { IfOk result (λ p. p.over ≡ 0) }
+    ensures lookahead { IfOk result (λ p. p.lookahead ≡ 0) }
 {
     let room = tiles_expected(text);
     let mut progress = Progress {
@@ -63,7 +63,7 @@ pub(crate) fn begin<X: Copy>(alloc: Global, text: &str) -> Result<Progress<X>, A
         boundaries: Boundaries::with_capacity(alloc, room)?,
         asked: 0,
         ahead: Vec::new(alloc),
-        over: 0,
+        lookahead: 0,
     };
     progress.items.reserve(room)?;
     progress.ahead.reserve(room)?;
@@ -75,7 +75,7 @@ pub(crate) fn begin<X: Copy>(alloc: Global, text: &str) -> Result<Progress<X>, A
 
 /// Gives the tile's lexeme, if its rule gives one.
 #[inline(always)]
-fn give<S: Numbered, X: Lexeme<S>>(
+fn push_lexeme<S: Numbered, X: Lexeme<S>>(
     items: &mut Vec<Result<X, LRLexError>>,
     rule: &Rule<S>,
     place: usize,
@@ -94,7 +94,7 @@ fn give<S: Numbered, X: Lexeme<S>>(
 
 /// Gives an error at the place, with the state in which no rule matches there, if that is why.
 #[inline(never)]
-pub(crate) fn give_error<S: Numbered, X: Lexeme<S>>(
+pub(crate) fn push_error<S: Numbered, X: Lexeme<S>>(
     items: &mut Vec<Result<X, LRLexError>>,
     place: usize,
     state: Option<usize>,
@@ -112,31 +112,35 @@ pub(crate) fn give_error<S: Numbered, X: Lexeme<S>>(
     Ok(())
 }
 
-/// The number that stands for so many bytes.
+/// So many bytes as a number of one byte, where 255 means more.
 #[inline(always)]
-pub(crate) fn capped(over: usize) -> u8
-    ensures { result ≡ capped over }
+pub(crate) fn capped(lookahead: usize) -> u8
+    ensures { result ≡ capped lookahead }
 {
-    if over < 255 { over as u8 } else { 255 }
+    if lookahead < 255 {
+        lookahead as u8
+    } else {
+        255
+    }
 }
 
-/// Enters the next boundary: moves the stack by the rule's target. The tiles looked `over` bytes past its place.
+/// Enters the next boundary: moves the stack by the rule's target. The tiles looked `lookahead` bytes past its place.
 #[inline(always)]
 #[tactic(auto, unfolding(crate::specs::Tiling::stack_after))]
-fn enter<S, X: Copy>(
+fn push_boundary<S, X: Copy>(
     progress: &mut Progress<X>,
     rule: &Rule<S>,
     place: usize,
-    over: usize,
+    lookahead: usize,
 ) -> Result<(), AllocError>
     requires entries { AreEntries progress.old.stack.items }
     requires room { length (plain progress.old.stack.items) + 1 < 2 ^ 64 }
     requires last { last_entries progress.old.boundaries ≡ progress.old.stack.items }
-    ensures { OnOk result (HasEntered progress.old progress.new rule.now.target place over) }
+    ensures { OnOk result (HasEntered progress.old progress.new rule.now.target place lookahead) }
 {
     progress.place = place;
-    progress.over = over;
-    append(&mut progress.ahead, capped(over))?;
+    progress.lookahead = lookahead;
+    append(&mut progress.ahead, capped(lookahead))?;
     // read as a whole only where there is one, so that the tiles of other rules don't pay for it
     if rule.target_state().is_none() {
         progress.boundaries.repeat(place)?;
@@ -147,23 +151,23 @@ fn enter<S, X: Copy>(
     Ok(())
 }
 
-/// Takes the tile at the place, and answers whether lexing goes on after it. `here` are the rules of some state, and then
+/// Takes the tile at the place, and answers whether lexing goes on after it. `rules` are the rules of some state, and then
 /// those of the state that the tile was looked for in.
 #[inline(always)]
 pub(crate) fn advance<'d, S: Numbered, X: Lexeme<S>>(
     alloc: Global,
     table: &'d RuleTable<S>,
     text: &str,
-    here: &mut RulesIn<'d>,
+    rules: &mut StateRules<'d>,
     searcher: &mut Searcher<'d, '_>,
     progress: &mut Progress<X>,
 ) -> Result<bool, AllocError>
-    requires here { AreOf S.number table.now here.old.state here.old }
+    requires rules { AreOf S.number table.now rules.old.state rules.old }
     requires inside { progress.old.place < length text.now }
     requires searcher { IsSearcherOf table.now text.now searcher.old }
     requires under_way { (f : Front) × IsUnderWay (definition_by S.number table.now)
         S.number X.seen text.now f progress.old }
-    ensures held { IfOk result (λ _. AreOf S.number table.now here.new.state here.new
+    ensures held { IfOk result (λ _. AreOf S.number table.now rules.new.state rules.new
         × IsSearcherOf table.now text.now searcher.new) }
     ensures goes_on { IfOk result (λ on. on ≡ true → (f : Front)
         → IsUnderWay (definition_by S.number table.now) S.number
@@ -182,24 +186,32 @@ pub(crate) fn advance<'d, S: Numbered, X: Lexeme<S>>(
 {
     let place = progress.place;
     let state = top_of(&progress.stack);
-    *here = table.rules_at(*here, state);
+    *rules = table.rules_at(*rules, state);
     let rest = &text[place..];
-    let sight = searcher.winner(alloc, table, state, *here, place, rest, &mut progress.asked)?;
-    let Some(tile) = sight.tile else {
-        give_error::<S, X>(&mut progress.items, place, Some(state))?;
+    let scan = searcher.winner(
+        alloc,
+        table,
+        state,
+        *rules,
+        place,
+        rest,
+        &mut progress.asked,
+    )?;
+    let Some(tile) = scan.winner else {
+        push_error::<S, X>(&mut progress.items, place, Some(state))?;
         return Ok(false);
     };
     let rule = &table.rules[tile.rule];
     if lacks_id(rule) {
-        give_error::<S, X>(&mut progress.items, place, None)?;
+        push_error::<S, X>(&mut progress.items, place, None)?;
         return Ok(false);
     }
-    give::<S, X>(&mut progress.items, rule, place, tile.len)?;
+    push_lexeme::<S, X>(&mut progress.items, rule, place, tile.len)?;
     if table.lacks_target(rule) {
-        give_error::<S, X>(&mut progress.items, place, None)?;
+        push_error::<S, X>(&mut progress.items, place, None)?;
         return Ok(false);
     }
-    let over = progress.over.max(sight.reach).saturating_sub(tile.len);
-    enter(progress, rule, place + tile.len, over)?;
+    let lookahead = progress.lookahead.max(scan.reach).saturating_sub(tile.len);
+    push_boundary(progress, rule, place + tile.len, lookahead)?;
     Ok(true)
 }

@@ -1,12 +1,12 @@
 //! The winner at a place: the best of what the tables tell and of what the rules without one answer, as they are asked.
 ghost use Rattle.std.specs.Prelude.{◌≡◌, ℕ, length, slice_index, [], ◌+◌, ◌^◌, ◌<◌, ◌≤◌, ◌⊎◌, true, false, vec_len, List, drop, IfOk, IfSome, IsCharBoundary};
 ghost use Rattle.lrlex_rules.specs.Matchers.{AreMatchers};
-ghost use Rattle.lrlex.specs.AtHand.{AreOf, HasAsked, IsSearcherOf, IsSightOf};
+ghost use Rattle.lrlex.specs.Searcher.{AreOf, HasAsked, IsSearcherOf, IsScanOf};
 ghost use Rattle.lrlex.specs.Views.{definition_by};
 
-use crate::definition::rule_table::{RuleTable, RulesIn};
+use crate::definition::rule_table::{RuleTable, StateRules};
 use lrlex_base::Numbered;
-use lrlex_rules::{ask_by, no_matchers};
+use lrlex_rules::{empty_matchers, match_rule};
 use lrlex_table::DeadEnds;
 use regex::Matcher;
 use std::alloc::{AllocError, Global};
@@ -20,12 +20,12 @@ pub(crate) struct Tile {
 
 /// A winner, if there is one, and how many bytes of the text decide it. Its end counts as one more.
 #[derive(Clone, Copy)]
-pub(crate) struct Sight {
-    pub(crate) tile: Option<Tile>,
+pub(crate) struct Scan {
+    pub(crate) winner: Option<Tile>,
     pub(crate) reach: usize,
 }
 
-/// Whether a rule that takes so many bytes is better than the best so far: it takes more, or as many and stands earlier.
+/// Whether a rule that takes so many bytes is better than the best so far: it takes more, or as many and is the earlier one.
 #[inline(always)]
 fn is_better(rule: usize, len: usize, best: Tile) -> bool
     ensures better { result ≡ true → (best.len < len) ⊎ ((len ≡ best.len) × (rule < best.rule)) }
@@ -50,67 +50,67 @@ fn active_place(active: &[usize], rules: usize, number: usize) -> usize
     }
 }
 
-/// What wins at the beginning of the text, which stands at `from`, in a state whose active rules all have a table: what the
-/// tables tell.
+/// What wins at the beginning of the text, which begins at `from` in the input, in a state whose active rules all have a
+/// table: the tables decide.
 #[inline(always)]
 fn tabled_winner<S: Numbered>(
     table: &RuleTable<S>,
     state: usize,
-    here: RulesIn<'_>,
+    rules: StateRules<'_>,
     ends: &mut DeadEnds<'_, '_>,
     from: usize,
     text: &str,
-) -> Sight
-    requires here { AreOf S.number table.now state here }
-    requires tabled { here.tables.now.asked.items ≡ [] }
+) -> Scan
+    requires rules { AreOf S.number table.now state rules }
+    requires tabled { rules.tables.now.asked.items ≡ [] }
     requires ends { (ends.old.lists.now ≡ table.now.tables.items)
         × (text.now ≡ drop from ends.old.text.now) × (from ≤ length ends.old.text.now) }
-    ensures sight { IsSightOf (definition_by S.number table.now) state text.now
+    ensures scan { IsScanOf (definition_by S.number table.now) state text.now
         result }
-    ensures tile { IfSome result.tile (λ t. IsCharBoundary text.now t.len
+    ensures tile { IfSome result.winner (λ t. IsCharBoundary text.now t.len
         × (t.rule < vec_len table.now.rules)) }
     ensures ends { (ends.new.lists ≡ ends.old.lists) × (ends.new.text ≡ ends.old.text) }
 {
-    let sight = ends.look(here.tables, here.list, from, text);
-    let Some(tile) = sight.tile else {
-        return Sight {
-            tile: None,
-            reach: sight.reach,
+    let scan = ends.winner_at(rules.tables, rules.list, from, text);
+    let Some(found) = scan.winner else {
+        return Scan {
+            winner: None,
+            reach: scan.reach,
         };
     };
-    let rule = active_place(here.active, table.rules.len(), tile.rule);
-    Sight {
-        tile: Some(Tile {
+    let rule = active_place(rules.active, table.rules.len(), found.pattern);
+    Scan {
+        winner: Some(Tile {
             rule,
-            len: tile.len,
+            len: found.len,
         }),
-        reach: sight.reach,
+        reach: scan.reach,
     }
 }
 
-/// The rule that wins at the beginning of the text, which stands at `from`, among those that are active in the state:
-/// the tables tell the best of the rules that have one, and the others are asked. A search doesn't tell how far it looked,
-/// so the whole text decides. Out of line, so that a tile whose rules all have a table doesn't pay for it.
+/// The rule that wins at the beginning of the text, which begins at `from` in the input, among those that are active in the
+/// state: the tables give the best of the rules that have one, and each other rule is matched by `regex`. Such a match doesn't
+/// say how far it looked, so the whole text decides. Out of line, so that a tile whose rules all have a table doesn't pay for it.
 #[inline(never)]
-fn winner_by<'d, S: Numbered>(
+fn winner_with_search<'d, S: Numbered>(
     alloc: Global,
     table: &'d RuleTable<S>,
     state: usize,
-    here: RulesIn<'d>,
+    rules: StateRules<'d>,
     matchers: &mut [Option<Box<Matcher<'d>>>],
     ends: &mut DeadEnds<'d, '_>,
     from: usize,
     text: &str,
     asked: &mut u128,
-) -> Result<Sight, AllocError>
-    requires here { AreOf S.number table.now state here }
+) -> Result<Scan, AllocError>
+    requires rules { AreOf S.number table.now state rules }
     requires held { AreMatchers table.now.rules.items matchers.old
         × (ends.old.lists.now ≡ table.now.tables.items)
         × (text.now ≡ drop from ends.old.text.now) × (from ≤ length ends.old.text.now) }
     requires room { asked.old + vec_len table.now.rules < 2 ^ 128 }
-    ensures sight { IfOk result (IsSightOf (definition_by S.number table.now)
+    ensures scan { IfOk result (IsScanOf (definition_by S.number table.now)
         state text.now) }
-    ensures tile { IfOk result (λ s. IfSome s.tile (λ t. IsCharBoundary text.now t.len
+    ensures tile { IfOk result (λ s. IfSome s.winner (λ t. IsCharBoundary text.now t.len
         × (t.rule < vec_len table.now.rules))) }
     ensures asked { IfOk result (λ _. HasAsked S.number table.now state
         asked.old asked.new) }
@@ -118,13 +118,13 @@ fn winner_by<'d, S: Numbered>(
         matchers.new) }
     ensures ends { (ends.new.lists ≡ ends.old.lists) × (ends.new.text ≡ ends.old.text) }
 {
-    let active = here.active;
-    let tables = here.tables;
-    let sight = ends.look(tables, here.list, from, text);
-    let mut best = match sight.tile {
-        Some(tile) => Tile {
-            rule: tile.rule,
-            len: tile.len,
+    let active = rules.active;
+    let tables = rules.tables;
+    let scan = ends.winner_at(tables, rules.list, from, text);
+    let mut best = match scan.winner {
+        Some(found) => Tile {
+            rule: found.pattern,
+            len: found.len,
         },
         None => Tile { rule: 0, len: 0 },
     };
@@ -132,20 +132,23 @@ fn winner_by<'d, S: Numbered>(
         let number = tables.asked()[index];
         let place = active[number];
         let rule = &table.rules[place];
-        let len = ask_by(alloc, &mut matchers[place], rule, text, asked)?;
+        let len = match_rule(alloc, &mut matchers[place], rule, text, asked)?;
         if is_better(number, len, best) {
             best = Tile { rule: number, len };
         }
     }
     let reach = text.len() + 1;
     if best.len == 0 {
-        return Ok(Sight { tile: None, reach });
+        return Ok(Scan {
+            winner: None,
+            reach,
+        });
     }
-    let tile = Some(Tile {
+    let winner = Some(Tile {
         rule: active_place(active, table.rules.len(), best.rule),
         len: best.len,
     });
-    Ok(Sight { tile, reach })
+    Ok(Scan { winner, reach })
 }
 
 /// What a run needs to look for winners in a text: the matchers of the rules that have no table, as they come to be made,
@@ -165,7 +168,7 @@ impl<'d, 't> Searcher<'d, 't> {
     ) -> Result<Self, AllocError>
         ensures { IfOk result (IsSearcherOf table.now text.now) }
     {
-        let matchers = no_matchers(alloc, &table.rules)?;
+        let matchers = empty_matchers(alloc, &table.rules)?;
         let ends = DeadEnds::new(alloc, &table.tables, text);
         Ok(Searcher { matchers, ends })
     }
@@ -178,18 +181,18 @@ impl<'d, 't> Searcher<'d, 't> {
         alloc: Global,
         table: &'d RuleTable<S>,
         state: usize,
-        here: RulesIn<'d>,
+        rules: StateRules<'d>,
         place: usize,
         rest: &str,
         asked: &mut u128,
-    ) -> Result<Sight, AllocError>
-        requires here { AreOf S.number table.now state here }
+    ) -> Result<Scan, AllocError>
+        requires rules { AreOf S.number table.now state rules }
         requires searcher { (input : List ℕ) × IsSearcherOf table.now input self.old
             × (rest.now ≡ drop place input) × (place ≤ length input) }
         requires room { asked.old + vec_len table.now.rules < 2 ^ 128 }
-        ensures sight { IfOk result (IsSightOf (definition_by S.number table.now)
+        ensures scan { IfOk result (IsScanOf (definition_by S.number table.now)
             state rest.now) }
-        ensures tile { IfOk result (λ s. IfSome s.tile (λ t. IsCharBoundary rest.now t.len
+        ensures tile { IfOk result (λ s. IfSome s.winner (λ t. IsCharBoundary rest.now t.len
             × (t.rule < vec_len table.now.rules))) }
         ensures asked { IfOk result (λ _. HasAsked S.number table.now state
             asked.old asked.new) }
@@ -197,21 +200,21 @@ impl<'d, 't> Searcher<'d, 't> {
             IsSearcherOf table.now input self.old →
             IsSearcherOf table.now input self.new) }
     {
-        if here.tables.asked().is_empty() {
+        if rules.tables.asked().is_empty() {
             let ends = &mut self.ends;
-            return Ok(tabled_winner(table, state, here, ends, place, rest));
+            return Ok(tabled_winner(table, state, rules, ends, place, rest));
         }
-        let sight = winner_by(
+        let scan = winner_with_search(
             alloc,
             table,
             state,
-            here,
+            rules,
             &mut self.matchers,
             &mut self.ends,
             place,
             rest,
             asked,
         )?;
-        Ok(sight)
+        Ok(scan)
     }
 }

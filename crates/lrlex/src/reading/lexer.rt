@@ -55,7 +55,7 @@ pub struct LRNonStreamingLexer<'lexer, 'input, L: LexerTypes<LexErrorT = LRLexEr
 
 impl<'lexer, 'input, L: LexerTypes<LexErrorT = LRLexError>> Model
     for LRNonStreamingLexer<'lexer, 'input, L> {
-    ghost use Rattle.lrlex.specs.Lexers.{Held};
+    ghost use Rattle.lrlex.specs.Lexer.{Held};
 
     ghost Value = { Held L.LexemeT };
 
@@ -63,7 +63,7 @@ impl<'lexer, 'input, L: LexerTypes<LexErrorT = LRLexError>> Model
 }
 
 impl<'lexer, 'input, L: LexerTypes<LexErrorT = LRLexError>> LRNonStreamingLexer<'lexer, 'input, L> {
-    ghost use Rattle.lrlex.specs.Lexers.{lexer_items, lexer_text};
+    ghost use Rattle.lrlex.specs.Lexer.{lexer_items, lexer_text};
 
     /// A lexer that gives these items, in order, over the text `s`. The cache is that of `s`: it was fed as many bytes,
     /// with U+000A at the same places.
@@ -117,7 +117,7 @@ impl<'lexer, 'input, L: LexerTypes<LexErrorT = LRLexError>> LRNonStreamingLexer<
 
 impl<'lexer, 'input, L: LexerTypes<LexErrorT = LRLexError>> Lexer<L>
     for LRNonStreamingLexer<'lexer, 'input, L> {
-    ghost use Rattle.lrlex.specs.Lexers.{lexer_items};
+    ghost use Rattle.lrlex.specs.Lexer.{lexer_items};
 
     ghost items = { lexer_items };
 
@@ -128,7 +128,7 @@ impl<'lexer, 'input, L: LexerTypes<LexErrorT = LRLexError>> Lexer<L>
 
 impl<'lexer, 'input, L: LexerTypes<LexErrorT = LRLexError>> NonStreamingLexer<'input, L>
     for LRNonStreamingLexer<'lexer, 'input, L> {
-    ghost use Rattle.lrlex.specs.Lexers.{lexer_text};
+    ghost use Rattle.lrlex.specs.Lexer.{lexer_text};
 
     ghost text = { lexer_text };
 
@@ -147,7 +147,7 @@ impl<'lexer, 'input, L: LexerTypes<LexErrorT = LRLexError>> NonStreamingLexer<'i
 }
 
 impl<'lexer, 'input, L: LexerTypes<LexErrorT = LRLexError>> LexRun<'lexer, 'input, L> {
-    ghost use Rattle.lrlex.specs.Lexers.{lexer_items, lexer_text};
+    ghost use Rattle.lrlex.specs.Lexer.{lexer_items, lexer_text};
 
     /// The run's items, and its text. The span of each item fits the text.
     pub fn into_lexer(
@@ -177,7 +177,7 @@ impl<'lexer, 'input, L: LexerTypes<LexErrorT = LRLexError>> LexRun<'lexer, 'inpu
 }
 
 impl<L: LexerTypes<LexErrorT = LRLexError>> LRNonStreamingLexerDef<L> {
-    ghost use Rattle.lrlex.specs.Lexers.{lexer_items, lexer_text};
+    ghost use Rattle.lrlex.specs.Lexer.{lexer_items, lexer_text};
 
     /// Lexes the input as `run` does, and gives the items with the input. The span of each item fits the input.
     pub fn lexer<'lexer, 'input>(

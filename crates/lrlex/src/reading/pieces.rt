@@ -1,14 +1,14 @@
 //! The whole text as it was cut.
 ghost use Rattle.std.specs.Prelude.{ℕ, ◌≡◌, ◌+◌, ◌<◌, ◌≤◌, true, List, IfOk, IsCharBoundary, drop, length, vec_len};
 ghost use Rattle.lrlex.specs.Active.{is_state};
-ghost use Rattle.lrlex.specs.AtHand.{AreOf, IsSearcherOf};
+ghost use Rattle.lrlex.specs.Searcher.{AreOf, IsSearcherOf};
 ghost use Rattle.lrlex.specs.Pieces.{IsPiece, AreTilesOfRun, ArePieces, ArePiecesIn};
 ghost use Rattle.lrlex.specs.Reach.{IsLexed, IsRun};
 ghost use Rattle.lrlex.specs.Tiling.{Item, Wins};
 ghost use Rattle.lrlex.specs.Views.{definition_by, definition_of};
 
-use crate::definition::rule_table::{RuleTable, RulesIn};
-use crate::editing::restart::up_to;
+use crate::definition::rule_table::{RuleTable, StateRules};
+use crate::editing::restart::count_up_to;
 use crate::errors::LRLexError;
 use crate::lexing::run::LexRun;
 use crate::lexing::stack::top_of;
@@ -18,7 +18,7 @@ use lrlex_boundaries::Boundaries;
 use std::alloc::{AllocError, Global};
 
 /// A tile of a text.
-#[derive(Clone, Copy, Debug)]
+#[derive(Clone, Copy, Debug, PartialEq, Eq)]
 pub struct Piece<'d, 't> {
     /// The place of the rule that cut it, counted from 0 (`get_rule`).
     pub rule: usize,
@@ -33,12 +33,12 @@ fn tile_of<'d, S: Numbered>(
     alloc: Global,
     table: &'d RuleTable<S>,
     state: usize,
-    here: RulesIn<'d>,
+    rules: StateRules<'d>,
     searcher: &mut Searcher<'d, '_>,
     place: usize,
     text: &str,
 ) -> Result<Tile, AllocError>
-    requires here { AreOf S.number table.now state here }
+    requires rules { AreOf S.number table.now state rules }
     requires searcher { (input : List ℕ) × IsSearcherOf table.now input searcher.old
         × (text.now ≡ drop place input) × (place ≤ length input) }
     requires some { (t : ℕ × ℕ) × Wins (definition_by S.number table.now) state
@@ -52,8 +52,8 @@ fn tile_of<'d, S: Numbered>(
         IsSearcherOf table.now input searcher.new) }
 {
     let mut asked = 0;
-    let sight = searcher.winner(alloc, table, state, here, place, text, &mut asked)?;
-    Ok(sight.tile.unwrap())
+    let scan = searcher.winner(alloc, table, state, rules, place, text, &mut asked)?;
+    Ok(scan.winner.unwrap())
 }
 
 /// The tile from this place on.
@@ -99,13 +99,13 @@ fn pieces_between<'d, 't, S: Numbered>(
 {
     let mut pieces = Vec::with_capacity(alloc, last - first)?;
     let mut searcher = Searcher::new(alloc, table, text)?;
-    let mut here = table.rules_in(0);
+    let mut rules = table.rules_in(0);
     let mut place = boundaries.place(first);
     'tiles: for index in first..last {
         let state = top_of(boundaries.stack(index));
-        here = table.rules_at(here, state);
+        rules = table.rules_at(rules, state);
         let rest = &text[place..];
-        let tile = tile_of(alloc, table, state, here, &mut searcher, place, rest)?;
+        let tile = tile_of(alloc, table, state, rules, &mut searcher, place, rest)?;
         pieces.push(piece_of(table, text, place, tile))?;
         place += tile.len;
     }
@@ -149,14 +149,14 @@ pub(crate) fn pieces_in<'d, 't, S: Numbered>(
     if from >= to || !table.is_state(0) {
         return Ok(Vec::new(alloc));
     }
-    let first = up_to(boundaries, from) - 1;
-    let last = up_to(boundaries, to - 1).min(boundaries.len() - 1);
+    let first = count_up_to(boundaries, from) - 1;
+    let last = count_up_to(boundaries, to - 1).min(boundaries.len() - 1);
     pieces_between(alloc, table, text, boundaries, first, last)
 }
 
 impl<'lexer, 'input, L: LexerTypes<LexErrorT = LRLexError>> LexRun<'lexer, 'input, L> {
     /// The whole text up to its end or to the error, as it was cut: the tiles of unnamed rules too, in order. A run doesn't
-    /// keep which rule cut a tile: each tile is looked for once more, and the rules that have no table are asked again.
+    /// keep which rule cut a tile: each tile is looked for once more, and the rules that have no table are matched by `regex` again.
     pub fn pieces(&self, alloc: Global) -> Result<Vec<Piece<'lexer, 'input>>, AllocError>
         ensures { IfOk result (λ pieces. ArePieces
             (definition_of L.StorageT.number self.now.definition) self.now.text
@@ -171,7 +171,7 @@ impl<'lexer, 'input, L: LexerTypes<LexErrorT = LRLexError>> LexRun<'lexer, 'inpu
     }
 
     /// The pieces that have a byte in `from..to`, in order, such as those of the lines that an editor shows. Each is whole: the
-    /// first may begin before `from`, and the last end behind `to`. Any numbers will do: past the text's end there are none,
+    /// first may begin before `from`, and the last end after `to`. Any numbers will do: past the text's end there are none,
     /// nor where `from` isn't before `to`. Both ends are found by halving, so it takes time for the rules and for what the
     /// tiles of these pieces look at, and none for the rest of the text.
     pub fn pieces_in(

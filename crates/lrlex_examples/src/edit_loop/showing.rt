@@ -33,8 +33,8 @@ pub fn show(rt: &HostRuntime, document: &Document<'_, Types>) -> io::Result<()> 
             Err(error) => show_error(rt, document, error)?,
         }
     }
-    let (lexed, tiles) = (document.lexed(), document.tiles());
-    println!(rt; "{lexed} of {tiles} tiles cut anew")
+    let (recut, tiles) = (document.recut_tiles(), document.tiles());
+    println!(rt; "{recut} of {tiles} tiles cut anew")
 }
 
 /// Why nothing was edited.

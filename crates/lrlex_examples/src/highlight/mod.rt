@@ -3,26 +3,17 @@
 mod classes;
 mod marks;
 
-use crate::rules::{Definition, Types};
+use crate::rules::Definition;
 use clap::ArgMatches;
 use classes::class_of;
-use lrlex::{LexRun, LexerDef};
+use lrlex::LexerDef;
 use lrlex_report::{bad_byte_text, faults_text};
 use marks::Marks;
 use std::alloc::{AllocError, Global};
 use std::process::ExitCode;
 use std::{fs, io};
 
-/// The place, in bytes, up to which the text was lexed.
-fn end_of(run: &LexRun<'_, '_, Types>) -> usize {
-    if run.boundaries() > 0 {
-        run.place(run.tiles())
-    } else {
-        0
-    }
-}
-
-/// The input with its pieces marked, and behind the last the rest of it.
+/// The input with its pieces marked, and after the last one the rest of it.
 fn marked(
     alloc: Global,
     definition: &Definition,
@@ -34,29 +25,35 @@ fn marked(
     for piece in &run.pieces(alloc)? {
         marks.push(&mut page, class_of(piece), piece.text)?;
     }
-    if let Some((_, rest)) = input.split_at_checked(end_of(&run)) {
+    if let Some((_, rest)) = input.split_at_checked(run.end()) {
         marks.push_rest(&mut page, rest)?;
     }
     page.push_str(marks.tail())?;
     Ok(page)
 }
 
-/// Tells what keeps a text from being shown.
+/// Reports what keeps a text from being shown.
 fn refuse<T>(rt: &HostRuntime, shown: &str) -> io::Result<Option<T>> {
     eprint!(rt; "{shown}")?;
     Ok(None)
 }
 
-/// The text of a file. None where it isn't UTF-8, which is told.
+/// The text of a file. None where it can't be read or isn't UTF-8, which is reported with the file's name.
 fn text_at(rt: &HostRuntime, path: &str) -> io::Result<Option<String>> {
-    let bytes = fs::read(rt, path)?;
+    let bytes = match fs::read(rt, path) {
+        Ok(bytes) => bytes,
+        Err(error) => {
+            eprintln!(rt; "{path}: {error}")?;
+            return Ok(None);
+        }
+    };
     match bad_byte_text(rt.alloc(), path, &bytes)? {
         Some(shown) => refuse(rt, shown.as_str()),
         None => Ok(Some(String::from_utf8(bytes).unwrap())),
     }
 }
 
-/// The definition of the rule file. None where it has none, which is told.
+/// The definition of the rule file. None where the file has faults, which are reported.
 fn definition_at(rt: &HostRuntime, path: &str) -> io::Result<Option<Definition>> {
     let Some(rules) = text_at(rt, path)? else {
         return Ok(None);

@@ -28,14 +28,14 @@ pub(crate) fn declares_exclusive(word: &str) -> Option<bool>
     }
 }
 
-/// Whether the byte can stand in a state's name.
+/// Whether the byte can be part of a state's name.
 fn is_state_name_byte(b: u8) -> bool
     ensures { result ≡ is_state_name_char b }
 {
     b.is_ascii_alphanumeric() || b == b'_' || b == b'.'
 }
 
-/// Whether these can all stand in a state's name.
+/// Whether each of these can be part of a state's name.
 fn are_state_name_bytes(bytes: &[u8]) -> bool
     ensures { result ≡ list_all is_state_name_char bytes.now }
 {

@@ -2,8 +2,8 @@ ghost use Rattle.std.specs.Prelude.{◌≡◌, ◌++◌, ◌∷◌, [], map, fal
 ghost use Rattle.std.proofs.Props.{props};
 ghost use Rattle.lrlex_base.specs.Spans.{as_span};
 ghost use Rattle.lrlex_rules.specs.Outcome.{kind_of};
-ghost use Rattle.lrlex_rules.specs.Kinds.{as_kind, as_subject};
-ghost use Rattle.lrlex_rules.specs.Merge.{AreFaultPlaces, NotesFault, KeepsFaults, fault_index};
+ghost use Rattle.lrlex_rules.specs.LexErrorKind.{as_kind, as_subject};
+ghost use Rattle.lrlex_rules.specs.Duplicates.{AreFaultPlaces, NotesFault, KeepsFaults, fault_index};
 
 use crate::faults::{LexBuildError, LexErrorKind};
 use lrlex_base::Span;
@@ -18,7 +18,7 @@ pub(crate) enum Named {
 }
 
 impl Named {
-    /// The kind of its duplicates' fault.
+    /// The kind of a duplicate's fault.
     fn kind(self) -> LexErrorKind
         ensures { as_kind result ≡ kind_of (as_subject self) }
     {
@@ -29,7 +29,7 @@ impl Named {
     }
 }
 
-// What was declared first: a state or a rule, and where its name stands.
+// What was declared first: a state or a rule, and where its name is.
 type Original = (Named, usize, usize);
 
 /// The index of the fault of an original, if it has one.
@@ -57,7 +57,7 @@ fn note(
     Ok(())
 }
 
-/// The faults so far, with the place of the one that tells of each original's duplicates.
+/// The faults so far, with the index of the fault of each original that has duplicates.
 #[derive(Drop)]
 pub(crate) struct Faults {
     pub(crate) list: Vec<LexBuildError>,
@@ -66,11 +66,11 @@ pub(crate) struct Faults {
 }
 
 impl Faults {
-    ghost use Rattle.lrlex_rules.specs.Merge.{tells_duplicates, with_duplicate};
-    ghost use Rattle.lrlex_rules.specs.Faults.{fault_kind};
-    ghost use Rattle.lrlex_rules.specs.Builder.{as_fault};
+    ghost use Rattle.lrlex_rules.specs.Duplicates.{tells_duplicates, with_duplicate};
+    ghost use Rattle.lrlex_rules.specs.LexBuildError.{fault_kind};
+    ghost use Rattle.lrlex_rules.specs.LexParser.{as_fault};
 
-    /// No faults.
+    /// A list of no faults.
     pub(crate) fn new(alloc: Global) -> Faults
         ensures { result.list.items ≡ [] }
     {
@@ -80,7 +80,7 @@ impl Faults {
         }
     }
 
-    /// Adds a fault that tells of no duplicates.
+    /// Adds a fault of another kind than duplicates.
     pub(crate) fn push(&mut self, fault: LexBuildError) -> Result<(), AllocError>
         requires { tells_duplicates (as_kind (fault_kind fault)) ≡ false }
         ensures { OnOk result (self.new.list.items ≡ self.old.list.items ++ fault ∷ []) }

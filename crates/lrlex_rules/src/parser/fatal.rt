@@ -1,10 +1,10 @@
 ghost use Rattle.std.specs.Prelude.{◌≡◌, false};
-ghost use Rattle.lrlex_rules.specs.Kinds.{as_kind, is_regex_error};
-ghost use Rattle.lrlex_rules.specs.Merge.{tells_duplicates};
+ghost use Rattle.lrlex_rules.specs.LexErrorKind.{as_kind, is_regex_error};
+ghost use Rattle.lrlex_rules.specs.Duplicates.{tells_duplicates};
 
 use crate::faults::LexErrorKind;
 
-/// A fault that ends the reading, and its place. Such a fault is never `regex`'s, nor that of duplicates.
+/// A fault that ends the parse, and the place of it. Such a fault is neither `regex`'s nor that of duplicates.
 #[derive(Debug, Drop)]
 pub(crate) struct Fatal {
     pub(crate) kind: LexErrorKind,

@@ -1,10 +1,10 @@
-mod builder;
 mod declaration;
 mod duplicates;
 mod escapes;
 mod fatal;
+mod lex_parser;
 mod names;
 mod rule_line;
 mod text;
 
-pub use crate::parser::builder::{RuleFile, read_rules};
+pub use crate::parser::lex_parser::{RuleFile, parse_rule_file};

@@ -1,7 +1,7 @@
 ghost use Rattle.std.specs.Prelude.{◌≡◌, ◌++◌, ◌∷◌, [], map, option_map, OnOk, OnErr};
 ghost use Rattle.std.specs.Option.{option_copied};
 ghost use Rattle.std.proofs.Props.{props};
-ghost use Rattle.lrlex_rules.specs.Parts.{state_name, rule_name, ArePlaces, NotesName, KeepsNames};
+ghost use Rattle.lrlex_rules.specs.Names.{state_name, rule_name, ArePlaces, NotesName, KeepsNames};
 
 use crate::rules::Rule;
 use crate::states::StartState;
@@ -9,10 +9,10 @@ use lrlex_base::Numbered;
 use std::alloc::{AllocError, Global};
 use std::collections::BTreeMap;
 
-// Where in a list the first with each name stands. A tree: no choice of names makes it slow.
+// Where in a list the first with each name is. A tree: no choice of names makes it slow.
 type Places<'t> = BTreeMap<&'t str, usize>;
 
-/// Notes where what has this name stands, unless it has none, or an earlier one has it too.
+/// Notes the place of a state or a rule by its name, unless it has none or an earlier one has the same.
 fn note<'t>(places: &mut Places<'t>, name: Option<&'t str>, place: usize) -> Result<(), AllocError>
     ensures noted { OnOk result (NotesName places.old places.new (option_copied name.entry) place) }
     ensures same { OnErr result (KeepsNames places.old places.new) }
@@ -35,10 +35,10 @@ pub(crate) struct States<'t> {
 }
 
 impl<'t> States<'t> {
-    ghost use Rattle.lrlex_rules.specs.Parts.{as_state};
+    ghost use Rattle.lrlex_rules.specs.RuleParts.{as_state};
     ghost use Rattle.lrlex_rules.specs.Declaration.{state_named};
 
-    /// No states.
+    /// A list of no states.
     pub(crate) fn new(alloc: Global) -> States<'t>
         ensures { result.list.items ≡ [] }
     {
@@ -80,10 +80,10 @@ pub(crate) struct Rules<'t, StorageT> {
 }
 
 impl<'t, StorageT: Numbered> Rules<'t, StorageT> {
-    ghost use Rattle.lrlex_rules.specs.Parts.{as_rule};
+    ghost use Rattle.lrlex_rules.specs.RuleParts.{as_rule};
     ghost use Rattle.lrlex_rules.specs.Outcome.{rule_with_name};
 
-    /// No rules.
+    /// A list of no rules.
     pub(crate) fn new(alloc: Global) -> Rules<'t, StorageT>
         ensures { result.list.items ≡ [] }
     {

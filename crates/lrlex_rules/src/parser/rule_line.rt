@@ -1,7 +1,7 @@
 ghost use Rattle.std.specs.Prelude.{◌≡◌, ◌+◌, ◌^◌, ◌<◌, ◌≤◌, ◌∷◌, length, map, IfOk, IfSome};
 ghost use Rattle.std.specs.Option.{option_map, option_copied};
 ghost use Rattle.lrlex_rules.specs.RuleLine.{operation_of, target_name, state_id, target, is_unnamed, is_quoted_by, label_in, parts_of_word, split, listed_names, names_left, listed_ids, all_ids, state_ids, read_pattern};
-ghost use Rattle.lrlex_rules.specs.Builder.{as_states, as_fatal, as_label, as_parts, as_pattern, as_piece, seen, HasAngles, line_end, items_of};
+ghost use Rattle.lrlex_rules.specs.LexParser.{as_states, as_fatal, as_label, as_parts, as_pattern, as_piece, seen, HasAngles, line_end, items_of};
 
 use crate::faults::LexErrorKind;
 use crate::parser::escapes::unescape;
@@ -15,15 +15,15 @@ use std::alloc::{AllocError, Global};
 /// `<..>` at the front of a text.
 #[derive(Clone, Copy)]
 pub(crate) enum Angles<'a> {
-    /// The text begins otherwise.
+    /// The text begins with another character than `<`.
     Absent,
-    /// It has no `>`.
+    /// The text has no `>`.
     Open,
-    /// What stands inside, and what follows.
+    /// What is inside, and what follows.
     Closed(&'a str, &'a str),
 }
 
-/// What stands in `<..>` at the front of a text.
+/// What is in `<..>` at the front of a text.
 pub(crate) fn in_angles(text: &str) -> Angles<'_>
     ensures { HasAngles text.now result }
 {
@@ -60,7 +60,7 @@ fn state_id(states: &States, name: &str) -> Option<usize>
     }
 }
 
-/// The target between the angles, in a word that stands behind the blank at this place.
+/// The target between the angles, in the word after the blank at this place.
 fn target(states: &States, blank: usize, text: &str) -> Result<(usize, StartStateOperation), Fatal>
     requires { blank + 1 < 2 ^ 64 }
     ensures { seen (λ t. t) as_fatal result ≡ target (as_states states.now) blank text.now }
@@ -90,14 +90,14 @@ fn is_quoted_by(part: &str, quote: u8) -> bool
     bytes.len() > 2 && bytes[0] == quote && bytes[bytes.len() - 1] == quote
 }
 
-/// A rule's name, or none, and where it stands.
+/// A rule's name, or none, and where it is.
 #[derive(Clone, Copy)]
 pub(crate) struct Label<'a> {
     pub(crate) name: Option<&'a str>,
     pub(crate) span: Span,
 }
 
-/// The name in the part that ends at `end`, in a word behind the blank at this place.
+/// The name in the part that ends at `end`, in the word after the blank at this place.
 fn label_in(blank: usize, end: usize, part: &str) -> Result<Label<'_>, Fatal>
     requires fits { end < 2 ^ 64 }
     requires room { blank + 1 + length part.now ≤ end }
@@ -129,7 +129,7 @@ pub(crate) struct Parts<'a> {
     pub(crate) label: Label<'a>,
 }
 
-/// A rule line's parts, where the word stands behind the blank at this place.
+/// The parts of a rule line with this head, and this word after the blank at this place.
 fn parts_of_word<'a>(
     states: &States,
     head: &'a str,
@@ -166,7 +166,7 @@ fn parts_of_word<'a>(
     }
 }
 
-/// A rule line's parts round its last blank, or its first fault.
+/// The parts of a rule line around its last blank, or the line's first fault.
 pub(crate) fn split<'a>(states: &States, line: Line<'a>) -> Result<Parts<'a>, Fatal>
     requires { line_end line < 2 ^ 64 }
     ensures { seen as_parts as_fatal result ≡ split (as_states states.now) (as_piece line.entry) }
@@ -180,7 +180,7 @@ pub(crate) fn split<'a>(states: &States, line: Line<'a>) -> Result<Parts<'a>, Fa
     }
 }
 
-/// The first name of a start-state list, and what follows the comma behind it, if there is one.
+/// The first name of a start-state list, and what follows the comma after it, if there is one.
 fn next_listed(names: &str) -> (&str, Option<&str>)
     ensures names { listed_names names.now ≡ result.0.now ∷ names_left (option_copied result.1) }
     ensures shorter { IfSome (option_copied result.1) (λ rest. length rest < length names.now) }
@@ -220,7 +220,7 @@ fn all_ids(alloc: Global, states: &States) -> Result<Vec<usize>, AllocError>
     Ok(ids)
 }
 
-/// The ids that a list of names stands for: `*` alone stands for all states.
+/// The ids that a list of names means: `*` alone means all states.
 fn listed_ids(alloc: Global, states: &States, names: &str) -> Result<Option<Vec<usize>>, AllocError>
     ensures { IfOk result (λ found. option_map items_of found
         ≡ listed_ids (as_states states.now) (listed_names names.now)) }
@@ -240,7 +240,7 @@ pub(crate) struct Pattern {
     pub(crate) text: String,
 }
 
-/// The start states and the pattern of a rule line. Behind a start-state list the escapes are not rewritten.
+/// The start states and the pattern of a rule line. After a start-state list the escapes are not rewritten.
 pub(crate) fn read_pattern(
     alloc: Global,
     states: &States,

@@ -3,9 +3,9 @@ ghost use Rattle.std.specs.List.{list_any, prefix_len};
 ghost use Rattle.std.specs.Option.{option_copied, option_map};
 ghost use Rattle.std.specs.Str.{chars};
 ghost use Rattle.lrlex_base.specs.Classes.{is_white_space, is_blank};
-ghost use Rattle.lrlex_rules.specs.Text.{SplitsAtLast, trim_start, trim_end, trim_text, trim, cut, cut_lines, lines_left, pieces_left, piece, laid_out, is_white};
+ghost use Rattle.lrlex_rules.specs.Text.{SplitsAtLast, trim_start, trim_end, trim_text, trim, cut, cut_lines, lines_left, pieces_left, piece, is_white};
 ghost use Rattle.lrlex_rules.specs.Declaration.{is_skipped, ends_section, section_lines, section_end, first_word};
-ghost use Rattle.lrlex_rules.specs.Builder.{as_piece, MarkAt, StandsIn, EndBy, line_end};
+ghost use Rattle.lrlex_rules.specs.LexParser.{as_piece, laid_out, MarkAt, StandsIn, EndBy, line_end};
 
 use lrlex_base::{is_blank, is_line_sep, is_white_space};
 use std::alloc::{AllocError, Global};
@@ -28,7 +28,7 @@ pub(crate) fn trim_start(text: &str) -> &str
     text.trim_start_matches(|c: char| is_white_space(c))
 }
 
-/// The text without the white space round it.
+/// The text without the white space at both ends.
 pub(crate) fn trim_text(text: &str) -> &str
     ensures value { result.now ≡ trim_text text.now }
     ensures bound { length result.now ≤ length text.now }
@@ -78,7 +78,7 @@ pub(crate) fn next_line(text: &str) -> (&str, Option<&str>)
     }
 }
 
-/// The first name of a text, and what follows the white space character behind it, if there is one.
+/// The first name of a text, and what follows the white space character after it, if there is one.
 pub(crate) fn next_name(text: &str) -> (&str, Option<&str>)
     ensures pieces { (o : ℕ) → cut is_white_space (piece o text.now)
         ≡ piece o result.0.now
@@ -92,13 +92,22 @@ pub(crate) fn next_name(text: &str) -> (&str, Option<&str>)
     }
 }
 
-/// What stands before the last blank of a text, and what stands behind it.
+/// What is before the last blank of a text, and what is after it.
 pub(crate) fn split_last_blank(text: &str) -> Option<(&str, &str)>
     ensures cases { MatchOption result (list_any is_blank text.now ≡ false)
         (λ x. SplitsAtLast is_blank text.now x.0.now x.1.now) }
     ensures whole { IfSome result (λ x. length x.0.now + 1 + length x.1.now ≤ length text.now) }
 {
     text.rsplit_once(|c: char| is_blank(c))
+}
+
+/// What becomes of the white space at both ends of a line.
+#[derive(Clone, Copy)]
+pub(crate) enum Margins {
+    /// It is left out, as in the declarations.
+    Trimmed,
+    /// It stays, as in the rules section.
+    Kept,
 }
 
 /// A line of a text, and the offset of its first byte.
@@ -109,7 +118,7 @@ pub(crate) struct Line<'a> {
 }
 
 impl<'a> Line<'a> {
-    /// The line without the white space round it.
+    /// The line without the white space at both ends.
     pub(crate) fn trim(self) -> Line<'a>
         requires { self.at + length self.text.now < 2 ^ 64 }
         ensures value { as_piece result ≡ trim (as_piece self.entry) }
@@ -122,13 +131,16 @@ impl<'a> Line<'a> {
         }
     }
 
-    /// The line, or the same without the white space round it.
-    pub(crate) fn laid_out(self, stripped: bool) -> Line<'a>
+    /// The line with these margins.
+    pub(crate) fn laid_out(self, margins: Margins) -> Line<'a>
         requires { self.at + length self.text.now < 2 ^ 64 }
-        ensures value { as_piece result ≡ laid_out stripped (as_piece self.entry) }
+        ensures value { as_piece result ≡ laid_out margins (as_piece self.entry) }
         ensures stands { StandsIn self.entry.at self.entry.text.now result }
     {
-        if stripped { self.trim() } else { self }
+        match margins {
+            Margins::Trimmed => self.trim(),
+            Margins::Kept => self,
+        }
     }
 }
 
@@ -153,19 +165,19 @@ pub(crate) struct Section<'a> {
     pub(crate) end: Option<Line<'a>>,
 }
 
-/// Reads a section of a text that begins at `at`, without the white space round its lines where `stripped` says so.
+/// Reads the lines of a section, in a text that begins at `at`.
 pub(crate) fn read_section<'a>(
     alloc: Global,
     text: &'a str,
     at: usize,
     comments: bool,
-    stripped: bool,
+    margins: Margins,
 ) -> Result<Section<'a>, AllocError>
     requires { at + length text.now < 2 ^ 64 }
     ensures lines { IfOk result (λ s. map as_piece s.lines.items
-        ≡ section_lines comments (map (laid_out stripped) (cut_lines (piece at text.now)))) }
+        ≡ section_lines comments (map (laid_out margins) (cut_lines (piece at text.now)))) }
     ensures end { IfOk result (λ s. option_map as_piece s.end
-        ≡ section_end (map (laid_out stripped) (cut_lines (piece at text.now)))) }
+        ≡ section_end (map (laid_out margins) (cut_lines (piece at text.now)))) }
     ensures fit { IfOk result (λ s. EndBy (at + length text.now) s.lines.items) }
     ensures mark { IfOk result (λ s. IfSome s.end (MarkAt at text.now)) }
 {
@@ -178,7 +190,7 @@ pub(crate) fn read_section<'a>(
             at: end - rest.len(),
             text: first,
         };
-        let line = line.laid_out(stripped);
+        let line = line.laid_out(margins);
         if ends_section(line.text) {
             return Ok(Section {
                 lines,
@@ -194,13 +206,13 @@ pub(crate) fn read_section<'a>(
 }
 
 /// What follows the `%%` of a mark, in a text that begins at `at`.
-pub(crate) fn behind<'a>(text: &'a str, at: usize, mark: Line) -> &'a str
+pub(crate) fn after_mark<'a>(text: &'a str, at: usize, mark: Line) -> &'a str
     requires fits { at + length text.now < 2 ^ 64 }
     requires mark { MarkAt at text.now mark }
     ensures { result.now ≡ drop ((mark.entry.at - at) + 2) text.now }
 {
-    let (_, behind) = text.split_at(mark.at - at + 2);
-    behind
+    let (_, after) = text.split_at(mark.at - at + 2);
+    after
 }
 
 /// The text without the blanks at its front.

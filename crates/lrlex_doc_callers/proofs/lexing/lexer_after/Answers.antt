@@ -1,7 +1,7 @@
 use Rattle.std.proofs.Common.{◌≡◌, ◌∙◌, map, take, rules, refl, sym, ap, subst, arith, true≢false}
 use Rattle.std.proofs.lemmas.List.{take_all}
 use Rattle.lrlex.specs.Reach.{IsRun}
-use Rattle.lrlex.specs.Lexers.{lexer_items}
+use Rattle.lrlex.specs.Lexer.{lexer_items}
 use Rattle.lrlex.specs.Views.{definition_of, items_by}
 use Rattle.lrlex_doc_callers.specs.Lexing.{text_after}
 use Rattle.lrlex_doc_callers.proofs.StepLemmas.{IsStep, text_after_more, these_steps, more_steps, no_steps}

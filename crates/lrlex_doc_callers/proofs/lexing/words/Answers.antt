@@ -4,7 +4,7 @@ use Rattle.lrlex_base.specs.Items.{items_left}
 use Rattle.lrlex_base.specs.Spans.{span_start, span_end}
 use Rattle.std.specs.List.{filter_map}
 use Rattle.lrlex.specs.ItemLaws.{FitsText}
-use Rattle.lrlex.specs.Lexers.{lexer_items, lexer_text}
+use Rattle.lrlex.specs.Lexer.{lexer_items, lexer_text}
 use Rattle.lrlex.specs.Views.{definition_of, item_of}
 use Rattle.lrlex_doc_callers.specs.Lexing.{word_of, shown}
 use Rattle.lrlex_doc_callers.proofs.WordLemmas.{number, text_or, word_is, span_fits, at_front, word_more, word_none}

@@ -1,5 +1,5 @@
 use Rattle.std.proofs.Common.{◌≡◌, ℕ, ◌<◌, ◌≤◌, length, slice_index_or}
-use Rattle.lrlex_table.specs.Sound.{row_in, is_marked, wins_at}
+use Rattle.lrlex_table.specs.Cell.{row_in, is_marked, wins_at}
 use Rattle.lrlex_table.proofs.marking.mark.Given as goal
 
 abbrev pub invariant-cells : goal.invariant-cells

@@ -1,7 +1,7 @@
 use Rattle.std.proofs.Common.{◌≡◌, ◌<◌, length, slice_index_or, sym, ap, ◌∙◌, subst}
 use Rattle.std.proofs.lemmas.List.{with_items_is}
-use Rattle.lrlex_table.specs.Sound.{rows_in}
-use Rattle.lrlex_table.specs.Merged.{Serves}
+use Rattle.lrlex_table.specs.Cell.{rows_in}
+use Rattle.lrlex_table.specs.Table.{Serves}
 use Rattle.lrlex_table.proofs.CellLemmas.{rows_back}
 use Rattle.lrlex_table.proofs.marking.marked_table.Goals as goal
 

@@ -2,7 +2,7 @@ use Rattle.std.proofs.Common.{[], ◌∷◌, ◌++◌, map, take, sym, ap, ◌�
 use Rattle.std.proofs.lemmas.Bool.{cond-true, cond-false}
 use Rattle.std.proofs.lemmas.List.{append-nil}
 use Rattle.lrlex.specs.Active.{is_active, active_places}
-use Rattle.lrlex_rules.specs.Parts.{as_rule, as_state}
+use Rattle.lrlex_rules.specs.RuleParts.{as_rule, as_state}
 use Rattle.lrlex.proofs.PlaceLemmas.{places_more, active_where}
 use Rattle.lrlex.proofs.definition.active.active_places.Goals as goal
 use Rattle.lrlex.proofs.definition.active.active_places.Goals.{then-is_active_where+in_ok-push, else-is_active_where}

@@ -1,6 +1,6 @@
 use Rattle.std.proofs.Common.{◌≡◌, map, take}
 use Rattle.lrlex.specs.Active.{active_places}
-use Rattle.lrlex_rules.specs.Parts.{as_rule, as_state}
+use Rattle.lrlex_rules.specs.RuleParts.{as_rule, as_state}
 use Rattle.lrlex.proofs.definition.active.active_places.Given as goal
 
 abbrev pub invariant-rules : goal.invariant-rules

@@ -1,5 +1,5 @@
 use Rattle.std.proofs.Common.{◌≡◌, ℕ, ◌<◌, Some, slice_get}
-use Rattle.lrlex_rules.specs.Parts.{as_state}
+use Rattle.lrlex_rules.specs.RuleParts.{as_state}
 use Rattle.lrlex_rules.specs.declared.states.StartState as start
 use Rattle.lrlex.proofs.definition.active.are_placed.Given as goal
 

@@ -4,7 +4,7 @@ use Rattle.std.proofs.lemmas.List.{length-map, length-take-le}
 use Rattle.std.specs.List.{list_any}
 use Rattle.lrlex.specs.Active.{lists_state}
 use Rattle.lrlex.specs.StateTables.{AreBelow, list_in}
-use Rattle.lrlex_rules.specs.Parts.{as_rule}
+use Rattle.lrlex_rules.specs.RuleParts.{as_rule}
 use Rattle.lrlex.proofs.ListLemmas.{list_in_past}
 use Rattle.lrlex.proofs.NotedLemmas.{places_below}
 use Rattle.lrlex.proofs.PlaceLemmas.{places_more}

@@ -2,7 +2,7 @@
 use Rattle.std.proofs.Common.{◌≡◌, ℕ, ◌<◌, length, map, take}
 use Rattle.lrlex.specs.Active.{lists_state, places_from}
 use Rattle.lrlex.specs.StateTables.{list_in}
-use Rattle.lrlex_rules.specs.Parts.{as_rule}
+use Rattle.lrlex_rules.specs.RuleParts.{as_rule}
 use Rattle.lrlex.proofs.definition.active.listed_places.Given as goal
 
 abbrev pub invariant-rules : goal.invariant-rules

@@ -2,7 +2,7 @@ use Rattle.std.proofs.Common.{[], ◌∷◌, ◌++◌, map, take, sym, ap, ◌�
 use Rattle.std.proofs.lemmas.Bool.{cond-true, cond-false}
 use Rattle.std.proofs.lemmas.List.{append-nil}
 use Rattle.lrlex.specs.Active.{lists_none, places_from}
-use Rattle.lrlex_rules.specs.Parts.{as_rule}
+use Rattle.lrlex_rules.specs.RuleParts.{as_rule}
 use Rattle.lrlex.proofs.PlaceLemmas.{places_more}
 use Rattle.lrlex.proofs.definition.active.unlisted_places.Goals as goal
 use Rattle.lrlex.proofs.definition.active.unlisted_places.Goals.{then-lists_none+in_ok-push, else-lists_none}

@@ -1,6 +1,6 @@
 use Rattle.std.proofs.Common.{◌≡◌, map, take}
 use Rattle.lrlex.specs.Active.{lists_none, places_from}
-use Rattle.lrlex_rules.specs.Parts.{as_rule}
+use Rattle.lrlex_rules.specs.RuleParts.{as_rule}
 use Rattle.lrlex.proofs.definition.active.unlisted_places.Given as goal
 
 abbrev pub invariant-rules : goal.invariant-rules

@@ -2,7 +2,7 @@
 use Rattle.std.proofs.Common.{◌≡◌, ◌<◌, map, take, length, All}
 use Rattle.lrlex.specs.Active.{active_places}
 use Rattle.lrlex.specs.StateTables.{lists_at}
-use Rattle.lrlex_rules.specs.Parts.{as_rule, as_state}
+use Rattle.lrlex_rules.specs.RuleParts.{as_rule, as_state}
 use Rattle.lrlex.proofs.definition.active_lists.lists_by_rules.Given as goal
 
 abbrev pub invariant-states : goal.invariant-states

@@ -1,7 +1,7 @@
 use Rattle.std.proofs.Common.{◌≡◌, [], ◌∷◌, ◌++◌, map, get_or, sym, ap, ap₂, ◌∙◌, arith}
 use Rattle.std.proofs.lemmas.List.{map_more, take_all}
 use Rattle.lrlex.specs.Active.{active_places}
-use Rattle.lrlex_rules.specs.Parts.{as_rule, as_state}
+use Rattle.lrlex_rules.specs.RuleParts.{as_rule, as_state}
 use Rattle.lrlex_rules.specs.declared.states.StartState.{StartState}
 use Rattle.lrlex.proofs.definition.active_lists.lists_by_states.Goals as goal
 

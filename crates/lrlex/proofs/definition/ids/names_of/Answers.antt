@@ -4,7 +4,7 @@ use Rattle.std.proofs.lemmas.List.{take_all}
 use Rattle.std.specs.List.{list_any}
 use Rattle.std.specs.Str.{bytes_eq}
 use Rattle.std.specs.HashSet.{contains_by}
-use Rattle.lrlex_rules.specs.Parts.{as_rule}
+use Rattle.lrlex_rules.specs.RuleParts.{as_rule}
 use Rattle.lrlex.specs.Ids.{is_named}
 use Rattle.lrlex.proofs.IdLemmas.{inserted, named_more, named, unnamed, same_name}
 use Rattle.lrlex.proofs.definition.ids.names_of.Goals as goal

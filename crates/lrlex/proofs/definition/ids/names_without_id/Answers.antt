@@ -5,7 +5,7 @@ use Rattle.std.specs.List.{list_any}
 use Rattle.std.specs.Str.{bytes_eq}
 use Rattle.std.specs.String.{string_eq}
 use Rattle.std.specs.HashSet.{contains_text}
-use Rattle.lrlex_rules.specs.Parts.{as_rule}
+use Rattle.lrlex_rules.specs.RuleParts.{as_rule}
 use Rattle.lrlex.specs.Ids.{is_named, ids_of, is_unused}
 use Rattle.lrlex.proofs.IdLemmas.{inserted, named_more, named, unnamed, same_name, with_name, without_name, has_name, holds_texts}
 use Rattle.lrlex.proofs.definition.ids.names_without_id.Goals as goal

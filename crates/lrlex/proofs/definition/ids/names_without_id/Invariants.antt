@@ -1,6 +1,6 @@
 use Rattle.std.proofs.Common.{◌≡◌, ℕ, List, map, take}
 use Rattle.std.specs.HashSet.{contains_text}
-use Rattle.lrlex_rules.specs.Parts.{as_rule}
+use Rattle.lrlex_rules.specs.RuleParts.{as_rule}
 use Rattle.lrlex.specs.Ids.{is_unused, ids_of}
 use Rattle.lrlex.proofs.definition.ids.names_without_id.Given as goal
 

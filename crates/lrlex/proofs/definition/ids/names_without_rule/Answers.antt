@@ -9,7 +9,7 @@ use Rattle.std.specs.HashSet.{contains_by}
 use Rattle.std.specs.List.{list_any}
 use Rattle.std.specs.Map.Iter.{deref}
 use Rattle.std.specs.Str.{bytes_eq}
-use Rattle.lrlex_rules.specs.Parts.{as_rule}
+use Rattle.lrlex_rules.specs.RuleParts.{as_rule}
 use Rattle.lrlex.specs.Ids.{is_named}
 use Rattle.lrlex.proofs.IdLemmas.{inserted, same_name, with_name, without_name, some_of, holds_names}
 use Rattle.lrlex.proofs.ViewLemmas.{list_any-map}

@@ -5,7 +5,7 @@ use Rattle.std.specs.List.{list_any}
 use Rattle.std.specs.Str.{bytes_eq}
 use Rattle.std.specs.HashSet.{contains_by}
 use Rattle.lrlex_base.specs.Spans.{as_span, same_span}
-use Rattle.lrlex_rules.specs.Parts.{as_rule}
+use Rattle.lrlex_rules.specs.RuleParts.{as_rule}
 use Rattle.lrlex.specs.Ids.{is_named_at, ids_of, is_unused_at, is_key_at}
 use Rattle.lrlex.proofs.IdLemmas.{inserted, named_more, named, unnamed, key_eq, same_key, and_left, with_name, without_name, has_name, holds_places}
 use Rattle.lrlex.proofs.definition.ids.places_without_id.Goals as goal

@@ -1,7 +1,7 @@
 use Rattle.std.proofs.Common.{◌≡◌, ℕ, List, map, take}
 use Rattle.std.specs.HashSet.{contains_by}
 use Rattle.lrlex_base.specs.Spans.{Span}
-use Rattle.lrlex_rules.specs.Parts.{as_rule}
+use Rattle.lrlex_rules.specs.RuleParts.{as_rule}
 use Rattle.lrlex.specs.Ids.{is_unused_at, is_key_at, ids_of}
 use Rattle.lrlex.proofs.definition.ids.places_without_id.Given as goal
 

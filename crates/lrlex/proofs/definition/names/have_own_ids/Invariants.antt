@@ -1,6 +1,6 @@
 -- The rules so far have their places as ids.
 use Rattle.std.proofs.Common.{◌≡◌, ℕ, ◌<◌, Some, slice_get}
-use Rattle.lrlex_rules.specs.Parts.{RuleParts}
+use Rattle.lrlex_rules.specs.RuleParts.{RuleParts}
 use Rattle.lrlex.specs.Ids.{HasOwnId}
 use Rattle.lrlex.proofs.definition.names.have_own_ids.Given as goal
 

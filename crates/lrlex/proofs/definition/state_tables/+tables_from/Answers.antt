@@ -1,5 +1,5 @@
 use Rattle.std.proofs.Common.{map}
-use Rattle.lrlex_rules.specs.Parts.{as_rule}
+use Rattle.lrlex_rules.specs.RuleParts.{as_rule}
 use Rattle.lrlex.specs.StateTables.{pattern_in, patterns_on}
 use Rattle.lrlex.proofs.definition.state_tables.+tables_from.Goals as goal
 

@@ -1,9 +1,9 @@
 use Rattle.std.proofs.Common.{rules, ◌≡◌, [], map, length, option_map, refl, sym, ap, ◌∙◌, subst, arith}
 use Rattle.std.proofs.lemmas.List.{length_push}
 use Rattle.std.proofs.lemmas.Option.{slice_get-map, slice_get_read, get_or_from_slice_get}
-use Rattle.lrlex_rules.specs.Parts.{as_rule}
+use Rattle.lrlex_rules.specs.RuleParts.{as_rule}
 use Rattle.lrlex.specs.StateTables.{AreServed, list_in, patterns_on, pattern_in}
-use Rattle.lrlex_table.specs.Tables.{AreSingle, AreTablesOf}
+use Rattle.lrlex_table.specs.Tables.{AreCached, AreTablesOf}
 use Rattle.lrlex.proofs.TableLemmas.{single_back, served_more}
 use Rattle.lrlex.proofs.definition.state_tables.tables_for.Goals as goal
 
@@ -24,7 +24,7 @@ lists-preserved g c =
     let pattern = pattern_in own in
     let t = c.in_ok-made.made in
     let tables = c.lists.tables.items in
-    let single : AreSingle pattern c.deref_mut.result.now = subst (AreSingle pattern) (sym c.deref_mut.ensures.value) inv.single in
+    let single : AreCached pattern c.deref_mut.result.now = subst (AreCached pattern) (sym c.deref_mut.ensures.value) inv.single in
     let held = c.index-lists-index.result in
     let read = slice_get_read of (length of) i held refl c.lists-test.true c.index-lists-index.is in
     let here : list_in lists i ≡ c.as_slice-places.result.now =

@@ -1,7 +1,7 @@
 use Rattle.std.proofs.Common.{◌∷◌, [], length, map, refl, sym, subst, IfSome}
 use Rattle.std.proofs.lemmas.Option.{slice_get_read}
-use Rattle.lrlex_rules.specs.Parts.{as_rule}
-use Rattle.lrlex_table.specs.Merged.{IsTableOf}
+use Rattle.lrlex_rules.specs.RuleParts.{as_rule}
+use Rattle.lrlex_table.specs.Table.{IsTableOf}
 use Rattle.lrlex.specs.StateTables.{pattern_in}
 use Rattle.lrlex.proofs.TableLemmas.{single_set, pattern_in_at}
 use Rattle.lrlex.proofs.definition.state_tables.try_single.Goals as goal

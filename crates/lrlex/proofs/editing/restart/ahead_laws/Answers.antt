@@ -1,5 +1,5 @@
 use Rattle.lrlex.proofs.ResumeLemmas.{alike-edited}
-use Rattle.lrlex.proofs.AheadLemmas.{looks_start, all_step, looks_more, looks_kept}
+use Rattle.lrlex.proofs.LookaheadLemmas.{looks_start, all_step, looks_more, looks_kept}
 use Rattle.lrlex.proofs.editing.restart.ahead_laws.Goals as goal
 
 pub returns : goal.returns

@@ -1,5 +1,5 @@
 use Rattle.std.proofs.Common.{ℕ, ◌<◌, ◌≤◌, length}
-use Rattle.lrlex.specs.Kept.{IsSafe}
+use Rattle.lrlex.specs.Lookahead.{IsSafe}
 use Rattle.lrlex.proofs.editing.restart.last_safe.Given as goal
 
 abbrev pub invariant-back : goal.invariant-back

@@ -1,16 +1,16 @@
 use Rattle.std.proofs.Common.{◌≡◌, ◌-◌, ◌<◌, ◌≤◌, true, false, length, sym, ap, ◌∙◌, subst, arith, append-nil, IsCharBoundary}
 use Rattle.std.proofs.lemmas.Str.{IsCharBoundary-start}
 use Rattle.lrlex.specs.Tiling.{Done}
-use Rattle.lrlex.specs.Kept.{LooksAhead}
+use Rattle.lrlex.specs.Lookahead.{LooksAhead}
 use Rattle.lrlex.specs.Reach.{IsRun, searches}
-use Rattle.lrlex.specs.AtHand.{AreOf}
-use Rattle.lrlex.specs.UnderWay.{IsUnderWay, no_front}
+use Rattle.lrlex.specs.Searcher.{AreOf}
+use Rattle.lrlex.specs.Progress.{IsUnderWay, no_front}
 use Rattle.lrlex.specs.Views.{definition_by, items_by}
 use Rattle.lrlex.proofs.FrontLemmas.{some_now}
 use Rattle.lrlex.proofs.BegunLemmas.{begun, begun_looking}
 use Rattle.lrlex.proofs.ReachLemmas.{ended, nothing_left, asked_now, few_searches, run_of, length_now}
-use Rattle.lrlex.specs.Asked.{asks_by}
-use Rattle.lrlex.proofs.AskedLemmas.{asks_nowhere, more_asked, all_asked, next_asked}
+use Rattle.lrlex.specs.Searches.{asks_by}
+use Rattle.lrlex.proofs.SearchLemmas.{asks_nowhere, more_asked, all_asked, next_asked}
 use Rattle.lrlex.proofs.lexing.run.lex.Goals as goal
 
 pub tiles-init : goal.tiles-init
@@ -18,11 +18,11 @@ tiles-init g c =
     let p = c.in_ok-progress.progress in
     let e = c.in_ok-progress.ensures in
     record {
-      here = subst (λ q. AreOf g.S.Numbered.number c.args.table.now q c.rules_in-here.result) (sym c.rules_in-here.ensures.state) c.rules_in-here.ensures.rules;
+      rules = subst (λ q. AreOf g.S.Numbered.number c.args.table.now q c.rules_in-rules.result) (sym c.rules_in-rules.ensures.state) c.rules_in-rules.ensures.rules;
       searcher = c.in_ok-searcher.ensures;
       boundary = subst (IsCharBoundary c.args.text.now) (sym e.place) (IsCharBoundary-start c.args.text.now c.utf8.text);
       reached = begun (definition_by g.S.Numbered.number c.args.table.now) c.args.text.now g.S.Numbered.number g.X.Lexeme.seen p.place p.stack.items p.items.items p.boundaries p.asked e.place e.stack e.items e.boundaries e.asked (sym c.is_state.ensures ∙ c.if-not-is_state.false);
-      looked = begun_looking (definition_by g.S.Numbered.number c.args.table.now) c.args.text.now p.boundaries p.ahead.items p.place p.over e.boundaries e.ahead e.place e.over;
+      looked = begun_looking (definition_by g.S.Numbered.number c.args.table.now) c.args.text.now p.boundaries p.ahead.items p.place p.lookahead e.boundaries e.ahead e.place e.lookahead;
       exact = e.asked ∙ sym (asks_nowhere c.args.table.now c.args.text.now p.boundaries 0 (length p.boundaries - 1) (omega (arith, ap length e.boundaries)));
     }
 
@@ -42,11 +42,11 @@ tiles-preserved g c =
     let some : 0 < length p.boundaries = omega (arith, length_now d c.args.text.now p.place p.stack.items found p.boundaries p.asked r) in
     let more = (c.in_ok-advance.ensures.goes_on on no_front u).more in
     record {
-      here = c.in_ok-advance.ensures.held.0;
+      rules = c.in_ok-advance.ensures.held.0;
       searcher = c.in_ok-advance.ensures.held.1;
-      boundary = (c.in_ok-advance.ensures.goes_on on no_front u).here.boundary;
-      reached = (c.in_ok-advance.ensures.goes_on on no_front u).here.reached;
-      looked = (c.in_ok-advance.ensures.goes_on on no_front u).here.looked;
+      boundary = (c.in_ok-advance.ensures.goes_on on no_front u).under_way.boundary;
+      reached = (c.in_ok-advance.ensures.goes_on on no_front u).under_way.reached;
+      looked = (c.in_ok-advance.ensures.goes_on on no_front u).under_way.looked;
       exact = next_asked c.args.table.now c.args.text.now d p.place p.stack.items found p.boundaries p.asked r 0 some c.tiles.invariant.exact c.advance.new.progress.asked more.0 c.advance.new.progress.boundaries
           c.tiles-test.true (c.in_ok-advance.ensures.asked no_front u).exact more.1;
     }
@@ -104,8 +104,8 @@ returns-then-not-branch-clause-few g c =
     few_searches d c.args.text.now c.tiles.progress.boundaries c.finished.result.boundaries c.advance.new.progress.asked c.finished.result.asked
     (c.in_ok-advance.ensures.asked no_front u).few c.finished.ensures.asked (c.finished.ensures.boundaries ∙ (c.in_ok-advance.ensures.ends off no_front u).same)
 
-pub advance-requires-clause-here : goal.advance-requires-clause-here
-advance-requires-clause-here g c = c.tiles.invariant.here
+pub advance-requires-clause-rules : goal.advance-requires-clause-rules
+advance-requires-clause-rules g c = c.tiles.invariant.rules
 
 pub advance-requires-clause-searcher : goal.advance-requires-clause-searcher
 advance-requires-clause-searcher g c = c.tiles.invariant.searcher

@@ -2,10 +2,10 @@
 use Rattle.std.proofs.Common.{◌≡◌, ◌+◌, ◌<◌, true, [], ◌∷◌, length, drop, sym, ap, ◌∙◌, subst, arith, IsCharBoundary, length-append}
 use Rattle.std.proofs.lemmas.Option.{slice_get_within}
 use Rattle.std.proofs.lemmas.Str.{IsCharBoundary-from_rest}
-use Rattle.lrlex_table.specs.Decided.{IsText}
+use Rattle.lrlex_table.specs.Reach.{IsText}
 use Rattle.lrlex_table.proofs.ByteLemmas.{are_bytes}
 use Rattle.lrlex.specs.Active.{is_state}
-use Rattle.lrlex.specs.AtHand.{AreOf}
+use Rattle.lrlex.specs.Searcher.{AreOf}
 use Rattle.lrlex_boundaries.specs.Boundaries.{no_boundary, boundary_at}
 use Rattle.lrlex.specs.Pieces.{IsPiece}
 use Rattle.lrlex_boundaries.specs.Entries.{plain, AreEntries}
@@ -24,7 +24,7 @@ tiles-init g c =
     let is : IsText text = record { bytes = are_bytes text c.type_inv.text; utf8 = c.utf8.text } in
     record {
       searcher = c.in_ok-searcher.ensures;
-      here = subst (λ q. AreOf g.S.Numbered.number def q c.rules_in-here.result) (sym c.rules_in-here.ensures.state) c.rules_in-here.ensures.rules;
+      rules = subst (λ q. AreOf g.S.Numbered.number def q c.rules_in-rules.result) (sym c.rules_in-rules.ensures.state) c.rules_in-rules.ensures.rules;
       boundary = subst (IsCharBoundary text) (sym c.place-place.ensures) (between_characters d text c.requires.lexed.0 bounds c.requires.lexed.1 is initial c.args.first (omega (arith, c.requires.order, c.requires.within)));
       many = omega (arith, ap length c.in_ok-pieces.ensures.items);
       at = λ found h. sym c.place-place.ensures;
@@ -38,8 +38,8 @@ top_of-state-requires g c =
     let h = c.requires.lexed.1 in
     subst AreEntries (sym c.stack.ensures) (h.entries c.tiles.index no_boundary (omega (arith, c.tiles-test.true, c.requires.within)))
 
-pub rules_at-here-requires-clause-id : goal.rules_at-here-requires-clause-id
-rules_at-here-requires-clause-id g c =
+pub rules_at-rules-requires-clause-id : goal.rules_at-rules-requires-clause-id
+rules_at-rules-requires-clause-id g c =
     let d = definition_by g.S.Numbered.number c.args.table.now in
     let text = c.args.text.now in
     let bounds = c.args.boundaries.now in
@@ -91,7 +91,7 @@ tiles-preserved g c =
     let inv = c.tiles.invariant in
     record {
       searcher = c.in_ok-tile.ensures.searcher text inv.searcher;
-      here = subst (λ q. AreOf g.S.Numbered.number def q c.rules_at-here.result) (sym c.rules_at-here.ensures.state) c.rules_at-here.ensures.rules;
+      rules = subst (λ q. AreOf g.S.Numbered.number def q c.rules_at-rules.result) (sym c.rules_at-rules.ensures.state) c.rules_at-rules.ensures.rules;
       boundary = IsCharBoundary-from_rest text c.tiles.place c.in_ok-tile.tile.len inv.boundary.0 (subst (λ w. IsCharBoundary w c.in_ok-tile.tile.len) c.range_from-rest.ensures.value c.in_ok-tile.ensures.boundary);
       many = omega (arith, ap length c.in_ok-push.ensures.items, length-append c.tiles.pieces.items (c.piece_of.result ∷ []), inv.many);
       at = λ found h.

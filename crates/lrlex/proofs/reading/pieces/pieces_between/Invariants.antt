@@ -1,5 +1,5 @@
 use Rattle.std.proofs.Common.{◌≡◌, ℕ, ◌+◌, List, Some, length, slice_get, IsCharBoundary}
-use Rattle.lrlex.specs.AtHand.{AreOf, IsSearcherOf}
+use Rattle.lrlex.specs.Searcher.{AreOf, IsSearcherOf}
 use Rattle.lrlex_boundaries.specs.Boundaries.{boundary_at}
 use Rattle.lrlex.specs.Pieces.{IsPiece}
 use Rattle.lrlex.specs.Reach.{IsLexed}
@@ -11,7 +11,7 @@ use Rattle.lrlex.proofs.reading.pieces.pieces_between.Given as goal
 abbrev pub invariant-tiles : goal.invariant-tiles
 invariant-tiles g l = record {
   searcher : IsSearcherOf l.table l.text l.searcher;
-  here : AreOf g.S.Numbered.number l.table l.here.state l.here;
+  rules : AreOf g.S.Numbered.number l.table l.rules.state l.rules;
   boundary : IsCharBoundary l.text l.place;
   many : l.first + length l.pieces.items ≡ l.index;
   at : (found : List Item) → IsLexed (definition_by g.S.Numbered.number l.table) l.text found l.boundaries → (boundary_at l.boundaries l.index).place ≡ l.place;

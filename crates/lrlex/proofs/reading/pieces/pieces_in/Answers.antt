@@ -1,6 +1,6 @@
 -- The ends of the row are found among boundaries, which rise.
 use Rattle.std.proofs.Common.{◌≡◌, ◌-◌, true, sym, ◌∙◌, arith}
-use Rattle.lrlex_table.specs.Decided.{IsText}
+use Rattle.lrlex_table.specs.Reach.{IsText}
 use Rattle.lrlex_table.proofs.ByteLemmas.{are_bytes}
 use Rattle.lrlex.specs.Active.{is_state}
 use Rattle.lrlex.specs.Pieces.{ArePiecesIn}
@@ -10,8 +10,8 @@ use Rattle.lrlex.proofs.PeakLemmas.{tiles_are}
 use Rattle.lrlex.proofs.PieceLemmas.{some_up_to, low_and_high, exactly_these, of_both}
 use Rattle.lrlex.proofs.reading.pieces.pieces_in.Goals as goal
 
-pub up_to-first-requires : goal.up_to-first-requires
-up_to-first-requires g c =
+pub count_up_to-first-requires : goal.count_up_to-first-requires
+count_up_to-first-requires g c =
     let d = definition_by g.S.Numbered.number c.args.table.now in
     let initial : is_state d 0 ≡ true = sym c.is_state.ensures ∙ c.if-not-is_state.false in
     sorted d c.args.text.now c.requires.0 c.args.boundaries.now (c.requires.1.lexed initial)
@@ -23,11 +23,11 @@ overflow_sub-first g c =
     let bounds = c.args.boundaries.now in
     let initial : is_state d 0 ≡ true = sym c.is_state.ensures ∙ c.if-not-is_state.false in
     let is : IsText text = record { bytes = are_bytes text c.type_inv.text; utf8 = c.utf8.text } in
-    let e = c.up_to-first.ensures in
-    some_up_to d text c.requires.0 bounds (c.requires.1.lexed initial) is initial c.args.from c.up_to-first.result (record { within = e.within; up_to = e.up_to; past = e.past })
+    let e = c.count_up_to-first.ensures in
+    some_up_to d text c.requires.0 bounds (c.requires.1.lexed initial) is initial c.args.from c.count_up_to-first.result (record { within = e.within; up_to = e.up_to; past = e.past })
 
-pub up_to-requires : goal.up_to-requires
-up_to-requires g c =
+pub count_up_to-requires : goal.count_up_to-requires
+count_up_to-requires g c =
     let d = definition_by g.S.Numbered.number c.args.table.now in
     let initial : is_state d 0 ≡ true = sym c.is_state.ensures ∙ c.if-not-is_state.false in
     sorted d c.args.text.now c.requires.0 c.args.boundaries.now (c.requires.1.lexed initial)
@@ -43,9 +43,9 @@ pieces_between-requires-clause-order g c =
     let d = definition_by g.S.Numbered.number c.args.table.now in
     let bounds = c.args.boundaries.now in
     let initial : is_state d 0 ≡ true = sym c.is_state.ensures ∙ c.if-not-is_state.false in
-    let low = c.up_to-first.ensures in
-    let high = c.up_to.ensures in
-    let order = low_and_high bounds c.args.from c.args.to c.up_to-first.result c.up_to.result (sorted d c.args.text.now c.requires.0 bounds (c.requires.1.lexed initial)) (omega (arith, c.if-from-to.false))
+    let low = c.count_up_to-first.ensures in
+    let high = c.count_up_to.ensures in
+    let order = low_and_high bounds c.args.from c.args.to c.count_up_to-first.result c.count_up_to.result (sorted d c.args.text.now c.requires.0 bounds (c.requires.1.lexed initial)) (omega (arith, c.if-from-to.false))
     (record { within = low.within; up_to = low.up_to; past = low.past }) (record { within = high.within; up_to = high.up_to; past = high.past }) in
     omega (arith, order, low.within, c.len.ensures, c.min-last.ensures)
 
@@ -61,13 +61,13 @@ returns g c =
     let text = c.args.text.now in
     let bounds = c.args.boundaries.now in
     let initial : is_state d 0 ≡ true = sym c.is_state.ensures ∙ c.if-not-is_state.false in
-    let low = c.up_to-first.ensures in
-    let high = c.up_to.ensures in
-    let these = exactly_these bounds c.args.from c.args.to c.up_to-first.result c.up_to.result (sorted d text c.requires.0 bounds (c.requires.1.lexed initial)) (omega (arith, c.if-from-to.false))
+    let low = c.count_up_to-first.ensures in
+    let high = c.count_up_to.ensures in
+    let these = exactly_these bounds c.args.from c.args.to c.count_up_to-first.result c.count_up_to.result (sorted d text c.requires.0 bounds (c.requires.1.lexed initial)) (omega (arith, c.if-from-to.false))
     (record { within = low.within; up_to = low.up_to; past = low.past }) (record { within = high.within; up_to = high.up_to; past = high.past }) in
     of_both c.pieces_between.result _ _ (λ pieces. ArePiecesIn d text bounds c.args.from c.args.to pieces.items)
     (λ pieces tiles many. record {
-      first = c.up_to-first.result - 1;
+      first = c.count_up_to-first.result - 1;
       tiles = tiles;
       exactly = λ k within. (
         λ has. let row = (these k within).0 has in (row.0, omega (arith, row.1, within, many, c.len.ensures, c.min-last.ensures)),

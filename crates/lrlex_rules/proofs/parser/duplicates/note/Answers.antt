@@ -13,8 +13,8 @@ use Rattle.lrlex_rules.specs.contracts.parser.duplicates.NamedOrd.TheImpl as nam
 use Rattle.lrlex_rules.specs.Event.{Subject}
 use Rattle.lrlex_rules.specs.Event.Subject.{StateName, RuleName}
 use Rattle.lrlex_rules.specs.Outcome.{same_subject}
-use Rattle.lrlex_rules.specs.Kinds.{as_subject}
-use Rattle.lrlex_rules.specs.Merge.{is_original, fault_index}
+use Rattle.lrlex_rules.specs.LexErrorKind.{as_subject}
+use Rattle.lrlex_rules.specs.Duplicates.{is_original, fault_index}
 use Rattle.lrlex_rules.proofs.parser.duplicates.note.Goals as goal
 
 -- the order of the keys

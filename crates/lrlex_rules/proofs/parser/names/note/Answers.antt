@@ -2,7 +2,7 @@ use Rattle.std.proofs.Common.{◌≡◌, ◌∙◌, List, ℕ, Option, Bor, fals
 use Rattle.std.specs.Prelude.{is_some}
 use Rattle.std.specs.Option.{option_copied, option_or}
 use Rattle.std.proofs.lemmas.Map.Text.{btree_map_updates_str}
-use Rattle.lrlex_rules.specs.Parts.{index_of_name, index_if_named}
+use Rattle.lrlex_rules.specs.Names.{index_of_name, index_if_named}
 use Rattle.lrlex_rules.proofs.Places.{noted}
 use Rattle.lrlex_rules.proofs.parser.names.note.Goals as goal
 

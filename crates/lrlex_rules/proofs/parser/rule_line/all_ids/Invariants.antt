@@ -1,6 +1,6 @@
 use Rattle.std.proofs.Common.{◌≡◌, map, take}
 use Rattle.lrlex_rules.specs.Definition.{StartState}
-use Rattle.lrlex_rules.specs.Parts.{as_state}
+use Rattle.lrlex_rules.specs.RuleParts.{as_state}
 use Rattle.lrlex_rules.proofs.parser.rule_line.all_ids.Given as goal
 
 -- the ids so far

@@ -1,6 +1,6 @@
 use Rattle.std.proofs.Common.{◌≡◌, ◌∙◌, sym, List, ℕ, ap}
 use Rattle.std.specs.Prelude.{codes}
-use Rattle.lrlex_rules.specs.Builder.{as_states}
+use Rattle.lrlex_rules.specs.LexParser.{as_states}
 use Rattle.lrlex_rules.specs.Text.{same_text}
 use Rattle.lrlex_rules.specs.RuleLine.{state_ids, listed_ids, listed_names}
 use Rattle.lrlex_rules.proofs.Lists.{if_ok, listed_by, listed_lone, not_true}

@@ -1,7 +1,7 @@
 use Rattle.std.proofs.Common.{◌≡◌, ℕ, ◌+◌, ◌++◌, List, length}
 use Rattle.std.specs.Option.{option_map, option_copied, option_map_or}
 use Rattle.lrlex_rules.specs.RuleLine.{state_ids, listed_names, names_left}
-use Rattle.lrlex_rules.specs.Builder.{as_states}
+use Rattle.lrlex_rules.specs.LexParser.{as_states}
 use Rattle.lrlex_rules.proofs.parser.rule_line.state_ids.Given as goal
 
 -- the ids so far and those of what is left are all the ids

@@ -2,9 +2,9 @@ use Rattle.std.specs.Prelude.{string_bytes}
 use Rattle.std.proofs.Common.{sym, ap, ◌∙◌, subst, IfOk}
 use Rattle.regex.specs.Strings.{regex_pattern, matcher_pattern}
 use Rattle.regex.specs.Patterns.{Re, SameCaptures}
-use Rattle.lrlex_rules.specs.Parts.{as_rule}
+use Rattle.lrlex_rules.specs.RuleParts.{as_rule}
 use Rattle.lrlex_rules.specs.Patterns.{pattern_of, pattern_read}
-use Rattle.lrlex_rules.specs.Wrapping.{wrapped}
+use Rattle.lrlex_rules.specs.WrappedPattern.{wrapped}
 use Rattle.lrlex_rules.proofs.Lists.{if_ok}
 use Rattle.lrlex_rules.proofs.PatternLemmas.{source_alike}
 use Rattle.lrlex_rules.proofs.rules.Rule.matcher.Goals as goal

@@ -3,7 +3,7 @@ use Rattle.std.proofs.Common.{◌∙◌, subst, All, IfOk, Result, Ok, Err}
 use Rattle.lrlex.specs.ItemLaws.{FitsText, AreItemsOf}
 use Rattle.lrlex.specs.Reach.{IsRun}
 use Rattle.lrlex.specs.Views.{definition_of, items_by}
-use Rattle.lrlex.specs.Lexers.{lexer_items, lexer_text}
+use Rattle.lrlex.specs.Lexer.{lexer_items, lexer_text}
 use Rattle.lrlex.proofs.definition.non_streaming.LRNonStreamingLexerDef.lexer.Goals as goal
 
 both : {A E : Type 0} (P Q R : A → Type 0) → ((x : A) → P x → Q x → R x) → (r : Result A E) → IfOk r P → IfOk r Q → IfOk r R

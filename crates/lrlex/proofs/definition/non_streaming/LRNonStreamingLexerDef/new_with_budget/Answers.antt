@@ -1,5 +1,5 @@
 use Rattle.std.proofs.Common.{subst}
-use Rattle.lrlex_rules.specs.Answer.{IsAnswer}
+use Rattle.lrlex_rules.specs.LexBuildResult.{IsAnswer}
 use Rattle.lrlex.specs.Views.{definition_by}
 use Rattle.lrlex.proofs.definition.non_streaming.LRNonStreamingLexerDef.new_with_budget.Goals as goal
 

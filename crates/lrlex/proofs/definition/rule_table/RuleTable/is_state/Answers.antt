@@ -1,5 +1,5 @@
 use Rattle.std.proofs.Common.{◌==◌, sym, ◌∙◌}
-use Rattle.lrlex_rules.specs.Parts.{as_state}
+use Rattle.lrlex_rules.specs.RuleParts.{as_state}
 use Rattle.lrlex.proofs.ViewLemmas.{list_any-map}
 use Rattle.lrlex.proofs.definition.rule_table.RuleTable.is_state.Goals as goal
 

@@ -1,7 +1,7 @@
 use Rattle.std.proofs.Common.{◌≡◌, map, subst}
 use Rattle.lrlex.specs.Active.{active_places}
 use Rattle.lrlex.specs.StateTables.{AreServed, ArePlaced, list_in}
-use Rattle.lrlex_rules.specs.Parts.{as_rule, as_state}
+use Rattle.lrlex_rules.specs.RuleParts.{as_rule, as_state}
 use Rattle.lrlex.proofs.definition.rule_table.RuleTable.of_parts.Goals as goal
 
 pub invariant_of-result-clause-at_places : goal.invariant_of-result-clause-at_places

@@ -1,10 +1,10 @@
 use Rattle.std.proofs.Common.{Ok, ap, sym, subst, ◌∙◌}
 use Rattle.std.specs.Prelude.{◌≡◌, IfOk, Some, slice_get}
-use Rattle.lrlex_rules.specs.Answer.{IsAnswer}
+use Rattle.lrlex_rules.specs.LexBuildResult.{IsAnswer}
 use Rattle.lrlex_rules.specs.Declaration.{initial}
 use Rattle.lrlex_rules.specs.Definition.{Definition}
-use Rattle.lrlex_rules.specs.Laws.{IsLawful}
-use Rattle.lrlex_rules.specs.Builder.{as_definition}
+use Rattle.lrlex_rules.specs.DefinitionLaws.{IsLawful}
+use Rattle.lrlex_rules.specs.LexParser.{as_definition}
 use Rattle.lrlex.specs.Views.{definition_by}
 use Rattle.lrlex.proofs.Parted.{definition_by-parts, has_initial}
 use Rattle.lrlex.proofs.definition.rule_table.RuleTable.read.Goals as goal

@@ -2,12 +2,12 @@ use Rattle.std.proofs.Common.{◌≡◌, ◌<◌, ◌==◌, Some, map, length, r
 use Rattle.std.proofs.lemmas.List.{length-map}
 use Rattle.std.proofs.lemmas.Option.{slice_get_read}
 use Rattle.std.specs.List.{position}
-use Rattle.lrlex_rules.specs.Parts.{as_rule, as_state}
+use Rattle.lrlex_rules.specs.RuleParts.{as_rule, as_state}
 use Rattle.lrlex.specs.Active.{active_places}
 use Rattle.lrlex.specs.StateTables.{list_in}
 use Rattle.lrlex.proofs.ViewLemmas.{position_within, list_any-map}
 use Rattle.lrlex.proofs.TableLemmas.{tables_at_state, first_place}
-use Rattle.lrlex.proofs.AskedLemmas.{untabled_here}
+use Rattle.lrlex.proofs.SearchLemmas.{untabled_here}
 use Rattle.lrlex.proofs.definition.rule_table.RuleTable.tables_in.Goals as goal
 
 pub returns : goal.returns

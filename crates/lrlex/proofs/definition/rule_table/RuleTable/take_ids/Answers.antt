@@ -4,7 +4,7 @@ use Rattle.lrlex.specs.StateTables.{AreServed}
 use Rattle.lrlex.proofs.TableLemmas.{served_with_ids}
 use Rattle.lrlex.specs.Active.{active_places}
 use Rattle.lrlex.specs.Ids.{ids_of, HaveDistinctIds}
-use Rattle.lrlex_rules.specs.Parts.{as_rule, as_state}
+use Rattle.lrlex_rules.specs.RuleParts.{as_rule, as_state}
 use Rattle.lrlex.proofs.IdLemmas.{lists_after}
 use Rattle.lrlex.proofs.ViewLemmas.{taken_back}
 use Rattle.lrlex.proofs.definition.rule_table.RuleTable.take_ids.Goals as goal

@@ -1,6 +1,6 @@
 use Rattle.std.proofs.Common.{ap}
 use Rattle.lrlex_base.specs.Spans.{span}
-use Rattle.lrlex.specs.Ran.{Ran}
+use Rattle.lrlex.specs.LexRun.{Run}
 use Rattle.lrlex.proofs.DocumentLemmas.{edited_counts, edited_laws, still_lexed}
 use Rattle.lrlex.proofs.editing.document.Document.edit.Goals as goal
 
@@ -18,4 +18,4 @@ pub returns-clause-counts : goal.returns-clause-counts
 returns-clause-counts g c =
     edited_counts g.L.StorageT.Id.number g.L.LexemeT.Lexeme.seen c.self.inside.definition.now.table (span c.args.from c.args.to) c.args.put.now c.self.inside.held c.edit_bytes.new.it
     c.edit_bytes.result c.args.self.now.boundaries c.args.self.now.ahead c.edit_bytes.ensures.made
-    (ap (λ (v : Ran _ _). v.boundaries) c.self.view_is) (ap (λ (v : Ran _ _). v.ahead) c.self.view_is)
+    (ap (λ (v : Run _ _). v.boundaries) c.self.view_is) (ap (λ (v : Run _ _). v.ahead) c.self.view_is)

@@ -1,6 +1,6 @@
 use Rattle.std.proofs.Common.{IfOk, sym, subst}
 use Rattle.lrlex.specs.Pieces.{ArePiecesIn}
-use Rattle.lrlex.specs.Ran.{Ran}
+use Rattle.lrlex.specs.LexRun.{Run}
 use Rattle.lrlex.specs.Reach.{IsRun}
 use Rattle.lrlex.specs.Views.{definition_of, items_by}
 use Rattle.lrlex.proofs.ItemLemmas.{known_run}
@@ -17,5 +17,5 @@ pub returns : goal.returns
 returns g c =
     let s = c.self.inside in
     let d = definition_of g.L.StorageT.Id.number s.definition.now in
-    subst (λ (v : Ran _ _). IfOk c.pieces_in.result (λ pieces. ArePiecesIn (definition_of g.L.StorageT.Id.number v.definition) v.text v.boundaries c.args.from c.args.to pieces.items)) c.self.view_is
+    subst (λ (v : Run _ _). IfOk c.pieces_in.result (λ pieces. ArePiecesIn (definition_of g.L.StorageT.Id.number v.definition) v.text v.boundaries c.args.from c.args.to pieces.items)) c.self.view_is
     (subst (λ text. IfOk c.pieces_in.result (λ pieces. ArePiecesIn d text s.held.lexed.boundaries c.args.from c.args.to pieces.items)) c.deref.ensures c.pieces_in.ensures)

@@ -1,6 +1,6 @@
 use Rattle.std.proofs.Common.{IfOk, subst}
 use Rattle.lrlex.specs.Pieces.{ArePieces}
-use Rattle.lrlex.specs.Ran.{Ran}
+use Rattle.lrlex.specs.LexRun.{Run}
 use Rattle.lrlex.specs.Views.{definition_of, items_by}
 use Rattle.lrlex.proofs.ItemLemmas.{known_run}
 use Rattle.lrlex.proofs.lexing.run.LexRun.pieces.Goals as goal
@@ -13,4 +13,4 @@ pieces_of-requires g c =
 
 pub returns : goal.returns
 returns g c =
-    subst (λ (v : Ran _ _). IfOk c.pieces_of.result (λ pieces. ArePieces (definition_of g.L.StorageT.Id.number v.definition) v.text v.boundaries pieces.items)) c.self.view_is c.pieces_of.ensures
+    subst (λ (v : Run _ _). IfOk c.pieces_of.result (λ pieces. ArePieces (definition_of g.L.StorageT.Id.number v.definition) v.text v.boundaries pieces.items)) c.self.view_is c.pieces_of.ensures

@@ -3,8 +3,8 @@ use Rattle.lrlex_rules.specs.Matchers.{AreMatchers}
 use Rattle.lrlex.proofs.ViewLemmas.{taken_back}
 use Rattle.lrlex.proofs.lexing.winner.Searcher.winner.Goals as goal
 
-pub winner_by-requires-clause-held : goal.winner_by-requires-clause-held
-winner_by-requires-clause-held g c =
+pub winner_with_search-requires-clause-held : goal.winner_with_search-requires-clause-held
+winner_with_search-requires-clause-held g c =
     let is = c.requires.searcher.1 in (
       subst (AreMatchers c.args.table.now.rules.items) (sym c.deref_mut.ensures.value) is.matchers,
       is.lists,
@@ -15,9 +15,9 @@ winner_by-requires-clause-held g c =
 pub returns-clause-searcher : goal.returns-clause-searcher
 returns-clause-searcher g c input is = record {
   matchers = subst (AreMatchers c.args.table.now.rules.items)
-      (sym (taken_back c.winner_by.new.matchers (drop (length c.winner_by.new.matchers) c.args.self.now.matchers.items) c.args.self.now.matchers.len
-      (omega (arith, c.args.self.now.matchers.ok.0, c.in_ok-sight.ensures.matchers.0, is.matchers.0))))
-      c.in_ok-sight.ensures.matchers;
-  lists = ap (λ x. x.now) c.in_ok-sight.ensures.ends.0 ∙ is.lists;
-  text = ap (λ x. x.now) c.in_ok-sight.ensures.ends.1 ∙ is.text;
+      (sym (taken_back c.winner_with_search.new.matchers (drop (length c.winner_with_search.new.matchers) c.args.self.now.matchers.items) c.args.self.now.matchers.len
+      (omega (arith, c.args.self.now.matchers.ok.0, c.in_ok-scan.ensures.matchers.0, is.matchers.0))))
+      c.in_ok-scan.ensures.matchers;
+  lists = ap (λ x. x.now) c.in_ok-scan.ensures.ends.0 ∙ is.lists;
+  text = ap (λ x. x.now) c.in_ok-scan.ensures.ends.1 ∙ is.text;
 }

@@ -7,10 +7,10 @@ use Rattle.lrlex_rules.specs.declared.faults.LexBuildError.{LexBuildError}
 use Rattle.lrlex_rules.specs.declared.faults.LexErrorKind.{LexErrorKind}
 use Rattle.lrlex_rules.specs.Event.{Subject, FaultKind, fault}
 use Rattle.lrlex_rules.specs.Outcome.{kind_of, same_subject}
-use Rattle.lrlex_rules.specs.Kinds.{as_kind, as_subject}
-use Rattle.lrlex_rules.specs.Answer.{as_fault}
-use Rattle.lrlex_rules.specs.Faults.{fault_kind, fault_spans}
-use Rattle.lrlex_rules.specs.Merge.{is_fault_of, is_place, fault_index, IsOnlyPlace}
+use Rattle.lrlex_rules.specs.LexErrorKind.{as_kind, as_subject}
+use Rattle.lrlex_rules.specs.LexBuildResult.{as_fault}
+use Rattle.lrlex_rules.specs.LexBuildError.{fault_kind, fault_spans}
+use Rattle.lrlex_rules.specs.Duplicates.{is_fault_of, is_place, fault_index, IsOnlyPlace}
 use Rattle.lrlex_rules.proofs.Extends.{self_same, tests, only_set, grown, extends_known, extends_new, places_more}
 use Rattle.lrlex_rules.proofs.parser.duplicates.Faults.add_duplicate.Goals as goal
 

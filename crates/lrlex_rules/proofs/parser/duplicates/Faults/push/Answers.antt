@@ -1,8 +1,8 @@
 use Rattle.std.proofs.Common.{◌++◌, ◌∷◌, [], Bool, true, false, List, sym, subst}
 use Rattle.std.specs.Prelude.{is_ok, if◌then◌else◌}
 use Rattle.lrlex_rules.specs.declared.faults.LexBuildError.{LexBuildError}
-use Rattle.lrlex_rules.specs.Merge.{is_fault_of, fault_index, IsOnlyPlace}
-use Rattle.lrlex_rules.specs.Answer.{as_fault}
+use Rattle.lrlex_rules.specs.Duplicates.{is_fault_of, fault_index, IsOnlyPlace}
+use Rattle.lrlex_rules.specs.LexBuildResult.{as_fault}
 use Rattle.lrlex_rules.proofs.Extends.{only_push_fail, lone_fails}
 use Rattle.lrlex_rules.proofs.parser.duplicates.Faults.push.Goals as goal
 

@@ -2,7 +2,7 @@ use Rattle.std.proofs.Common.{◌∙◌, Option, Bor, List, ℕ, Some, None, sym
 use Rattle.std.specs.Option.{option_map, option_copied}
 use Rattle.std.specs.List.{slice_get}
 use Rattle.lrlex_rules.specs.Outcome.{has_name, rule_with_name}
-use Rattle.lrlex_rules.specs.Parts.{as_rule}
+use Rattle.lrlex_rules.specs.RuleParts.{as_rule}
 use Rattle.lrlex_rules.proofs.Places.{first_at, got}
 use Rattle.lrlex_rules.proofs.parser.names.Rules.named.Goals as goal
 

@@ -2,7 +2,7 @@ use Rattle.std.proofs.Common.{◌≡◌, ◌∙◌, ◌++◌, [], ◌∷◌, Lis
 use Rattle.std.specs.Prelude.{is_ok, if◌then◌else◌}
 use Rattle.std.specs.Option.{option_or, option_copied}
 use Rattle.std.specs.List.{position}
-use Rattle.lrlex_rules.specs.Parts.{index_of_name, index_if_named, rule_name, is_name}
+use Rattle.lrlex_rules.specs.Names.{index_of_name, index_if_named, rule_name, is_name}
 use Rattle.lrlex_rules.proofs.Places.{placed_push}
 use Rattle.lrlex_rules.proofs.parser.names.Rules.push.Goals as goal
 

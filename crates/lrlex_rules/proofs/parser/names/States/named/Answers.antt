@@ -2,7 +2,7 @@ use Rattle.std.proofs.Common.{◌∙◌, Some, None, ap}
 use Rattle.std.specs.Option.{option_map}
 use Rattle.std.specs.List.{slice_get}
 use Rattle.lrlex_rules.specs.Text.{same_text}
-use Rattle.lrlex_rules.specs.Parts.{as_state}
+use Rattle.lrlex_rules.specs.RuleParts.{as_state}
 use Rattle.lrlex_rules.proofs.Places.{first_at, got}
 use Rattle.lrlex_rules.proofs.parser.names.States.named.Goals as goal
 

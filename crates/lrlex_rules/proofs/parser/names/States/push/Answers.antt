@@ -3,7 +3,7 @@ use Rattle.std.specs.Prelude.{is_ok, if◌then◌else◌}
 use Rattle.std.specs.Option.{option_or}
 use Rattle.std.specs.List.{position}
 use Rattle.lrlex_rules.specs.declared.states.StartState.{StartState}
-use Rattle.lrlex_rules.specs.Parts.{index_of_name, index_if_named, state_name, is_name}
+use Rattle.lrlex_rules.specs.Names.{index_of_name, index_if_named, state_name, is_name}
 use Rattle.lrlex_rules.proofs.Places.{placed_push}
 use Rattle.lrlex_rules.proofs.parser.names.States.push.Goals as goal
 

@@ -1,0 +1,14 @@
+use Rattle.std.proofs.Common.{◌≡◌, ◌+◌}
+use Rattle.lrlex.specs.Views.{definition_by}
+use Rattle.lrlex_rules.specs.Matchers.{AreMatchers}
+use Rattle.lrlex.specs.StateTables.{patterns_on}
+use Rattle.lrlex_table.specs.Tables.{IsBestAmong}
+use Rattle.lrlex.proofs.TableLemmas.{looked_at}
+use Rattle.lrlex.proofs.lexing.winner.winner_with_search.Given as goal
+
+abbrev pub invariant-others : goal.invariant-others
+invariant-others g l = record {
+  matchers : AreMatchers l.table.rules.items l.matchers;
+  counted : l.asked ≡ l.fn.asked + l.index;
+  best : IsBestAmong (patterns_on (definition_by g.S.Numbered.number l.table).rules l.active) (looked_at l.tables.parts.items l.tables.asked.items l.index) l.text l.best.rule l.best.len;
+}

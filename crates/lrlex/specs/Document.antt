@@ -1,0 +1,36 @@
+-- What an edit of a text that is lexed leaves of it.
+use Rattle.std.specs.Prelude.{◌≡◌, ℕ, List}
+use Rattle.std.specs.String.{string_bytes}
+use Rattle.lrlex_base.specs.Edits.{edited}
+use Rattle.lrlex_base.specs.Places.{AreBreaksOf}
+use Rattle.lrlex_base.specs.LexemeParts.{LexemeParts}
+use Rattle.lrlex_base.specs.Spans.{Span}
+use Rattle.lrlex.specs.Searches.{asks_by}
+use Rattle.lrlex.specs.Lookahead.{LooksAhead}
+use Rattle.lrlex.specs.Reach.{IsRun}
+use Rattle.lrlex.specs.Relex.{AreCountsOf}
+use Rattle.lrlex.specs.Progress.{HasSame}
+use Rattle.lrlex.specs.Views.{definition_by, items_by}
+use Rattle.lrlex.specs.declared.definition.rule_table.RuleTable.{RuleTable}
+use Rattle.lrlex.specs.declared.editing.document.LexedText.{LexedText}
+
+-- the newlines are those of the text, and what was found is what it gives
+abbrev pub IsLexedBy : {S X : Type 0} → (S → ℕ) → (X → LexemeParts S) → RuleTable S → LexedText X → Type 0
+IsLexedBy number seen d t =
+    AreBreaksOf (string_bytes t.text) t.newlines
+    × ∥ LooksAhead (definition_by number d) (string_bytes t.text) t.lexed.boundaries t.lexed.ahead.items ∥₁
+    × ∥ IsRun (definition_by number d) (string_bytes t.text) (items_by number seen t.lexed.items.items) t.lexed.boundaries ∥₁
+
+-- the bytes of the span gave way to these, what was found is what the text gives now, and this is what that took
+pub record WasEdited {S X : Type 0} (number : S → ℕ) (seen : X → LexemeParts S) (d : RuleTable S) (removed : Span) (put : List ℕ) (old new : LexedText X) : Type 0 where
+  pub text : string_bytes new.text ≡ edited (string_bytes old.text) removed put
+  pub breaks : AreBreaksOf (string_bytes new.text) new.newlines
+  pub looks : LooksAhead (definition_by number d) (string_bytes new.text) new.lexed.boundaries new.lexed.ahead.items
+  pub run : IsRun (definition_by number d) (string_bytes new.text) (items_by number seen new.lexed.items.items) new.lexed.boundaries
+  pub counts : AreCountsOf (definition_by number d) (asks_by d (string_bytes new.text)) old.lexed.boundaries old.lexed.ahead.items removed put (string_bytes new.text) new.lexed.boundaries new.lexed.asked new.lexed.recut
+
+-- all is what it was
+pub record WasLeft {X : Type 0} (old new : LexedText X) : Type 0 where
+  pub text : string_bytes new.text ≡ string_bytes old.text
+  pub newlines : new.newlines ≡ old.newlines
+  pub found : HasSame old.lexed new.lexed

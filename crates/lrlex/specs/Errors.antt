@@ -1,0 +1,23 @@
+-- What contracts see of errors: the one that stops lexing, and that of an edit.
+use Rattle.std.specs.Prelude.{ℕ, List, ◌++◌, codes, Option}
+use Rattle.std.specs.Fmt.{decimal}
+use Rattle.lrlex_base.specs.declared.spans.Span.{Span}
+use Rattle.lrlex_rules.specs.declared.states.StartStateId.{StartStateId}
+use Rattle.lrlex.specs.declared.errors.LRLexError.{LRLexError}
+use Rattle.lrlex.specs.declared.editing.document.EditError.{EditError}
+use Rattle.lrlex.specs.declared.editing.document.EditError.TheVariants.{DoesNotFit, OutOfMemory}
+
+abbrev pub lex_error_span : LRLexError → Span
+lex_error_span e = e.span
+
+abbrev pub lex_error_state : LRLexError → Option StartStateId
+lex_error_state e = e.lexing_state
+
+-- what is printed of an error that stopped lexing at a place
+abbrev pub stop_text : ℕ → List ℕ
+stop_text at = codes "Couldn't lex input starting at byte " ++ decimal at
+
+-- what is printed of an edit that was not made
+abbrev pub edit_error_text : EditError → List ℕ
+edit_error_text DoesNotFit = codes "The edit doesn't fit the text"
+edit_error_text OutOfMemory = codes "Out of memory"

@@ -1,0 +1,39 @@
+-- The rules of a start state, as lexing holds them from tile to tile.
+use Rattle.std.specs.Prelude.{◌≡◌, ℕ, ◌+◌, ◌≤◌, List, MatchOption, Some, length, slice_get}
+use Rattle.lrlex_rules.specs.Definition.{Definition}
+use Rattle.lrlex_table.specs.Tables.{AreTablesOf}
+use Rattle.lrlex.specs.Active.{active_count, active_places}
+use Rattle.lrlex.specs.Lookahead.{IsDecided}
+use Rattle.lrlex.specs.Tiling.{IsStuck, Wins}
+use Rattle.lrlex_rules.specs.Matchers.{AreMatchers}
+use Rattle.lrlex.specs.StateTables.{patterns_on}
+use Rattle.lrlex.specs.Searches.{untabled_count}
+use Rattle.lrlex.specs.Views.{definition_by}
+use Rattle.lrlex.specs.declared.definition.rule_table.RuleTable.{RuleTable}
+use Rattle.lrlex.specs.declared.definition.rule_table.StateRules.{StateRules}
+use Rattle.lrlex.specs.declared.lexing.winner.Searcher.{Searcher}
+use Rattle.lrlex.specs.declared.lexing.winner.Scan.{Scan}
+
+-- these are the rules that are active in state q of the definition, and their tables
+pub record AreOf {S : Type 0} (number : S → ℕ) (d : RuleTable S) (q : ℕ) (rules : StateRules) : Type 0 where
+  pub active : rules.active.now ≡ active_places (definition_by number d).states (definition_by number d).rules q
+  pub tables : ∥ AreTablesOf (patterns_on (definition_by number d).rules (active_places (definition_by number d).states (definition_by number d).rules q)) rules.tables.now ∥₁
+  pub list : slice_get d.tables.items rules.list ≡ Some rules.tables.now
+  pub untabled : length rules.tables.now.asked.items ≡ untabled_count d q
+
+-- this looks for winners in the text by the definition: its matchers are those of the rules, and its dead ends are of the
+-- definition's tables and of the text
+pub record IsSearcherOf {S : Type 0} (d : RuleTable S) (input : List ℕ) (s : Searcher) : Type 0 where
+  pub matchers : AreMatchers d.rules.items s.matchers.items
+  pub lists : s.ends.lists.now ≡ d.tables.items
+  pub text : s.ends.text.now ≡ input
+
+-- what wins in state q at the text's beginning, and that the first bytes, so many of them, decide it
+pub record IsScanOf (d : Definition) (q : ℕ) (text : List ℕ) (s : Scan) : Type 0 where
+  pub winner : MatchOption s.winner (IsStuck d q text) (λ t. Wins d q text t.rule t.len)
+  pub decided : IsDecided d q text s.reach
+
+-- the searches of one look in state q: one for each active rule that the state's tables leave out
+pub record HasAsked {S : Type 0} (number : S → ℕ) (d : RuleTable S) (q before after : ℕ) : Type 0 where
+  pub counted : after ≤ before + active_count (definition_by number d) q
+  pub exact : after ≡ before + untabled_count d q

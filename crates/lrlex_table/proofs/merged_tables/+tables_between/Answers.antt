@@ -1,0 +1,18 @@
+use Rattle.std.proofs.Common.{◌≡◌, ◌+◌, map, sym, subst, IfOk, arith}
+use Rattle.std.proofs.lemmas.List.{get_or-map}
+use Rattle.regex.specs.Patterns.{empty}
+use Rattle.lrlex_table.specs.Tables.{ArePartsOf}
+use Rattle.lrlex_table.proofs.merged_tables.+tables_between.Goals as goal
+
+pub returns-then-to-from-eq1-clause-tables : goal.returns-then-to-from-eq1-clause-tables
+returns-then-to-from-eq1-clause-tables t c pattern cached =
+    let places = c.args.places.now in
+    let one : c.args.to ≡ c.args.from + 1 = omega arith in
+    subst (λ to. IfOk c.alone.result (λ r. ArePartsOf (map pattern places) c.args.from to r.parts.items r.asked.items)) (sym one)
+    (c.alone.ensures.tables pattern (map pattern places) cached (get_or-map pattern places c.args.from 0 empty (omega arith)))
+
+pub returns-clause-tables : goal.returns-clause-tables
+returns-clause-tables t c pattern cached =
+    let left = c.in_ok-left.ensures.tables pattern cached in
+    let right = c.in_ok-right.ensures.tables pattern (c.in_ok-left.ensures.kept pattern cached) in
+    c.joined_tables.ensures (map pattern c.args.places.now) _ _ _ left right

@@ -1,0 +1,6 @@
+use Rattle.lrlex_table.specs.ProductBuilder.{IsProductBelow}
+use Rattle.lrlex_table.proofs.product.ProductBuilder.fill_all.Given as goal
+
+abbrev pub invariant-rows : goal.invariant-rows
+invariant-rows l =
+    IsProductBelow l.a l.b l.shift l.self l.row

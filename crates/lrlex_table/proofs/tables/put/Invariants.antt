@@ -1,6 +1,0 @@
-use Rattle.std.proofs.Common.{◌≡◌}
-use Rattle.lrlex_table.proofs.tables.put.Given as goal
-
-abbrev pub invariant-parts : goal.invariant-parts
-invariant-parts l =
-    l.parts ≡ l.fn.parts
