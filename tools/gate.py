@@ -8,8 +8,8 @@ machine can't try, as where there is no cc, is counted as skipped. At the end it
 
 What is read of crates/*/out is of this run. rt ci moves aside what earlier runs left there, and puts the libraries back when it
 ends, also those that a run which was cut off had only begun. So each library is kept, by a second name of its files, as soon as
-rt ci says that it is proved, and the edits and the source that must not compile are tried over these. A program is what rt ci has
-built, or its tests fail.
+rt ci says that it is proved, and the edits and the source that must not compile are tried over these. The programs are copied
+when rt ci has ended, and one that it hasn't built is a failure.
 """
 
 import os
@@ -34,6 +34,8 @@ import soak
 COUNT = re.compile(r"(\d+) passed, (\d+) failed")
 PROVED = re.compile(r"rt: (\w+) (proved|is kept: .*)")
 DONE = re.compile(r"rt: .* (NOT )?PROVED|rt: .* proved")
+# Where the tests find the programs.
+PROGRAMS = "LRLEX_PROGRAMS"
 # What a step that can't be tried here gives as its status.
 SKIPPED = 2
 
@@ -79,7 +81,7 @@ class Gate:
     """The counts, and how long each step took."""
 
     def __init__(self, scratch):
-        self.scratch, self.began = scratch, time.monotonic()
+        self.scratch, self.began, self.begun_at = scratch, time.monotonic(), time.time() - 2
         self.noted, self.times = self.began, []
         self.passed = self.failed = self.skipped = 0
 
@@ -112,7 +114,20 @@ class Gate:
             print("the gate: FAILED, rt ci ended without its count", flush=True)
             self.count(0, 1)
         proofs.end()
+        for it in crates.read().values():
+            if it.is_program:
+                self.keep_program(it)
         self.since("the gate, rt ci")
+
+    def keep_program(self, crate):
+        """Copies the program as each compiler has made it in this run."""
+        for end in ("", ".by-rattle"):
+            built = f"{crate.folder}/out/{crate.name}{end}"
+            if os.path.isfile(built) and os.path.getmtime(built) >= self.begun_at:
+                shutil.copy2(built, os.environ[PROGRAMS])
+            elif not end:
+                print(f"the gate: FAILED, rt ci hasn't built crates/{crate.name}/out/{crate.name}", flush=True)
+                self.count(0, 1)
 
     def build(self):
         """Has ./lrlex take the program of rt ci, and runs it on a line. Without it each of its tests would try a build."""
@@ -216,6 +231,8 @@ def main(commands=()):
         return 1
     with tempfile.TemporaryDirectory(prefix="lrlex-gate-") as scratch:
         os.environ[prover.RLIBS] = f"{scratch}/rlibs"
+        os.environ[PROGRAMS] = f"{scratch}/programs"
         os.environ["PYTHONDONTWRITEBYTECODE"] = "1"
         os.mkdir(f"{scratch}/rlibs")
+        os.mkdir(f"{scratch}/programs")
         return Gate(scratch).all()
