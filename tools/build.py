@@ -206,5 +206,7 @@ def main(names=(), is_timed=False):
 
 
 if __name__ == "__main__":
+    # ./lrlex waits for it
+    processes.end_with_parent()
     words = sys.argv[1:]
     sys.exit(main([it for it in words if it != "--times"], "--times" in words))

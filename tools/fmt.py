@@ -5,7 +5,6 @@ rt fmt knows the crate of the current folder alone. With --check, a copy is laid
 
 import concurrent.futures
 import re
-import tempfile
 
 import crates
 import processes
@@ -23,7 +22,7 @@ def laid_out(folder):
 def changes(names, is_checked):
     """The files that aren't in the layout, by their paths in the tree, and what rt says where it can't read one."""
     files, faults = [], []
-    with tempfile.TemporaryDirectory(prefix="lrlex-fmt-") as room, concurrent.futures.ThreadPoolExecutor() as pool:
+    with processes.scratch("fmt") as room, concurrent.futures.ThreadPoolExecutor() as pool:
         folders = {name: f"{crates.TOP}/crates/{name}" for name in names}
         if is_checked:
             for name, folder in folders.items():

@@ -16,7 +16,6 @@ import os
 import re
 import shutil
 import sys
-import tempfile
 import threading
 import time
 
@@ -229,7 +228,7 @@ def main(commands=()):
     if files or faults:
         print("0 passed, 1 failed")
         return 1
-    with tempfile.TemporaryDirectory(prefix="lrlex-gate-") as scratch:
+    with processes.scratch("gate") as scratch:
         os.environ[prover.RLIBS] = f"{scratch}/rlibs"
         os.environ[PROGRAMS] = f"{scratch}/programs"
         os.environ["PYTHONDONTWRITEBYTECODE"] = "1"

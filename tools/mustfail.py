@@ -15,7 +15,6 @@ import concurrent.futures
 import os
 import re
 import sys
-import tempfile
 
 import crates
 import processes
@@ -91,7 +90,7 @@ def tried(edits, listed, much=0):
     functions = [function for _, _, function, _ in edits]
     if len({*functions}) < len(edits):
         sys.exit(f"edits: two of {crate} change one function, so which of them is refused couldn't be told")
-    with tempfile.TemporaryDirectory(prefix="lrlex-edits-") as folder:
+    with processes.scratch("edits") as folder:
         rooms.copy_sources(listed[crate].folder, folder)
         whys = [changed(folder, changes) for *_, changes in edits]
         more = [word for it in functions for word in ("--only", it)]
@@ -147,7 +146,7 @@ def by_rt(crate, listed):
     own = {it: "" for it in os.listdir(folder) if it.endswith(".edit")} if os.path.isdir(folder) else {}
     if not edits and not own:
         return None
-    with tempfile.TemporaryDirectory(prefix="lrlex-edits-") as room:
+    with processes.scratch("edits") as room:
         for it in [*crates.below(crate, listed), crate]:
             rooms.copy_sources(listed[it].folder, f"{room}/crates/{it}")
             rooms.copy_built(listed[it].folder, f"{room}/crates/{it}")

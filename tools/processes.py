@@ -1,26 +1,35 @@
 """Child processes that end when this program ends, however it ends.
 
-Each child leads a process group of its own. An interrupt of this program ends these groups; a child whose parent was killed
-is ended by the kernel, and rt ends what it has started when rt itself is gone.
+Each child leads a process group of its own. An interrupt of this program ends these groups and removes its scratch folders; a
+child whose parent was killed is ended by the kernel, rt ends what it has started when rt itself is gone, and the next scratch
+folder takes those away that a killed program left.
 """
 
 import atexit
 import contextlib
 import ctypes
 import os
+import re
+import shutil
 import signal
 import subprocess
+import tempfile
 import threading
 import time
 
 PR_SET_PDEATHSIG = 1
 LIBC = ctypes.CDLL(None, use_errno=True)
-RUNNING, ALONE = set(), threading.Lock()
+RUNNING, FOLDERS, ALONE = set(), set(), threading.RLock()
 
 
 def die_with_parent():
     """Runs in the child: the kernel kills it when the thread that started it ends."""
     LIBC.prctl(PR_SET_PDEATHSIG, signal.SIGKILL)
+
+
+def end_with_parent():
+    """Has the kernel ask this program to end when its parent is gone."""
+    LIBC.prctl(PR_SET_PDEATHSIG, signal.SIGTERM)
 
 
 def start(words, **how):
@@ -69,11 +78,25 @@ def end_all(seconds=5):
             time.sleep(0.05)
 
 
+@contextlib.contextmanager
+def scratch(name):
+    """A new folder, which goes at the end."""
+    for it in os.listdir(tempfile.gettempdir()):
+        if (of := re.match(r"lrlex-[a-z]+-(\d+)-", it)) and not os.path.exists(f"/proc/{of[1]}"):
+            shutil.rmtree(f"{tempfile.gettempdir()}/{it}", ignore_errors=True)
+    with tempfile.TemporaryDirectory(prefix=f"lrlex-{name}-{os.getpid()}-", ignore_cleanup_errors=True) as folder:
+        FOLDERS.add(folder)
+        yield folder
+        FOLDERS.discard(folder)
+
+
 def end_all_at_exit():
     """Has an interrupt, a request to end and a lost terminal end the children first."""
 
     def end(number, _frame):
         end_all()
+        for it in list(FOLDERS):
+            shutil.rmtree(it, ignore_errors=True)
         signal.signal(number, signal.SIG_DFL)
         os.kill(os.getpid(), number)
 

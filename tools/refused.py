@@ -7,7 +7,6 @@ import os
 import re
 import shutil
 import sys
-import tempfile
 
 import processes
 import prover
@@ -19,7 +18,7 @@ def tried(file, fault, *needs):
         return None, "rt isn't on PATH"
     if lost := prover.lacking(needs):
         return None, f"the library {lost} isn't built from its sources: rt lib in crates/{lost} builds it"
-    with tempfile.TemporaryDirectory(prefix="lrlex-refused-") as folder:
+    with processes.scratch("refused") as folder:
         for part in ("src", "specs"):
             os.mkdir(f"{folder}/{part}")
         shutil.copy(file, f"{folder}/src/lib.rt")
