@@ -4,8 +4,8 @@ rt check would: what rt ci proves it keeps for itself. The libraries are those i
 folder that the environment names: there the gate keeps what its rt ci has built.
 """
 
+import functools
 import os
-import subprocess
 
 import crates
 import processes
@@ -44,10 +44,10 @@ def lacking(names):
     return None
 
 
+@functools.lru_cache(maxsize=None)
 def kit():
     """The folder of the kit, where rt's first page is."""
-    page = subprocess.run(["rt", "doc"], stdout=subprocess.PIPE, text=True, check=True).stdout.strip()
-    return os.path.dirname(page)
+    return os.path.dirname(processes.run(["rt", "doc"])[1].strip())
 
 
 def checked(folder, name, needs, more=(), much=0):
