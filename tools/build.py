@@ -60,8 +60,7 @@ class Room:
         """Puts what was built and kept in the room in its place, also after a build that was cut off, and removes the room."""
         for part in rooms.KEPT:
             there, here = f"{self.folder}/out/{part}", f"{self.crate.folder}/out/{part}"
-            if os.path.isdir(there):
-                shutil.rmtree(here, ignore_errors=True)
+            if os.path.isdir(there) and not os.path.isdir(here):
                 os.rename(there, here)
         shutil.rmtree(self.top, ignore_errors=True)
 
