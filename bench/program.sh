@@ -8,21 +8,11 @@ scratch=$(mktemp -d) || exit 1
 trap 'rm -rf "$scratch"' EXIT
 trap 'exit 1' HUP INT TERM
 
+folders=$(awk -v top=lrlex_bench -f "$top/tools/below.awk" "$top/crates.txt" | sed "s,^,$top/crates/,") || exit 1
+# shellcheck disable=SC2086
 if [ ! -x "$program" ] ||
-    [ -n "$(find "$top/crates/lrlex_base" "$top/crates/lrlex_tokens" "$top/crates/lrlex_matching" "$top/crates/lrlex_rules" \
-        "$top/crates/lrlex_table" "$top/crates/lrlex_boundaries" "$top/crates/lrlex" "$top/crates/lrlex_bench_lib" \
-        "$top/crates/lrlex_bench" \
-        -path '*/out' -prune -o -name '*.rt' -newer "$program" -print)" ]; then
-    if ! command -v rt >/dev/null 2>&1; then
-        echo "bench: the program isn't built, and building it takes the Rattle kit: rt isn't on PATH" >&2
-        exit 1
-    fi
-    echo "bench: building; what isn't proved yet is proved, which takes some 30 minutes at first" >&2
-    if ! (cd "$top/crates/lrlex_bench" && rt run <stdin >/dev/null 2>"$scratch/log"); then
-        cat "$scratch/log" >&2
-        echo "bench: the build failed" >&2
-        exit 1
-    fi
+    [ -n "$(find $folders -path '*/out' -prune -o -name '*.rt' -newer "$program" -print)" ]; then
+    "$top/dev" build lrlex_bench || exit 1
 fi
 
 # value NAME: what the program printed under this name, in the file `out`

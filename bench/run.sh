@@ -1,6 +1,6 @@
 #!/bin/sh
 # Times lexing: bench/run.sh [K]. Makes texts of about 1 MB from this machine's own files, lexes each K times (11 without
-# the word) by the rule files beside this script, and prints two tables. bench/README.md says how to read them.
+# the word) by the rule files of rules/, and prints two tables. bench/README.md says how to read them.
 # Builds the program lrlex_bench first where it isn't built, or where its source is newer.
 set -u
 LC_ALL=C
@@ -52,7 +52,8 @@ conf_files | joined >"$scratch/conf"
 
 # measure RULES TEXT [--edits]: what the program prints goes to the file `out`
 measure() {
-    rules=$here/$1.l
+    rules=$top/rules/$1.l
+    [ -f "$rules" ] || rules=$here/$1.l
     text=$scratch/$2
     shift 2
     "$program" "$rules" "$text" "$times" "$@" >"$scratch/out"

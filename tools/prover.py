@@ -1,47 +1,64 @@
-"""Has the prover check a crate over the libraries that rt ci, or rt lib, has left in crates/*/out, and proves none of these again.
+"""Has the prover check a crate over libraries that are built, and proves none of these again.
 
-rt check would: what rt ci proves it keeps for itself.
+rt check would: what rt ci proves it keeps for itself. The libraries are those in crates/*/out, as rt lib leaves them, or in the
+folder that the environment names: there the gate keeps what its rt ci has built.
 """
 
+import functools
 import os
-import subprocess
 
-TOP = os.path.dirname(os.path.dirname(os.path.abspath(__file__)))
+import crates
+import processes
+
+RLIBS = "LRLEX_RLIBS"
 
 
-def crates():
-    """The crates of crates.txt, each with what it names as below it."""
-    with open(f"{TOP}/crates.txt", encoding="utf-8") as it:
-        lines = [line.split("#")[0].strip() for line in it]
-    pairs = [line.split(":") for line in lines if line]
-    return {name.strip(): below.split() for name, below in pairs}
+def library(name):
+    """The folder of a library of this repository as it is built."""
+    kept = os.environ.get(RLIBS)
+    return f"{kept}/{name}/{name}.rlib" if kept else f"{crates.TOP}/crates/{name}/out/rlib/{name}.rlib"
+
+
+def sources(name):
+    """The files of the crate that its library is built from."""
+    for part in ("src", "specs", "proofs"):
+        for at, _, files in os.walk(f"{crates.TOP}/crates/{name}/{part}"):
+            yield from (f"{at}/{it}" for it in files)
 
 
 def libraries_below(names, listed):
-    """The repository's libraries among these, and those that they stand on, all the way down."""
-    found = []
-    for name in names:
-        if name in listed:
-            found += [it for it in [name, *libraries_below(listed[name], listed)] if it not in found]
-    return found
+    """The repository's libraries among these, and those that they need, all the way down."""
+    return crates.with_below([it for it in names if it in listed], listed)
 
 
+def lacking(names):
+    """The first of these libraries, and those below them, that isn't built, or not from its sources. None where all are."""
+    for name in libraries_below(names, crates.read()):
+        try:
+            # (what the gate keeps is of its own run)
+            built = os.path.getmtime(f"{library(name)}/format")
+            if RLIBS not in os.environ and any(os.path.getmtime(it) > built for it in sources(name)):
+                return name
+        except OSError:
+            return name
+    return None
+
+
+@functools.lru_cache(maxsize=None)
 def kit():
-    """The folder of the kit, where rt's first page stands."""
-    page = subprocess.run(["rt", "doc"], stdout=subprocess.PIPE, text=True, check=True).stdout.strip()
-    return os.path.dirname(page)
+    """The folder of the kit, where rt's first page is."""
+    return os.path.dirname(processes.run(["rt", "doc"])[1].strip())
 
 
-def checked(folder, name, below, more=()):
-    """What the prover says of the crate in the folder, which stands on these libraries."""
-    home, listed = kit(), crates()
+def checked(folder, name, needs, more=(), much=0):
+    """What the prover says of the crate in the folder, which needs these libraries. It leaves processor time to others, so much."""
+    home, listed = kit(), crates.read()
     words = [f"{home}/bin/rattle", "check", "--crate-name", name, "src/lib.rt"]
-    for it in ["std", *below]:
-        built = f"{TOP}/crates/{it}/out/rlib" if it in listed else f"{home}/rlibs"
-        words += ["--extern", f"{it}={built}/{it}.rlib"]
-    for built in [f"{home}/rlibs", *[f"{TOP}/crates/{it}/out/rlib" for it in libraries_below(below, listed)]]:
-        words += ["-L", f"dependency={built}"]
+    for it in ["std", *needs]:
+        words += ["--extern", f"{it}={library(it) if it in listed else f'{home}/rlibs/{it}.rlib'}"]
+    words += ["-L", f"dependency={home}/rlibs"]
+    for it in libraries_below(needs, listed):
+        words += ["-L", f"dependency={os.path.dirname(library(it))}"]
     words += ["--antt-project", f"{home}/rattle/logic/antt-project.json", "--logic-built", f"{home}/logic_built"]
     words += ["--jobs", "1", *more]
-    how = {"cwd": folder, "stdin": subprocess.DEVNULL, "stdout": subprocess.PIPE, "stderr": subprocess.STDOUT}
-    return subprocess.run(words, **how, text=True, errors="replace").stdout
+    return processes.run(processes.give_way(words, much), cwd=folder)[1]

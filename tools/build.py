@@ -1,0 +1,211 @@
+"""Builds crates with all that they need, side by side: build.py [--times] [CRATE..], the program of ./lrlex without a word.
+
+A crate is built once those that it needs are, by rt lib, or by rt run where it is a program; both prove what changed. The crate
+with the longest chain of others after it goes ahead, and the others take what processor time it leaves. A run of rt holds the
+folders of the crates below its own, so one that would wait for another runs in a room: a copy of these crates, with the built
+libraries, in the crate's out/. What an interrupted build proved, the next takes up.
+
+A terminal gets one line, which is written over; a pipe gets a line for each crate that is done. All of it goes to standard error.
+"""
+
+import concurrent.futures
+import contextlib
+import fcntl
+import os
+import re
+import shutil
+import sys
+import threading
+import time
+
+import crates
+import processes
+import rooms
+
+SO_FAR = re.compile(r"^so far: (\d+) of (\d+) functions checked")
+# Memory of a check, in MB: of each of its processes, and more for each 1,000 lines. Measured: lrlex had 1,400 in each of five.
+PROCESS, LINES = 900, 80
+
+
+def free_memory():
+    """The free memory in MB, also under the limit of the control group that this runs in."""
+    with open("/proc/meminfo", encoding="utf-8") as it:
+        found = [int(re.search(r"MemAvailable:\s+(\d+)", it.read())[1]) >> 10]
+    with contextlib.suppress(OSError, ValueError):
+        with open("/sys/fs/cgroup/memory.max", encoding="utf-8") as limit, open("/sys/fs/cgroup/memory.current", encoding="utf-8") as held:
+            found.append(int(limit.read()) - int(held.read()) >> 20)
+    return min(found)
+
+
+def lines_of(folder, end):
+    """How many lines the crate's files with this ending have."""
+    count = 0
+    for part in rooms.PARTS:
+        for at, _, names in os.walk(f"{folder}/{part}"):
+            for name in names:
+                if name.endswith(end):
+                    with open(f"{at}/{name}", "rb") as it:
+                        count += it.read().count(b"\n")
+    return count
+
+
+class Room:
+    """A folder in the crate's out/ in which rt builds it without the folders that another run holds."""
+
+    def __init__(self, crate, below):
+        self.crate, self.below, self.top = crate, below, f"{crate.folder}/out/room"
+        self.folder = f"{self.top}/crates/{crate.name}"
+
+    def leave(self):
+        """Puts what was built and kept in the room in its place, also after a build that was cut off, and removes the room."""
+        for part in rooms.KEPT:
+            there, here = f"{self.folder}/out/{part}", f"{self.crate.folder}/out/{part}"
+            if os.path.isdir(there) and not os.path.isdir(here):
+                os.rename(there, here)
+        shutil.rmtree(self.top, ignore_errors=True)
+
+    def enter(self):
+        """Makes the room, and moves there what earlier checks of the crate kept."""
+        for it in [*self.below, self.crate]:
+            rooms.copy_sources(it.folder, f"{self.top}/crates/{it.name}")
+        for it in self.below:
+            rooms.copy_built(it.folder, f"{self.top}/crates/{it.name}", ["rlib"])
+        rooms.write_list([*self.below, self.crate], self.top)
+        os.makedirs(f"{self.folder}/out", exist_ok=True)
+        for part in rooms.KEPT:
+            if os.path.isdir(f"{self.crate.folder}/out/{part}"):
+                os.rename(f"{self.crate.folder}/out/{part}", f"{self.folder}/out/{part}")
+
+
+class Build:
+    """The crates that are built, what each needs, and how far they are."""
+
+    def __init__(self, names):
+        self.listed = crates.read()
+        self.wanted = crates.with_below(names, self.listed)
+        self.below = {it: crates.below(it, self.listed) for it in self.wanted}
+        code = {it: lines_of(self.listed[it].folder, ".rt") for it in self.wanted}
+        proofs = {it: lines_of(self.listed[it].folder, ".antt") for it in self.wanted}
+        # about how long each takes, and the longest chain that begins with it
+        self.chain = {}
+        for it in reversed(self.wanted):
+            after = [self.chain[one] for one in self.chain if it in self.below[one]]
+            self.chain[it] = code[it] + proofs[it] // 3 + max(after, default=0)
+        self.memory = {it: PROCESS + LINES * (code[it] + proofs[it]) // 1000 for it in self.wanted}
+        self.processors = len(os.sched_getaffinity(0))
+        self.free = 0.85 * free_memory()
+        self.alone, self.running, self.done = threading.Lock(), {}, {}
+        self.begun, self.failed = time.monotonic(), None
+
+    def said(self):
+        """How far the build is, in one line."""
+        parts = [f"{len(self.done)} of {len(self.wanted)} crates"]
+        parts += [f"{name} {far}".strip() for name, far in self.running.items()]
+        return ", ".join(parts)
+
+    def tell(self, text=""):
+        """Says how far the build is, over the line before on a terminal, or this text, which a pipe gets too."""
+        if sys.stderr.isatty():
+            width = shutil.get_terminal_size().columns - 1
+            print(f"\r\033[K{f'lrlex: {self.said()}'[:width]}", end="", file=sys.stderr, flush=True)
+        elif text:
+            print(f"lrlex: {text}", file=sys.stderr, flush=True)
+
+    def jobs_for(self, name, used):
+        """How many processes may check the crate at once; none where memory is short."""
+        for jobs in range(self.processors, 0, -1):
+            if used + self.memory[name] * jobs <= self.free:
+                return jobs
+        return 0 if used else 1
+
+    def run(self, name, jobs, is_held):
+        """Builds the crate, and gives its log where that failed."""
+        crate, begun = self.listed[name], time.monotonic()
+        room = Room(crate, [self.listed[it] for it in self.below[name]])
+        room.leave()
+        if is_held:
+            room.enter()
+        behind = max(self.chain[it] for it in self.wanted if it not in self.done) - self.chain[name]
+        much = min(19, 5 + 14 * behind // 5000) if behind else 0
+        words = processes.give_way(["rt", "run" if crate.is_program else "lib", "--jobs", str(jobs)], much)
+        given = f"{crate.folder}/stdin"
+        log = []
+        with open(given if crate.is_program and os.path.isfile(given) else os.devnull, "rb") as stdin:
+            how = {"cwd": room.folder if is_held else crate.folder, "stdin": stdin, "stdout": -1, "stderr": -2}
+            child = processes.start(words, **how, text=True, errors="replace")
+            for line in child.stdout:
+                log.append(line)
+                if found := SO_FAR.match(line):
+                    with self.alone:
+                        self.running[name] = f"{found[1]}/{found[2]}"
+                        self.tell()
+        status = processes.ended(child)
+        if is_held:
+            room.leave()
+        with self.alone:
+            del self.running[name]
+            if not status:
+                self.done[name] = (begun - self.begun, time.monotonic() - self.begun)
+                self.tell(f"{name} is built, {len(self.done)} of {len(self.wanted)}, after {self.done[name][1]:.0f} s")
+        return "".join(log) if status else ""
+
+    def all(self):
+        """Builds all, and gives the log of a crate that failed."""
+        left = sorted(self.wanted, key=lambda it: -self.chain[it])
+        used, held, futures = {}, {}, {}
+        with concurrent.futures.ThreadPoolExecutor(len(left)) as pool:
+            while left or futures:
+                for name in [it for it in left if all(one in self.done for one in self.below[it])]:
+                    jobs = self.jobs_for(name, sum(used.values()))
+                    if not jobs:
+                        break
+                    folders = {name, *self.below[name]}
+                    is_held = any(folders & it for it in held.values())
+                    left.remove(name)
+                    used[name], held[name] = self.memory[name] * jobs, set() if is_held else folders
+                    with self.alone:
+                        self.running[name] = ""
+                        self.tell()
+                    futures[pool.submit(self.run, name, jobs, is_held)] = name
+                for it in concurrent.futures.wait(futures, return_when=concurrent.futures.FIRST_COMPLETED).done:
+                    name = futures.pop(it)
+                    used.pop(name), held.pop(name)
+                    if it.result():
+                        processes.end_all()
+                        return name, it.result()
+        return "", ""
+
+
+def main(names=(), is_timed=False):
+    """Builds these crates. The status is 1 where one fails, whose log is printed."""
+    if not shutil.which("rt"):
+        print("lrlex: building takes the Rattle kit: rt isn't on PATH", file=sys.stderr)
+        return 1
+    processes.end_all_at_exit()
+    held = os.open(f"{crates.TOP}/crates", os.O_RDONLY)
+    try:
+        fcntl.flock(held, fcntl.LOCK_EX | fcntl.LOCK_NB)
+    except BlockingIOError:
+        print("lrlex: waiting for another build in this folder to end", file=sys.stderr)
+        fcntl.flock(held, fcntl.LOCK_EX)
+    except OSError:
+        pass
+    build = Build(list(names) or [crates.PROGRAM])
+    name, log = build.all()
+    if sys.stderr.isatty():
+        print("\r\033[K", end="", file=sys.stderr)
+    if name:
+        print(f"{log}lrlex: the build of {name} failed", file=sys.stderr)
+        return 1
+    if is_timed:
+        for it, (begun, ended) in build.done.items():
+            print(f"    {it}: {ended - begun:.0f} s, from {begun:.0f} to {ended:.0f}", file=sys.stderr)
+    print(f"lrlex: built in {time.monotonic() - build.begun:.0f} seconds", file=sys.stderr)
+    return 0
+
+
+if __name__ == "__main__":
+    # ./lrlex waits for it
+    processes.end_with_parent()
+    words = sys.argv[1:]
+    sys.exit(main([it for it in words if it != "--times"], "--times" in words))

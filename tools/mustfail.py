@@ -1,0 +1,188 @@
+"""Tries must-fail edits: wrong bodies that the prover must refuse.
+
+A crate's must-fail/GATE.md and MORE.md have them: below a heading with the edit's name is, in backquotes, the path of the
+function whose contract it breaks (GATE.md alone), and then the edit as rt reads one, lines file, old and new.
+
+By function, as the gate tries those of GATE.md: the crate is copied, all its edits are made there, and the prover must refuse
+each of these functions at a goal of its own. One check does for all: what the others change is their bodies, and a function is
+proved by the contracts of those that it calls. In the gate a crate's edits are tried once rt ci has proved the libraries below
+it, with what processor time rt ci leaves; where not all are refused then, they are tried once more when rt ci has ended.
+
+By rt, as ./dev edits tries those of both files: rt must-fail checks the whole crate with each edit in turn.
+"""
+
+import concurrent.futures
+import os
+import re
+import sys
+
+import crates
+import processes
+import prover
+import rooms
+
+EDIT = re.compile(r"^## (\S+)\n\n`(\S+)`[^\n]*\n\n```\n((?:file: .*\nold: .*\nnew: .*\n)+)```$", re.M)
+# How much the edits leave processor time to rt ci.
+BESIDE = 19
+LEFT = re.compile(r"`search` did not prove `([^`]+)`")
+
+
+def edits_of(crate):
+    """The edits of the crate: its name, theirs, function and changes."""
+    path = f"{crates.TOP}/crates/{crate}/must-fail/GATE.md"
+    if not os.path.isfile(path):
+        return []
+    with open(path, encoding="utf-8") as it:
+        text = it.read()
+    found = EDIT.findall(text)
+    if len(found) != text.count("\n## "):
+        sys.exit(f"edits: {path} has an edit that can't be read")
+    return [(crate, name, function, changes_of(changes)) for name, function, changes in found]
+
+
+def changes_of(text):
+    """The changes of an edit, each a file with an old and a new text."""
+    lines = [line.split(": ", 1)[1] for line in text.splitlines()]
+    return [tuple(lines[at : at + 3]) for at in range(0, len(lines), 3)]
+
+
+def changed(folder, changes):
+    """Makes the changes, and answers why they can't be made, if so."""
+    for file, old, new in changes:
+        with open(f"{folder}/{file}", encoding="utf-8") as it:
+            text = it.read()
+        if text.count(old) != 1:
+            return f"its old text stands {text.count(old)} times in {file}"
+        with open(f"{folder}/{file}", "w", encoding="utf-8") as it:
+            it.write(text.replace(old, new))
+    return ""
+
+
+def goal_of(function, verdict, told):
+    """The goal of the function that isn't proved, as the prover tells it; none where it tells none."""
+    answers = re.escape(f"./proofs/{function.replace('::', '/')}/")
+    found = re.search(rf"^{answers}\S+:\d+:\d+: error.*$", told, re.M)
+    if not found and (left := LEFT.search(verdict)):
+        found = re.search(rf"^note: src/\S+:\d+:\d+: .*\(`{re.escape(left.group(1))}`\).*$", told, re.M)
+    return found.group(0).removeprefix("note: ")[:160] if found else ""
+
+
+def judged(edit, why, told):
+    """Whether the edit is refused, and what to say: why it couldn't be made, or by what the prover told."""
+    crate, name, function, _ = edit
+    label = f"edit {crate}/{name}"
+    if why:
+        return False, f"{label}: FAILED, {why}"
+    verdict = re.search(rf"^fn {re.escape(f'{crate}::{function}')}: (.*)$", told, re.M)
+    if not verdict:
+        return False, f"{label}: FAILED, it didn't reach the prover:\n{told[-2000:]}"
+    if verdict.group(1).startswith("proved"):
+        return False, f"{label}: FAILED, {function} is still proved with it"
+    goal = goal_of(function, verdict.group(1), told)
+    if not goal:
+        return False, f"{label}: FAILED, {function} is refused at no goal of its own: {verdict.group(1)}"
+    return True, f"{label}: refused, as it must be: {goal}"
+
+
+def tried(edits, listed, much=0):
+    """The same of all edits of a crate, which change a function each."""
+    crate = edits[0][0]
+    functions = [function for _, _, function, _ in edits]
+    if len({*functions}) < len(edits):
+        sys.exit(f"edits: two of {crate} change one function, so which of them is refused couldn't be told")
+    with processes.scratch("edits") as folder:
+        rooms.copy_sources(listed[crate].folder, folder)
+        whys = [changed(folder, changes) for *_, changes in edits]
+        more = [word for it in functions for word in ("--only", it)]
+        told = prover.checked(folder, crate, listed[crate].needs, more, much)
+    return [judged(edit, why, told) for edit, why in zip(edits, whys)]
+
+
+def tried_beside(edits, listed, proofs):
+    """The same while rt ci is at work, which `proofs` tells of."""
+    has_ended = proofs.wait_for(crates.below(edits[0][0], listed))
+    found = tried(edits, listed, BESIDE)
+    if has_ended or all(is_refused for is_refused, _ in found):
+        return found
+    proofs.wait_for(None)
+    return tried(edits, listed)
+
+
+def by_function(names=(), proofs=None):
+    """Tries the edits of GATE.md of these crates, or of all, and gives for each whether it is refused and what to say."""
+    listed = crates.read()
+    groups = [edits_of(it) for it in crates.with_below(listed, listed) if not names or it in names]
+    groups = [edits for edits in groups if edits]
+    if not proofs:
+        groups.sort(key=len, reverse=True)
+    work = (lambda edits: tried_beside(edits, listed, proofs)) if proofs else (lambda edits: tried(edits, listed))
+    with concurrent.futures.ThreadPoolExecutor(len(os.sched_getaffinity(0))) as pool:
+        for found in pool.map(work, groups):
+            yield from found
+
+
+def edits_for_rt(crate):
+    """The edits of the crate that rt must-fail is to try, by name, as it reads them."""
+    found, name = {}, ""
+    for file in ("GATE.md", "MORE.md"):
+        path, is_inside = f"{crates.TOP}/crates/{crate}/must-fail/{file}", False
+        if not os.path.isfile(path):
+            continue
+        with open(path, encoding="utf-8") as it:
+            for line in it:
+                if line.startswith("## "):
+                    name = line.split()[1]
+                elif line.startswith("```"):
+                    is_inside = not is_inside
+                elif is_inside:
+                    found[name] = found.get(name, "") + line
+    return found
+
+
+def by_rt(crate, listed):
+    """Tries the edits of the crate by rt must-fail, in a copy over what earlier checks here kept. Gives its status."""
+    edits = edits_for_rt(crate)
+    folder = f"{crates.TOP}/crates/{crate}/must-fail"
+    own = {it: "" for it in os.listdir(folder) if it.endswith(".edit")} if os.path.isdir(folder) else {}
+    if not edits and not own:
+        return None
+    with processes.scratch("edits") as room:
+        for it in [*crates.below(crate, listed), crate]:
+            rooms.copy_sources(listed[it].folder, f"{room}/crates/{it}")
+            rooms.copy_built(listed[it].folder, f"{room}/crates/{it}")
+        rooms.write_list([listed[it] for it in [*crates.below(crate, listed), crate]], room)
+        os.mkdir(f"{room}/crates/{crate}/must-fail")
+        for name in own:
+            with open(f"{folder}/{name}", encoding="utf-8") as it:
+                edits[name.removesuffix(".edit")] = it.read()
+        for name, text in edits.items():
+            with open(f"{room}/crates/{crate}/must-fail/{name}.edit", "w", encoding="utf-8") as it:
+                it.write(text)
+        child = processes.start(["rt", "must-fail", crate], cwd=room, stdout=-1, stderr=-2, text=True, errors="replace")
+        for line in child.stdout:
+            print(line.replace(f"{room}/", ""), end="", flush=True)
+        return processes.ended(child)
+
+
+def main(names=(), is_of_gate=False):
+    """Tries the edits of these crates, or of all. The status is 0 where each is refused."""
+    listed = crates.read()
+    if unknown := [it for it in names if it not in listed]:
+        print(f"edits: crates.txt has no {unknown[0]}", file=sys.stderr)
+        return 1
+    if not is_of_gate:
+        came = [by_rt(it, listed) for it in crates.with_below(listed, listed) if not names or it in names]
+        if came.count(None) == len(came):
+            print("edits: these crates have none", file=sys.stderr)
+            return 1
+        return 1 if any(came) else 0
+    wanted = [it for it in crates.with_below(listed, listed) if (not names or it in names) and edits_of(it)]
+    if lost := prover.lacking([one for it in wanted for one in crates.below(it, listed)]):
+        print(f"edits: the library {lost} isn't built from its sources: ./dev build {lost}", file=sys.stderr)
+        return 1
+    refused = failed = 0
+    for is_refused, said in by_function(names):
+        print(said, flush=True)
+        refused, failed = refused + is_refused, failed + (not is_refused)
+    print(f"edits: {refused} refused, {failed} failed")
+    return 1 if failed or not refused else 0
