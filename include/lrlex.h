@@ -93,7 +93,7 @@ void lrlex_free(void *handle);
 
 /* ---- Definitions ---- */
 
-/* Flags of lrlex_options, as in `%option`s of rule texts. */
+/* Flags of lrlex_options. */
 enum {
     LRLEX_DOT_MATCHES_NEW_LINE = 1,      /* `.` matches U+000A; on unless set to off */
     LRLEX_MULTI_LINE = 2,                /* `^` and `$` match at the ends of lines; on unless set to off */

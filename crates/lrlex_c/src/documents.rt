@@ -1,75 +1,54 @@
-//! A text that is edited.
-ghost use Rattle.std.specs.Prelude.{◌≡◌, ◌≢◌, ◌↔◌, pos, None, Some, IfOk, IfErr, IsOk, IsErr};
+//! Documents: texts that are edited.
+ghost use Rattle.std.specs.Prelude.{◌≡◌, ◌≢◌, ◌↔◌, ◌≤◌, ℕ, drop, length, slice_range, pos, None, Some, IfOk, IfErr, IfSome, IsOk, IsErr, MatchOption};
 ghost use Rattle.std.specs.Arc.{arc_value};
+ghost use Rattle.std.specs.Option.{option_map_or};
 ghost use Rattle.lrlex_base.specs.Edits.{edited as edited_text};
+ghost use Rattle.lrlex_base.specs.Places.{place_of};
 ghost use Rattle.lrlex_base.specs.Spans.{span};
 ghost use Rattle.lrlex.specs.Document.{lexed_bytes};
-ghost use Rattle.lrlex_c.specs.Tokens.{document_in, WasEdited};
+ghost use Rattle.lrlex.specs.Nearest.{IsNearest, FitsAt};
+ghost use Rattle.lrlex.specs.Utf16.{utf16_position};
+ghost use Rattle.lrlex.specs.Views.{definition_of};
+ghost use Rattle.lrlex.specs.declared.editing.document.EditError.TheVariants.{DoesNotFit};
+ghost use Rattle.lrlex_c.specs.Answers.{AreTokensOf, ArePiecesOf, ArePartOf, WasEdited};
+ghost use Rattle.lrlex_c.specs.Buffers.{IsWritten, place_by};
+ghost use Rattle.lrlex_c.specs.Objects.{definition_in, document_in};
+ghost use Rattle.lrlex_c.specs.declared.object.Object.TheVariants.{Document as Kept};
 
+use crate::definitions::shared;
 use crate::handle::Handle;
-use crate::lexing::{Item, copy_tokens, lexed_of};
+use crate::lexing::lexed_of;
 use crate::object::{Definition, Edited, Object};
-use crate::plain::{Lexed, Token};
-use crate::status::{DOES_NOT_FIT, DONE, MISUSED, NO_MEMORY, NOT_UTF8};
+use crate::status::{DOES_NOT_FIT, MISUSE, NO_MEMORY, NOT_UTF8, OK};
+use crate::structs::{Lexed, Piece, Place, Token};
+use crate::texts::{Item, copy_pieces, copy_tokens, write_bytes};
 use lrlex::{DefaultLexerTypes, EditError};
 use std::alloc::{AllocError, Global};
+use std::mem::replace;
 use std::str;
 use std::sync::Arc;
 
 type Document<'d> = lrlex::Document<'d, DefaultLexerTypes<u32>>;
 
-/// One more owner of the definition.
-fn shared(object: &Object) -> Result<Option<Arc<Definition, Global>>, AllocError> {
-    match object {
-        Object::Definition(definition) => Ok(Some(definition.clone()?)),
-        _ => Ok(None),
-    }
-}
-
-fn share_in(alloc: Global, object: &Object, out: &mut Handle) -> i32 {
-    match shared(object) {
-        Err(_) => NO_MEMORY,
-        Ok(None) => MISUSED,
-        Ok(Some(definition)) => match Box::new(alloc, Object::Definition(definition)) {
-            Err(_) => NO_MEMORY,
-            Ok(object) => {
-                out.put(object);
-                DONE
-            }
-        },
-    }
-}
-
-/// Has another handle hold the same definition, for use in another thread.
-#[unsafe(no_mangle)]
-pub extern "C" fn lrlex_definition_share(
-    alloc: Global,
-    handle: &mut Handle,
-    out: &mut Handle,
-) -> i32 {
-    let _before = out.take(alloc);
-    match handle.take(alloc) {
-        None => MISUSED,
-        Some(object) => {
-            let status = share_in(alloc, &object, out);
-            handle.put(object);
-            status
-        }
-    }
-}
-
-/// Lexes a text.
+/// The document of a text, lexed.
 fn begun(
     alloc: Global,
     definition: Arc<Definition, Global>,
     text: &str,
-) -> Result<Edited, AllocError> {
+) -> Result<Edited, AllocError>
+    ensures { IfOk result (λ it. document_in (Some (Kept it))
+        ≡ Some (definition_of (λ n. n) (arc_value definition), text.now)) }
+{
     let document = Document::new(alloc, &definition, text)?;
     let text = document.into_text();
     Ok(Edited { definition, text })
 }
 
-fn begun_in(alloc: Global, object: &Object, text: &str) -> Result<Option<Box<Object>>, AllocError> {
+fn begun_in(alloc: Global, object: &Object, text: &str) -> Result<Option<Box<Object>>, AllocError>
+    ensures { IfOk result (λ made. MatchOption made (definition_in (Some object.now) ≡ None)
+        (λ b. IfSome (definition_in (Some object.now))
+        (λ d. document_in (Some b.value) ≡ Some (d, text.now)))) }
+{
     match shared(object)? {
         None => Ok(None),
         Some(definition) => {
@@ -79,31 +58,40 @@ fn begun_in(alloc: Global, object: &Object, text: &str) -> Result<Option<Box<Obj
     }
 }
 
-fn new_in(alloc: Global, object: &Object, out: &mut Handle, text: &[u8]) -> i32 {
+fn new_in(alloc: Global, object: &Object, out: &mut Handle, text: &[u8]) -> i32
+    ensures done { result ≡ pos 0 → MatchOption (definition_in (Some object.now)) ⊥
+        (λ d. document_in out.new.value ≡ Some (d, text.now)) }
+    ensures kept { result ≢ pos 0 → out.new.value ≡ out.old.value }
+{
     match str::from_utf8(text) {
         Err(_) => NOT_UTF8,
         Ok(text) => match begun_in(alloc, object, text) {
             Err(_) => NO_MEMORY,
-            Ok(None) => MISUSED,
+            Ok(None) => MISUSE,
             Ok(Some(document)) => {
                 out.put(document);
-                DONE
+                OK
             }
         },
     }
 }
 
-/// A document of this text. The definition may be let go before it.
+/// Makes a document of this text. The definition may be freed before it. What `out` had before is freed.
 #[unsafe(no_mangle)]
 pub extern "C" fn lrlex_document_new(
     alloc: Global,
     definition: &mut Handle,
     out: &mut Handle,
     text: &[u8],
-) -> i32 {
+) -> i32
+    ensures kept { definition.new.value ≡ definition.old.value }
+    ensures done { result ≡ pos 0 → MatchOption (definition_in definition.old.value) ⊥
+        (λ d. document_in out.new.value ≡ Some (d, text.now)) }
+    ensures failed { result ≢ pos 0 → out.new.value ≡ None }
+{
     let _before = out.take(alloc);
     match definition.take(alloc) {
-        None => MISUSED,
+        None => MISUSE,
         Some(object) => {
             let status = new_in(alloc, &object, out, text);
             definition.put(object);
@@ -123,8 +111,9 @@ fn edited(
     ensures definition { arc_value result.0.definition ≡ arc_value it.definition }
     ensures made { IfOk result.1 (λ _. lexed_bytes result.0.text
         ≡ edited_text (lexed_bytes it.text) (span from to) put.now) }
-    ensures kept { IfErr result.1 (λ _. lexed_bytes result.0.text
-        ≡ lexed_bytes it.text) }
+    ensures kept { IfErr result.1 (λ _. lexed_bytes result.0.text ≡ lexed_bytes it.text) }
+    ensures refused { IfErr result.1 (λ e. e ≡ DoesNotFit
+        ↔ ¬ (FitsAt (lexed_bytes it.text) from to)) }
 {
     let Edited { definition, text } = it;
     let mut document = Document::of_text(&definition, text);
@@ -134,35 +123,48 @@ fn edited(
 }
 
 fn status_of(answer: Result<(), EditError>) -> i32
-    ensures ok { result ≡ pos 0 → IsOk answer }
-    ensures err { result ≢ pos 0 → IsErr answer }
+    ensures made { result ≡ pos 0 → IsOk answer }
+    ensures refused { result ≢ pos 0 → IsErr answer }
+    ensures unfit { result ≡ pos 6 → IfErr answer (λ e. e ≡ DoesNotFit) }
+    ensures misused { result ≢ pos 4 }
 {
     match answer {
-        Ok(()) => DONE,
+        Ok(()) => OK,
         Err(EditError::DoesNotFit) => DOES_NOT_FIT,
         Err(EditError::OutOfMemory) => NO_MEMORY,
     }
 }
 
-fn edited_in(alloc: Global, object: Object, from: usize, to: usize, put: &[u8]) -> (Object, i32)
-    ensures made { result.1 ≡ pos 0 → WasEdited from to put.now (document_in (Some object))
-        (document_in (Some result.0)) }
-    ensures kept { result.1 ≢ pos 0 → document_in (Some result.0) ≡ document_in (Some object) }
+fn edited_in(alloc: Global, object: &mut Object, from: usize, to: usize, put: &[u8]) -> i32
+    ensures made { result ≡ pos 0 → WasEdited from to put.now (document_in (Some object.old))
+        (document_in (Some object.new)) }
+    ensures kept { result ≢ pos 0 → document_in (Some object.new)
+        ≡ document_in (Some object.old) }
+    ensures misused { result ≡ pos 4 ↔ document_in (Some object.old) ≡ None }
+    ensures unfit { result ≡ pos 6 → IfSome (document_in (Some object.old))
+        (λ d. ¬ (FitsAt d.1 from to)) }
 {
-    match object {
+    match replace(object, Object::Nothing) {
         Object::Document(it) => match str::from_utf8(put) {
-            Err(_) => (Object::Document(it), NOT_UTF8),
+            Err(_) => {
+                *object = Object::Document(it);
+                NOT_UTF8
+            }
             Ok(put) => {
                 let (it, answer) = edited(alloc, it, from, to, put);
-                (Object::Document(it), status_of(answer))
+                *object = Object::Document(it);
+                status_of(answer)
             }
         },
-        other => (other, MISUSED),
+        other => {
+            *object = other;
+            MISUSE
+        }
     }
 }
 
-/// Puts a text in the place of the bytes from `from` up to `to`, and lexes again what that changes. After any other answer than
-/// 0 the document is what it was.
+/// Puts a text in the place of the bytes from `from` up to `to`, and lexes again what that changes. If the call doesn't return 0, the
+/// document is what it was.
 #[unsafe(no_mangle)]
 pub extern "C" fn lrlex_document_edit(
     alloc: Global,
@@ -174,42 +176,66 @@ pub extern "C" fn lrlex_document_edit(
     ensures made { result ≡ pos 0 → WasEdited from to put.now (document_in handle.old.value)
         (document_in handle.new.value) }
     ensures kept { result ≢ pos 0 → document_in handle.new.value ≡ document_in handle.old.value }
+    ensures misused { result ≡ pos 4 ↔ document_in handle.old.value ≡ None }
+    ensures unfit { result ≡ pos 6 → IfSome (document_in handle.old.value)
+        (λ d. ¬ (FitsAt d.1 from to)) }
 {
     match handle.take(alloc) {
-        None => MISUSED,
+        None => MISUSE,
         Some(mut object) => {
-            let before = Box::replace(&mut object, Object::Nothing);
-            let (after, status) = edited_in(alloc, before, from, to, put);
-            let _nothing = Box::replace(&mut object, after);
+            let status = edited_in(alloc, &mut object, from, to, put);
             handle.put(object);
             status
         }
     }
 }
 
-/// The items from this one on.
-fn items_from(items: &[Item], first: usize) -> &[Item] {
-    if first <= items.len() {
-        &items[first..]
-    } else {
-        &items[items.len()..]
-    }
+/// The items from this index on.
+fn items_from(items: &[Item], first: usize) -> &[Item]
+    ensures { result.now ≡ drop first items.now }
+{
+    &items[first.min(items.len())..]
 }
 
-fn tokens_by(document: &Document<'_>, first: usize, tokens: &mut [Token], out: &mut Lexed) {
+fn tokens_by(document: &Document<'_>, first: usize, tokens: &mut [Token], out: &mut Lexed)
+    ensures { AreTokensOf (definition_of (λ n. n) document.now.definition) document.now.text first
+        tokens.old tokens.new out.new }
+{
     copy_tokens(items_from(document.items(), first), tokens);
-    *out = lexed_of(document.items(), document.text().len());
+    *out = lexed_of(document.items(), document.end(), document.end_state());
 }
 
-fn tokens_in(edited: Edited, first: usize, tokens: &mut [Token], out: &mut Lexed) -> Edited {
-    let Edited { definition, text } = edited;
+fn tokens_of(it: Edited, first: usize, tokens: &mut [Token], out: &mut Lexed) -> Edited
+    ensures kept { document_in (Some (Kept result)) ≡ document_in (Some (Kept it)) }
+    ensures tokens { AreTokensOf (definition_of (λ n. n) (arc_value it.definition))
+        (lexed_bytes it.text) first tokens.old tokens.new out.new }
+{
+    let Edited { definition, text } = it;
     let document = Document::of_text(&definition, text);
     tokens_by(&document, first, tokens, out);
     let text = document.into_text();
     Edited { definition, text }
 }
 
-/// The lexemes of the document from this one on, as many as there is room for, and how lexing went.
+fn tokens_in(object: &mut Object, first: usize, tokens: &mut [Token], out: &mut Lexed) -> i32
+    ensures kept { document_in (Some object.new) ≡ document_in (Some object.old) }
+    ensures misused { result ≡ pos 4 ↔ document_in (Some object.old) ≡ None }
+    ensures done { result ≡ pos 0 → IfSome (document_in (Some object.old))
+        (λ d. AreTokensOf d.0 d.1 first tokens.old tokens.new out.new) }
+{
+    match replace(object, Object::Nothing) {
+        Object::Document(it) => {
+            *object = Object::Document(tokens_of(it, first, tokens, out));
+            OK
+        }
+        other => {
+            *object = other;
+            MISUSE
+        }
+    }
+}
+
+/// The lexemes of the document from this index on, as many as there is room for, and how lexing went.
 #[unsafe(no_mangle)]
 pub extern "C" fn lrlex_document_tokens(
     alloc: Global,
@@ -217,21 +243,439 @@ pub extern "C" fn lrlex_document_tokens(
     first: usize,
     tokens: &mut [Token],
     out: &mut Lexed,
-) -> i32 {
+) -> i32
+    ensures kept { document_in handle.new.value ≡ document_in handle.old.value }
+    ensures misused { result ≡ pos 4 ↔ document_in handle.old.value ≡ None }
+    ensures done { result ≡ pos 0 → IfSome (document_in handle.old.value)
+        (λ d. AreTokensOf d.0 d.1 first tokens.old tokens.new out.new) }
+{
     match handle.take(alloc) {
-        None => MISUSED,
-        Some(mut object) => match Box::replace(&mut object, Object::Nothing) {
-            Object::Document(it) => {
-                let it = tokens_in(it, first, tokens, out);
-                let _nothing = Box::replace(&mut object, Object::Document(it));
-                handle.put(object);
-                DONE
-            }
-            other => {
-                let _nothing = Box::replace(&mut object, other);
-                handle.put(object);
-                MISUSED
-            }
-        },
+        None => MISUSE,
+        Some(mut object) => {
+            let status = tokens_in(&mut object, first, tokens, out);
+            handle.put(object);
+            status
+        }
+    }
+}
+
+fn len_of(it: Edited, len: &mut usize) -> Edited
+    ensures kept { document_in (Some (Kept result)) ≡ document_in (Some (Kept it)) }
+    ensures len { len.new ≡ length (lexed_bytes it.text) }
+{
+    let Edited { definition, text } = it;
+    let document = Document::of_text(&definition, text);
+    *len = document.text().len();
+    let text = document.into_text();
+    Edited { definition, text }
+}
+
+fn len_in(object: &mut Object, len: &mut usize) -> i32
+    ensures kept { document_in (Some object.new) ≡ document_in (Some object.old) }
+    ensures misused { result ≡ pos 4 ↔ document_in (Some object.old) ≡ None }
+    ensures done { result ≡ pos 0 → IfSome (document_in (Some object.old))
+        (λ d. len.new ≡ length d.1) }
+{
+    match replace(object, Object::Nothing) {
+        Object::Document(it) => {
+            *object = Object::Document(len_of(it, len));
+            OK
+        }
+        other => {
+            *object = other;
+            MISUSE
+        }
+    }
+}
+
+/// How many bytes the document has.
+#[unsafe(no_mangle)]
+pub extern "C" fn lrlex_document_len(alloc: Global, handle: &mut Handle, len: &mut usize) -> i32
+    ensures kept { document_in handle.new.value ≡ document_in handle.old.value }
+    ensures misused { result ≡ pos 4 ↔ document_in handle.old.value ≡ None }
+    ensures done { result ≡ pos 0 → IfSome (document_in handle.old.value)
+        (λ d. len.new ≡ length d.1) }
+{
+    match handle.take(alloc) {
+        None => MISUSE,
+        Some(mut object) => {
+            let status = len_in(&mut object, len);
+            handle.put(object);
+            status
+        }
+    }
+}
+
+/// Writes the bytes from `from` up to `to`, if they are in the text.
+fn write_part(text: &str, from: usize, to: usize, out: &mut [u8], len: &mut usize) -> i32
+    ensures done { result ≡ pos 0 → IsWritten (slice_range text.now from to) out.old out.new
+        len.new }
+    ensures unfit { result ≡ pos 6 ↔ ¬ ((from ≤ to) × (to ≤ length text.now)) }
+    ensures misused { result ≢ pos 4 }
+{
+    if from > to || to > text.len() {
+        return DOES_NOT_FIT;
+    }
+    write_bytes(&text.as_bytes()[from..to], out, len);
+    OK
+}
+
+fn text_of(
+    it: Edited,
+    from: usize,
+    to: usize,
+    out: &mut [u8],
+    len: &mut usize,
+    status: &mut i32,
+) -> Edited
+    ensures kept { document_in (Some (Kept result)) ≡ document_in (Some (Kept it)) }
+    ensures done { status.new ≡ pos 0 → IsWritten (slice_range (lexed_bytes it.text) from to)
+        out.old out.new len.new }
+    ensures unfit { status.new ≡ pos 6 ↔ ¬ ((from ≤ to) × (to ≤ length (lexed_bytes it.text))) }
+    ensures misused { status.new ≢ pos 4 }
+{
+    let Edited { definition, text } = it;
+    let document = Document::of_text(&definition, text);
+    *status = write_part(document.text(), from, to, out, len);
+    let text = document.into_text();
+    Edited { definition, text }
+}
+
+fn text_in(object: &mut Object, from: usize, to: usize, out: &mut [u8], len: &mut usize) -> i32
+    ensures kept { document_in (Some object.new) ≡ document_in (Some object.old) }
+    ensures misused { result ≡ pos 4 ↔ document_in (Some object.old) ≡ None }
+    ensures done { result ≡ pos 0 → IfSome (document_in (Some object.old))
+        (λ d. IsWritten (slice_range d.1 from to) out.old out.new len.new) }
+    ensures unfit { IfSome (document_in (Some object.old))
+        (λ d. result ≡ pos 6 ↔ ¬ ((from ≤ to) × (to ≤ length d.1))) }
+{
+    match replace(object, Object::Nothing) {
+        Object::Document(it) => {
+            let mut status = OK;
+            *object = Object::Document(text_of(it, from, to, out, len, &mut status));
+            status
+        }
+        other => {
+            *object = other;
+            MISUSE
+        }
+    }
+}
+
+/// The bytes of the document from `from` up to `to`, as many as there is room for.
+#[unsafe(no_mangle)]
+pub extern "C" fn lrlex_document_text(
+    alloc: Global,
+    handle: &mut Handle,
+    from: usize,
+    to: usize,
+    out: &mut [u8],
+    len: &mut usize,
+) -> i32
+    ensures kept { document_in handle.new.value ≡ document_in handle.old.value }
+    ensures misused { result ≡ pos 4 ↔ document_in handle.old.value ≡ None }
+    ensures done { result ≡ pos 0 → IfSome (document_in handle.old.value)
+        (λ d. IsWritten (slice_range d.1 from to) out.old out.new len.new) }
+    ensures unfit { IfSome (document_in handle.old.value)
+        (λ d. result ≡ pos 6 ↔ ¬ ((from ≤ to) × (to ≤ length d.1))) }
+{
+    match handle.take(alloc) {
+        None => MISUSE,
+        Some(mut object) => {
+            let status = text_in(&mut object, from, to, out, len);
+            handle.put(object);
+            status
+        }
+    }
+}
+
+fn place_of(it: Edited, byte: usize, out: &mut Place) -> Edited
+    ensures kept { document_in (Some (Kept result)) ≡ document_in (Some (Kept it)) }
+    ensures place { (at : ℕ) → IsNearest (lexed_bytes it.text) byte at
+        → out.new ≡ place_by (place_of (lexed_bytes it.text) at) }
+{
+    let Edited { definition, text } = it;
+    let document = Document::of_text(&definition, text);
+    let (line, column) = document.place(byte);
+    *out = Place { line, column };
+    let text = document.into_text();
+    Edited { definition, text }
+}
+
+fn place_in(object: &mut Object, byte: usize, out: &mut Place) -> i32
+    ensures kept { document_in (Some object.new) ≡ document_in (Some object.old) }
+    ensures misused { result ≡ pos 4 ↔ document_in (Some object.old) ≡ None }
+    ensures done { result ≡ pos 0 → IfSome (document_in (Some object.old))
+        (λ d. (at : ℕ) → IsNearest d.1 byte at → out.new ≡ place_by (place_of d.1 at)) }
+{
+    match replace(object, Object::Nothing) {
+        Object::Document(it) => {
+            *object = Object::Document(place_of(it, byte, out));
+            OK
+        }
+        other => {
+            *object = other;
+            MISUSE
+        }
+    }
+}
+
+/// Line and column of the place before this byte of the document, both from 1. The column counts characters. Inside a character it is
+/// the place before that, and past the text's end the end.
+#[unsafe(no_mangle)]
+pub extern "C" fn lrlex_document_place(
+    alloc: Global,
+    handle: &mut Handle,
+    byte: usize,
+    out: &mut Place,
+) -> i32
+    ensures kept { document_in handle.new.value ≡ document_in handle.old.value }
+    ensures misused { result ≡ pos 4 ↔ document_in handle.old.value ≡ None }
+    ensures done { result ≡ pos 0 → IfSome (document_in handle.old.value)
+        (λ d. (at : ℕ) → IsNearest d.1 byte at → out.new ≡ place_by (place_of d.1 at)) }
+{
+    match handle.take(alloc) {
+        None => MISUSE,
+        Some(mut object) => {
+            let status = place_in(&mut object, byte, out);
+            handle.put(object);
+            status
+        }
+    }
+}
+
+fn position_of(it: Edited, byte: usize, out: &mut Place) -> Edited
+    ensures kept { document_in (Some (Kept result)) ≡ document_in (Some (Kept it)) }
+    ensures place { (at : ℕ) → IsNearest (lexed_bytes it.text) byte at
+        → out.new ≡ place_by (utf16_position (lexed_bytes it.text) at) }
+{
+    let Edited { definition, text } = it;
+    let document = Document::of_text(&definition, text);
+    let (line, column) = document.position(byte);
+    *out = Place { line, column };
+    let text = document.into_text();
+    Edited { definition, text }
+}
+
+fn position_in(object: &mut Object, byte: usize, out: &mut Place) -> i32
+    ensures kept { document_in (Some object.new) ≡ document_in (Some object.old) }
+    ensures misused { result ≡ pos 4 ↔ document_in (Some object.old) ≡ None }
+    ensures done { result ≡ pos 0 → IfSome (document_in (Some object.old))
+        (λ d. (at : ℕ) → IsNearest d.1 byte at → out.new ≡ place_by (utf16_position d.1 at)) }
+{
+    match replace(object, Object::Nothing) {
+        Object::Document(it) => {
+            *object = Object::Document(position_of(it, byte, out));
+            OK
+        }
+        other => {
+            *object = other;
+            MISUSE
+        }
+    }
+}
+
+/// Line and column of the place before this byte of the document as the Language Server Protocol counts them: both from 0, the column
+/// in code units of UTF-16. Inside a character it is the place before that, and past the text's end the end.
+#[unsafe(no_mangle)]
+pub extern "C" fn lrlex_document_position(
+    alloc: Global,
+    handle: &mut Handle,
+    byte: usize,
+    out: &mut Place,
+) -> i32
+    ensures kept { document_in handle.new.value ≡ document_in handle.old.value }
+    ensures misused { result ≡ pos 4 ↔ document_in handle.old.value ≡ None }
+    ensures done { result ≡ pos 0 → IfSome (document_in handle.old.value)
+        (λ d. (at : ℕ) → IsNearest d.1 byte at → out.new ≡ place_by (utf16_position d.1 at)) }
+{
+    match handle.take(alloc) {
+        None => MISUSE,
+        Some(mut object) => {
+            let status = position_in(&mut object, byte, out);
+            handle.put(object);
+            status
+        }
+    }
+}
+
+fn pieces_by(
+    alloc: Global,
+    document: &Document<'_>,
+    pieces: &mut [Piece],
+) -> Result<Lexed, AllocError>
+    ensures { IfOk result (ArePiecesOf (definition_of (λ n. n) document.now.definition)
+        document.now.text pieces.old pieces.new) }
+{
+    let found = document.pieces(alloc)?;
+    copy_pieces(&found, pieces);
+    Ok(Lexed {
+        count: found.len(),
+        ..lexed_of(document.items(), document.end(), document.end_state())
+    })
+}
+
+fn pieces_of(
+    alloc: Global,
+    it: Edited,
+    pieces: &mut [Piece],
+    out: &mut Lexed,
+    status: &mut i32,
+) -> Edited
+    ensures kept { document_in (Some (Kept result)) ≡ document_in (Some (Kept it)) }
+    ensures done { status.new ≡ pos 0 → ArePiecesOf
+        (definition_of (λ n. n) (arc_value it.definition)) (lexed_bytes it.text) pieces.old
+        pieces.new out.new }
+    ensures misused { status.new ≢ pos 4 }
+{
+    let Edited { definition, text } = it;
+    let document = Document::of_text(&definition, text);
+    *status = match pieces_by(alloc, &document, pieces) {
+        Err(_) => NO_MEMORY,
+        Ok(lexed) => {
+            *out = lexed;
+            OK
+        }
+    };
+    let text = document.into_text();
+    Edited { definition, text }
+}
+
+fn pieces_in(alloc: Global, object: &mut Object, pieces: &mut [Piece], out: &mut Lexed) -> i32
+    ensures kept { document_in (Some object.new) ≡ document_in (Some object.old) }
+    ensures misused { result ≡ pos 4 ↔ document_in (Some object.old) ≡ None }
+    ensures done { result ≡ pos 0 → IfSome (document_in (Some object.old))
+        (λ d. ArePiecesOf d.0 d.1 pieces.old pieces.new out.new) }
+{
+    match replace(object, Object::Nothing) {
+        Object::Document(it) => {
+            let mut status = OK;
+            *object = Object::Document(pieces_of(alloc, it, pieces, out, &mut status));
+            status
+        }
+        other => {
+            *object = other;
+            MISUSE
+        }
+    }
+}
+
+/// The pieces of the document, as many as there is room for.
+#[unsafe(no_mangle)]
+pub extern "C" fn lrlex_document_pieces(
+    alloc: Global,
+    handle: &mut Handle,
+    pieces: &mut [Piece],
+    out: &mut Lexed,
+) -> i32
+    ensures kept { document_in handle.new.value ≡ document_in handle.old.value }
+    ensures misused { result ≡ pos 4 ↔ document_in handle.old.value ≡ None }
+    ensures done { result ≡ pos 0 → IfSome (document_in handle.old.value)
+        (λ d. ArePiecesOf d.0 d.1 pieces.old pieces.new out.new) }
+{
+    match handle.take(alloc) {
+        None => MISUSE,
+        Some(mut object) => {
+            let status = pieces_in(alloc, &mut object, pieces, out);
+            handle.put(object);
+            status
+        }
+    }
+}
+
+fn part_by(
+    alloc: Global,
+    document: &Document<'_>,
+    from: usize,
+    to: usize,
+    pieces: &mut [Piece],
+) -> Result<Lexed, AllocError>
+    ensures { IfOk result (ArePartOf (definition_of (λ n. n) document.now.definition)
+        document.now.text from to pieces.old pieces.new) }
+{
+    let found = document.pieces_in(alloc, from, to)?;
+    copy_pieces(&found, pieces);
+    Ok(Lexed {
+        count: found.len(),
+        ..lexed_of(document.items(), document.end(), document.end_state())
+    })
+}
+
+fn part_of(
+    alloc: Global,
+    it: Edited,
+    from: usize,
+    to: usize,
+    pieces: &mut [Piece],
+    out: &mut Lexed,
+    status: &mut i32,
+) -> Edited
+    ensures kept { document_in (Some (Kept result)) ≡ document_in (Some (Kept it)) }
+    ensures done { status.new ≡ pos 0 → ArePartOf
+        (definition_of (λ n. n) (arc_value it.definition)) (lexed_bytes it.text) from to pieces.old
+        pieces.new out.new }
+    ensures misused { status.new ≢ pos 4 }
+{
+    let Edited { definition, text } = it;
+    let document = Document::of_text(&definition, text);
+    *status = match part_by(alloc, &document, from, to, pieces) {
+        Err(_) => NO_MEMORY,
+        Ok(lexed) => {
+            *out = lexed;
+            OK
+        }
+    };
+    let text = document.into_text();
+    Edited { definition, text }
+}
+
+fn part_in(
+    alloc: Global,
+    object: &mut Object,
+    from: usize,
+    to: usize,
+    pieces: &mut [Piece],
+    out: &mut Lexed,
+) -> i32
+    ensures kept { document_in (Some object.new) ≡ document_in (Some object.old) }
+    ensures misused { result ≡ pos 4 ↔ document_in (Some object.old) ≡ None }
+    ensures done { result ≡ pos 0 → IfSome (document_in (Some object.old))
+        (λ d. ArePartOf d.0 d.1 from to pieces.old pieces.new out.new) }
+{
+    match replace(object, Object::Nothing) {
+        Object::Document(it) => {
+            let mut status = OK;
+            *object = Object::Document(part_of(alloc, it, from, to, pieces, out, &mut status));
+            status
+        }
+        other => {
+            *object = other;
+            MISUSE
+        }
+    }
+}
+
+/// The pieces of the document that have a byte from `from` up to `to`, as many as there is room for.
+#[unsafe(no_mangle)]
+pub extern "C" fn lrlex_document_pieces_in(
+    alloc: Global,
+    handle: &mut Handle,
+    from: usize,
+    to: usize,
+    pieces: &mut [Piece],
+    out: &mut Lexed,
+) -> i32
+    ensures kept { document_in handle.new.value ≡ document_in handle.old.value }
+    ensures misused { result ≡ pos 4 ↔ document_in handle.old.value ≡ None }
+    ensures done { result ≡ pos 0 → IfSome (document_in handle.old.value)
+        (λ d. ArePartOf d.0 d.1 from to pieces.old pieces.new out.new) }
+{
+    match handle.take(alloc) {
+        None => MISUSE,
+        Some(mut object) => {
+            let status = part_in(alloc, &mut object, from, to, pieces, out);
+            handle.put(object);
+            status
+        }
     }
 }

@@ -1,4 +1,4 @@
-//! What a handle may hold.
+//! What a handle can hold.
 ghost use Rattle.std.specs.Prelude.{string_bytes};
 ghost use Rattle.std.specs.Arc.{arc_value};
 ghost use Rattle.lrlex_base.specs.Lexemes.{lexeme_seen};
@@ -15,7 +15,7 @@ use std::sync::Arc;
 /// A definition with ids of 32 bits.
 pub(crate) type Definition = LRNonStreamingLexerDef<DefaultLexerTypes<u32>>;
 
-/// What is wrong with a rule text, and where its lines begin.
+/// The errors of a rule text, the text, and where its lines begin.
 #[derive(Drop)]
 pub(crate) struct Refusal {
     pub(crate) faults: Vec<LexBuildError>,
@@ -24,7 +24,7 @@ pub(crate) struct Refusal {
     ghost breaks: { AreBreaksOf (string_bytes rules) newlines },
 }
 
-/// A text that was lexed by a definition, of which it is an owner.
+/// A text that was lexed by a definition, and that definition, of which it is an owner.
 #[derive(Drop)]
 pub(crate) struct Edited {
     pub(crate) definition: Arc<Definition, Global>,
@@ -32,7 +32,7 @@ pub(crate) struct Edited {
     ghost lexed: { IsLexedBy (λ n. n) lexeme_seen (arc_value definition).table text },
 }
 
-/// What a handle may hold.
+/// What a handle can hold.
 #[derive(Drop)]
 pub enum Object {
     Nothing,

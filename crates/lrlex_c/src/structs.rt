@@ -1,0 +1,109 @@
+//! The structs that C reads and writes.
+
+/// A lexeme: where it starts and how long it is, in bytes, and the id of its rule.
+#[repr(C)]
+#[derive(Clone, Copy)]
+pub struct Token {
+    pub start: usize,
+    pub len: usize,
+    pub id: u32,
+}
+
+/// A piece of a text as it was cut: where it starts and how long it is, in bytes, and the index of its rule.
+#[repr(C)]
+#[derive(Clone, Copy)]
+pub struct Piece {
+    pub start: usize,
+    pub len: usize,
+    pub rule: usize,
+}
+
+/// How lexing went.
+#[repr(C)]
+#[derive(Clone, Copy)]
+pub struct Lexed {
+    /// How many lexemes or pieces there are, even if the buffer has room for fewer.
+    pub count: usize,
+    /// The offset at which lexing ended.
+    pub end: usize,
+    /// The start state at that offset.
+    pub state: usize,
+    /// Whether lexing ended at an error.
+    pub stopped: bool,
+    /// Whether that error is that no rule matches.
+    pub unmatched: bool,
+}
+
+/// An error of a rule text: its kind, its first span, in bytes, and line and column of that, both from 1.
+#[repr(C)]
+#[derive(Clone, Copy)]
+pub struct Fault {
+    pub start: usize,
+    pub end: usize,
+    pub line: usize,
+    pub column: usize,
+    /// How many spans it has.
+    pub spans: usize,
+    pub kind: u32,
+}
+
+/// A span of a rule text, in bytes, with line and column of its start, both from 1.
+#[repr(C)]
+#[derive(Clone, Copy)]
+pub struct FaultSpan {
+    pub start: usize,
+    pub end: usize,
+    pub line: usize,
+    pub column: usize,
+}
+
+/// Line and column. A column counts characters from 1, or code units of UTF-16 from 0.
+#[repr(C)]
+#[derive(Clone, Copy)]
+pub struct Place {
+    pub line: usize,
+    pub column: usize,
+}
+
+/// A rule: where its name is in the rule text, how long its name is, and its id, if it has these.
+#[repr(C)]
+#[derive(Clone, Copy)]
+pub struct RuleInfo {
+    pub name_start: usize,
+    pub name_end: usize,
+    pub name_len: usize,
+    pub id: u32,
+    pub has_id: bool,
+    pub has_name: bool,
+}
+
+/// A start state: its id, where its name is in the rule text, and how long its name is.
+#[repr(C)]
+#[derive(Clone, Copy)]
+pub struct StateInfo {
+    pub id: usize,
+    pub name_start: usize,
+    pub name_end: usize,
+    pub name_len: usize,
+    pub exclusive: bool,
+}
+
+/// The settings of a rule text. All zero is the usual.
+#[repr(C)]
+#[derive(Clone, Copy)]
+pub struct Options {
+    /// About how many bytes a compiled pattern may take; 0 is the usual.
+    pub size_limit: usize,
+    /// How many rows of tables to make at most, with `limit_tables`.
+    pub table_rows: usize,
+    /// How much work to spend on tables at most, with `limit_tables`.
+    pub table_work: usize,
+    /// Which flags are set: bits.
+    pub set: u32,
+    /// Which of the set flags are on: bits.
+    pub on: u32,
+    /// How deep a pattern may nest; 0 is the usual.
+    pub nest_limit: u32,
+    /// Whether `table_rows` and `table_work` limit the tables.
+    pub limit_tables: bool,
+}
