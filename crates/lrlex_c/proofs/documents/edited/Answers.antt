@@ -3,7 +3,7 @@ use Rattle.lrlex_base.specs.Lexemes.{lexeme_seen}
 use Rattle.lrlex.specs.Document.{IsLexedBy}
 use Rattle.lrlex_c.proofs.documents.edited.Goals as goal
 
--- the edit kept the definition, which is the one that the text stands beside
+-- the edit keeps the definition, which is the one that lexed the text
 pub invariant_of-result : goal.invariant_of-result
 invariant_of-result c = record {
   lexed = subst (λ d. IsLexedBy (λ n. n) lexeme_seen d.table c.into_text-text.result)

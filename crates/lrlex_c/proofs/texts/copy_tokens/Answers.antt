@@ -13,13 +13,12 @@ pub loop-i-preserved : goal.loop-i-preserved
 loop-i-preserved c =
     let here : c.loop-i.i < length c.args.items.now = omega arith in
     let room : c.loop-i.i < length c.args.out.now = omega arith in
-    let f = λ x. put_token (item_of (λ n. n) lexeme_seen x) in
     elim c.match-items-i.branch [
-      | in-Ok w ↦ counted f c.args.items.now c.args.out.now _ c.loop-i.i
+      | in-Ok w ↦ counted (λ x. put_token (item_of (λ n. n) lexeme_seen x)) c.args.items.now c.args.out.now _ c.loop-i.i
           (w.out-is ∙ ap (λ us. set us c.loop-i.i w.token_of.result) c.loop-i.invariant
-          ∙ put_next f c.args.items.now _ _ c.args.out.now w.token_of.result c.loop-i.i here room w.in-Ok.is (λ t. sym w.token_of.ensures))
-      | in_default w ↦ counted f c.args.items.now c.args.out.now _ c.loop-i.i
-          (w.out-is ∙ c.loop-i.invariant ∙ keep_next f c.args.items.now _ _ c.args.out.now c.loop-i.i here w.in_default.is (λ t. refl))
+          ∙ put_next (λ x. put_token (item_of (λ n. n) lexeme_seen x)) c.args.items.now _ _ c.args.out.now w.token_of.result c.loop-i.i here room w.in-Ok.is (λ t. sym w.token_of.ensures))
+      | in_default w ↦ counted (λ x. put_token (item_of (λ n. n) lexeme_seen x)) c.args.items.now c.args.out.now _ c.loop-i.i
+          (w.out-is ∙ c.loop-i.invariant ∙ keep_next (λ x. put_token (item_of (λ n. n) lexeme_seen x)) c.args.items.now _ _ c.args.out.now c.loop-i.i here w.in_default.is (λ t. refl))
     ]
 
 pub returns : goal.returns
