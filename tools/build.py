@@ -56,8 +56,11 @@ class Room:
         self.crate, self.below, self.top = crate, below, f"{crate.folder}/out/room"
         self.folder = f"{self.top}/crates/{crate.name}"
 
-    def leave(self):
+    def leave(self, is_built=False):
         """Puts what was built and kept in the room in its place, also after a build that was cut off, and removes the room."""
+        for it in os.scandir(f"{self.folder}/out") if is_built else ():
+            if it.is_file():
+                os.replace(it.path, f"{self.crate.folder}/out/{it.name}")
         for part in rooms.KEPT:
             there, here = f"{self.folder}/out/{part}", f"{self.crate.folder}/out/{part}"
             if os.path.isdir(there) and not os.path.isdir(here):
@@ -141,7 +144,7 @@ class Build:
                         self.tell()
         status = processes.ended(child)
         if is_held:
-            room.leave()
+            room.leave(not status)
         with self.alone:
             del self.running[name]
             if not status:

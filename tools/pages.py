@@ -45,7 +45,7 @@ def tree():
     """The files and folders of the repository, by their paths in it, without what is built."""
     found_ = []
     for at, folders, files in os.walk(crates.TOP):
-        folders[:] = sorted(it for it in folders if it not in ("out", ".git", "__pycache__"))
+        folders[:] = sorted(it for it in folders if it not in ("out", ".git", "__pycache__", "dist", "target"))
         found_ += [os.path.relpath(f"{at}/{it}", crates.TOP) for it in [*folders, *sorted(files)]]
     return found_
 

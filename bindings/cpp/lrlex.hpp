@@ -1,0 +1,333 @@
+/// Lexers from rule files (.l), for C++17, over the C interface of lrlex.h.
+///
+///     lrlex::Definition definition("%%\n[0-9]+ 'INT'\n[a-z]+ 'ID'\n[ ] ;");
+///     for (const lrlex::Token &token : definition.lex("abc 123"))
+///         std::cout << definition.name(token.id) << ' ' << token.text << '\n';
+///
+/// A rule text with faults throws RulesError, memory that runs out std::bad_alloc. Texts are UTF-8; one that isn't throws
+/// Error. Spans are in bytes. A Definition and a Document stay on the thread that made them, and calls on one object come one
+/// at a time, also those that are const.
+#ifndef LRLEX_HPP
+#define LRLEX_HPP
+
+#include "lrlex.h"
+
+#include <cstddef>
+#include <cstdint>
+#include <initializer_list>
+#include <memory>
+#include <new>
+#include <optional>
+#include <stdexcept>
+#include <string>
+#include <string_view>
+#include <utility>
+#include <vector>
+
+namespace lrlex {
+
+/// A call failed. `status()` is one of lrlex_status.
+class Error : public std::runtime_error {
+public:
+    Error(const std::string &what, int status) : std::runtime_error(what), status_(status) {}
+    int status() const noexcept { return status_; }
+
+private:
+    int status_;
+};
+
+/// A fault of a rule text: what is wrong, and where. There is more than one span if something is declared twice: the first place, and
+/// where it is declared again. Lines and columns count from 1.
+struct Fault {
+    std::string message;
+    std::uint32_t kind;
+    std::vector<lrlex_fault_span> spans;
+};
+
+/// The rule text is refused. `faults()` has all that is wrong with it.
+class RulesError : public Error {
+public:
+    explicit RulesError(std::vector<Fault> faults) : Error(shown(faults), LRLEX_REFUSED), faults_(std::move(faults)) {}
+    const std::vector<Fault> &faults() const noexcept { return faults_; }
+
+private:
+    static std::string shown(const std::vector<Fault> &faults) {
+        std::string text;
+        for (const Fault &fault : faults) {
+            if (!text.empty()) text += '\n';
+            for (std::size_t at = 0; at < fault.spans.size(); at++) {
+                if (at) text += at == 1 ? ", again at " : ", ";
+                text += std::to_string(fault.spans[at].line) + ':' + std::to_string(fault.spans[at].column);
+                if (!at) text += ": " + fault.message;
+            }
+        }
+        return text;
+    }
+    std::vector<Fault> faults_;
+};
+
+/// A token: its text, which is part of the text that was lexed, where that begins, and the id of its rule.
+struct Token {
+    std::string_view text;
+    std::size_t start;
+    std::uint32_t id;
+};
+
+/// Where lexing stopped before the end of the text. `state` is the start state in which no rule matched. It has no value if a rule
+/// matched that gives no token.
+struct Stop {
+    std::size_t start, line, column;
+    std::optional<std::size_t> state;
+};
+
+/// The tokens of a text, in order, and where lexing stopped if that wasn't the text's end.
+struct Tokens : std::vector<Token> {
+    std::optional<Stop> stop;
+};
+
+/// The pieces of a text as the rules cut it, also those of rules without a name, and where lexing stopped.
+struct Pieces : std::vector<lrlex_piece> {
+    std::optional<Stop> stop;
+};
+
+/// The flags and limits of a rule file, as of lrlex_options. Options().on(LRLEX_CASE_INSENSITIVE).off(LRLEX_UNICODE)
+class Options {
+public:
+    Options &on(std::uint32_t flags) {
+        options_.set |= flags;
+        options_.on |= flags;
+        return *this;
+    }
+    Options &off(std::uint32_t flags) {
+        options_.set |= flags;
+        options_.on &= ~flags;
+        return *this;
+    }
+    Options &size_limit(std::size_t bytes) { options_.size_limit = bytes; return *this; }
+    Options &nest_limit(std::uint32_t levels) { options_.nest_limit = levels; return *this; }
+    /// How much may be spent on tables. It changes how fast texts are lexed, and no answer.
+    Options &budget(std::size_t rows, std::size_t work) {
+        options_.limit_tables = true;
+        options_.table_rows = rows;
+        options_.table_work = work;
+        return *this;
+    }
+    const lrlex_options *get() const noexcept { return &options_; }
+
+private:
+    lrlex_options options_{};
+};
+
+namespace detail {
+
+/// The bytes of a text. No pointer may be null.
+inline const std::uint8_t *bytes(std::string_view text) {
+    return reinterpret_cast<const std::uint8_t *>(text.data() ? text.data() : "");
+}
+
+inline void check(int status) {
+    switch (status) {
+    case LRLEX_OK: return;
+    case LRLEX_NOMEM: throw std::bad_alloc();
+    case LRLEX_NOT_UTF8: throw Error("the text isn't UTF-8", status);
+    case LRLEX_DOES_NOT_FIT: throw Error("the edit doesn't fit the text", status);
+    default: throw Error("lrlex status " + std::to_string(status), status);
+    }
+}
+
+/// The text that a call writes into a buffer, with its length; empty if there is none.
+template <class Call> std::string text_by(Call call) {
+    std::string text(64, '\0');
+    for (;;) {
+        const std::size_t room = text.size();
+        std::size_t length = 0;
+        const int status = call(reinterpret_cast<std::uint8_t *>(&text[0]), room, &length);
+        if (status == LRLEX_NONE) return {};
+        check(status);
+        text.resize(length);
+        if (length <= room) return text;
+    }
+}
+
+/// An owner of a handle. It moves, and isn't copied.
+template <class Handle> class Owner {
+public:
+    Owner() = default;
+    Owner(Owner &&other) noexcept : handle_(std::exchange(other.handle_, Handle{})) {}
+    Owner &operator=(Owner &&other) noexcept { std::swap(handle_, other.handle_); return *this; }
+    ~Owner() { lrlex_free(&handle_); }
+    Handle *get() const noexcept { return &handle_; }
+
+private:
+    mutable Handle handle_{};
+};
+
+/// The tokens or pieces that a call writes into a buffer, of a text of this length.
+template <class Row, class Call> std::unique_ptr<Row[]> rows_by(std::size_t length, lrlex_lexed &lexed, Call call) {
+    for (std::size_t room = length / 2 + 16;; room = lexed.count) {
+        std::unique_ptr<Row[]> rows(new Row[room]);
+        check(call(rows.get(), room, &lexed));
+        if (lexed.count <= room) return rows;
+    }
+}
+
+/// Where lexing of the text stopped, if it did.
+inline std::optional<Stop> stop(std::string_view text, const lrlex_lexed &lexed) {
+    if (!lexed.stopped) return std::nullopt;
+    lrlex_place place;
+    check(lrlex_places(bytes(text), text.size(), &lexed.end, 1, &place, 1));
+    return Stop{lexed.end, place.line, place.column, lexed.unmatched ? std::optional<std::size_t>(lexed.state) : std::nullopt};
+}
+
+/// The tokens that a call writes into a buffer, of a text that it has lexed.
+template <class Call> Tokens tokens_by(std::string_view text, Call call) {
+    lrlex_lexed lexed;
+    const auto rows = rows_by<lrlex_token>(text.size(), lexed, call);
+    Tokens tokens;
+    tokens.reserve(lexed.count);
+    for (std::size_t at = 0; at < lexed.count; at++)
+        tokens.push_back({text.substr(rows[at].start, rows[at].len), rows[at].start, rows[at].id});
+    tokens.stop = stop(text, lexed);
+    return tokens;
+}
+
+/// The pieces that a call writes into a buffer, of a text that it has cut.
+template <class Call> Pieces pieces_by(std::string_view text, std::size_t length, Call call) {
+    lrlex_lexed lexed;
+    const auto rows = rows_by<lrlex_piece>(length, lexed, call);
+    Pieces pieces;
+    pieces.assign(rows.get(), rows.get() + lexed.count);
+    pieces.stop = stop(text, lexed);
+    return pieces;
+}
+
+} // namespace detail
+
+/// The rules of a rule file, ready to lex texts.
+class Definition {
+public:
+    /// Reads a rule text. Throws RulesError with all faults if it has any.
+    explicit Definition(std::string_view rules, const Options &options = {}) {
+        const int status = lrlex_definition_new(owner_.get(), detail::bytes(rules), rules.size(), options.get());
+        if (status == LRLEX_REFUSED) throw RulesError(faults());
+        detail::check(status);
+    }
+
+    /// The tokens of a text. They view the text, which has to outlive them.
+    Tokens lex(std::string_view text) const {
+        return detail::tokens_by(text, [&](lrlex_token *out, std::size_t room, lrlex_lexed *lexed) {
+            return lrlex_lex(owner_.get(), detail::bytes(text), text.size(), out, room, lexed);
+        });
+    }
+
+    /// The whole text as the rules cut it, up to where lexing stops.
+    Pieces pieces(std::string_view text) const {
+        return detail::pieces_by(text, text.size(), [&](lrlex_piece *out, std::size_t room, lrlex_lexed *lexed) {
+            return lrlex_pieces(owner_.get(), detail::bytes(text), text.size(), out, room, lexed);
+        });
+    }
+
+    /// The name of the first rule that has a name and this id; empty if there is none.
+    std::string name(std::uint32_t id) const {
+        return detail::text_by([&](std::uint8_t *out, std::size_t room, std::size_t *length) {
+            return lrlex_name(owner_.get(), id, out, room, length);
+        });
+    }
+
+    /// How many rules there are.
+    std::size_t rule_count() const noexcept { return lrlex_rule_count(owner_.get()); }
+
+    /// The name of the rule of this number, from 0; empty if it has none.
+    std::string rule_name(std::size_t rule) const {
+        return detail::text_by([&](std::uint8_t *out, std::size_t room, std::size_t *length) {
+            return lrlex_rule_name(owner_.get(), rule, out, room, length);
+        });
+    }
+
+    /// The name of the start state of this number, from 0; empty if there is none.
+    std::string state_name(std::size_t state) const {
+        return detail::text_by([&](std::uint8_t *out, std::size_t room, std::size_t *length) {
+            return lrlex_state_name(owner_.get(), state, out, room, length);
+        });
+    }
+
+    /// The handle, for calls of lrlex.h.
+    lrlex_definition *get() const noexcept { return owner_.get(); }
+
+private:
+    std::vector<Fault> faults() const {
+        std::vector<Fault> found;
+        for (std::size_t at = 0, count = lrlex_fault_count(owner_.get()); at < count; at++) {
+            lrlex_fault fault;
+            detail::check(lrlex_fault_at(owner_.get(), at, &fault));
+            Fault it{{}, fault.kind, std::vector<lrlex_fault_span>(fault.spans)};
+            for (std::size_t span = 0; span < fault.spans; span++)
+                detail::check(lrlex_fault_span_at(owner_.get(), at, span, &it.spans[span]));
+            it.message = detail::text_by([&](std::uint8_t *out, std::size_t room, std::size_t *length) {
+                return lrlex_fault_text(owner_.get(), at, out, room, length);
+            });
+            found.push_back(std::move(it));
+        }
+        return found;
+    }
+
+    detail::Owner<lrlex_definition> owner_;
+};
+
+/// A text that is edited. An edit lexes again only what it changes. The definition may go before it.
+class Document {
+public:
+    Document(const Definition &definition, std::string text) : text_(std::move(text)) {
+        detail::check(lrlex_document_new(definition.get(), owner_.get(), detail::bytes(text_), text_.size()));
+    }
+
+    /// Puts a text in the place of the bytes from `from` up to `to`. On an exception the document is as it was.
+    void edit(std::size_t from, std::size_t to, std::string_view put) {
+        if (from <= to && to <= text_.size()) text_.reserve(text_.size() - (to - from) + put.size());
+        detail::check(lrlex_document_edit(owner_.get(), from, to, detail::bytes(put), put.size()));
+        text_.replace(from, to - from, put);
+    }
+
+    /// The text as it is now.
+    const std::string &text() const noexcept { return text_; }
+
+    /// The tokens of the text as it is now. They view the text, up to the next edit.
+    Tokens lex() const {
+        return detail::tokens_by(text_, [&](lrlex_token *out, std::size_t room, lrlex_lexed *lexed) {
+            return lrlex_document_tokens(owner_.get(), 0, out, room, lexed);
+        });
+    }
+
+    /// The pieces that have a byte from `from` up to `to`, such as those of the lines that an editor shows. Each is whole.
+    Pieces pieces(std::size_t from, std::size_t to) const {
+        const std::size_t length = from < to ? (to < text_.size() ? to : text_.size()) : 0;
+        return detail::pieces_by(text_, length, [&](lrlex_piece *out, std::size_t room, lrlex_lexed *lexed) {
+            return lrlex_document_pieces_in(owner_.get(), from, to, out, room, lexed);
+        });
+    }
+
+    /// Line and column of a byte, from 1; the column counts characters.
+    lrlex_place place(std::size_t byte) const {
+        lrlex_place place;
+        detail::check(lrlex_document_place(owner_.get(), byte, &place));
+        return place;
+    }
+
+    /// The same place as the Language Server Protocol counts it: from 0, in code units of UTF-16.
+    lrlex_place position(std::size_t byte) const {
+        lrlex_place place;
+        detail::check(lrlex_document_position(owner_.get(), byte, &place));
+        return place;
+    }
+
+    /// The handle, for calls of lrlex.h.
+    lrlex_document *get() const noexcept { return owner_.get(); }
+
+private:
+    std::string text_;
+    detail::Owner<lrlex_document> owner_;
+};
+
+} // namespace lrlex
+
+#endif
