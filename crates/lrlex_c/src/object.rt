@@ -1,0 +1,42 @@
+//! What a handle may hold.
+ghost use Rattle.std.specs.Prelude.{string_bytes};
+ghost use Rattle.std.specs.Arc.{arc_value};
+ghost use Rattle.lrlex_base.specs.Lexemes.{lexeme_seen};
+ghost use Rattle.lrlex_base.specs.Places.{AreBreaksOf};
+ghost use Rattle.lrlex.specs.Document.{IsLexedBy};
+
+use lrlex::{
+    DefaultLexeme, DefaultLexerTypes, LRNonStreamingLexerDef, LexBuildError, LexedText,
+    NewlineCache,
+};
+use std::alloc::Global;
+use std::sync::Arc;
+
+/// A definition with ids of 32 bits.
+pub(crate) type Definition = LRNonStreamingLexerDef<DefaultLexerTypes<u32>>;
+
+/// What is wrong with a rule text, and where its lines begin.
+#[derive(Drop)]
+pub(crate) struct Refusal {
+    pub(crate) faults: Vec<LexBuildError>,
+    pub(crate) rules: String,
+    pub(crate) newlines: NewlineCache,
+    ghost breaks: { AreBreaksOf (string_bytes rules) newlines },
+}
+
+/// A text that was lexed by a definition, of which it is an owner.
+#[derive(Drop)]
+pub(crate) struct Edited {
+    pub(crate) definition: Arc<Definition, Global>,
+    pub(crate) text: LexedText<DefaultLexeme<u32>>,
+    ghost lexed: { IsLexedBy (λ n. n) lexeme_seen (arc_value definition).table text },
+}
+
+/// What a handle may hold.
+#[derive(Drop)]
+pub enum Object {
+    Nothing,
+    Definition(Arc<Definition, Global>),
+    Refusal(Refusal),
+    Document(Edited),
+}
