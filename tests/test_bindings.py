@@ -1,6 +1,7 @@
 """The bindings of C++, Rust and Python, and the programs that show how to use them, beside the program itself."""
 
 import os
+import re
 import sys
 import unittest
 
@@ -38,7 +39,7 @@ def rust_program(source, *words):
     options = ["rustc", "--edition", "2024", "-O", "-D", "warnings"]
     linked = ["-L", f"native={os.path.dirname(c_library.static())}", "-l", "static=lrlex"]
     run_well([*options, "--crate-type", "rlib", "--crate-name", "lrlex", *linked, "-o", crate, f"{RUST}/src/lib.rs"])
-    run_well([*options, *words, "--extern", f"lrlex={crate}", *linked[:2], "-o", path, f"{RUST}/{source}"])
+    run_well([*options, *words, "--extern", f"lrlex={crate}", *linked[:2], "-o", path, os.path.join(RUST, source)])
     return path
 
 
@@ -69,6 +70,22 @@ class Bindings(unittest.TestCase):
                 self.assertEqual((came.status, len(came.out)), (wanted.status, len(wanted.out)), came.err)
                 self.assertTrue(came.out == wanted.out)
 
+    def check_shown(self, kind, make):
+        """The program of this kind in docs/c.md, as `make` runs it, prints the tokens of its text."""
+        [program] = re.findall(rf"^```{kind}\n(.*?)^```$", programs.read("docs/c.md"), re.M | re.S)
+        file = f"{programs.scratch().name}/shown.{kind}"
+        programs.fill(programs.scratch().name, {f"shown.{kind}": program})
+        came = programs.run(make(file), environment=python_environment())
+        self.assertEqual((came.status, came.err), (0, ""))
+        first = re.sub("^1 ", "ID ", re.sub("^0 ", "INT ", came.out, flags=re.M), flags=re.M)
+        self.assertEqual(first.splitlines()[:2], ["ID abc", "INT 123"])
+
+    def test_the_programs_of_the_page(self):
+        self.check_shown("c", lambda file: [c_library.of_c(file)])
+        self.check_shown("cpp", lambda file: [c_library.of_cpp(file)])
+        self.check_shown("rs", lambda file: [rust_program(file)])
+        self.check_shown("py", lambda file: [sys.executable, file])
+
     def test_c_prints_tokens(self):
         self.check_tokens([c_library.of_c("bindings/c/tokens.c")])
 
@@ -88,6 +105,10 @@ class Bindings(unittest.TestCase):
     def test_python(self):
         words = [sys.executable, "-m", "unittest", "discover", "-s", f"{PYTHON}/tests"]
         run_well(words, environment=python_environment())
+
+    def test_python_replays_cases(self):
+        came = run_well([sys.executable, "-m", "support.c_replay"], cwd=f"{programs.TOP}/tests", environment=python_environment())
+        self.assertRegex(came.out, r"\A\d+ cases, 174 left out, 0 differences\n\Z")
 
     def test_python_prints_tokens(self):
         self.check_tokens([sys.executable, "-m", "lrlex"], python_environment())

@@ -10,12 +10,10 @@ FIRST = """1:1 ID abc
 1:5 INT 123
 1:1 ID ab
 stopped at 3 in state 0
-1:4: Start state already exists, bytes 3 to 4
-3:6: Rule name already exists, bytes 15 to 16
-4:1: Invalid regular expression, bytes 18 to 18
-0+3:1 4+3:0, end 7
-0+3:1 3+3:0, end 6
-0+3:1 3+3:0, end 7, stopped
+kind 6, Start state already exists: 1:4, bytes 3 to 4 1:6, bytes 5 to 6
+kind 9, Rule name already exists: 3:6, bytes 15 to 16 4:5, bytes 22 to 23
+kind 10, Invalid regular expression: 4:1, bytes 18 to 18
+a.l:1:4: Start state already exists
 """
 
 # What a program that links the archive has to give it, of the C library.

@@ -53,9 +53,9 @@ def shared():
 
 
 def compiled(compiler, source, *words):
-    """A program of a source of this repository and the archive, by this compiler and these words, without a warning."""
+    """A program of a source and the archive, by this compiler and these words, without a warning."""
     path = f"{programs.scratch().name}/{os.path.basename(source).replace('.', '_')}"
-    source = f"{programs.TOP}/{source}"
+    source = os.path.join(programs.TOP, source)
     words = [compiler, *WARNINGS, "-O2", *HEADERS, *words, source, static(), "-o", path]
     built = programs.run(words, timeout=300)
     if built.status or built.err:

@@ -76,6 +76,20 @@ class FaultSpan(Structure):
     _fields_ = [(name, c_size_t) for name in ("start", "end", "line", "column")]
 
 
+class Rule(Structure):
+    """A rule."""
+
+    _fields_ = [(name, c_size_t) for name in ("name_start", "name_end", "name_len")] + [
+        ("id", c_uint32), ("has_id", c_bool), ("has_name", c_bool)
+    ]
+
+
+class State(Structure):
+    """A start state."""
+
+    _fields_ = [(name, c_size_t) for name in ("id", "name_start", "name_end", "name_len")] + [("exclusive", c_bool)]
+
+
 class Error(Exception):
     """What this package raises, beside MemoryError for memory that has run out."""
 
@@ -94,8 +108,11 @@ FUNCTIONS = {
     "lrlex_fault_text": (c_int, [HANDLE, SIZE, *WRITTEN]),
     "lrlex_fault_report": (c_int, [HANDLE, TEXT, SIZE, *WRITTEN]),
     "lrlex_rule_count": (SIZE, [HANDLE]),
+    "lrlex_rule_at": (c_int, [HANDLE, SIZE, POINTER(Rule)]),
     "lrlex_rule_name": (c_int, [HANDLE, SIZE, *WRITTEN]),
     "lrlex_name": (c_int, [HANDLE, c_uint32, *WRITTEN]),
+    "lrlex_state_count": (SIZE, [HANDLE]),
+    "lrlex_state_at": (c_int, [HANDLE, SIZE, POINTER(State)]),
     "lrlex_state_name": (c_int, [HANDLE, SIZE, *WRITTEN]),
     "lrlex_lex": (c_int, [HANDLE, TEXT, SIZE, POINTER(Token), SIZE, LEXED]),
     "lrlex_pieces": (c_int, [HANDLE, TEXT, SIZE, POINTER(Piece), SIZE, LEXED]),
