@@ -99,6 +99,13 @@ class Bindings(unittest.TestCase):
     def test_rust(self):
         run_well([rust_program("tests/lexing.rs", "--test"), "--quiet"])
 
+    def test_the_example_of_the_crate(self):
+        rust_program("examples/tokens.rs")
+        c_library.need("rustdoc")
+        crate, native = f"lrlex={programs.scratch().name}/liblrlex.rlib", f"native={os.path.dirname(c_library.static())}"
+        words = ["rustdoc", "--edition", "2024", "--crate-name", "lrlex", "--extern", crate, "-L", native, "--test", f"{RUST}/src/lib.rs"]
+        self.assertIn("1 passed", run_well(words).out)
+
     def test_rust_prints_tokens(self):
         self.check_tokens([rust_program("examples/tokens.rs")])
 
