@@ -11,8 +11,8 @@ FIRST = """1:1 ID abc
 1:1 ID ab
 stopped at 3 in state 0
 kind 6, Start state already exists: 1:4, bytes 3 to 4 1:6, bytes 5 to 6
-kind 9, Rule name already exists: 3:6, bytes 15 to 16 4:5, bytes 22 to 23
-kind 10, Invalid regular expression: 4:1, bytes 18 to 18
+kind 9, Rule name already exists: 3:6, bytes 15 to 16 4:4, bytes 21 to 22
+kind 10, Invalid regular expression: 5:1, bytes 24 to 24
 a.l:1:4: Start state already exists
 """
 

@@ -125,7 +125,7 @@ int main(void) {
     lex("abc 123");
     lex("ab ?");
     lex("");
-    refuse("%x A A\n%%\na+b 'A'\nc( 'A'\n");
+    refuse("%x A A\n%%\na+b 'A'\nb 'A'\nc( 'C'\n");
     names();
     edit();
     CHECK(lrlex_version() == LRLEX_VERSION);

@@ -36,7 +36,7 @@ void __wrap_free(void *block) {
 }
 
 static const char RULES[] = "%x S\n%%\n[0-9]+ 'INT'\n[a-z]+ 'ID'\n[ ] ;\n\" <+S>;\n<S>\" <-S>;\n<S>[^\"]+ 'TEXT'\n";
-static const char FAULTY[] = "%x A A\n%%\na+b 'A'\nc( 'A'\n";
+static const char FAULTY[] = "%x A A\n%%\na+b 'A'\nb 'A'\nc( 'C'\n";
 static const char TEXT[] = "ab 12 \"x y\" c", EDITED[] = "ab \" q \"x y\" c";
 
 static lrlex_definition d, shared, refused;

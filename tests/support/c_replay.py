@@ -3,7 +3,8 @@
 The package lrlex of bindings/python and LRLEX_LIBRARY say how the library is called. A case is compared in its faults with all spans,
 rules, start states, items, places, and the count of its pieces; then a document that becomes its input by edits is compared too.
 
-Cases of definitions from parts, of ids from names, and of the limits of smaller ids can't be said in C: they are counted as left out.
+Cases of definitions from parts, of ids from names, of the most rules that smaller ids allow, and of limits of 0 can't be said in C:
+they are counted as left out.
 Each difference is printed; the last line is 'N cases, K left out, D differences'. The status is 1 if there are any.
 """
 
@@ -28,8 +29,9 @@ KINDS = [
 
 def is_left_out(case):
     """Whether the case can't be said in C."""
+    no_limit = 0 in (case["flags"].get("nest_limit"), case["flags"].get("size_limit"))
     too_many = any(it["kind"] == "TooManyRules" for it in case["expected"].get("faults", []))
-    return "from_rules" in case or "ids" in case or case["storage"] != "u32" and too_many
+    return no_limit or "from_rules" in case or "ids" in case or case["storage"] != "u32" and too_many
 
 
 def options_of(flags):

@@ -45,7 +45,7 @@ void lexing_stops_where_no_rule_matches() {
 
 void a_refused_rule_text() {
     try {
-        lrlex::Definition definition("%x A A\n%%\na+b 'A'\nc( 'A'\n");
+        lrlex::Definition definition("%x A A\n%%\na+b 'A'\nb 'A'\nc( 'C'\n");
         EXPECT(!"it was taken");
     } catch (const lrlex::RulesError &error) {
         EXPECT(error.faults().size() == 3);

@@ -55,9 +55,9 @@ class Tokens(unittest.TestCase):
 
     def test_a_refused_rule_text_raises_all_its_faults(self):
         with self.assertRaises(lrlex.RulesError) as raised:
-            lrlex.Definition.from_str("%x A A\n%%\na+b 'A'\nc( 'A'\n")
+            lrlex.Definition.from_str("%x A A\n%%\na+b 'A'\nb 'A'\nc( 'C'\n")
         faults = raised.exception.faults
-        self.assertEqual([it.places[0][:2] for it in faults], [(1, 4), (3, 6), (4, 1)])
+        self.assertEqual([it.places[0][:2] for it in faults], [(1, 4), (3, 6), (5, 1)])
         self.assertEqual(faults[0].message, "Start state already exists")
         self.assertEqual([(it.start, it.end) for it in faults[0].places], [(3, 4), (5, 6)])
         self.assertTrue(str(raised.exception).startswith("1:4: Start state already exists, again at 1:6\n3:6: "))

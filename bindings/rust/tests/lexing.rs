@@ -54,7 +54,7 @@ fn lexing_stops_where_no_rule_matches() {
 
 #[test]
 fn a_refused_rule_text_has_faults() {
-    let Err(Error::Rules(faults)) = "%x A A\n%%\na+b 'A'\nc( 'A'\n".parse::<Definition>() else {
+    let Err(Error::Rules(faults)) = "%x A A\n%%\na+b 'A'\nb 'A'\nc( 'C'\n".parse::<Definition>() else {
         panic!("the rules were taken");
     };
     assert_eq!(faults.len(), 3);
