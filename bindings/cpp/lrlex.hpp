@@ -153,23 +153,32 @@ template <class Call> std::string text_by(Call call) {
 template <class Handle> class Owner {
 public:
     Owner() = default;
-    Owner(Owner &&other) noexcept : handle_(std::exchange(other.handle_, Handle{})) {}
-    Owner &operator=(Owner &&other) noexcept { std::swap(handle_, other.handle_); return *this; }
+    Owner(Owner &&other) noexcept : handle_(std::exchange(other.handle_, Handle{})), density_(other.density_) {}
+    Owner &operator=(Owner &&other) noexcept {
+        std::swap(handle_, other.handle_);
+        std::swap(density_, other.density_);
+        return *this;
+    }
     ~Owner() { lrlex_free(&handle_); }
     Handle *get() const noexcept { return &handle_; }
 
+    /// The tokens or pieces that a call writes into a buffer, of a text of this length. Where there are more than there is room for,
+    /// the call is made twice.
+    template <class Row, class Call> std::unique_ptr<Row[]> rows_by(std::size_t length, lrlex_lexed &lexed, Call call) const {
+        for (std::size_t room = (length / 1024 + 1) * density_;;) {
+            std::unique_ptr<Row[]> rows(new Row[room]);
+            check(call(rows.get(), room, &lexed));
+            if (lexed.count <= room) return rows;
+            room = lexed.count;
+            density_ = room / (length / 1024 + 1) + 1;
+        }
+    }
+
 private:
     mutable Handle handle_{};
+    /// About how many tokens or pieces 1,024 bytes have: a quarter, or what the densest text had.
+    mutable std::size_t density_ = 256;
 };
-
-/// The tokens or pieces that a call writes into a buffer, of a text of this length.
-template <class Row, class Call> std::unique_ptr<Row[]> rows_by(std::size_t length, lrlex_lexed &lexed, Call call) {
-    for (std::size_t room = length / 2 + 16;; room = lexed.count) {
-        std::unique_ptr<Row[]> rows(new Row[room]);
-        check(call(rows.get(), room, &lexed));
-        if (lexed.count <= room) return rows;
-    }
-}
 
 /// Where lexing of the text stopped, if it did.
 inline std::optional<Stop> stop(std::string_view text, const lrlex_lexed &lexed) {
@@ -180,9 +189,9 @@ inline std::optional<Stop> stop(std::string_view text, const lrlex_lexed &lexed)
 }
 
 /// The tokens that a call writes into a buffer, of a text that it has lexed.
-template <class Call> Tokens tokens_by(std::string_view text, Call call) {
+template <class Handle, class Call> Tokens tokens_by(const Owner<Handle> &owner, std::string_view text, Call call) {
     lrlex_lexed lexed;
-    const auto rows = rows_by<lrlex_token>(text.size(), lexed, call);
+    const auto rows = owner.template rows_by<lrlex_token>(text.size(), lexed, call);
     Tokens tokens;
     tokens.reserve(lexed.count);
     for (std::size_t at = 0; at < lexed.count; at++)
@@ -192,9 +201,10 @@ template <class Call> Tokens tokens_by(std::string_view text, Call call) {
 }
 
 /// The pieces that a call writes into a buffer, of a text that it has cut.
-template <class Call> Pieces pieces_by(std::string_view text, std::size_t length, Call call) {
+template <class Handle, class Call>
+Pieces pieces_by(const Owner<Handle> &owner, std::string_view text, std::size_t length, Call call) {
     lrlex_lexed lexed;
-    const auto rows = rows_by<lrlex_piece>(length, lexed, call);
+    const auto rows = owner.template rows_by<lrlex_piece>(length, lexed, call);
     Pieces pieces;
     pieces.assign(rows.get(), rows.get() + lexed.count);
     pieces.stop = stop(text, lexed);
@@ -215,14 +225,14 @@ public:
 
     /// The tokens of a text. They view the text, which has to outlive them.
     Tokens lex(std::string_view text) const {
-        return detail::tokens_by(text, [&](lrlex_token *out, std::size_t room, lrlex_lexed *lexed) {
+        return detail::tokens_by(owner_, text, [&](lrlex_token *out, std::size_t room, lrlex_lexed *lexed) {
             return lrlex_lex(owner_.get(), detail::bytes(text), text.size(), out, room, lexed);
         });
     }
 
     /// The whole text as the rules cut it, up to where lexing stops.
     Pieces pieces(std::string_view text) const {
-        return detail::pieces_by(text, text.size(), [&](lrlex_piece *out, std::size_t room, lrlex_lexed *lexed) {
+        return detail::pieces_by(owner_, text, text.size(), [&](lrlex_piece *out, std::size_t room, lrlex_lexed *lexed) {
             return lrlex_pieces(owner_.get(), detail::bytes(text), text.size(), out, room, lexed);
         });
     }
@@ -293,7 +303,7 @@ public:
 
     /// The tokens of the text as it is now. They view the text, up to the next edit.
     Tokens lex() const {
-        return detail::tokens_by(text_, [&](lrlex_token *out, std::size_t room, lrlex_lexed *lexed) {
+        return detail::tokens_by(owner_, text_, [&](lrlex_token *out, std::size_t room, lrlex_lexed *lexed) {
             return lrlex_document_tokens(owner_.get(), 0, out, room, lexed);
         });
     }
@@ -301,7 +311,7 @@ public:
     /// The pieces that have a byte from `from` up to `to`, such as those of the lines that an editor shows. Each is whole.
     Pieces pieces(std::size_t from, std::size_t to) const {
         const std::size_t length = from < to ? (to < text_.size() ? to : text_.size()) : 0;
-        return detail::pieces_by(text_, length, [&](lrlex_piece *out, std::size_t room, lrlex_lexed *lexed) {
+        return detail::pieces_by(owner_, text_, length, [&](lrlex_piece *out, std::size_t room, lrlex_lexed *lexed) {
             return lrlex_document_pieces_in(owner_.get(), from, to, out, room, lexed);
         });
     }

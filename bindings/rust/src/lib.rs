@@ -18,7 +18,7 @@
 
 mod ffi;
 
-use std::cell::UnsafeCell;
+use std::cell::{Cell, UnsafeCell};
 use std::error;
 use std::ffi::c_int;
 use std::fmt;
@@ -216,15 +216,42 @@ fn place(text: &str, byte: usize) -> Result<(usize, usize), Error> {
 
 /// A handle of the C library. It is used by one call at a time: it isn't `Sync`, and no call calls back.
 #[derive(Debug)]
-struct Held(UnsafeCell<ffi::Handle>);
+struct Held {
+    handle: UnsafeCell<ffi::Handle>,
+    /// About how many tokens or pieces 1,024 bytes have: a quarter, or what the densest text had.
+    density: Cell<usize>,
+}
 
 impl Held {
     fn empty() -> Held {
-        Held(UnsafeCell::new(ffi::Handle::EMPTY))
+        Held { handle: UnsafeCell::new(ffi::Handle::EMPTY), density: Cell::new(256) }
     }
 
     fn get(&self) -> *mut ffi::Handle {
-        self.0.get()
+        self.handle.get()
+    }
+
+    /// What a call writes into a buffer of tokens or pieces, of a text of this length. Where there are more than there is room for,
+    /// the call is made twice.
+    fn filled<T>(
+        &self,
+        len: usize,
+        call: impl Fn(*mut T, usize, &mut ffi::Lexed) -> c_int,
+    ) -> Result<(Vec<T>, ffi::Lexed), Error> {
+        let mut lexed = ffi::Lexed::default();
+        let mut room = (len / 1024 + 1).saturating_mul(self.density.get());
+        loop {
+            let mut rows = Vec::new();
+            rows.try_reserve_exact(room).map_err(|_| Error::OutOfMemory)?;
+            checked(call(rows.as_mut_ptr(), room, &mut lexed))?;
+            if lexed.count <= room {
+                // SAFETY: there is room for `room` rows, and the call has written the first `count` of them.
+                unsafe { rows.set_len(lexed.count) };
+                return Ok((rows, lexed));
+            }
+            room = lexed.count;
+            self.density.set(room / (len / 1024 + 1) + 1);
+        }
     }
 }
 
@@ -232,26 +259,6 @@ impl Drop for Held {
     fn drop(&mut self) {
         // SAFETY: the handle is empty, or as a call left it, and no call uses it.
         unsafe { ffi::lrlex_free(self.get()) }
-    }
-}
-
-/// What a call writes into a buffer of tokens or pieces, which has room for what a text of this length mostly has.
-fn filled<T>(
-    len: usize,
-    call: impl Fn(*mut T, usize, &mut ffi::Lexed) -> c_int,
-) -> Result<(Vec<T>, ffi::Lexed), Error> {
-    let mut lexed = ffi::Lexed::default();
-    let mut room = len / 2 + 16;
-    loop {
-        let mut rows = Vec::new();
-        rows.try_reserve_exact(room).map_err(|_| Error::OutOfMemory)?;
-        checked(call(rows.as_mut_ptr(), room, &mut lexed))?;
-        if lexed.count <= room {
-            // SAFETY: there is room for `room` rows, and the call has written the first `count` of them.
-            unsafe { rows.set_len(lexed.count) };
-            return Ok((rows, lexed));
-        }
-        room = lexed.count;
     }
 }
 
@@ -299,7 +306,7 @@ impl Definition {
     ///
     /// [`Error::OutOfMemory`]. A text that no rule matches isn't an error of this call but the last item of the lexer.
     pub fn lexer<'text>(&self, text: &'text str) -> Result<Lexer<'text>, Error> {
-        let (tokens, lexed) = filled(text.len(), |out, room, lexed| {
+        let (tokens, lexed) = self.0.filled(text.len(), |out, room, lexed| {
             // SAFETY: pointer and length are a `&str`'s, and there is room for `room` tokens.
             unsafe { ffi::lrlex_lex(self.0.get(), text.as_ptr(), text.len(), out, room, lexed) }
         })?;
@@ -312,7 +319,7 @@ impl Definition {
     ///
     /// [`Error::OutOfMemory`].
     pub fn pieces(&self, text: &str) -> Result<(Vec<Piece>, Option<LexError>), Error> {
-        let (pieces, lexed) = filled(text.len(), |out, room, lexed| {
+        let (pieces, lexed) = self.0.filled(text.len(), |out, room, lexed| {
             // SAFETY: pointer and length are a `&str`'s, and there is room for `room` pieces.
             unsafe { ffi::lrlex_pieces(self.0.get(), text.as_ptr(), text.len(), out, room, lexed) }
         })?;
@@ -498,7 +505,7 @@ impl Document {
     ///
     /// [`Error::OutOfMemory`].
     pub fn lexer(&self) -> Result<Lexer<'_>, Error> {
-        let (tokens, lexed) = filled(self.text.len(), |out, room, lexed| {
+        let (tokens, lexed) = self.held.filled(self.text.len(), |out, room, lexed| {
             // SAFETY: there is room for `room` tokens.
             unsafe { ffi::lrlex_document_tokens(self.held.get(), 0, out, room, lexed) }
         })?;
@@ -512,7 +519,7 @@ impl Document {
     ///
     /// [`Error::OutOfMemory`].
     pub fn pieces_in(&self, range: Range<usize>) -> Result<Vec<Piece>, Error> {
-        let (pieces, _) = filled(range.len().min(self.text.len()), |out, room, lexed| {
+        let (pieces, _) = self.held.filled(range.len().min(self.text.len()), |out, room, lexed| {
             // SAFETY: there is room for `room` pieces.
             unsafe { ffi::lrlex_document_pieces_in(self.held.get(), range.start, range.end, out, room, lexed) }
         })?;
