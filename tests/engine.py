@@ -69,6 +69,17 @@ BROKEN = [
     ("", [5, 0, "fails at a flush"], [4, 2, "takes none"], "", "1:1:", 0),
 ]
 
+# what each fault of lrlex_cli displays: those of the engine, of the words and of the texts
+FAULTS = [
+    "Out of memory",
+    "Can't write",
+    "Out of memory",
+    "Usage: lrlex <lexer.l> <input file>",
+    "Out of memory",
+    "Can't open file",
+    "File is not UTF-8",
+]
+
 
 def told_of(steps, key):
     """What each step tells under this key."""
@@ -118,6 +129,10 @@ def writes_that_fail():
         assert answer == want, f"{stdin!r}: {answer} for {want}"
 
 
+def texts_of_faults():
+    assert told_of([["faults"]], "faults") == [FAULTS]
+
+
 def tests():
     return [
         (function.__name__, function)
@@ -126,5 +141,6 @@ def tests():
             lines_after_an_edit,
             no_fault_no_line,
             writes_that_fail,
+            texts_of_faults,
         )
     ]

@@ -1,5 +1,5 @@
 -- What an edit of a text that is lexed leaves of it.
-use Rattle.std.specs.Prelude.{◌≡◌, ℕ, List}
+use Rattle.std.specs.Prelude.{◌≡◌, ℕ, List, Result}
 use Rattle.std.specs.String.{string_bytes}
 use Rattle.lrlex_base.specs.Edits.{edited}
 use Rattle.lrlex_base.specs.Places.{AreBreaksOf}
@@ -11,8 +11,20 @@ use Rattle.lrlex.specs.Reach.{IsRun}
 use Rattle.lrlex.specs.Relex.{AreCountsOf}
 use Rattle.lrlex.specs.Progress.{HasSame}
 use Rattle.lrlex.specs.Views.{definition_by, items_by}
+use Rattle.lrlex_boundaries.specs.Boundaries.{Boundary}
+use Rattle.lrlex.specs.declared.errors.LRLexError.{LRLexError}
 use Rattle.lrlex.specs.declared.definition.rule_table.RuleTable.{RuleTable}
 use Rattle.lrlex.specs.declared.editing.document.LexedText.{LexedText}
+
+-- what a text that was lexed has: its bytes, and the items and boundaries that were found
+abbrev pub lexed_bytes : {X : Type 0} → LexedText X → List ℕ
+lexed_bytes t = string_bytes t.text
+
+abbrev pub lexed_items : {X : Type 0} → LexedText X → List (Result X LRLexError)
+lexed_items t = t.lexed.items.items
+
+abbrev pub lexed_boundaries : {X : Type 0} → LexedText X → List Boundary
+lexed_boundaries t = t.lexed.boundaries
 
 -- the newlines are those of the text, and what was found is what it gives
 abbrev pub IsLexedBy : {S X : Type 0} → (S → ℕ) → (X → LexemeParts S) → RuleTable S → LexedText X → Type 0

@@ -38,19 +38,19 @@ no_error : (id : Option ℕ) (place len : ℕ) → list_any is_error (lexeme_of 
 no_error None place len = refl
 no_error (Some id) place len = refl
 
--- behind a tile's items
-behind : (d : Definition) (place : ℕ) (t : Tile) (rest : List Item) → list_any is_error (tile_items d place t ++ rest) ≡ list_any is_error rest
-behind d place t rest = list_any-append is_error (tile_items d place t) rest ∙ ap (λ (b : Bool). b || list_any is_error rest) (no_error _ place t.len)
+-- no error is among a tile's own items
+error_past_tile : (d : Definition) (place : ℕ) (t : Tile) (rest : List Item) → list_any is_error (tile_items d place t ++ rest) ≡ list_any is_error rest
+error_past_tile d place t rest = list_any-append is_error (tile_items d place t) rest ∙ ap (λ (b : Bool). b || list_any is_error rest) (no_error _ place t.len)
 
 -- an error is among the items where lexing doesn't reach the end
 error_at_end : (d : Definition) (place : ℕ) (ts : List Tile) (e : End) → list_any is_error (items d place ts e) ≡ stops e
 error_at_end d place [] Done = refl
 error_at_end d place [] (NoMatch q) = refl
 error_at_end d place [] NoId = refl
-error_at_end d place [] (NoTarget t) = behind d place t (Error place place None ∷ [])
-error_at_end d place (t ∷ ts) e = behind d place t (items d (place + t.len) ts e) ∙ error_at_end d (place + t.len) ts e
+error_at_end d place [] (NoTarget t) = error_past_tile d place t (Error place place None ∷ [])
+error_at_end d place (t ∷ ts) e = error_past_tile d place t (items d (place + t.len) ts e) ∙ error_at_end d (place + t.len) ts e
 
--- the same of the items of the program
+-- an error is among the results that the engine has where it is among their items
 errors_seen : {S X : Type 0} (number : S → ℕ) (see : X → LexemeParts S) (xs : List (Result X LRLexError))
     → list_any (λ x. is_err x) xs ≡ list_any is_error (map (item_of number see) xs)
 errors_seen number see [] = refl

@@ -1,2 +1,5 @@
-pub mod LineLemmas
+pub mod CommandLemmas
 pub mod EngineLemmas
+pub mod LineLemmas
+pub mod NumberLemmas
+pub mod SplitLemmas

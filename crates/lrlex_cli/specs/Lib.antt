@@ -1,4 +1,7 @@
-pub mod Writing
-pub mod Lines
+pub mod Command
 pub mod Engine
-pub mod Report
+pub mod FaultLines
+pub mod Lines
+pub mod Texts
+pub mod Words
+pub mod Writing

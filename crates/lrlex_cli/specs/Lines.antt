@@ -1,11 +1,11 @@
--- The lines that are written of a text's items.
+-- The lines that the program writes for the items of a run.
 use Rattle.std.specs.Prelude.{ℕ, List, [], ◌∷◌, ◌++◌, take, drop, flat_map, unwrap_or}
 use Rattle.lrlex_rules.specs.Definition.{Rule}
 use Rattle.lrlex.specs.Errors.{stop_text}
 use Rattle.lrlex.specs.Ids.{name_of}
 use Rattle.lrlex.specs.Tiling.{Item, Lexeme, Error}
 
--- a lexeme's line is its rule's name, a blank and the matched text; an error's says where lexing stopped
+-- the line of a lexeme is its rule's name, a blank and the matched text; the line of an error is the text that it displays
 abbrev pub line : List Rule → List ℕ → Item → List ℕ
 line rules text (Lexeme id start len faulty) = unwrap_or (name_of rules id) [] ++ 32 ∷ (take len (drop start text) ++ 10 ∷ [])
 line rules text (Error start end state) = stop_text start ++ 10 ∷ []

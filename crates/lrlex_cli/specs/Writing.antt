@@ -1,11 +1,11 @@
--- What writing leaves in a writer, whose bytes are known or not.
+-- What is in a writer after writing. The bytes of a writer are known or not.
 use Rattle.std.specs.Prelude.{ℕ, List, ◌<◌, length, take, Option, Result, MatchResult}
 use Rattle.std.specs.Io.KnownBytes.{Appends}
 
--- known bytes grow by a front of bs that isn't the whole
+-- known bytes grow by a proper prefix of bs
 abbrev pub AppendsFront : Option (List ℕ) → Option (List ℕ) → List ℕ → Type 0
 AppendsFront old new bs = (n : ℕ) × (n < length bs) × Appends old new (take n bs)
 
--- `Ok` has written bs, an error a front of bs that isn't the whole
+-- `Ok` has written bs, an error a proper prefix of bs
 abbrev pub Writes : {T E : Type 0} → Option (List ℕ) → Option (List ℕ) → Result T E → List ℕ → Type 0
 Writes old new r bs = MatchResult r (λ _. Appends old new bs) (λ _. AppendsFront old new bs)

@@ -1,4 +1,4 @@
-//! Builds a lexer of a rule text, lexes a text and writes what it finds.
+//! Builds a lexer from a rule text, lexes an input and writes a line for each item.
 ghost use Rattle.std.specs.Prelude.{◌≡◌, All, is_err};
 ghost use Rattle.std.specs.List.{list_any};
 ghost use Rattle.lrlex_base.specs.Spans.{Fits, as_span};
@@ -9,36 +9,54 @@ ghost use Rattle.lrlex_cli.specs.declared.engine.EngineFault.TheVariants.{Memory
 ghost use Rattle.lrlex_rules.specs.LexBuildError.{IsPlaced};
 ghost use Rattle.lrlex.specs.ItemLaws.{FitsText};
 ghost use Rattle.lrlex.specs.Views.{definition_of, item_of, items_by};
-ghost use Rattle.lrlex_cli.specs.Report.{fault_lines};
+ghost use Rattle.lrlex_cli.specs.FaultLines.{fault_lines};
 
+use crate::fault_lines::fault_lines;
 use crate::lines::lines;
-use crate::report::fault_lines;
+use crate::messages::{CANNOT_WRITE, OUT_OF_MEMORY};
 use crate::writing::write_bytes;
 use lrlex::{LRLexError, LRNonStreamingLexerDef, LexBuildError, LexFlags};
 use lrlex_base::{Edit, LexerTypes};
 use std::alloc::{AllocError, Global};
-use std::io;
+use std::error::Error;
 use std::io::Write;
+use std::{fmt, io};
 
 /// How a run ended.
 #[derive(Debug, Drop)]
 pub enum Ended {
     /// The whole text was lexed.
     Lexed,
-    /// Lexing stopped at an error, whose line was written last.
+    /// Lexing stopped at an error. Its line was written last.
     Stopped,
-    /// The rule text is refused for these faults, and nothing was written.
+    /// The rule text has these errors, and nothing was written.
     Refused(Vec<LexBuildError>),
 }
 
-/// Why a run, or a report, wasn't written whole.
+/// Why the lines of a run or a report weren't all written.
 #[derive(Debug, Drop)]
 pub enum EngineFault {
     /// Out of memory, and nothing was written.
     Memory,
-    /// The writer failed, or took nothing. It has a beginning of the text.
+    /// The writer failed, or took nothing. The beginning of the text was written.
     Write(io::Error),
 }
+
+impl fmt::Display for EngineFault {
+    ghost use Rattle.std.specs.Prelude.{Some};
+    ghost use Rattle.lrlex_cli.specs.Engine.{engine_fault_text};
+
+    ghost output = { λ e. Some (engine_fault_text e) };
+
+    fn fmt<W: fmt::Write>(&self, f: &mut fmt::Formatter<W>) -> fmt::Result {
+        f.write_str(match self {
+            EngineFault::Memory => OUT_OF_MEMORY,
+            EngineFault::Write(_) => CANNOT_WRITE,
+        })
+    }
+}
+
+impl Error for EngineFault {}
 
 impl From<AllocError> for EngineFault {
     ghost from_gives = { λ _ e. e ≡ Memory };
@@ -55,7 +73,7 @@ fn has_error<X>(items: &[Result<X, LRLexError>]) -> bool
     items.iter().any(|item| item.is_err())
 }
 
-/// Writes the lines of a run's items, which fit its text, and says whether it was stopped by an error.
+/// Writes a line for each item of a run, and returns whether an error stopped the run. The items fit the input.
 fn write_items<L: LexerTypes<LexErrorT = LRLexError>, W: Write>(
     alloc: Global,
     definition: &LRNonStreamingLexerDef<L>,
@@ -82,7 +100,7 @@ fn write_items<L: LexerTypes<LexErrorT = LRLexError>, W: Write>(
     }
 }
 
-/// Lexes the input and writes the lines of what is found.
+/// Lexes the input and writes a line for each item.
 fn write_lexed<L: LexerTypes<LexErrorT = LRLexError>, W: Write>(
     alloc: Global,
     definition: &LRNonStreamingLexerDef<L>,
@@ -96,7 +114,7 @@ fn write_lexed<L: LexerTypes<LexErrorT = LRLexError>, W: Write>(
     write_items::<L, W>(alloc, definition, input, lexed.items(), out)
 }
 
-/// Lexes the old text and then again after the edit, and writes the lines of what is found in the new one.
+/// Lexes the old text, lexes again after the edit, and writes a line for each item of the new text.
 fn write_relexed<L: LexerTypes<LexErrorT = LRLexError>, W: Write>(
     alloc: Global,
     definition: &LRNonStreamingLexerDef<L>,
@@ -114,10 +132,10 @@ fn write_relexed<L: LexerTypes<LexErrorT = LRLexError>, W: Write>(
     write_items::<L, W>(alloc, definition, new, lexed.items(), out)
 }
 
-/// Builds a lexer of the rule text, lexes the input and writes a line an item, which ends by U+000A.
-/// A lexeme's line is its rule's name, a blank and the matched text; an error's is its text.
+/// Builds a lexer from the rule text, lexes the input and writes a line for each item, which ends with U+000A.
+/// The line of a lexeme is its rule's name, a blank and the matched text. The line of an error is the text that it displays.
 ///
-/// The lines are made before the first is written. No fault of the writer is tried again.
+/// The lines are all made before the first is written. After an error of the writer nothing is tried again.
 pub fn run<L: LexerTypes<LexErrorT = LRLexError>, W: Write>(
     alloc: Global,
     rules: &str,
@@ -135,10 +153,10 @@ pub fn run<L: LexerTypes<LexErrorT = LRLexError>, W: Write>(
     }
 }
 
-/// Answers and writes what `run` does for the new text, by lexing the old text and then again after the edit.
-/// Of the old text nothing is written.
+/// Returns and writes what `run` does for the new text, by lexing the old text and then again after the edit.
+/// Nothing is written about the old text.
 ///
-/// The edit fits the old text and gives the new one.
+/// The edit fits the old text and makes the new one.
 pub fn run_edited<L: LexerTypes<LexErrorT = LRLexError>, W: Write>(
     alloc: Global,
     rules: &str,
@@ -160,12 +178,12 @@ pub fn run_edited<L: LexerTypes<LexErrorT = LRLexError>, W: Write>(
     }
 }
 
-/// Writes what is wrong with a rule text, a line a fault: `L:C: TEXT`, where `L:C` is the place at which its first span
-/// starts. Lines and columns count from 1, columns in characters, and U+000A alone ends a line. The places of further
-/// spans follow, as `, again at L:C` and then `, L:C` each. What `regex` says of a pattern isn't told.
+/// Writes a line for each error of a rule text: `L:C: TEXT`, where `L:C` is the start of the error's first span.
+/// Lines and columns count from 1, columns in characters, and U+000A alone ends a line. The places of further spans follow, as
+/// `, again at L:C` and then `, L:C` each. The reason that `regex` gives for a pattern isn't written.
 ///
-/// Each fault has a span, and all its spans fit the rule text, as in the faults of a build of it.
-/// The lines are made before the first is written. No fault of the writer is tried again.
+/// Each error has a span, and all its spans fit the rule text, as in the errors of a build from it.
+/// The lines are all made before the first is written. After an error of the writer nothing is tried again.
 pub fn report<W: Write>(
     alloc: Global,
     faults: &[LexBuildError],

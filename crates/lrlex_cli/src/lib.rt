@@ -1,10 +1,13 @@
-//! What the program `lrlex` does, over any writer, reader and files.
+//! What the program `lrlex` does, over any writer, reader and files: its words, its texts, its engine and its status.
 #![tactic(auto)]
 
+mod command;
 pub mod engine;
+mod fault_lines;
 mod lines;
+mod messages;
 pub mod program;
-mod report;
+pub mod texts;
 pub mod words;
 mod writing;
 

@@ -1,3 +1,4 @@
+//! The lines that the program writes for the items of a run.
 ghost use Rattle.std.specs.Prelude.{◌≡◌, [], ◌∷◌, ◌++◌, All, IfOk, OnOk, map};
 ghost use Rattle.lrlex_base.specs.Spans.{span_start};
 ghost use Rattle.lrlex.specs.Errors.{lex_error_span, stop_text};
@@ -9,7 +10,7 @@ use lrlex::{LRLexError, LRNonStreamingLexerDef};
 use lrlex_base::{Lexeme, LexerTypes};
 use std::alloc::{AllocError, Global};
 
-/// Adds the line of a lexeme.
+/// Adds the line of a lexeme: its rule's name, a blank and the matched text.
 fn push_lexeme(bytes: &mut Vec<u8>, name: &str, matched: &str) -> Result<(), AllocError>
     ensures { OnOk result (bytes.new.items ≡ bytes.old.items
         ++ (name.now ++ 32 ∷ (matched.now ++ 10 ∷ []))) }
@@ -21,7 +22,7 @@ fn push_lexeme(bytes: &mut Vec<u8>, name: &str, matched: &str) -> Result<(), All
     Ok(())
 }
 
-/// Adds the line of an error.
+/// Adds the line of an error: the text that it displays.
 fn push_error(alloc: Global, bytes: &mut Vec<u8>, error: &LRLexError) -> Result<(), AllocError>
     ensures { OnOk result (bytes.new.items ≡ bytes.old.items
         ++ (stop_text (span_start (lex_error_span error.now)) ++ 10 ∷ [])) }
@@ -30,7 +31,7 @@ fn push_error(alloc: Global, bytes: &mut Vec<u8>, error: &LRLexError) -> Result<
     bytes.extend_from_slice(line.as_bytes())
 }
 
-/// Adds the line of an item, which fits the text.
+/// Adds the line of an item of a text. The item fits the text.
 fn push_line<L: LexerTypes>(
     alloc: Global,
     bytes: &mut Vec<u8>,
@@ -53,7 +54,7 @@ fn push_line<L: LexerTypes>(
     }
 }
 
-/// The lines of the items, which fit the text.
+/// The lines of the items of a text. The items fit the text.
 pub(crate) fn lines<L: LexerTypes>(
     alloc: Global,
     definition: &LRNonStreamingLexerDef<L>,

@@ -3,20 +3,21 @@ ghost use Rattle.std.specs.Prelude.{◌≡◌};
 ghost use Rattle.lrlex_cli.specs.Engine.{HasPlacedFaults};
 
 use crate::engine::{Ended, EngineFault};
+use crate::messages::{CANNOT_WRITE, OUT_OF_MEMORY, USAGE};
+use crate::texts::{TextFault, read_text, split, text_at};
 use crate::words::WordsFault;
 use crate::writing::write_bytes;
 use crate::{engine, words};
 use lrlex::{DefaultLexerTypes, LexFlags, UNSPECIFIED_LEX_FLAGS};
 use lrlex_base::{Edit, Span};
-use lrlex_words::{TextFault, read_text, split, text_at};
 use std::alloc::Global;
 use std::io::{Read, Write};
 use std::rt::Files;
 
-/// Why the program can't do what it is asked, without a rule text's own faults.
+/// Why the program can't do what its words ask for, other than for errors in the rule text.
 #[derive(Clone, Copy, Debug, PartialEq, Eq)]
 pub enum Fault<'a> {
-    /// The words are refused for another cause than memory.
+    /// The words aren't those of a call of the program.
     Usage,
     /// The file at this path can't be opened or read.
     CannotOpen(&'a str),
@@ -47,7 +48,7 @@ impl<'a> Fault<'a> {
     }
 }
 
-/// Writes the pieces, and passes over a fault of the writer.
+/// Writes the pieces. An error of the writer is ignored.
 fn say<E: Write>(err: &mut E, pieces: &[&str]) {
     for piece in pieces {
         if write_bytes(err, piece.as_bytes()).is_err() {
@@ -56,22 +57,22 @@ fn say<E: Write>(err: &mut E, pieces: &[&str]) {
     }
 }
 
-/// Writes the line of the fault, and answers the status, 1. A fault of `err` is passed over.
+/// Writes the line of the fault and returns the status, 1. An error of `err` is ignored.
 pub fn refuse<E: Write>(fault: Fault<'_>, err: &mut E) -> u8
     ensures { result ≡ 1 }
 {
     match fault {
-        Fault::Usage => say(err, &["Usage: lrlex <lexer.l> <input file>\n"]),
+        Fault::Usage => say(err, &[USAGE, "\n"]),
         Fault::CannotOpen(path) => say(err, &["Can't open file ", path, "\n"]),
         Fault::NotText(path) => say(err, &["File ", path, " is not UTF-8\n"]),
-        Fault::Memory => say(err, &["Out of memory\n"]),
-        Fault::CannotWrite => say(err, &["Can't write\n"]),
+        Fault::Memory => say(err, &[OUT_OF_MEMORY, "\n"]),
+        Fault::CannotWrite => say(err, &[CANNOT_WRITE, "\n"]),
         Fault::BadEdit => say(err, &["Bad edit\n"]),
     }
     1
 }
 
-/// Answers the status, or refuses the fault.
+/// Returns the status, after a line for the fault if there is one.
 fn answered<E: Write>(status: Result<u8, Fault<'_>>, err: &mut E) -> u8 {
     match status {
         Ok(status) => status,
@@ -79,7 +80,7 @@ fn answered<E: Write>(status: Result<u8, Fault<'_>>, err: &mut E) -> u8 {
     }
 }
 
-/// Flushes what was written, and answers the status: 0 where the whole text was lexed.
+/// Flushes what was written and returns the status.
 fn flushed<W: Write>(out: &mut W, status: u8) -> Result<u8, Fault<'static>> {
     match out.flush() {
         Ok(()) => Ok(status),
@@ -87,7 +88,7 @@ fn flushed<W: Write>(out: &mut W, status: u8) -> Result<u8, Fault<'static>> {
     }
 }
 
-/// Flushes what was written, or reports the faults of the rule text, and answers the status.
+/// Flushes what was written, or writes the errors of the rule text, and returns the status.
 fn conclude<W: Write, E: Write>(
     alloc: Global,
     rules: &str,
@@ -108,29 +109,43 @@ fn conclude<W: Write, E: Write>(
     }
 }
 
-/// Lexes the input by the rules, and answers the status.
+/// A rule text, the flags of its lexer, and the input.
+#[derive(Clone, Copy)]
+struct Request<'t> {
+    rules: &'t str,
+    flags: LexFlags,
+    input: &'t str,
+}
+
+/// Lexes the input by the rules and returns the status.
 fn lex<W: Write, E: Write>(
     alloc: Global,
-    rules: &str,
-    flags: LexFlags,
-    input: &str,
+    request: Request<'_>,
     out: &mut W,
     err: &mut E,
 ) -> Result<u8, Fault<'static>> {
+    let Request {
+        rules,
+        flags,
+        input,
+    } = request;
     let ended = engine::run::<DefaultLexerTypes<u32>, W>(alloc, rules, flags, input, out);
     conclude(alloc, rules, ended, out, err)
 }
 
-/// Lexes the input by the rules and then again after the edit, and answers the status.
+/// Lexes the input by the rules, lexes again after the edit, and returns the status.
 fn lex_edited<W: Write, E: Write>(
     alloc: Global,
-    rules: &str,
-    flags: LexFlags,
-    input: &str,
+    request: Request<'_>,
     edit: &(usize, usize, String),
     out: &mut W,
     err: &mut E,
 ) -> Result<u8, Fault<'static>> {
+    let Request {
+        rules,
+        flags,
+        input,
+    } = request;
     let (from, to, put) = edit;
     if from > to {
         return Err(Fault::BadEdit);
@@ -145,19 +160,14 @@ fn lex_edited<W: Write, E: Write>(
     let Ok(edited) = edit.apply(alloc, input) else {
         return Err(Fault::Memory);
     };
+    let edited = edited.as_str();
     let ended = engine::run_edited::<DefaultLexerTypes<u32>, W>(
-        alloc,
-        rules,
-        flags,
-        input,
-        &edit,
-        edited.as_str(),
-        out,
+        alloc, rules, flags, input, &edit, edited, out,
     );
     conclude(alloc, rules, ended, out, err)
 }
 
-/// Lexes by both texts of standard input.
+/// Lexes by the rule text and the input that standard input holds.
 fn serve_input<R: AllocGlobal, I: Read, W: Write, E: Write>(
     rt: &R,
     stdin: &mut I,
@@ -166,10 +176,15 @@ fn serve_input<R: AllocGlobal, I: Read, W: Write, E: Write>(
 ) -> Result<u8, Fault<'static>> {
     let both = read_text(rt.alloc(), stdin).map_err(|fault| Fault::of_text("-", fault))?;
     let (rules, input) = split(both.as_str());
-    lex(rt.alloc(), rules, UNSPECIFIED_LEX_FLAGS, input, out, err)
+    let request = Request {
+        rules,
+        flags: UNSPECIFIED_LEX_FLAGS,
+        input,
+    };
+    lex(rt.alloc(), request, out, err)
 }
 
-/// Lexes by the texts that the words name, the rule text read first.
+/// Lexes by the rule text and the input that the words name. The rule text is read first.
 fn serve_files<'w, R: Files + AllocGlobal, I: Read, W: Write, E: Write>(
     rt: &R,
     words: &'w words::Words,
@@ -181,21 +196,25 @@ fn serve_files<'w, R: Files + AllocGlobal, I: Read, W: Write, E: Write>(
     let rules = text_at(rt, path, stdin).map_err(|fault| Fault::of_text(path, fault))?;
     let path = words.input.as_str();
     let input = text_at(rt, path, stdin).map_err(|fault| Fault::of_text(path, fault))?;
-    let (rules, input) = (rules.as_str(), input.as_str());
+    let request = Request {
+        rules: rules.as_str(),
+        flags: words.flags,
+        input: input.as_str(),
+    };
     match &words.edit {
-        Some(edit) => lex_edited(rt.alloc(), rules, words.flags, input, edit, out, err),
-        None => lex(rt.alloc(), rules, words.flags, input, out, err),
+        Some(edit) => lex_edited(rt.alloc(), request, edit, out, err),
+        None => lex(rt.alloc(), request, out, err),
     }
 }
 
-/// Does all that the program does, and answers the status: 0 where the whole text was lexed and what was written is
-/// flushed, and otherwise 1. `words` are the program's, its own name first.
+/// Does all that the program does and returns its status: 0 if the whole input was lexed and what was written was flushed, and
+/// otherwise 1. The first of `words` is the program's own name.
 ///
-/// The rule text is read first, then the input, both before the build; the first fault decides. An edit has to fit the
-/// input, and the text that it makes is lexed. Lines go to `out`; a rule text's faults, and a line for any other fault,
-/// go to `err`, whose own faults are passed over.
-/// With no word, or one, `stdin` holds both texts: the rule text stands before the first line `----`, the input after
-/// it. Nothing that fails is tried again.
+/// The rule text is read first and then the input, both before the lexer is built; the first fault decides. An edit has to fit
+/// the input, and the text that it makes is lexed. Lines of items go to `out`. The errors of the rule text, and a line for any
+/// other fault, go to `err`; errors of `err` are ignored.
+/// With at most one word `stdin` holds both texts: the rule text before the first line `----`, the input after it. Nothing that
+/// fails is tried again.
 pub fn serve<R: Files + AllocGlobal, I: Read, W: Write, E: Write>(
     rt: &R,
     words: &[&str],

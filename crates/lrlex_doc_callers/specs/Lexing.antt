@@ -24,7 +24,7 @@ pub record AreWords (d : Definition) (text : List ℕ) (words : List (List ℕ �
 abbrev pub shown : Bor (List ℕ) × Bor (List ℕ) → List ℕ × List ℕ
 shown word = (word.0.now, word.1.now)
 
--- each edit fits the text before it, and makes the text beside it
+-- each edit fits the text before it, and makes the text that comes with it
 abbrev pub AreSteps : List ℕ → List (Edit × Bor (List ℕ)) → Type 0
 AreSteps text [] = Unit {0}
 AreSteps text (step ∷ steps) =

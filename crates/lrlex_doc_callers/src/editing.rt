@@ -16,7 +16,7 @@ pub fn highlighted<'d, 't>(
     Ok(parts)
 }
 
-/// Types keys at a byte of the document. Line and column behind them.
+/// Puts what was typed at a byte of the document. Line and column after it.
 pub fn typed(
     alloc: Global,
     document: &mut Document<'_, DefaultLexerTypes<u32>>,
@@ -27,7 +27,7 @@ pub fn typed(
     Ok(document.place(at.saturating_add(keys.len())))
 }
 
-/// The part of a document that a window shows: each piece that has a byte in `from..to`, with its rule's name as above.
+/// What a window shows of a document: each piece with a byte in `from..to`, and its rule's name, or "".
 pub fn visible<'d, 't>(
     alloc: Global,
     document: &'t Document<'d, DefaultLexerTypes<u32>>,

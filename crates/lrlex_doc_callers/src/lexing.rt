@@ -33,8 +33,8 @@ pub fn words<'d, 't>(
     Ok(words)
 }
 
-/// Lexes a text, keeps the run through the edits, and gives the last run's items with their text. Beside each edit stands
-/// the text that it makes. None where one doesn't make it of the text before.
+/// Lexes a text, makes the edits one after the other, and gives the last run's items with their text. With each edit comes the
+/// text that it makes. None where an edit doesn't make its text of the one before.
 pub fn lexer_after<'d, 't>(
     alloc: Global,
     definition: &'d LRNonStreamingLexerDef<DefaultLexerTypes<u32>>,

@@ -5,6 +5,8 @@ pub mod base;
 pub mod editing;
 pub mod lending;
 pub mod lexing;
+pub mod listing;
+pub mod modules;
 pub mod reporting;
 pub mod serving;
 pub mod tokens;

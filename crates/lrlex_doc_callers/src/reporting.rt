@@ -1,10 +1,10 @@
-//! For whoever shows people what is wrong with a rule text, or where lexing stops.
+//! What is wrong with a rule text, or where lexing stops, for people.
 use lrlex::{DefaultLexerTypes, LRNonStreamingLexerDef, LexerDef};
 use lrlex_report::{bad_byte_text, faults_text, stop_text_in};
 use std::alloc::{AllocError, Global};
 use std::str;
 
-/// What is wrong with the rule text, or where lexing the input stops, or nothing.
+/// What is wrong with the rule text, or where lexing the input stops. Empty where nothing is wrong.
 pub fn complaints(alloc: Global, rules: &str, input: &str) -> Result<String, AllocError> {
     match LRNonStreamingLexerDef::<DefaultLexerTypes<u32>>::from_str(alloc, rules)? {
         Err(faults) => faults_text(alloc, "tokens.l", rules, &faults),
@@ -15,7 +15,7 @@ pub fn complaints(alloc: Global, rules: &str, input: &str) -> Result<String, All
     }
 }
 
-/// The same of a rule file, which may not be text.
+/// What is wrong with the bytes of a rule file, which may not be UTF-8, or where lexing the input stops.
 pub fn complaints_of_file(alloc: Global, rules: &[u8], input: &str) -> Result<String, AllocError> {
     match bad_byte_text(alloc, "tokens.l", rules)? {
         Some(shown) => Ok(shown),

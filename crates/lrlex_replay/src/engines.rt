@@ -1,6 +1,8 @@
 //! Steps of the engine and of the program, over writers that break.
 use lrlex::{DefaultLexerTypes, Edit, LRNonStreamingLexerDef, LexerDef, UNSPECIFIED_LEX_FLAGS};
 use lrlex_cli::engine::{Ended, EngineFault};
+use lrlex_cli::texts::TextFault;
+use lrlex_cli::words::WordsFault;
 use lrlex_cli::{engine, program};
 use lrlex_replay_cases::reading::Trouble;
 use lrlex_replay_cases::steps::Engine;
@@ -8,6 +10,8 @@ use lrlex_replay_cases::told::Told;
 use lrlex_replay_cases::writers::{BrokenWriter, Came, tell_came, tell_served};
 use serde_json::Value;
 use std::alloc::{AllocError, Global};
+use std::error::Error;
+use std::io;
 
 /// What a fault of the engine is.
 fn came_of_fault(fault: &EngineFault) -> Result<Came, AllocError> {
@@ -108,5 +112,31 @@ pub fn serve(
     let mut lines = BrokenWriter::of_value(told.alloc(), writers.0)?;
     let mut faults = BrokenWriter::of_value(told.alloc(), writers.1)?;
     serve_by(rt, told, stdin, &mut lines, &mut faults);
+    Ok(())
+}
+
+/// Tells the text that a fault displays.
+fn tell_displayed<E: Error>(told: &mut Told, fault: &E) -> Result<(), AllocError> {
+    let text = format!(in told.alloc(); "{fault}")?;
+    told.text(text.as_str());
+    Ok(())
+}
+
+/// Tells the text that each fault displays: those of the engine, of the words and of the texts.
+pub fn display_faults(told: &mut Told) -> Result<(), AllocError> {
+    told.key("faults");
+    told.open("[");
+    tell_displayed(told, &EngineFault::Memory)?;
+    tell_displayed(
+        told,
+        &EngineFault::Write(io::Error::from(io::ErrorKind::Other)),
+    )?;
+    for fault in [WordsFault::Memory, WordsFault::Refused] {
+        tell_displayed(told, &fault)?;
+    }
+    for fault in [TextFault::Memory, TextFault::Unreadable, TextFault::NotText] {
+        tell_displayed(told, &fault)?;
+    }
+    told.close("]");
     Ok(())
 }

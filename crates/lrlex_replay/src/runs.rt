@@ -159,7 +159,7 @@ fn tell_state_at(told: &mut Told, place: usize, state: Option<StartStateId>) {
     told.close("]");
 }
 
-/// Tells where lexing the text ends and the start state there, by a run and by a document.
+/// Tells where lexing the text ends and the start state there, by a run and by a document that was taken apart and put together.
 pub fn tell_end(
     told: &mut Told,
     definition: &Definition<u32>,
@@ -168,6 +168,7 @@ pub fn tell_end(
     let run = definition.run(told.alloc(), text)?;
     tell_state_at(told, run.end(), run.end_state());
     let document = Document::new(told.alloc(), definition, text)?;
+    let document = Document::of_text(definition, document.into_text());
     tell_state_at(told, document.end(), document.end_state());
     Ok(())
 }

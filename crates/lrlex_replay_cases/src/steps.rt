@@ -94,6 +94,8 @@ pub enum Step<'v> {
     Drives(Engine<'v>, &'v Value),
     /// Serves both texts of standard input, by writers for lines and for faults.
     Serves(&'v str, (&'v Value, &'v Value)),
+    /// Displays each fault of the engine, of the words and of the texts.
+    DisplaysFaults,
 }
 
 /// The step of this name over nothing.
@@ -101,6 +103,7 @@ fn of_none<'v>(name: &str) -> Result<Step<'v>, Trouble> {
     match name {
         "definition" => Ok(Step::Asks(Asked::Definition)),
         "flags" => Ok(Step::Asks(Asked::Flags)),
+        "faults" => Ok(Step::DisplaysFaults),
         _ => Err(Trouble::Malformed),
     }
 }

@@ -1,1 +1,4 @@
+pub mod CaretLemmas
+pub mod FaultLemmas
+pub mod PlaceLemmas
 pub mod StateLemmas

@@ -1,6 +1,6 @@
--- Of the crate below it passes on what its own words speak of.
+pub mod Carets
+pub mod Encoding
+pub mod FaultTexts
+pub mod PlaceTexts
+pub mod Reasons
 pub mod StopTexts
-pub use Rattle.lrlex_faults.specs.Encoding
-pub use Rattle.lrlex_faults.specs.FaultTexts
-pub use Rattle.lrlex_faults.specs.Marks
-pub use Rattle.lrlex_faults.specs.PlaceTexts

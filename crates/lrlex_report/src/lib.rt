@@ -1,8 +1,15 @@
-//! Faults for people: what is wrong with a rule text, where lexing an input stopped, and where bytes aren't UTF-8, each with its
-//! place, its line and a caret, as compilers show it.
+//! Errors as people read them: what is wrong with a rule text, where lexing an input stopped, and where bytes aren't UTF-8. Each
+//! is shown with its place, its line and carets, as compilers show it.
 #![tactic(auto)]
 
+mod carets;
+mod encoding;
+mod faults;
+mod places;
+mod reasons;
 mod stops;
 
+pub use crate::encoding::bad_byte_text;
+pub use crate::faults::{fault_text, faults_text};
+pub use crate::places::place_text;
 pub use crate::stops::{stop_text, stop_text_in};
-pub use lrlex_faults::{bad_byte_text, fault_text, faults_text, place_text};

@@ -1,4 +1,4 @@
-//! Where lexing stopped, and why.
+//! Where lexing stopped and why, as people read it.
 ghost use Rattle.std.specs.Prelude.{◌≡◌, ◌==◌, None, IfOk, find, option_map, string_bytes};
 ghost use Rattle.std.specs.Option.{option_copied};
 ghost use Rattle.std.specs.Slice.Iter.{iter_rest};
@@ -6,12 +6,14 @@ ghost use Rattle.lrlex_rules.specs.RuleParts.{as_state};
 ghost use Rattle.lrlex.specs.Views.{definition_states};
 ghost use Rattle.lrlex_report.specs.StopTexts.{state_name, error_state, stop_text, name_in};
 
+use crate::encoding::mark_note;
+use crate::places::{nearest, place_text};
+use crate::reasons::{char_at, reason};
 use lrlex::{LRLexError, LRNonStreamingLexerDef, LexError, LexerDef, LexerTypes, StartState};
-use lrlex_faults::{char_at, mark_note, nearest, place_text, reason};
 use std::alloc::{AllocError, Global};
 use std::slice::Iter;
 
-/// The number of the start state in which no rule matched, if that is why lexing stopped.
+/// The id of the start state in which no rule matched, if that is why lexing stopped.
 fn error_state(error: &LRLexError) -> Option<usize>
     ensures { result ≡ error_state error.now }
 {
@@ -21,7 +23,7 @@ fn error_state(error: &LRLexError) -> Option<usize>
     }
 }
 
-/// What is shown of the error, where the start state that it names has this name.
+/// The error that stopped lexing, as people read it. `name` is the name of the start state in which no rule matched.
 fn shown_stop(
     alloc: Global,
     file: &str,
@@ -39,8 +41,8 @@ fn shown_stop(
     place_text(alloc, file, input, span, &reason)
 }
 
-/// The error that stopped lexing an input, which is the text of a file, as people read it: `FILE:L:C: MESSAGE`, the line, and a
-/// caret under the place.
+/// The error that stopped lexing an input, as people read it: `FILE:L:C: MESSAGE`, then the line with its number, then a caret
+/// under the place. The start state isn't named; `stop_text_in` names it.
 pub fn stop_text(
     alloc: Global,
     file: &str,
@@ -53,14 +55,14 @@ pub fn stop_text(
     shown_stop(alloc, file, input, error, None)
 }
 
-/// The first start state with the id.
+/// The first start state with an id.
 fn first_state(mut states: Iter<'_, StartState>, id: usize) -> Option<&StartState>
     ensures { option_copied result ≡ find (λ s. (as_state s).id == id) (iter_rest states.entry) }
 {
     states.find(|state| state.id() == id)
 }
 
-/// Its name, but of `INITIAL`.
+/// The name of the first start state with an id; `None` for `INITIAL`, whose id is 0.
 fn state_name(states: Iter<'_, StartState>, id: usize) -> Option<&str>
     ensures { option_map (λ t. t.now) result ≡ state_name (iter_rest states.entry) id }
 {
@@ -73,7 +75,8 @@ fn state_name(states: Iter<'_, StartState>, id: usize) -> Option<&str>
     }
 }
 
-/// The same, and where no rule matched in another start state than `INITIAL`, with that state's name.
+/// The error that stopped lexing an input by a definition, as people read it: `FILE:L:C: MESSAGE`, then the line with its number,
+/// then a caret under the place. If no rule matched in a start state other than `INITIAL`, the message names that state.
 pub fn stop_text_in<L: LexerTypes>(
     alloc: Global,
     definition: &LRNonStreamingLexerDef<L>,

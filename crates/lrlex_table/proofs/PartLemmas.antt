@@ -1,4 +1,4 @@
--- The parts of a list of patterns: their patterns rise, and each pattern has a table or is asked.
+-- The parts of a list of patterns: their patterns rise, and each pattern has a table or is matched by `regex`.
 use Rattle.std.proofs.Common.{◌≡◌, ℕ, zero, suc, ◌+◌, ◌-◌, ◌<◌, ◌≤◌, ◌==◌, true, false, List, All, [], ◌∷◌, ◌++◌, length, map, set, get_or, refl, sym, ap, ◌∙◌, subst, inl, inr, arith}
 use Rattle.std.proofs.lemmas.Bool.{cases_lt, or_cases, or_parts, or_from, or_left, or_right, eqb-true, eq-eqb}
 use Rattle.std.proofs.lemmas.List.{map-append, get_or_at, length-append}

@@ -136,7 +136,7 @@ tabled_or_not : (b : Bool) → (b ≡ false → false ≡ true) → b ≡ true
 tabled_or_not true h = refl
 tabled_or_not false h = h refl
 
--- where no pattern is asked
+-- where each pattern has a table
 pub decided_all : (ps : List Re) (parts : List Part) (asked text : List ℕ) (n : ℕ) → ArePartsOf ps 0 (length ps) parts asked → asked ≡ [] →
     IsDecidedAmong ps (is_tabled parts) text n → IsDecidedBy ps text n
 decided_all ps parts asked text n are none is =

@@ -1,4 +1,4 @@
--- The tables of a list of patterns (Tables): each serves some of the patterns, and a pattern without a table is asked by itself.
+-- The tables of a list of patterns (Tables): each serves some of the patterns, and `regex` matches those without a table.
 use Rattle.std.specs.Prelude.{◌≡◌, ℕ, ◌+◌, ◌<◌, ◌≤◌, Bool, true, false, ◌==◌, List, All, [], ◌∷◌, length, map, Option, Some, vec_len, IfSome, IsCharBoundary, MatchOption, slice_get}
 use Rattle.std.specs.List.{list_any, sum_by}
 use Rattle.regex.specs.Patterns.{Re}
@@ -49,7 +49,7 @@ AreParts ps lo hi = All (IsPartOf ps lo hi)
 abbrev pub Covers : List Part → List Part → Type 0
 Covers parts others = (k : ℕ) → is_tabled parts k ≡ false → is_tabled others k ≡ false
 
--- each pattern from lo on and below hi has a table or is asked
+-- each pattern from lo on and below hi has a table or is among those that `regex` matches
 pub record ArePartsOf (ps : List Re) (lo hi : ℕ) (parts : List Part) (asked : List ℕ) : Type 0 where
   pub are : All (IsPartOf ps lo hi) parts
   pub rises : AreRising lo hi asked

@@ -1,4 +1,4 @@
-//! The tables of a list of patterns: as few as can be had, joined in pairs.
+//! Merges the tables of a list's patterns in pairs, so that as few tables as can be had are left.
 ghost use Rattle.std.specs.Prelude.{◌≡◌, ℕ, Bool, ◌||◌, ◌+◌, ◌^◌, ◌<◌, ◌≤◌, List, [], ◌∷◌, ◌++◌, length, map, vec_len, slice_index, IfOk, OnOk, IsSome, IfSome, MatchOption, IsTrue, IsFalse, IsUtf8};
 ghost use Rattle.regex.specs.Patterns.{Re};
 ghost use Rattle.lrlex_table.specs.Table.{pattern_at, IsTableOf};
@@ -25,7 +25,7 @@ pub struct Part {
     pub(crate) patterns: Vec<usize>,
 }
 
-/// The tables of a list of patterns, and the places of the patterns that have none.
+/// The tables of a list of patterns, and the places of the patterns that have none, which `regex` matches.
 #[derive(Drop)]
 pub struct Tables {
     pub(crate) parts: Vec<Part>,
@@ -207,7 +207,7 @@ fn middle_of(cache: &[CachedTable], places: &[usize], from: usize, to: usize) ->
 }
 
 /// Tables for the list's patterns from index `from` to before `to`, as few as can be had. `places` has the places of the
-/// list's patterns in the cache, which hands out their tables. A pattern without a table is among those that are asked.
+/// list's patterns in the cache, which hands out their tables. `asked` lists the patterns that have none.
 pub fn tables_between(
     alloc: Global,
     cache: &mut [CachedTable],
@@ -249,7 +249,7 @@ fn better(one: Option<PatternMatch>, other: Option<PatternMatch>) -> Option<Patt
     }
 }
 
-/// The scan by the tables of two scans of one text: the better match and the greater reach.
+/// Two scans of one text as one: the better match and the greater reach.
 #[inline(always)]
 pub(crate) fn combined(a: TableScan, b: TableScan) -> TableScan
     ensures scan { (ps : List Re) (one other : ℕ → Bool) (text : List ℕ) →
@@ -315,7 +315,7 @@ impl Part {
 }
 
 impl Tables {
-    /// No tables: each of so many patterns is asked.
+    /// No tables: `regex` matches each of so many patterns.
     pub fn none(alloc: Global, patterns: usize) -> Result<Tables, AllocError>
         ensures { (ps : List Re) → length ps ≡ patterns → IfOk result (AreTablesOf ps) }
     {
@@ -329,7 +329,7 @@ impl Tables {
         })
     }
 
-    /// The places in the list of the patterns that have no table, rising.
+    /// The places in the list of the patterns that have no table, in order.
     pub fn asked(&self) -> &[usize]
         ensures { result.now ≡ self.now.asked.items }
     {

@@ -173,32 +173,6 @@ impl<S: Numbered> RuleTable<S> {
         has_state(&self.start_states, self.placed, id)
     }
 
-    /// The places of the rules that are active in the first state with the id, in order.
-    #[inline(always)]
-    pub(crate) fn active_in(&self, id: usize) -> &[usize]
-        requires { is_state (definition_by S.number self.now) id ≡ true }
-        ensures { result.now ≡ active_places (definition_by S.number self.now).states
-            (definition_by S.number self.now).rules id }
-    {
-        let index = position_of(&self.start_states, self.placed, id).unwrap_or(0);
-        &self.lists[self.list_at[index]]
-    }
-
-    /// The tables of the rules that are active in the first state with the id, with their place among all.
-    #[inline(always)]
-    pub(crate) fn tables_in(&self, id: usize) -> (usize, &Tables)
-        requires { is_state (definition_by S.number self.now) id ≡ true }
-        ensures list { slice_get self.now.tables.items result.0 ≡ Some result.1.now }
-        ensures served { ∥ AreTablesOf (patterns_on (definition_by S.number self.now).rules
-            (active_places (definition_by S.number self.now).states
-            (definition_by S.number self.now).rules id)) result.1.now ∥₁ }
-        ensures untabled { length result.1.now.asked.items ≡ untabled_count self.now id }
-    {
-        let index = position_of(&self.start_states, self.placed, id).unwrap_or(0);
-        let list = self.list_at[index];
-        (list, &self.tables[list])
-    }
-
     /// The rules that are active in the first state with the id.
     #[inline(always)]
     pub(crate) fn rules_in(&self, id: usize) -> StateRules<'_>
@@ -206,10 +180,13 @@ impl<S: Numbered> RuleTable<S> {
         ensures state { result.state ≡ id }
         ensures rules { AreOf S.number self.now id result }
     {
-        let (list, tables) = self.tables_in(id);
+        let index = position_of(&self.start_states, self.placed, id).unwrap_or(0);
+        let list = self.list_at[index];
+        let active = &self.lists[list];
+        let tables = &self.tables[list];
         StateRules {
             state: id,
-            active: self.active_in(id),
+            active,
             list,
             tables,
         }

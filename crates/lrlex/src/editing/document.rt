@@ -4,7 +4,7 @@ ghost use Rattle.std.specs.String.{string_bytes, string_len, string_capacity};
 ghost use Rattle.lrlex_base.specs.Edits.{edited};
 ghost use Rattle.lrlex_base.specs.Places.{AreBreaksOf, place_of};
 ghost use Rattle.lrlex_base.specs.Spans.{Fits, as_span, span, span_start, span_end};
-ghost use Rattle.lrlex.specs.Document.{IsLexedBy, WasEdited, WasLeft};
+ghost use Rattle.lrlex.specs.Document.{IsLexedBy, WasEdited, WasLeft, lexed_boundaries, lexed_bytes, lexed_items};
 ghost use Rattle.lrlex.specs.Lookahead.{LooksAhead};
 ghost use Rattle.lrlex.specs.Nearest.{IsNearest, FitsAt};
 ghost use Rattle.lrlex.specs.Pieces.{ArePieces, ArePiecesIn};
@@ -93,9 +93,10 @@ fn put_text(text: &mut String, from: usize, to: usize, put: &str)
     let _ = text.replace_range(from..to, put);
 }
 
-/// A text that it owns, with the places of its newlines and with what lexing it gave.
+/// A text with the places of its newlines and what lexing it gave: a document without its definition. `Document::into_text` gives
+/// it and `Document::of_text` takes it, so that a program can keep it beside the definition.
 #[derive(Drop)]
-struct LexedText<X> {
+pub struct LexedText<X> {
     text: String,
     newlines: NewlineCache,
     lexed: Lexed<X>,
@@ -254,6 +255,32 @@ impl<'lexer, L: LexerTypes<LexErrorT = LRLexError>> Document<'lexer, L> {
     {
         let held = lexed_text(alloc, &definition.table, text)?;
         Ok(Document { definition, held })
+    }
+
+    /// The document of a text that was lexed by this definition. Nothing is lexed again.
+    pub fn of_text(
+        definition: &'lexer LRNonStreamingLexerDef<L>,
+        held: LexedText<L::LexemeT>,
+    ) -> Self
+        requires { IsLexedBy L.StorageT.number L.LexemeT.seen definition.now.table held }
+        ensures definition { result.definition ≡ definition.now }
+        ensures text { result.text ≡ lexed_bytes held }
+        ensures items { result.items ≡ lexed_items held }
+        ensures boundaries { result.boundaries ≡ lexed_boundaries held }
+    {
+        Document { definition, held }
+    }
+
+    /// The document without its definition, for `of_text`.
+    pub fn into_text(self) -> LexedText<L::LexemeT>
+        ensures lexed { IsLexedBy L.StorageT.number L.LexemeT.seen self.entry.definition.table
+            result }
+        ensures text { lexed_bytes result ≡ self.entry.text }
+        ensures items { lexed_items result ≡ self.entry.items }
+        ensures boundaries { lexed_boundaries result ≡ self.entry.boundaries }
+    {
+        let Document { held, .. } = self;
+        held
     }
 
     /// Puts a text in the place of the bytes from `from` up to `to`, and lexes again what that changes. After a refusal the

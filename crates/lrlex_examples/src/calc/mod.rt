@@ -1,59 +1,53 @@
 //! Shows token ids that come from a grammar, by `set_rule_ids`, and errors with a caret: `lrlex_examples calc < LINES` works
 //! out each line, of whole numbers, `+ - * /` and parentheses. What waits for its right side is held on a stack of its own, so
-//! that no line is nested too deep, and a result that is too large for 64 bits is told.
+//! that no line is nested too deep, and a result that is too large for 64 bits is reported.
 mod grammar;
 mod sums;
 
 use crate::rules::{Definition, definition_of};
 use grammar::{RULES, give_ids};
-use std::alloc::{AllocError, Global};
+use lrlex::Span;
+use lrlex_report::place_text;
+use std::alloc::AllocError;
 use std::io;
 use std::process::ExitCode;
 use sums::{Failure, value_of};
 
-/// What brings a caret under the column, which counts from 1: a tab under each tab, and else spaces.
-fn indent_to(alloc: Global, line: &str, column: usize) -> Result<String, AllocError> {
-    let mut indent = String::new(alloc);
-    for (c, _) in line.chars().zip(1..column) {
-        indent.push(if c == '\t' { c } else { ' ' })?;
-    }
-    Ok(indent)
-}
-
-/// Tells what is wrong with a line, with a caret under the place.
-fn show_fault(
-    rt: &HostRuntime,
-    number: usize,
-    line: &str,
-    column: usize,
-    why: &str,
-) -> io::Result<()> {
-    let indent = indent_to(rt.alloc(), line, column)?;
-    println!(rt; "stdin:{number}:{column}: {why}\n{line}\n{indent}^")
-}
-
-/// Works out one line.
+/// Works out one line of the text, which begins at this byte.
 fn serve_line(
     rt: &HostRuntime,
     definition: &Definition,
-    number: usize,
+    text: &str,
+    begin: usize,
     line: &str,
 ) -> io::Result<()> {
     match value_of(rt.alloc(), definition, line) {
         Ok(value) => println!(rt; "{line} = {value}"),
-        Err(Failure::Wrong { column, why }) => show_fault(rt, number, line, column, why),
+        Err(Failure::Wrong { place, why }) => {
+            let at = begin.saturating_add(place);
+            let shown = place_text(rt.alloc(), "stdin", text, Span::new(at, at), why)?;
+            print!(rt; "{shown}")
+        }
         Err(Failure::Memory) => Err(io::Error::from(AllocError)),
+    }
+}
+
+/// The line without the newline that ends it, and a carriage return before that.
+fn without_end(line: &str) -> &str {
+    match line.strip_suffix('\n') {
+        Some(line) => line.strip_suffix('\r').unwrap_or(line),
+        None => line,
     }
 }
 
 /// Works out each line that isn't blank.
 fn serve_lines(rt: &HostRuntime, definition: &Definition, text: &str) -> io::Result<()> {
-    let mut number: usize = 0;
-    for line in text.lines() {
-        number = number.saturating_add(1);
+    let mut begin: usize = 0;
+    for line in text.split_inclusive('\n') {
         if !line.trim().is_empty() {
-            serve_line(rt, definition, number, line)?;
+            serve_line(rt, definition, text, begin, without_end(line))?;
         }
+        begin = begin.saturating_add(line.len());
     }
     Ok(())
 }

@@ -7,8 +7,8 @@ use std::alloc::{AllocError, AllocFailed, Global};
 /// Why a line has no value.
 #[derive(Clone, Copy)]
 pub enum Failure {
-    /// At this column, from 1, stands what is wrong.
-    Wrong { column: usize, why: &'static str },
+    /// What is wrong begins at this byte of the line.
+    Wrong { place: usize, why: &'static str },
     Memory,
 }
 
@@ -41,11 +41,11 @@ enum Held {
     Left(i64, Operator),
 }
 
-/// What waits, and the column where it stands.
+/// What waits, and the byte of the line where it begins.
 #[derive(Clone, Copy)]
 struct Waiting {
     held: Held,
-    column: usize,
+    place: usize,
 }
 
 /// A line that is read so far.
@@ -76,7 +76,7 @@ fn strength(operator: Operator) -> u8 {
     }
 }
 
-/// How strongly it holds what stands behind it. A parenthesis lets nothing out before it closes.
+/// How strongly it holds what comes after it. A parenthesis lets nothing out before it closes.
 fn hold(held: Held) -> u8 {
     match held {
         Held::Parenthesis => 0,
@@ -105,9 +105,9 @@ fn why_none(held: Held, right: i64) -> &'static str {
     }
 }
 
-/// That this is wrong at the column.
-fn wrong<T>(column: usize, why: &'static str) -> Result<T, Failure> {
-    Err(Failure::Wrong { column, why })
+/// That this is wrong at the byte.
+fn wrong<T>(place: usize, why: &'static str) -> Result<T, Failure> {
+    Err(Failure::Wrong { place, why })
 }
 
 impl Sum {
@@ -115,7 +115,7 @@ impl Sum {
     fn reduced(&mut self, value: i64, least: u8) -> Result<i64, Failure> {
         let mut value = value;
         for _ in 0..self.waiting.len() {
-            let Some(Waiting { held, column }) = self.waiting.last().copied() else {
+            let Some(Waiting { held, place }) = self.waiting.last().copied() else {
                 break;
             };
             if hold(held) < least {
@@ -124,70 +124,70 @@ impl Sum {
             self.waiting.pop();
             value = match applied(held, value) {
                 Some(value) => value,
-                None => return wrong(column, why_none(held, value)),
+                None => return wrong(place, why_none(held, value)),
             };
         }
         Ok(value)
     }
 
     /// Takes a token where a value has to come.
-    fn take_first(&mut self, token: u32, text: &str, column: usize) -> Result<(), Failure> {
+    fn take_first(&mut self, token: u32, text: &str, place: usize) -> Result<(), Failure> {
         let held = match token {
             NUMBER => match text.parse() {
                 Ok(number) => {
                     self.value = Some(number);
                     return Ok(());
                 }
-                Err(_) => return wrong(column, "the number is too large"),
+                Err(_) => return wrong(place, "the number is too large"),
             },
             OPEN => Held::Parenthesis,
             MINUS => Held::Negation,
-            _ => return wrong(column, "expected a number, - or ("),
+            _ => return wrong(place, "expected a number, - or ("),
         };
-        self.waiting.push(Waiting { held, column })?;
+        self.waiting.push(Waiting { held, place })?;
         Ok(())
     }
 
-    /// Closes the innermost parenthesis behind the value.
-    fn close(&mut self, value: i64, column: usize) -> Result<(), Failure> {
+    /// Closes the innermost parenthesis after the value.
+    fn close(&mut self, value: i64, place: usize) -> Result<(), Failure> {
         self.value = Some(self.reduced(value, 1)?);
         match self.waiting.pop() {
             Some(_) => Ok(()),
-            None => wrong(column, "no parenthesis is open"),
+            None => wrong(place, "no parenthesis is open"),
         }
     }
 
-    /// Takes a token behind a value.
-    fn take_next(&mut self, value: i64, token: u32, column: usize) -> Result<(), Failure> {
+    /// Takes a token after a value.
+    fn take_next(&mut self, value: i64, token: u32, place: usize) -> Result<(), Failure> {
         match operator_of(token) {
             Some(operator) => {
                 let left = self.reduced(value, strength(operator))?;
                 self.value = None;
                 let held = Held::Left(left, operator);
-                self.waiting.push(Waiting { held, column })?;
+                self.waiting.push(Waiting { held, place })?;
                 Ok(())
             }
-            None if token == CLOSE => self.close(value, column),
-            None => wrong(column, "expected an operator or )"),
+            None if token == CLOSE => self.close(value, place),
+            None => wrong(place, "expected an operator or )"),
         }
     }
 
     /// Takes a token.
-    fn take(&mut self, token: u32, text: &str, column: usize) -> Result<(), Failure> {
+    fn take(&mut self, token: u32, text: &str, place: usize) -> Result<(), Failure> {
         match self.value {
-            Some(value) => self.take_next(value, token, column),
-            None => self.take_first(token, text, column),
+            Some(value) => self.take_next(value, token, place),
+            None => self.take_first(token, text, place),
         }
     }
 
-    /// The whole line's value. The column is that of its end.
-    fn whole(&mut self, column: usize) -> Result<i64, Failure> {
+    /// The whole line's value. The place is the line's end.
+    fn whole(&mut self, place: usize) -> Result<i64, Failure> {
         let Some(value) = self.value else {
-            return wrong(column, "expected a number, - or (");
+            return wrong(place, "expected a number, - or (");
         };
         let value = self.reduced(value, 1)?;
         match self.waiting.last() {
-            Some(open) => wrong(open.column, "this parenthesis isn't closed"),
+            Some(open) => wrong(open.place, "this parenthesis isn't closed"),
             None => Ok(value),
         }
     }
@@ -203,15 +203,11 @@ pub fn value_of(alloc: Global, definition: &Definition, line: &str) -> Result<i6
     for item in lexer.iter() {
         match item {
             Ok(lexeme) => {
-                let (_, column) = lexer.place(lexeme.span().start());
-                sum.take(lexeme.tok_id(), lexer.text_of(lexeme.span()), column)?;
+                let span = lexeme.span();
+                sum.take(lexeme.tok_id(), lexer.text_of(span), span.start())?;
             }
-            Err(error) => {
-                let (_, column) = lexer.place(error.span().start());
-                return wrong(column, "no token begins here");
-            }
+            Err(error) => return wrong(error.span().start(), "no token begins here"),
         }
     }
-    let (_, column) = lexer.place(line.len());
-    sum.whole(column)
+    sum.whole(line.len())
 }

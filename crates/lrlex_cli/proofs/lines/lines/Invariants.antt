@@ -1,4 +1,4 @@
--- The lines of the items so far stand in `bytes`.
+-- `bytes` has the lines of the items so far.
 use Rattle.std.proofs.Common.{◌≡◌, map, take}
 use Rattle.lrlex.specs.Views.{definition_of, item_of}
 use Rattle.lrlex_cli.specs.Lines.{lines}

@@ -1,7 +1,0 @@
--- The lines of the faults so far stand in `text`.
-use Rattle.std.proofs.Common.{◌≡◌, string_bytes, take}
-use Rattle.lrlex_cli.specs.Report.{fault_lines}
-use Rattle.lrlex_cli.proofs.report.fault_lines.Given as goal
-
-abbrev pub invariant-loop-fault : goal.invariant-loop-fault
-invariant-loop-fault l = string_bytes l.text ≡ fault_lines l.rules (take l.fault-index l.faults)

@@ -1,7 +1,0 @@
--- The places so far stand behind what stood in `text`.
-use Rattle.std.proofs.Common.{◌≡◌, ◌++◌, string_bytes, take}
-use Rattle.lrlex_cli.specs.Report.{more_places}
-use Rattle.lrlex_cli.proofs.report.push_more.Given as goal
-
-abbrev pub invariant-loop-span : goal.invariant-loop-span
-invariant-loop-span l = string_bytes l.text ≡ string_bytes l.initial.text ++ more_places l.rules (take l.span-index l.spans)

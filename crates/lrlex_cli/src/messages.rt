@@ -1,0 +1,7 @@
+//! What the program says of its faults, without the end of the line.
+
+pub(crate) const USAGE: &str = "Usage: lrlex <lexer.l> <input file>";
+
+pub(crate) const OUT_OF_MEMORY: &str = "Out of memory";
+
+pub(crate) const CANNOT_WRITE: &str = "Can't write";

@@ -1,3 +1,0 @@
-pub mod MarkLemmas
-pub mod PlaceLemmas
-pub mod FaultLemmas

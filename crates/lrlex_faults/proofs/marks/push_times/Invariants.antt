@@ -1,9 +1,0 @@
--- So many stand behind what stood in `out`.
-use Rattle.std.proofs.Common.{◌≡◌, ◌-◌, ◌≤◌, ◌++◌, replicate, string_bytes}
-use Rattle.lrlex_faults.proofs.marks.push_times.Given as goal
-
-abbrev pub invariant-times : goal.invariant-times
-invariant-times l = (l.done ≤ l.times) × (string_bytes l.out ≡ string_bytes l.initial.out ++ replicate l.done l.c)
-
-abbrev pub decreases-times : goal.decreases-times
-decreases-times l = l.times - l.done

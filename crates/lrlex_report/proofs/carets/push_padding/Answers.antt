@@ -1,0 +1,10 @@
+use Rattle.std.proofs.Common.{◌++◌, string_bytes, sym, ap, ◌∙◌, map-id}
+use Rattle.std.proofs.lemmas.Iterator.{YieldsList-from_chars}
+use Rattle.std.proofs.lemmas.Iterator.Consumers.{YieldsList-end}
+use Rattle.lrlex_report.specs.Carets.{padding}
+use Rattle.lrlex_report.proofs.carets.push_padding.Goals as goal
+
+pub returns : goal.returns
+returns c =
+    let end = YieldsList-end (YieldsList-from_chars c.args.front.now c.utf8.front cc) c.loop-c.yielded _ c.loop-c.yielded_by _ _ c.in-None.is c.next.ensures.steps in
+    c.loop-c.invariant ∙ ap (λ cs. string_bytes c.args.out.now ++ padding cs) (sym (map-id c.loop-c.yielded) ∙ end.0)

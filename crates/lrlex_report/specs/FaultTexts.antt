@@ -1,0 +1,59 @@
+-- What is shown of the errors of a rule text.
+use Rattle.std.specs.Prelude.{◌≡◌, ℕ, List, [], ◌∷◌, ◌++◌, codes, flat_map, MatchOption, ◌==◌, if◌then◌else◌}
+use Rattle.lrlex_base.specs.Spans.{as_span, span_start, span_end}
+use Rattle.lrlex_base.specs.declared.spans.Span.{Span}
+use Rattle.lrlex_rules.specs.LexBuildError.{message, kind_text, fault_kind, fault_spans}
+use Rattle.lrlex_rules.specs.declared.faults.LexErrorKind.{LexErrorKind}
+use Rattle.lrlex_rules.specs.declared.faults.LexErrorKind.TheVariants.{UnknownDeclaration}
+use Rattle.lrlex_rules.specs.declared.faults.LexBuildError.{LexBuildError}
+use Rattle.lrlex_report.specs.Encoding.{mark_note}
+use Rattle.lrlex_report.specs.PlaceTexts.{place_text}
+
+-- the text begins with `front`
+abbrev pub BeginsWith : List ℕ → List ℕ → Type 0
+BeginsWith front text = (rest : List ℕ) × (text ≡ front ++ rest)
+
+-- the message of the kind; where `regex` refuses the pattern, its reason follows
+abbrev pub IsMessageOf : LexErrorKind → List ℕ → Type 0
+IsMessageOf kind text = MatchOption (kind_text kind) (BeginsWith (message kind ++ codes ": ") text) (λ known. text ≡ known)
+
+-- what the message of an unknown declaration ends with: it names a byte order mark if the text begins with one
+abbrev pub first_note : (rules : List ℕ) → List Span → List ℕ
+first_note rules [] = []
+first_note rules (x ∷ xs) = mark_note rules (span_start x)
+
+abbrev pub kind_note : (rules : List ℕ) → List Span → LexErrorKind → List ℕ
+kind_note rules xs UnknownDeclaration = first_note rules xs
+kind_note rules xs _ = []
+
+abbrev pub fault_note : (rules : List ℕ) → LexBuildError → List ℕ
+fault_note rules e = kind_note rules (fault_spans e) (fault_kind e)
+
+-- the message at each of these places
+abbrev pub at_each : (file rules said : List ℕ) → List Span → List ℕ
+at_each file rules said xs = flat_map (λ x. place_text file rules (as_span x) said) xs
+
+-- the first place of something that is declared twice; `INITIAL`, which no text declares, has an empty one
+abbrev pub first_text : (file rules : List ℕ) → Span → List ℕ
+first_text file rules x =
+    if span_start x == span_end x then [] else place_text file rules (as_span x) (codes "first here")
+
+-- the message at an error's place; of several, which are those of a duplicate, at each but the first, and then the first
+abbrev pub places_text : (file rules said : List ℕ) → List Span → List ℕ
+places_text file rules said [] = file ++ (codes ": " ++ (said ++ 10 ∷ []))
+places_text file rules said (x ∷ []) = place_text file rules (as_span x) said
+places_text file rules said (x ∷ y ∷ ys) =
+    at_each file rules said (y ∷ ys) ++ first_text file rules x
+
+-- what is shown of an error
+abbrev pub IsFaultText : (file rules : List ℕ) → LexBuildError → List ℕ → Type 0
+IsFaultText file rules e text =
+    (said : List ℕ) × IsMessageOf (fault_kind e) said
+    × (text ≡ places_text file rules (said ++ fault_note rules e) (fault_spans e))
+
+-- what is shown of errors, one after the other
+abbrev pub AreFaultTexts : (file rules : List ℕ) → List LexBuildError → List ℕ → Type 0
+AreFaultTexts file rules [] text = text ≡ []
+AreFaultTexts file rules (e ∷ es) text =
+    (front : List ℕ) × (back : List ℕ) × IsFaultText file rules e front × AreFaultTexts file rules es back
+    × (text ≡ front ++ back)

@@ -1,0 +1,156 @@
+//! The errors of a rule text, as people read them.
+ghost use Rattle.std.specs.Prelude.{◌≡◌, ◌++◌, IfOk, OnOk, string_bytes};
+ghost use Rattle.lrlex_rules.specs.LexBuildError.{fault_kind, fault_spans};
+ghost use Rattle.lrlex_report.specs.FaultTexts.{IsMessageOf, fault_note, at_each, first_text, places_text, IsFaultText, AreFaultTexts};
+
+use crate::encoding::mark_note;
+use crate::places::Source;
+use lrlex_base::{Span, Spanned};
+use lrlex_rules::{LexBuildError, LexErrorKind};
+use std::alloc::{AllocError, Global};
+use std::fmt::Write;
+
+/// Why `regex` refuses a pattern. For a syntax error the places that `regex` reports are left out: they count in the pattern as it
+/// is compiled, which is in no file.
+fn reason_of(alloc: Global, error: &regex::Error) -> Result<String, AllocError> {
+    match error {
+        regex::Error::Syntax(fault) => String::from_str(alloc, fault.kind.message()),
+        _ => format!(in alloc; "{error}"),
+    }
+}
+
+/// The message of an error, with the reason if `regex` refuses a pattern.
+fn message_of(alloc: Global, fault: &LexBuildError) -> Result<String, AllocError>
+    ensures { IfOk result (λ s. IsMessageOf (fault_kind fault.now) (string_bytes s)) }
+{
+    match fault.kind() {
+        LexErrorKind::RegexError(error) => {
+            let mut message = String::from_str(alloc, fault.kind().message())?;
+            message.push_str(": ")?;
+            message.push_str(&reason_of(alloc, error)?)?;
+            Ok(message)
+        }
+        kind => String::from_str(alloc, kind.message()),
+    }
+}
+
+/// What the message of an error ends with: it names the byte order mark if that is the unknown declaration, and else is empty.
+fn fault_note(rules: &str, fault: &LexBuildError) -> &'static str
+    ensures { result.now ≡ fault_note rules.now fault.now }
+{
+    match (fault.kind(), fault.spans().first()) {
+        (LexErrorKind::UnknownDeclaration, Some(first)) => mark_note(rules, first.start()),
+        _ => "",
+    }
+}
+
+/// Adds the message at each span.
+fn push_each(
+    alloc: Global,
+    out: &mut String,
+    source: &Source<'_>,
+    message: &str,
+    spans: &[Span],
+) -> Result<(), AllocError>
+    ensures { OnOk result (string_bytes out.new ≡ string_bytes out.old
+        ++ at_each source.now.file.now source.now.text.now message.now spans.now) }
+{
+    for span in spans {
+        source.push_place(alloc, out, *span, message)?;
+    }
+    Ok(())
+}
+
+/// Adds the first place of something that is declared twice. `INITIAL` has an empty span, and none is shown.
+fn push_first(
+    alloc: Global,
+    out: &mut String,
+    source: &Source<'_>,
+    span: Span,
+) -> Result<(), AllocError>
+    ensures { OnOk result (string_bytes out.new ≡ string_bytes out.old
+        ++ first_text source.now.file.now source.now.text.now span) }
+{
+    if span.start() == span.end() {
+        Ok(())
+    } else {
+        source.push_place(alloc, out, span, "first here")
+    }
+}
+
+/// Adds the message at the spans of an error.
+fn push_places(
+    alloc: Global,
+    out: &mut String,
+    source: &Source<'_>,
+    message: &str,
+    spans: &[Span],
+) -> Result<(), AllocError>
+    ensures { OnOk result (string_bytes out.new ≡ string_bytes out.old
+        ++ places_text source.now.file.now source.now.text.now message.now spans.now) }
+{
+    match spans.split_first() {
+        None => {
+            let file = source.file;
+            write!(out, "{file}: {message}\n")
+        }
+        Some((first, others)) => {
+            if others.is_empty() {
+                return source.push_place(alloc, out, *first, message);
+            }
+            push_each(alloc, out, source, message, others)?;
+            push_first(alloc, out, source, *first)
+        }
+    }
+}
+
+/// An error of the text, as people read it.
+fn shown_fault(
+    alloc: Global,
+    source: &Source<'_>,
+    fault: &LexBuildError,
+) -> Result<String, AllocError>
+    ensures { IfOk result (λ shown. IsFaultText source.now.file.now source.now.text.now fault.now
+        (string_bytes shown)) }
+{
+    let mut message = message_of(alloc, fault)?;
+    message.push_str(fault_note(source.text, fault))?;
+    let mut shown = String::new(alloc);
+    push_places(alloc, &mut shown, source, &message, fault.spans())?;
+    Ok(shown)
+}
+
+/// An error of a rule text, as people read it: `FILE:L:C: MESSAGE`, then the line with its number, then carets under the place.
+///
+/// Of a duplicate each place but the first is shown so, and then the first, as `first here`. `rules` is the text that has the
+/// error; in another text the nearest places are shown.
+pub fn fault_text(
+    alloc: Global,
+    file: &str,
+    rules: &str,
+    fault: &LexBuildError,
+) -> Result<String, AllocError>
+    ensures { IfOk result (λ shown. IsFaultText file.now rules.now fault.now (string_bytes shown)) }
+{
+    let source = Source::new(alloc, file, rules)?;
+    shown_fault(alloc, &source, fault)
+}
+
+/// All errors of a rule text, one after the other, each as `fault_text` shows it.
+pub fn faults_text(
+    alloc: Global,
+    file: &str,
+    rules: &str,
+    faults: &[LexBuildError],
+) -> Result<String, AllocError>
+    ensures { IfOk result (λ shown. AreFaultTexts file.now rules.now faults.now
+        (string_bytes shown)) }
+{
+    let source = Source::new(alloc, file, rules)?;
+    let mut shown = String::new(alloc);
+    for fault in faults {
+        let one = shown_fault(alloc, &source, fault)?;
+        shown.push_str(&one)?;
+    }
+    Ok(shown)
+}

@@ -1,0 +1,183 @@
+//! A place in a text, its line, and carets under it.
+ghost use Rattle.std.specs.Prelude.{◌≡◌, ◌≤◌, ◌++◌, IfOk, OnOk, IsCharBoundary, codes, string_bytes, length, min, slice_range};
+ghost use Rattle.lrlex_base.specs.Places.{AreBreaksOf, line_of, column_of, whole_lines};
+ghost use Rattle.lrlex_base.specs.Spans.{as_span, span_start, span_end, span};
+ghost use Rattle.lrlex_report.specs.PlaceTexts.{nearest, before_return, line_at, heading, numbered, underlined, excerpt, place_text};
+
+use crate::carets::{push_carets, push_line, push_padding, push_times};
+use lrlex_base::{NewlineCache, Span};
+use std::alloc::{AllocError, Global};
+use std::fmt::Write;
+
+/// A text with the name of its file and its line breaks.
+#[derive(Drop)]
+pub(crate) struct Source<'t> {
+    pub(crate) file: &'t str,
+    pub(crate) text: &'t str,
+    newlines: NewlineCache,
+    ghost of_text: { AreBreaksOf text.now newlines },
+}
+
+/// The greatest character boundary of the text up to an offset. Offsets count bytes from 0.
+pub(crate) fn nearest(text: &str, byte: usize) -> usize
+    ensures value { result ≡ nearest text.now byte }
+    ensures boundary { IsCharBoundary text.now result }
+{
+    text.floor_char_boundary(byte)
+}
+
+/// The end of a line, before a carriage return that ends it.
+fn before_return(text: &str, begin: usize, end: usize) -> usize
+    requires boundary { IsCharBoundary text.now end }
+    ensures value { result ≡ before_return text.now (span begin end) }
+    ensures boundary { IsCharBoundary text.now result }
+    ensures begin { begin ≤ end → begin ≤ result }
+{
+    if begin < end && text.as_bytes()[end - 1] == b'\r' {
+        end - 1
+    } else {
+        end
+    }
+}
+
+/// The line that a place is in.
+fn line_at(newlines: &NewlineCache, text: &str, at: usize) -> Span
+    requires breaks { AreBreaksOf text.now newlines.now }
+    requires at { IsCharBoundary text.now at }
+    ensures value { as_span result ≡ line_at text.now at }
+    ensures start { IsCharBoundary text.now (span_start result) }
+    ensures end { IsCharBoundary text.now (span_end result) }
+{
+    let (begin, end) = newlines.span_line_bytes(Span::new(at, at));
+    Span::new(begin, before_return(text, begin, end))
+}
+
+/// The text from one place up to another; empty if that isn't after it.
+fn part(text: &str, from: usize, to: usize) -> &str
+    requires from { IsCharBoundary text.now from }
+    requires to { IsCharBoundary text.now to }
+    ensures { result.now ≡ slice_range text.now from to }
+{
+    if from < to { &text[from..to] } else { "" }
+}
+
+/// Adds `FILE:L:C: MESSAGE`.
+fn push_heading(
+    out: &mut String,
+    file: &str,
+    line: usize,
+    column: usize,
+    message: &str,
+) -> Result<(), AllocError>
+    ensures { OnOk result (string_bytes out.new ≡ string_bytes out.old
+        ++ heading file.now line column message.now) }
+{
+    write!(out, "{file}:{line}:{column}: {message}\n")
+}
+
+/// Adds a line's number and its text.
+fn push_numbered(out: &mut String, line: usize, text: &str) -> Result<(), AllocError>
+    ensures { OnOk result (string_bytes out.new ≡ string_bytes out.old ++ numbered line text.now) }
+{
+    write!(out, "{line} | ")?;
+    push_line(out, text)?;
+    out.push_str("\n")
+}
+
+/// Adds the line of carets: they are under `part`, and `front` is the text of the line before it.
+fn push_underlined(
+    alloc: Global,
+    out: &mut String,
+    line: usize,
+    front: &str,
+    part: &str,
+) -> Result<(), AllocError>
+    ensures { OnOk result (string_bytes out.new ≡ string_bytes out.old
+        ++ underlined line front.now part.now) }
+{
+    let number = format!(in alloc; "{line}")?;
+    push_times(out, ' ', number.len())?;
+    out.push_str(" | ")?;
+    push_padding(out, front)?;
+    push_carets(out, part)?;
+    out.push_str("\n")
+}
+
+impl<'t> Source<'t> {
+    /// A text and the name of its file.
+    pub(crate) fn new(alloc: Global, file: &'t str, text: &'t str) -> Result<Source<'t>, AllocError>
+        ensures file { IfOk result (λ source. source.file.now ≡ file.now) }
+        ensures text { IfOk result (λ source. source.text.now ≡ text.now) }
+    {
+        let newlines = NewlineCache::from_str(alloc, text)?;
+        Ok(Source {
+            file,
+            text,
+            newlines,
+        })
+    }
+
+    /// Adds the line of a place, and carets from there up to another place, or to the line's end if that comes first.
+    fn push_excerpt(
+        &self,
+        alloc: Global,
+        out: &mut String,
+        number: usize,
+        at: usize,
+        to: usize,
+    ) -> Result<(), AllocError>
+        requires at { IsCharBoundary self.now.text.now at }
+        requires to { IsCharBoundary self.now.text.now to }
+        requires number { number ≡ line_of self.now.text.now at }
+        ensures { OnOk result (string_bytes out.new ≡ string_bytes out.old
+            ++ excerpt self.now.text.now at to) }
+    {
+        let line = line_at(&self.newlines, self.text, at);
+        let (start, end) = (line.start(), line.end());
+        push_numbered(out, number, part(self.text, start, end))?;
+        let front = part(self.text, start, at);
+        push_underlined(alloc, out, number, front, part(self.text, at, to.min(end)))
+    }
+
+    /// Adds a message at a span, the line where the span begins, and carets under the span.
+    pub(crate) fn push_place(
+        &self,
+        alloc: Global,
+        out: &mut String,
+        span: Span,
+        message: &str,
+    ) -> Result<(), AllocError>
+        ensures { OnOk result (string_bytes out.new ≡ string_bytes out.old
+            ++ place_text self.now.file.now self.now.text.now (as_span span) message.now) }
+    {
+        let at = nearest(self.text, span.start());
+        let to = nearest(self.text, span.end());
+        let (line, column) = self
+            .newlines
+            .byte_to_line_num_and_col_num(self.text, at)
+            .unwrap();
+        push_heading(out, self.file, line, column, message)?;
+        self.push_excerpt(alloc, out, line, at, to)
+    }
+}
+
+/// A message at a span of a text, as compilers show it: `FILE:L:C: MESSAGE`, then the line with its number, then carets under the
+/// span, up to the end of the line where it begins.
+///
+/// Any span will do. A span end inside a character is moved back to the character's start, and one after the text's end to that
+/// end.
+pub fn place_text(
+    alloc: Global,
+    file: &str,
+    text: &str,
+    span: Span,
+    message: &str,
+) -> Result<String, AllocError>
+    ensures { IfOk result (λ shown. string_bytes shown
+        ≡ place_text file.now text.now (as_span span) message.now) }
+{
+    let source = Source::new(alloc, file, text)?;
+    let mut shown = String::new(alloc);
+    source.push_place(alloc, &mut shown, span, message)?;
+    Ok(shown)
+}

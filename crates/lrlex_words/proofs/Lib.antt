@@ -1,3 +1,0 @@
-pub mod CommandLemmas
-pub mod NumberLemmas
-pub mod SplitLemmas

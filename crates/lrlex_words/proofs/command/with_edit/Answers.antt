@@ -1,7 +1,0 @@
-use Rattle.lrlex_words.proofs.CommandLemmas.{one_more, last_more}
-use Rattle.lrlex_words.proofs.command.with_edit.Goals as goal
-
-pub returns : goal.returns
-returns c =
-    let two = one_more _ _ _ _ c.in_ok-command-2.ensures c.in_ok-command.ensures in
-    last_more _ _ _ _ two c.with_text.ensures

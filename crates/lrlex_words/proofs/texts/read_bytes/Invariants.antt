@@ -1,6 +1,0 @@
--- What was read so far stands in `bytes`.
-use Rattle.std.specs.Io.KnownBytes.{Consumes}
-use Rattle.lrlex_words.proofs.texts.read_bytes.Given as goal
-
-abbrev pub invariant-loop : goal.invariant-loop
-invariant-loop g l = Consumes (g.R.Read.remaining l.initial.reader) (g.R.Read.remaining l.reader) l.bytes.items

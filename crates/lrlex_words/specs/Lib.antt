@@ -1,3 +1,0 @@
-pub mod Command
-pub mod Reading
-pub mod Texts
