@@ -1,0 +1,80 @@
+"""Runs lrlex_replay over cases with steps. steps.md says what a case is, and which lines its steps answer."""
+
+import json
+import unittest
+
+from support import programs
+
+PROGRAM = "lrlex_replay"
+
+
+class TestCase(unittest.TestCase):
+    """Tests that run lrlex_replay. They are skipped where it isn't built."""
+
+    def setUp(self):
+        programs.need(PROGRAM)
+
+
+class Answers:
+    """The lines that a case answers, each a key and a JSON value."""
+
+    def __init__(self, lines):
+        self.pairs = [pair(line) for line in lines]
+
+    def keys(self):
+        """The keys, in order."""
+        return [key for key, _ in self.pairs]
+
+    def values(self, key):
+        """All values of this key, in order."""
+        return [json.loads(value) for found, value in self.pairs if found == key]
+
+    def last(self, key):
+        """The last value of this key. None where there is none."""
+        found = self.values(key)
+        return found[-1] if found else None
+
+
+def pair(line):
+    """The key and the value of a line, as texts."""
+    key, _, value = line.decode().partition(" ")
+    return key, value
+
+
+def one_line(number, case):
+    """The case as a line of JSON. Its id is its number, unless it has one."""
+    return json.dumps({"id": str(number), **case}, ensure_ascii=False) + "\n"
+
+
+def as_input(cases):
+    """The cases as the program reads them."""
+    return "".join(one_line(number, case) for number, case in enumerate(cases)).encode()
+
+
+def run(text, path=None):
+    """The bytes that the program writes of this text of cases."""
+    path = path or programs.path_of(PROGRAM)
+    ended = programs.run([path], text, timeout=600)
+    if ended.status != 0 or ended.err:
+        raise AssertionError(f"{path} ended with status {ended.status}: {ended.err!r} after {ended.out[-300:]!r}")
+    return programs.as_bytes(ended.out)
+
+
+def split(out, count):
+    """The lines of each of so many cases, without the line that names it."""
+    parts = (b"\n" + out).split(b'\ncase "')
+    last = parts[-1].rstrip(b"\n").rsplit(b"\n", 1)
+    if parts[0] or len(parts) != count + 1 or not last[-1].startswith(b"%d cases: " % count):
+        raise AssertionError(f"{len(parts) - 1} cases were answered in place of {count}, at the end {last[-1]!r}")
+    parts[-1] = last[0]
+    return [part.split(b"\n")[1:] for part in parts[1:]]
+
+
+def answers(cases):
+    """What each case answers."""
+    return [Answers(lines) for lines in split(run(as_input(cases)), len(cases))]
+
+
+def answer(case):
+    """What one case answers."""
+    return answers([case])[0]

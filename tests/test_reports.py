@@ -1,0 +1,122 @@
+"""What people are shown of faults and of errors, against worked answers."""
+
+import unittest
+
+from support import replay
+from support.definitions import from_text
+
+# Rule texts, and what is shown of their faults.
+FAULTS = [
+    (
+        "%%\nab 'A'\nc 'C'\na+b 'A'\n",
+        "tokens.l:4:6: Rule name already exists\n4 | a+b 'A'\n  |      ^\n"
+        "tokens.l:2:5: first here\n2 | ab 'A'\n  |     ^\n",
+    ),
+    (
+        "%%\r\n漢 'AB'\r\nb\t'AB'\r\n😀c 'AB'",
+        "tokens.l:3:4: Rule name already exists\n3 | b\t'AB'\n  |  \t ^^\n"
+        "tokens.l:4:5: Rule name already exists\n4 | 😀c 'AB'\n  |      ^^\n"
+        "tokens.l:2:4: first here\n2 | 漢 'AB'\n  |     ^^\n",
+    ),
+    ("", "tokens.l:1:1: File ends prematurely\n1 | \n  | ^\n"),
+    ("%x A\n", "tokens.l:2:1: File ends prematurely\n2 | \n  | ^\n"),
+    ("%x INITIAL\n%%\n", "tokens.l:1:4: Start state already exists\n1 | %x INITIAL\n  |    ^^^^^^^\n"),
+    ("%%\na) 'A'\n", "tokens.l:2:1: Invalid regular expression: unopened group\n2 | a) 'A'\n  | ^\n"),
+    ("x\n%%\n", "tokens.l:1:1: Unknown declaration\n1 | x\n  | ^\n"),
+    (
+        "\ufeff%%\na 'A'\n",
+        "tokens.l:1:1: Unknown declaration: the text begins with a byte order mark (U+FEFF)\n1 | \ufeff%%\n  | ^\n",
+    ),
+    ("\n\ufeff%%\na 'A'\n", "tokens.l:2:1: Unknown declaration\n2 | \ufeff%%\n  | ^\n"),
+]
+
+# The rules by which inputs are lexed.
+RULES = "%x TEXT\n%%\n[a漢語\\t\\n]+ 'A'\n\\[ <+TEXT>;\n<TEXT>b 'B'\n<TEXT>\\] <-TEXT>;\n"
+
+# Inputs, and what is shown of where lexing them stops.
+STOPS = [
+    ("aa[b]a", ""),
+    ("x", "input.txt:1:1: unexpected character 'x'\n1 | x\n  | ^\n"),
+    (
+        "a\n漢\ta語\x07a\n",
+        "input.txt:2:5: unexpected character '\\u{7}'\n2 | 漢\ta語\ufffda\n  |   \t   ^\n",
+    ),
+    ("a\na\r\n", "input.txt:2:2: unexpected character '\\r'\n2 | a\n  |  ^\n"),
+    ("aa[bba", "input.txt:1:6: unexpected character 'a' in start state TEXT\n1 | aa[bba\n  |      ^\n"),
+    (
+        "\ufeffa",
+        "input.txt:1:1: unexpected character '\ufeff': the text begins with a byte order mark (U+FEFF)\n1 | \ufeffa\n  | ^\n",
+    ),
+    ("a\ufeff", "input.txt:1:2: unexpected character '\ufeff'\n1 | a\ufeff\n  |  ^\n"),
+]
+
+# Rule files, and what is shown of the bytes that aren't text or of the faults.
+FILES = [
+    (b"\xff", "tokens.l:1:1: not UTF-8, byte 0xFF at offset 0\n1 | \n  | ^\n"),
+    (b"%%\na 'A'\n\xe6\xbc", "tokens.l:3:1: not UTF-8, byte 0xE6 at offset 9\n3 | \n  | ^\n"),
+    (b"a\xc0\xaf 'A'\n", "tokens.l:1:2: not UTF-8, byte 0xC0 at offset 1\n1 | a\n  |  ^\n"),
+    (b"\xe6\xbc\xa2\xed\xa0\x80", "tokens.l:1:2: not UTF-8, byte 0xED at offset 3\n1 | 漢\n  |   ^\n"),
+    (b"%%\n\ta\x80b\n\xff\n", "tokens.l:2:3: not UTF-8, byte 0x80 at offset 5\n2 | \ta\n  | \t ^\n"),
+    (b"", "tokens.l:1:1: File ends prematurely\n1 | \n  | ^\n"),
+    (b"%%\n\xe6\xbc\xa2 'A'\n", ""),
+]
+
+TEN_LINES = "1\n2\n3\n4\n5\n6\n7\n8\n9\n漢字 x\n"
+
+# Spans of the ten lines, and what is shown of them.
+SPANS = [
+    ([18, 21], "f:10:1: m\n10 | 漢字 x\n   | ^^\n"),
+    ([19, 20], "f:10:1: m\n10 | 漢字 x\n   | ^\n"),
+    ([21, 99], "f:10:2: m\n10 | 漢字 x\n   |   ^^^^\n"),
+    ([99, 99], "f:11:1: m\n11 | \n   | ^\n"),
+    ([0, 99], "f:1:1: m\n1 | 1\n  | ^\n"),
+]
+
+# Rule texts, the text of the first fault alone, and what is shown of it.
+FIRST = [
+    ("%%\na 'A'\nb\n<c>d ;\n", "Rule is missing a space", "tokens.l:3:1: Rule is missing a space\n3 | b\n  | ^\n"),
+    ("%%\na 'A'\n", "", ""),
+]
+
+
+def shown(step):
+    """What is shown by the step."""
+    return replay.answer(from_text("%%\n").case(step)).last("shown")
+
+
+class Reports(replay.TestCase):
+    """Faults of rule texts and files, and where lexing stopped, as people are shown them."""
+
+    def check_shown(self, rows):
+        """Each step shows what it must."""
+        cases = [from_text("%%\n").case(step) for step, _ in rows]
+        for (step, wanted), answers in zip(rows, replay.answers(cases), strict=True):
+            with self.subTest(step=step):
+                self.assertEqual(answers.last("shown"), wanted)
+
+    def test_faults_of_a_rule_text(self):
+        self.check_shown([(["complaints", rules, ""], wanted) for rules, wanted in FAULTS])
+
+    def test_where_lexing_stopped(self):
+        self.check_shown([(["complaints", RULES, text], wanted) for text, wanted in STOPS])
+
+    def test_the_first_fault_alone(self):
+        self.check_shown([(["first_fault", rules], f"{text}\n{place}" if text else "") for rules, text, place in FIRST])
+
+    def test_a_refused_pattern_has_the_reason_of_regex(self):
+        text = shown(["first_fault", "%%\n( 'A'"])
+        self.assertTrue(text.startswith("Invalid regular expression: "), text)
+
+    def test_bytes_that_are_not_utf_8(self):
+        self.check_shown([(["complaints_of_file", list(data), ""], wanted) for data, wanted in FILES])
+
+    def test_any_span(self):
+        self.check_shown([(["place_text", TEN_LINES, span, "m"], wanted) for span, wanted in SPANS])
+
+    def test_a_stop_past_the_end(self):
+        wanted = "f:2:1: unexpected end of the text\n2 | \n  | ^\n"
+        self.assertEqual(shown(["stop_text", "a\r\n", 9, 7]), wanted)
+
+
+if __name__ == "__main__":
+    unittest.main()
