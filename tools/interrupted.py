@@ -34,7 +34,8 @@ def of_tree(started=0):
                 words = it.read().replace(b"\0", b" ").decode(errors="replace").strip()
         except OSError:
             continue
-        if pid not in above and words and (f"{at}/".startswith(f"{crates.TOP}/") or f"{crates.TOP}/" in words or re.search(rf"/lrlex-[a-z]+-{started}-", f"{at} {words}")):
+        is_of_it = f"{crates.TOP}/" in f"{at}/ {words}" or re.search(rf"/lrlex-[a-z]+-{started}-", f"{at} {words}")
+        if pid not in above and words and is_of_it:
             found[pid] = words[:160]
     return found
 
