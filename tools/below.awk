@@ -2,8 +2,9 @@
 {
     sub(/#.*/, "")
     if (split($0, sides, ":") < 2) next
-    name = sides[1]
-    gsub(/[ \t]/, "", name)
+    # a static library has its kind after its name
+    split(sides[1], words, " ")
+    name = words[1]
     names[++count] = name
     below[name] = sides[2]
 }

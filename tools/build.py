@@ -1,9 +1,8 @@
-"""Builds crates with all that they need, side by side: build.py [--times] [CRATE..], the program of ./lrlex without a word.
+"""Builds crates with all that they need, side by side: build.py [CRATE..], lrlex_program without a name.
 
-A crate is built once those that it needs are, by rt lib, or by rt run where it is a program; both prove what changed. The crate
-with the longest chain of others after it goes ahead, and the others take what processor time it leaves. A run of rt holds the
-folders of the crates below its own, so one that would wait for another runs in a room: a copy of these crates, with the built
-libraries, in the crate's out/. What an interrupted build proved, the next takes up.
+A crate is built once those that it needs are: a library for the first time by anew.py, which shares the work best, and later by
+rt lib, which proves what changed; a program by rt run. The crate with the longest chain of others after it goes ahead, and the
+others take what processor time it leaves. What was built when a build is interrupted, the next takes.
 
 A terminal gets one line, which is written over; a pipe gets a line for each crate that is done. All of it goes to standard error.
 """
@@ -23,8 +22,9 @@ import processes
 import rooms
 
 SO_FAR = re.compile(r"^so far: (\d+) of (\d+) functions checked")
-# Memory of a check, in MB: of each of its processes, and more for each 1,000 lines. Measured: lrlex had 1,400 in each of five.
-PROCESS, LINES = 900, 80
+# Memory of a check, in MB: of each of its processes, and more for each 1,000 lines. Measured: 1,200 for lrlex_boundaries, 2,800
+# for lrlex, of which much is shared.
+PROCESS, LINES = 900, 140
 
 
 def free_memory():
@@ -49,38 +49,10 @@ def lines_of(folder, end):
     return count
 
 
-class Room:
-    """A folder in the crate's out/ in which rt builds it without the folders that another run holds."""
-
-    def __init__(self, crate, below):
-        self.crate, self.below, self.top = crate, below, f"{crate.folder}/out/room"
-        self.folder = f"{self.top}/crates/{crate.name}"
-
-    def leave(self):
-        """Puts what was built and kept in the room in its place, also after a build that was cut off, and removes the room."""
-        for part in rooms.KEPT:
-            there, here = f"{self.folder}/out/{part}", f"{self.crate.folder}/out/{part}"
-            if os.path.isdir(there) and not os.path.isdir(here):
-                os.rename(there, here)
-        shutil.rmtree(self.top, ignore_errors=True)
-
-    def enter(self):
-        """Makes the room, and moves there what earlier checks of the crate kept."""
-        for it in [*self.below, self.crate]:
-            rooms.copy_sources(it.folder, f"{self.top}/crates/{it.name}")
-        for it in self.below:
-            rooms.copy_built(it.folder, f"{self.top}/crates/{it.name}", ["rlib"])
-        rooms.write_list([*self.below, self.crate], self.top)
-        os.makedirs(f"{self.folder}/out", exist_ok=True)
-        for part in rooms.KEPT:
-            if os.path.isdir(f"{self.crate.folder}/out/{part}"):
-                os.rename(f"{self.crate.folder}/out/{part}", f"{self.folder}/out/{part}")
-
-
 class Build:
     """The crates that are built, what each needs, and how far they are."""
 
-    def __init__(self, names):
+    def __init__(self, names, jobs=0):
         self.listed = crates.read()
         self.wanted = crates.with_below(names, self.listed)
         self.below = {it: crates.below(it, self.listed) for it in self.wanted}
@@ -92,7 +64,7 @@ class Build:
             after = [self.chain[one] for one in self.chain if it in self.below[one]]
             self.chain[it] = code[it] + proofs[it] // 3 + max(after, default=0)
         self.memory = {it: PROCESS + LINES * (code[it] + proofs[it]) // 1000 for it in self.wanted}
-        self.processors = len(os.sched_getaffinity(0))
+        self.jobs = jobs or min(len(os.sched_getaffinity(0)), 8)
         self.free = 0.85 * free_memory()
         self.alone, self.running, self.done = threading.Lock(), {}, {}
         self.begun, self.failed = time.monotonic(), None
@@ -101,7 +73,7 @@ class Build:
         """How far the build is, in one line."""
         parts = [f"{len(self.done)} of {len(self.wanted)} crates"]
         parts += [f"{name} {far}".strip() for name, far in self.running.items()]
-        return ", ".join(parts)
+        return ", ".join([*parts, f"{time.monotonic() - self.begun:.0f} s"])
 
     def tell(self, text=""):
         """Says how far the build is, over the line before on a terminal, or this text, which a pipe gets too."""
@@ -113,70 +85,66 @@ class Build:
 
     def jobs_for(self, name, used):
         """How many processes may check the crate at once; none where memory is short."""
-        for jobs in range(self.processors, 0, -1):
+        for jobs in range(self.jobs, 0, -1):
             if used + self.memory[name] * jobs <= self.free:
                 return jobs
         return 0 if used else 1
 
-    def run(self, name, jobs, is_held):
+    def words(self, name, jobs):
+        """The words that build the crate."""
+        if self.listed[name].is_program:
+            return ["rt", "run", "--jobs", str(jobs)]
+        if jobs == 1 or self.listed[name].kind:
+            return ["rt", "lib", "--jobs", str(jobs)]
+        return [sys.executable, "-B", f"{crates.TOP}/tools/anew.py", name, str(jobs)]
+
+    def run(self, name, jobs):
         """Builds the crate, and gives its log where that failed."""
-        crate, begun = self.listed[name], time.monotonic()
-        room = Room(crate, [self.listed[it] for it in self.below[name]])
-        room.leave()
-        if is_held:
-            room.enter()
+        crate, begun, log = self.listed[name], time.monotonic(), []
         behind = max(self.chain[it] for it in self.wanted if it not in self.done) - self.chain[name]
-        much = min(19, 5 + 14 * behind // 5000) if behind else 0
-        words = processes.give_way(["rt", "run" if crate.is_program else "lib", "--jobs", str(jobs)], much)
+        words = processes.give_way(self.words(name, jobs), min(19, 5 + 14 * behind // 5000) if behind else 0)
         given = f"{crate.folder}/stdin"
-        log = []
         with open(given if crate.is_program and os.path.isfile(given) else os.devnull, "rb") as stdin:
-            how = {"cwd": room.folder if is_held else crate.folder, "stdin": stdin, "stdout": -1, "stderr": -2}
-            child = processes.start(words, **how, text=True, errors="replace")
+            child = processes.start(words, cwd=crate.folder, stdin=stdin, stdout=-1, stderr=-2, text=True, errors="replace")
             for line in child.stdout:
                 log.append(line)
                 if found := SO_FAR.match(line):
-                    with self.alone:
-                        self.running[name] = f"{found[1]}/{found[2]}"
-                        self.tell()
+                    self.running[name] = f"{found[1]}/{found[2]}"
         status = processes.ended(child)
-        if is_held:
-            room.leave()
         with self.alone:
             del self.running[name]
             if not status:
                 self.done[name] = (begun - self.begun, time.monotonic() - self.begun)
                 self.tell(f"{name} is built, {len(self.done)} of {len(self.wanted)}, after {self.done[name][1]:.0f} s")
-        return "".join(log) if status else ""
+        return "".join(log) or f"it ended with status {status}\n" if status else ""
 
     def all(self):
-        """Builds all, and gives the log of a crate that failed."""
+        """Builds all, and gives the name and the log of a crate that failed."""
         left = sorted(self.wanted, key=lambda it: -self.chain[it])
-        used, held, futures = {}, {}, {}
+        used, futures = {}, {}
         with concurrent.futures.ThreadPoolExecutor(len(left)) as pool:
             while left or futures:
                 for name in [it for it in left if all(one in self.done for one in self.below[it])]:
                     jobs = self.jobs_for(name, sum(used.values()))
                     if not jobs:
                         break
-                    folders = {name, *self.below[name]}
-                    is_held = any(folders & it for it in held.values())
                     left.remove(name)
-                    used[name], held[name] = self.memory[name] * jobs, set() if is_held else folders
+                    used[name] = self.memory[name] * jobs
                     with self.alone:
                         self.running[name] = ""
-                        self.tell()
-                    futures[pool.submit(self.run, name, jobs, is_held)] = name
-                for it in concurrent.futures.wait(futures, return_when=concurrent.futures.FIRST_COMPLETED).done:
+                    futures[pool.submit(self.run, name, jobs)] = name
+                with self.alone:
+                    self.tell()
+                for it in concurrent.futures.wait(futures, 1, concurrent.futures.FIRST_COMPLETED).done:
                     name = futures.pop(it)
-                    used.pop(name), held.pop(name)
+                    del used[name]
                     if it.result():
                         processes.end_all()
                         return name, it.result()
         return "", ""
 
 
-def main(names=(), is_timed=False):
+def main(names=(), is_timed=False, jobs=0):
     """Builds these crates. The status is 1 where one fails, whose log is printed."""
     if not shutil.which("rt"):
         print("lrlex: building takes the Rattle kit: rt isn't on PATH", file=sys.stderr)
@@ -190,7 +158,7 @@ def main(names=(), is_timed=False):
         fcntl.flock(held, fcntl.LOCK_EX)
     except OSError:
         pass
-    build = Build(list(names) or [crates.PROGRAM])
+    build = Build(list(names) or [crates.PROGRAM], jobs)
     name, log = build.all()
     if sys.stderr.isatty():
         print("\r\033[K", end="", file=sys.stderr)
@@ -207,5 +175,4 @@ def main(names=(), is_timed=False):
 if __name__ == "__main__":
     # ./lrlex waits for it
     processes.end_with_parent()
-    words = sys.argv[1:]
-    sys.exit(main([it for it in words if it != "--times"], "--times" in words))
+    sys.exit(main(sys.argv[1:]))

@@ -4,17 +4,18 @@ import dataclasses
 import os
 
 TOP = os.path.dirname(os.path.dirname(os.path.abspath(__file__)))
-FAMILIES = ("public", "inside lrlex", "program", "tests and docs")
+FAMILIES = ("public", "inside lrlex", "program", "tests and docs", "edge")
 PROGRAM = "lrlex_program"
 
 
 @dataclasses.dataclass(frozen=True)
 class Crate:
-    """A line of crates.txt. What a crate needs are names of crates of this repository and of the kit."""
+    """A line of crates.txt. What a crate needs are names of crates of this repository and of the kit. A static library has a kind."""
 
     name: str
     family: str
     needs: tuple
+    kind: str = ""
 
     @property
     def folder(self):
@@ -23,6 +24,11 @@ class Crate:
     @property
     def is_program(self):
         return os.path.isfile(f"{self.folder}/src/main.rt")
+
+    @property
+    def line(self):
+        """The line of crates.txt."""
+        return f"{' '.join(filter(None, [self.name, self.kind]))}: {' '.join(self.needs)}\n"
 
 
 def read(path=""):
@@ -33,9 +39,10 @@ def read(path=""):
             text, mark, comment = line.partition("#")
             heading = comment.strip().lower()
             family = next((it for it in FAMILIES if mark and not text.strip() and heading.startswith(it)), family)
-            name, colon, needs = text.partition(":")
+            head, colon, needs = text.partition(":")
             if colon:
-                found[name.strip()] = Crate(name.strip(), family, tuple(needs.split()))
+                name, *kind = head.split()
+                found[name] = Crate(name, family, tuple(needs.split()), *kind)
     return found
 
 

@@ -1,8 +1,8 @@
 """Everything that must hold.
 
 The proofs by rt ci, each from nothing, with the tests and the programs; the edits of one function that the prover must refuse;
-the pages; the tests of tests/ over the programs that rt ci has built, with the runs of ./lrlex; refused memory; the recursions
-of the program; and laws on 10,000 random cases. Nothing is written into the tree but what rt builds in crates/*/out. What this
+the pages; the tests of tests/ over the programs that rt ci has built, with the runs of ./lrlex, and over the C library; refused
+memory; the recursions of the program; and laws on 10,000 random cases. Nothing is written into the tree but what rt builds in crates/*/out. What this
 machine can't try, as where there is no cc, is counted as skipped. At the end it says what took how long; the last line is
 'N passed, M failed', or 'N passed, M failed, K skipped'.
 
@@ -20,6 +20,7 @@ import threading
 import time
 
 import crates
+import dist
 import fmt
 import mustfail
 import oom
@@ -33,8 +34,9 @@ import soak
 COUNT = re.compile(r"(\d+) passed, (\d+) failed")
 PROVED = re.compile(r"rt: (\w+) (proved|is kept: .*)")
 DONE = re.compile(r"rt: .* (NOT )?PROVED|rt: .* proved")
-# Where the tests find the programs.
+# Where the tests find the programs, and the archive of the C library.
 PROGRAMS = "LRLEX_PROGRAMS"
+ARCHIVE = "LRLEX_ARCHIVE"
 # What a step that can't be tried here gives as its status.
 SKIPPED = 2
 
@@ -143,11 +145,14 @@ class Gate:
     def all(self):
         """Does all of it, and gives the status."""
         proofs = Proofs(os.environ[prover.RLIBS])
+        archive = Beside(archived, proofs)
         edits = Beside(mustfail.by_function, proofs)
         self.prove(proofs)
         self.count(*pages.main(COMMANDS))
         self.since("the pages")
         self.build()
+        self.count(*archive.counts("the archive of the C library", "built"))
+        self.since("the archive of the C library, what was left of it")
         tests = Beside(tested)
         self.count(*edits.counts("edits", "refused"))
         self.since("edits of one function, what was left of them")
@@ -194,6 +199,15 @@ class Beside(threading.Thread):
         return passed, failed, skipped
 
 
+def archived(proofs):
+    """Builds the archive of the C library, once rt ci has proved the libraries that it needs: rt ci proves it, and leaves none."""
+    listed = crates.read()
+    proofs.wait_for(crates.below(dist.LIBRARY, listed))
+    archive = os.environ[ARCHIVE]
+    told = prover.built(listed[dist.LIBRARY], archive, f"{os.path.dirname(archive)}/out/incremental", mustfail.BESIDE)
+    return [(not told, f"the archive of {dist.LIBRARY}: FAILED\n{told[-2000:]}" if told else f"the archive of {dist.LIBRARY}: built")]
+
+
 def tested():
     """The tests of tests/, each with whether it passed, and what to say."""
     status, told = processes.run([sys.executable, "-B", f"{crates.TOP}/tools/unittests.py"], cwd=crates.TOP)
@@ -231,7 +245,11 @@ def main(commands=()):
     with processes.scratch("gate") as scratch:
         os.environ[prover.RLIBS] = f"{scratch}/rlibs"
         os.environ[PROGRAMS] = f"{scratch}/programs"
+        os.environ[ARCHIVE] = f"{scratch}/archive/lib{dist.LIBRARY}.a"
         os.environ["PYTHONDONTWRITEBYTECODE"] = "1"
         os.mkdir(f"{scratch}/rlibs")
         os.mkdir(f"{scratch}/programs")
+        # rt ci moves aside what checks of the C library have kept, which speeds its build
+        os.makedirs(f"{scratch}/archive/out")
+        rooms.copy_built(crates.read()[dist.LIBRARY].folder, f"{scratch}/archive", ["incremental"])
         return Gate(scratch).all()

@@ -20,8 +20,8 @@ MOMENTS = ["rt: lrlex_base ", "rt: lrlex_rules ", "rt: lrlex "]
 SIGNALS = [signal.SIGINT, signal.SIGTERM, signal.SIGKILL]
 
 
-def of_tree():
-    """The processes, but for this one and those above it, that work in the tree or in a scratch folder of its tools."""
+def of_tree(started=0):
+    """The processes, but for this one and those above it, that work in the tree or in a scratch folder of the one that was started."""
     found, above, own = {}, set(), os.getpid()
     while own:
         above.add(own)
@@ -34,7 +34,8 @@ def of_tree():
                 words = it.read().replace(b"\0", b" ").decode(errors="replace").strip()
         except OSError:
             continue
-        if pid not in above and words and (f"{at}/".startswith((f"{crates.TOP}/", "/tmp/lrlex-")) or f"{crates.TOP}/" in words):
+        is_of_it = f"{crates.TOP}/" in f"{at}/ {words}" or re.search(rf"/lrlex-[a-z]+-{started}-", f"{at} {words}")
+        if pid not in above and words and is_of_it:
             found[pid] = words[:160]
     return found
 
@@ -60,7 +61,7 @@ def stopped(command, text, sign, seconds=3):
             print("interrupted: it had not ended after 20 seconds")
         took = time.monotonic() - began
     time.sleep(2)
-    left = {pid: words for pid, words in of_tree().items() if pid not in before}
+    left = {pid: words for pid, words in of_tree(it.pid).items() if pid not in before}
     print(f"interrupted: by {sign.name} after {text!r}; ended in {took:.1f} s, {len(left)} processes left", flush=True)
     for pid, words in left.items():
         print(f"    {pid}: {words}", flush=True)

@@ -1,8 +1,8 @@
 """Checks the pages alone, in seconds.
 
-Each line of a program that README.md or a crate's page shows must be a line of a crate that the gate proves, each contract that
-a crate's page quotes must be in src/, and the links, files, crates and commands that pages name must exist. A crate's pages are
-the files .md in its folder. The last line is 'pages: N passed, M failed'.
+Each line of a program that README.md or a crate's page shows must be a line of a crate that the gate proves, each line of rules
+that docs/rules.md shows one of rules/, each contract that a crate's page quotes must be in src/, and the links, files, crates and
+commands that pages name must exist. A crate's pages are the files .md in its folder. The last line is 'pages: N passed, M failed'.
 """
 
 import functools
@@ -45,7 +45,7 @@ def tree():
     """The files and folders of the repository, by their paths in it, without what is built."""
     found_ = []
     for at, folders, files in os.walk(crates.TOP):
-        folders[:] = sorted(it for it in folders if it not in ("out", ".git", "__pycache__"))
+        folders[:] = sorted(it for it in folders if it not in ("out", ".git", "__pycache__", "dist", "target"))
         found_ += [os.path.relpath(f"{at}/{it}", crates.TOP) for it in [*folders, *sorted(files)]]
     return found_
 
@@ -174,8 +174,11 @@ def all_checks(commands):
     """Each check by its name: what it finds, and why there is nothing to check, if so."""
     pages = found("*.md", "docs/*.md", "bench/*.md", "tests/*.md", "crates/*/*.md")
     of_crates = {it: os.path.basename(os.path.dirname(it)) for it in found("crates/*/*.md")}
-    for page in ["README.md", *[it for it in of_crates if it.endswith("/CALLING.md")]]:
-        yield f"programs of {page}", not_shown(page), "" if fences(page, "rust") else "it shows no program"
+    for page in ["README.md", *of_crates]:
+        if fences(page, "rust") or page.endswith(("README.md", "/CALLING.md")):
+            yield f"programs of {page}", not_shown(page), "" if fences(page, "rust") else "it shows no program"
+    known = {line for it in found("rules/*.l") for line in text_of(it).splitlines()}
+    yield "rules of docs/rules.md", [it for it in lines_of(fences("docs/rules.md", "lex")) if it not in known], ""
     for name in dict.fromkeys(of_crates.values()):
         with_quotes = [page for page, of in of_crates.items() if of == name and fences(page, "text")]
         for page in with_quotes:

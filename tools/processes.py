@@ -20,6 +20,7 @@ import time
 PR_SET_PDEATHSIG = 1
 LIBC = ctypes.CDLL(None, use_errno=True)
 RUNNING, FOLDERS, ALONE = set(), set(), threading.RLock()
+ENDING = threading.Event()
 
 
 def die_with_parent():
@@ -36,6 +37,8 @@ def start(words, **how):
     """Starts a child. What it is given as standard input is nothing, unless `how` says so."""
     how = {"stdin": subprocess.DEVNULL, "start_new_session": True, "preexec_fn": die_with_parent, **how}
     with ALONE:
+        if ENDING.is_set():
+            raise SystemExit(1)
         # pylint: disable-next=consider-using-with,subprocess-popen-preexec-fn
         child = subprocess.Popen(words, **how)
         RUNNING.add(child)
@@ -64,6 +67,15 @@ def give_way(words, much=19):
     return ["sh", "-c", f'{{ echo {much} >/proc/self/autogroup; }} 2>/dev/null; exec nice -n {much} "$@"', "sh", *words] if much else words
 
 
+def is_at_work(pid):
+    """Whether the child has not ended. It may not have been waited for."""
+    try:
+        with open(f"/proc/{pid}/stat", encoding="utf-8") as it:
+            return it.read().rpartition(")")[2].split()[0] not in "ZX"
+    except OSError:
+        return False
+
+
 def end_all(seconds=5):
     """Ends the groups of all children that still run: they are asked to, and then killed."""
     with ALONE:
@@ -74,13 +86,15 @@ def end_all(seconds=5):
             with contextlib.suppress(OSError):
                 os.killpg(it.pid, sign)
         until = time.monotonic() + seconds
-        while sign == signal.SIGTERM and time.monotonic() < until and any(it.poll() is None for it in left):
+        while sign == signal.SIGTERM and time.monotonic() < until and any(is_at_work(it.pid) for it in left):
             time.sleep(0.05)
 
 
 @contextlib.contextmanager
 def scratch(name):
     """A new folder, which goes at the end."""
+    if ENDING.is_set():
+        raise SystemExit(1)
     for it in os.listdir(tempfile.gettempdir()):
         if (of := re.match(r"lrlex-[a-z]+-(\d+)-", it)) and not os.path.exists(f"/proc/{of[1]}"):
             shutil.rmtree(f"{tempfile.gettempdir()}/{it}", ignore_errors=True)
@@ -94,6 +108,7 @@ def end_all_at_exit():
     """Has an interrupt, a request to end and a lost terminal end the children first."""
 
     def end(number, _frame):
+        ENDING.set()
         end_all()
         for it in list(FOLDERS):
             shutil.rmtree(it, ignore_errors=True)

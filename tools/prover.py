@@ -50,15 +50,29 @@ def kit():
     return os.path.dirname(processes.run(["rt", "doc"])[1].strip())
 
 
-def checked(folder, name, needs, more=(), much=0):
-    """What the prover says of the crate in the folder, which needs these libraries. It leaves processor time to others, so much."""
+def words_for(name, needs):
+    """What the prover is given of a crate of this name, which needs these libraries."""
     home, listed = kit(), crates.read()
-    words = [f"{home}/bin/rattle", "check", "--crate-name", name, "src/lib.rt"]
+    words = ["--crate-name", name, "src/lib.rt"]
+    if name in listed and listed[name].kind:
+        words += ["--crate-type", listed[name].kind]
     for it in ["std", *needs]:
         words += ["--extern", f"{it}={library(it) if it in listed else f'{home}/rlibs/{it}.rlib'}"]
     words += ["-L", f"dependency={home}/rlibs"]
     for it in libraries_below(needs, listed):
         words += ["-L", f"dependency={os.path.dirname(library(it))}"]
-    words += ["--antt-project", f"{home}/rattle/logic/antt-project.json", "--logic-built", f"{home}/logic_built"]
-    words += ["--jobs", "1", *more]
+    return [*words, "--antt-project", f"{home}/rattle/logic/antt-project.json", "--logic-built", f"{home}/logic_built"]
+
+
+def checked(folder, name, needs, more=(), much=0):
+    """What the prover says of the crate in the folder, which needs these libraries. It leaves processor time to others, so much."""
+    words = [f"{kit()}/bin/rattle", "check", *words_for(name, needs), "--jobs", "1", *more]
     return processes.run(processes.give_way(words, much), cwd=folder)[1]
+
+
+def built(crate, archive, kept, much=0):
+    """Proves a static library, over what earlier checks kept in a folder, and writes its archive. What the prover says if it fails."""
+    words = [f"{kit()}/bin/rattle", "build", *words_for(crate.name, crate.needs), "--incremental", kept]
+    words += ["--toolchain", f"{kit()}/toolchain", "--backend", "llvm", "--jobs", "2", "-o", archive]
+    status, told = processes.run(processes.give_way(words, much), cwd=crate.folder)
+    return told if status else ""

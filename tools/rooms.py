@@ -34,4 +34,4 @@ def copy_built(folder, to, parts=KEPT):
 def write_list(crates, to):
     """Writes the lines of crates.txt that name these crates."""
     with open(f"{to}/crates.txt", "w", encoding="utf-8") as it:
-        it.writelines(f"{one.name}: {' '.join(one.needs)}\n" for one in crates)
+        it.writelines(one.line for one in crates)

@@ -1,4 +1,4 @@
-/* To be preloaded into a program: breaks its streams, and keeps a trace of its calls. ../tests/streams.py builds and uses it.
+/* To be preloaded into a program: breaks its streams, and keeps a trace of its calls. tests/test_streams.py builds and uses it.
 
    BREAK has a line 'STREAM MOST AT ERROR' for each stream that is to break. STREAM is 0, 1 or 2, or the path that a file is
    opened under. Each of its calls of read or write moves at most MOST bytes; number AT, counted from 1, fails with this error

@@ -1,5 +1,5 @@
 /* To be preloaded into a program: refuses its request for memory number REFUSE, counted from 1, and where REFUSE_REST is set
-   all later ones. At the first that is refused it adds a byte to the file REFUSED. ../refuse-memory builds and uses it. */
+   all later ones. At the first that is refused it adds a byte to the file REFUSED. tests/support/refusing.py builds and uses it, for ./dev oom. */
 #define _GNU_SOURCE
 #include <dlfcn.h>
 #include <errno.h>

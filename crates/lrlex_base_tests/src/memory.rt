@@ -1,5 +1,5 @@
 //! Out of memory: in heaps of rising sizes, each of which refuses a later request than the ones before. What a program sees of
-//! the calls over the usual heap, `./refuse-memory` shows.
+//! the calls over the usual heap, `./dev oom` shows.
 use crate::tokens::{renamed, tokens_of};
 use linked_list_allocator::LocalHeap;
 use lrlex_base::{Edit, NewlineCache, Span};

@@ -3,7 +3,6 @@ ghost use Rattle.std.specs.Prelude.{◌≡◌};
 ghost use Rattle.lrlex_cli.specs.Engine.{HasPlacedFaults};
 
 use crate::engine::{Ended, EngineFault};
-use crate::messages::{CANNOT_WRITE, OUT_OF_MEMORY, USAGE};
 use crate::texts::{TextFault, read_text, split, text_at};
 use crate::words::WordsFault;
 use crate::writing::write_bytes;
@@ -57,16 +56,16 @@ fn say<E: Write>(err: &mut E, pieces: &[&str]) {
     }
 }
 
-/// Writes the line of the fault and returns the status, 1. An error of `err` is ignored.
+/// Writes the line of the fault and returns the status, 1. A line that names no file is one write. An error of `err` is ignored.
 pub fn refuse<E: Write>(fault: Fault<'_>, err: &mut E) -> u8
     ensures { result ≡ 1 }
 {
     match fault {
-        Fault::Usage => say(err, &[USAGE, "\n"]),
+        Fault::Usage => say(err, &["Usage: lrlex <lexer.l> <input file>\n"]),
         Fault::CannotOpen(path) => say(err, &["Can't open file ", path, "\n"]),
         Fault::NotText(path) => say(err, &["File ", path, " is not UTF-8\n"]),
-        Fault::Memory => say(err, &[OUT_OF_MEMORY, "\n"]),
-        Fault::CannotWrite => say(err, &[CANNOT_WRITE, "\n"]),
+        Fault::Memory => say(err, &["Out of memory\n"]),
+        Fault::CannotWrite => say(err, &["Can't write\n"]),
         Fault::BadEdit => say(err, &["Bad edit\n"]),
     }
     1

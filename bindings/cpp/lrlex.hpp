@@ -1,0 +1,291 @@
+/// Lexers from rule files (.l), for C++17, over the C interface of lrlex.h.
+///
+///     lrlex::Definition definition("%%\n[0-9]+ 'INT'\n[a-z]+ 'ID'\n[ ] ;");
+///     for (const lrlex::Token &token : definition.lex("abc 123"))
+///         std::cout << definition.name(token.id) << ' ' << token.text << '\n';
+///
+/// A rule text with faults throws RulesError, memory that runs out std::bad_alloc. Texts are UTF-8; one that isn't throws
+/// Error. Spans are in bytes. A Definition and a Document stay on the thread that made them, and calls on one object come one
+/// at a time, also those that are const.
+#ifndef LRLEX_HPP
+#define LRLEX_HPP
+
+#include "lrlex.h"
+
+#include <cstddef>
+#include <cstdint>
+#include <initializer_list>
+#include <memory>
+#include <new>
+#include <optional>
+#include <stdexcept>
+#include <string>
+#include <string_view>
+#include <utility>
+#include <vector>
+
+namespace lrlex {
+
+/// A call failed. `status()` is one of lrlex_status.
+class Error : public std::runtime_error {
+public:
+    Error(const std::string &what, int status) : std::runtime_error(what), status_(status) {}
+    int status() const noexcept { return status_; }
+
+private:
+    int status_;
+};
+
+/// A fault of a rule text: what is wrong, and where, in bytes. Of what is declared twice it is the first place. Line and column count
+/// from 1.
+struct Fault {
+    std::string message;
+    std::uint32_t kind;
+    std::size_t line, column;
+    std::size_t start, end;
+};
+
+/// The rule text is refused. `faults()` has all that is wrong with it.
+class RulesError : public Error {
+public:
+    explicit RulesError(std::vector<Fault> faults) : Error(shown(faults), LRLEX_REFUSED), faults_(std::move(faults)) {}
+    const std::vector<Fault> &faults() const noexcept { return faults_; }
+
+private:
+    static std::string shown(const std::vector<Fault> &faults) {
+        std::string text;
+        for (const Fault &fault : faults) {
+            if (!text.empty()) text += '\n';
+            text += std::to_string(fault.line) + ':' + std::to_string(fault.column) + ": " + fault.message;
+        }
+        return text;
+    }
+    std::vector<Fault> faults_;
+};
+
+/// A token: its text, which is part of the text that was lexed, where that begins, and the id of its rule.
+struct Token {
+    std::string_view text;
+    std::size_t start;
+    std::uint32_t id;
+};
+
+/// Where lexing stopped before the end of the text. `state` is the start state in which no rule matched. It has no value if a rule
+/// matched that gives no token.
+struct Stop {
+    std::size_t start, line, column;
+    std::optional<std::size_t> state;
+};
+
+/// The tokens of a text, in order, and where lexing stopped if that wasn't the text's end.
+struct Tokens : std::vector<Token> {
+    std::optional<Stop> stop;
+};
+
+/// The pieces of a text as the rules cut it, also those of rules without a name, and where lexing stopped.
+struct Pieces : std::vector<lrlex_piece> {
+    std::optional<Stop> stop;
+};
+
+/// The flags and limits of a rule file, as of lrlex_options. Options().on(LRLEX_CASE_INSENSITIVE).off(LRLEX_UNICODE)
+class Options {
+public:
+    Options &on(std::uint32_t flags) {
+        options_.set |= flags;
+        options_.on |= flags;
+        return *this;
+    }
+    Options &off(std::uint32_t flags) {
+        options_.set |= flags;
+        options_.on &= ~flags;
+        return *this;
+    }
+    Options &size_limit(std::size_t bytes) { options_.size_limit = bytes; return *this; }
+    Options &nest_limit(std::uint32_t levels) { options_.nest_limit = levels; return *this; }
+    const lrlex_options *get() const noexcept { return &options_; }
+
+private:
+    lrlex_options options_{};
+};
+
+namespace detail {
+
+/// The bytes of a text. No pointer may be null.
+inline const std::uint8_t *bytes(std::string_view text) {
+    return reinterpret_cast<const std::uint8_t *>(text.data() ? text.data() : "");
+}
+
+inline void check(int status) {
+    switch (status) {
+    case LRLEX_OK: return;
+    case LRLEX_NOMEM: throw std::bad_alloc();
+    case LRLEX_NOT_UTF8: throw Error("the text isn't UTF-8", status);
+    case LRLEX_DOES_NOT_FIT: throw Error("the edit doesn't fit the text", status);
+    default: throw Error("lrlex status " + std::to_string(status), status);
+    }
+}
+
+/// The text that a call writes into a buffer. It gives the length of all.
+template <class Call> std::string text_by(Call call) {
+    std::string text(64, '\0');
+    for (;;) {
+        const std::size_t room = text.size();
+        const std::size_t length = call(reinterpret_cast<std::uint8_t *>(&text[0]), room);
+        text.resize(length);
+        if (length <= room) return text;
+    }
+}
+
+/// An owner of a handle. It moves, and isn't copied.
+template <class Handle> class Owner {
+public:
+    Owner() = default;
+    Owner(Owner &&other) noexcept : handle_(std::exchange(other.handle_, Handle{})), density_(other.density_) {}
+    Owner &operator=(Owner &&other) noexcept {
+        std::swap(handle_, other.handle_);
+        std::swap(density_, other.density_);
+        return *this;
+    }
+    ~Owner() { lrlex_free(&handle_); }
+    Handle *get() const noexcept { return &handle_; }
+
+    /// The tokens or pieces that a call writes into a buffer, of a text of this length. Where there are more than there is room for,
+    /// the call is made twice.
+    template <class Row, class Call> std::unique_ptr<Row[]> rows_by(std::size_t length, lrlex_lexed &lexed, Call call) const {
+        for (std::size_t room = (length / 1024 + 1) * density_;;) {
+            std::unique_ptr<Row[]> rows(new Row[room]);
+            check(call(rows.get(), room, &lexed));
+            if (lexed.count <= room) return rows;
+            room = lexed.count;
+            density_ = room / (length / 1024 + 1) + 1;
+        }
+    }
+
+private:
+    mutable Handle handle_{};
+    /// About how many tokens or pieces 1,024 bytes have: a quarter, or what the densest text had.
+    mutable std::size_t density_ = 256;
+};
+
+/// Where lexing of the text stopped, if it did.
+inline std::optional<Stop> stop(std::string_view text, const lrlex_lexed &lexed) {
+    if (!lexed.stopped) return std::nullopt;
+    lrlex_place place;
+    check(lrlex_places(bytes(text), text.size(), &lexed.end, 1, &place, 1));
+    return Stop{lexed.end, place.line, place.column, lexed.unmatched ? std::optional<std::size_t>(lexed.state) : std::nullopt};
+}
+
+/// The tokens that a call writes into a buffer, of a text that it has lexed.
+template <class Handle, class Call> Tokens tokens_by(const Owner<Handle> &owner, std::string_view text, Call call) {
+    lrlex_lexed lexed;
+    const auto rows = owner.template rows_by<lrlex_token>(text.size(), lexed, call);
+    Tokens tokens;
+    tokens.reserve(lexed.count);
+    for (std::size_t at = 0; at < lexed.count; at++)
+        tokens.push_back({text.substr(rows[at].start, rows[at].len), rows[at].start, rows[at].id});
+    tokens.stop = stop(text, lexed);
+    return tokens;
+}
+
+/// The pieces that a call writes into a buffer, of a text that it has cut.
+template <class Handle, class Call>
+Pieces pieces_by(const Owner<Handle> &owner, std::string_view text, Call call) {
+    lrlex_lexed lexed;
+    const auto rows = owner.template rows_by<lrlex_piece>(text.size(), lexed, call);
+    Pieces pieces;
+    pieces.assign(rows.get(), rows.get() + lexed.count);
+    pieces.stop = stop(text, lexed);
+    return pieces;
+}
+
+} // namespace detail
+
+/// The rules of a rule file, ready to lex texts.
+class Definition {
+public:
+    /// Reads a rule text. Throws RulesError with all faults if it has any.
+    explicit Definition(std::string_view rules, const Options &options = {}) {
+        const int status = lrlex_definition_new(owner_.get(), detail::bytes(rules), rules.size(), options.get());
+        if (status == LRLEX_REFUSED) throw RulesError(faults());
+        detail::check(status);
+    }
+
+    /// The tokens of a text. They view the text, which has to outlive them.
+    Tokens lex(std::string_view text) const {
+        return detail::tokens_by(owner_, text, [&](lrlex_token *out, std::size_t room, lrlex_lexed *lexed) {
+            return lrlex_lex(owner_.get(), detail::bytes(text), text.size(), out, room, lexed);
+        });
+    }
+
+    /// The whole text as the rules cut it, up to where lexing stops.
+    Pieces pieces(std::string_view text) const {
+        return detail::pieces_by(owner_, text, [&](lrlex_piece *out, std::size_t room, lrlex_lexed *lexed) {
+            return lrlex_pieces(owner_.get(), detail::bytes(text), text.size(), out, room, lexed);
+        });
+    }
+
+    /// The name of the rule with this id; empty if it has none.
+    std::string name(std::uint32_t id) const {
+        return detail::text_by([&](std::uint8_t *out, std::size_t room) { return lrlex_name(owner_.get(), id, out, room); });
+    }
+
+    /// How many rules there are.
+    std::size_t rule_count() const noexcept { return lrlex_rule_count(owner_.get()); }
+
+    /// The name of the rule of this number, from 0; empty if it has none.
+    std::string rule_name(std::size_t rule) const { return rule < rule_count() ? name(static_cast<std::uint32_t>(rule)) : ""; }
+
+    /// The handle, for calls of lrlex.h.
+    lrlex_definition *get() const noexcept { return owner_.get(); }
+
+private:
+    std::vector<Fault> faults() const {
+        std::vector<Fault> found;
+        for (std::size_t at = 0, count = lrlex_fault_count(owner_.get()); at < count; at++) {
+            lrlex_fault fault;
+            detail::check(lrlex_fault_at(owner_.get(), at, &fault));
+            std::string message = detail::text_by(
+                [&](std::uint8_t *out, std::size_t room) { return lrlex_fault_text(owner_.get(), at, out, room); });
+            found.push_back({std::move(message), fault.kind, fault.line, fault.column, fault.start, fault.end});
+        }
+        return found;
+    }
+
+    detail::Owner<lrlex_definition> owner_;
+};
+
+/// A text that is edited. An edit lexes again only what it changes. The definition may go before it.
+class Document {
+public:
+    Document(const Definition &definition, std::string text) : text_(std::move(text)) {
+        detail::check(lrlex_document_new(definition.get(), owner_.get(), detail::bytes(text_), text_.size()));
+    }
+
+    /// Puts a text in the place of the bytes from `from` up to `to`. On an exception the document is as it was.
+    void edit(std::size_t from, std::size_t to, std::string_view put) {
+        if (from <= to && to <= text_.size()) text_.reserve(text_.size() - (to - from) + put.size());
+        detail::check(lrlex_document_edit(owner_.get(), from, to, detail::bytes(put), put.size()));
+        text_.replace(from, to - from, put);
+    }
+
+    /// The text as it is now.
+    const std::string &text() const noexcept { return text_; }
+
+    /// The tokens of the text as it is now. They view the text, up to the next edit.
+    Tokens lex() const {
+        return detail::tokens_by(owner_, text_, [&](lrlex_token *out, std::size_t room, lrlex_lexed *lexed) {
+            return lrlex_document_tokens(owner_.get(), 0, out, room, lexed);
+        });
+    }
+
+    /// The handle, for calls of lrlex.h.
+    lrlex_document *get() const noexcept { return owner_.get(); }
+
+private:
+    std::string text_;
+    detail::Owner<lrlex_document> owner_;
+};
+
+} // namespace lrlex
+
+#endif

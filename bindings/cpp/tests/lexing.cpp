@@ -1,0 +1,119 @@
+// A first text, a refused rule text, and a document through edits.
+
+#include "lrlex.hpp"
+
+#include <cstdio>
+#include <string>
+#include <utility>
+
+namespace {
+
+int failed = 0;
+
+void expect(bool holds, const char *what, int line) {
+    if (!holds) {
+        std::printf("line %d: %s\n", line, what);
+        failed = 1;
+    }
+}
+
+#define EXPECT(condition) expect((condition), #condition, __LINE__)
+
+const char *const WORDS = "%%\n[0-9]+ 'INT'\n[a-z]+ 'ID'\n[ ] ;\n";
+
+std::string shown(const lrlex::Definition &definition, const lrlex::Tokens &tokens) {
+    std::string text;
+    for (const lrlex::Token &token : tokens) text.append(definition.name(token.id)).append(" ").append(token.text).append("\n");
+    return text;
+}
+
+void tokens_of_a_text() {
+    const lrlex::Definition definition(WORDS);
+    const lrlex::Tokens tokens = definition.lex("abc 123");
+    EXPECT(shown(definition, tokens) == "ID abc\nINT 123\n");
+    EXPECT(tokens.size() == 2 && tokens[1].start == 4 && !tokens.stop);
+    EXPECT(definition.lex({}).empty());
+    EXPECT(definition.name(99).empty());
+    EXPECT(lrlex::Definition("%%\na 'A'\n").lex(std::string(1000, 'a')).size() == 1000);
+}
+
+void lexing_stops_where_no_rule_matches() {
+    const lrlex::Tokens tokens = lrlex::Definition(WORDS).lex("ab\n?");
+    EXPECT(tokens.size() == 1 && tokens.stop);
+    EXPECT(tokens.stop->start == 2 && tokens.stop->line == 1 && tokens.stop->column == 3 && tokens.stop->state == 0U);
+}
+
+void a_refused_rule_text() {
+    try {
+        lrlex::Definition definition("%x A A\n%%\na+b 'A'\nb 'A'\nc( 'C'\n");
+        EXPECT(!"it was taken");
+    } catch (const lrlex::RulesError &error) {
+        EXPECT(error.faults().size() == 3);
+        EXPECT(error.faults()[0].message == "Start state already exists");
+        EXPECT(error.faults()[0].kind == LRLEX_DUPLICATE_START_STATE);
+        EXPECT(error.faults()[0].line == 1 && error.faults()[0].column == 4 && error.faults()[0].start == 3);
+        EXPECT(std::string(error.what()).find("1:4: Start state already exists\n3:6: ") == 0);
+    }
+}
+
+void a_text_that_is_not_utf8() {
+    try {
+        lrlex::Definition(WORDS).lex("a\xff");
+        EXPECT(!"it was lexed");
+    } catch (const lrlex::Error &error) {
+        EXPECT(error.status() == LRLEX_NOT_UTF8);
+    }
+}
+
+void options_change_what_matches() {
+    const lrlex::Definition definition(WORDS, lrlex::Options().on(LRLEX_CASE_INSENSITIVE));
+    EXPECT(shown(definition, definition.lex("ABC")) == "ID ABC\n");
+}
+
+void pieces_are_the_whole_text() {
+    const lrlex::Definition definition(WORDS);
+    const lrlex::Pieces pieces = definition.pieces("ab 1?");
+    EXPECT(pieces.size() == 3 && pieces.stop && pieces.stop->start == 4);
+    EXPECT(definition.rule_count() == 3 && definition.rule_name(pieces[0].rule) == "ID" && definition.rule_name(2).empty());
+}
+
+lrlex::Document moved(lrlex::Document document) { return document; }
+
+void a_document_through_edits() {
+    const lrlex::Definition definition(WORDS);
+    lrlex::Document document = moved(lrlex::Document(definition, "abc 123"));
+    document.edit(3, 4, "");
+    EXPECT(document.text() == "abc123");
+    EXPECT(shown(definition, document.lex()) == "ID abc\nINT 123\n");
+    for (auto range : {std::pair<std::size_t, std::size_t>(4, 99), {2, 1}}) {
+        try {
+            document.edit(range.first, range.second, "");
+            EXPECT(!"it was taken");
+        } catch (const lrlex::Error &error) {
+            EXPECT(error.status() == LRLEX_DOES_NOT_FIT);
+        }
+    }
+    document.edit(6, 6, " x");
+    EXPECT(document.text() == "abc123 x" && document.lex().size() == 3);
+}
+
+void a_definition_is_moved() {
+    lrlex::Definition one(WORDS), other = std::move(one);
+    EXPECT(other.lex("a").size() == 1);
+    one = std::move(other);
+    EXPECT(one.lex("a").size() == 1);
+}
+
+} // namespace
+
+int main() {
+    tokens_of_a_text();
+    lexing_stops_where_no_rule_matches();
+    a_refused_rule_text();
+    a_text_that_is_not_utf8();
+    options_change_what_matches();
+    pieces_are_the_whole_text();
+    a_document_through_edits();
+    a_definition_is_moved();
+    return failed;
+}

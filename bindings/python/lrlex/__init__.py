@@ -1,0 +1,19 @@
+"""Lexers from rule files (.l), by a library whose every call is proved.
+
+    import lrlex
+
+    definition = lrlex.Definition.from_str("%%\\n[0-9]+ 'INT'\\n[a-z]+ 'ID'\\n[ ] ;")
+    for token in definition.lex("abc 123"):
+        print(token.name, token.text)
+
+A rule text with faults raises RulesError; a text that no rule matches raises LexError, after the tokens before that place.
+A Document keeps a text through edits, and lexes again only what each changes. Offsets are indices of the `str`.
+
+A Definition and a Document stay on the thread that made them.
+"""
+
+from ._c import Error
+from ._lexing import Definition, Document, Fault, LexError, Piece, RulesError, Token
+
+__all__ = ["Definition", "Document", "Error", "Fault", "LexError", "Piece", "RulesError", "Token"]
+__version__ = "0.1.0"

@@ -1,0 +1,137 @@
+"""The C library, as include/lrlex.h declares it."""
+
+from __future__ import annotations
+
+import ctypes
+import ctypes.util
+import os
+from ctypes import POINTER, Structure, c_bool, c_char_p, c_int, c_size_t, c_uint32, c_void_p
+from typing import Callable
+
+NAME = "liblrlex.so.0"
+
+OK, REFUSED, NOMEM, NOT_UTF8, MISUSE, NONE, DOES_NOT_FIT = range(7)
+
+# The flags by the names of the rule file's settings, each with its bit.
+FLAGS = {
+    "dot_matches_new_line": 1,
+    "multi_line": 2,
+    "octal": 4,
+    "posix_escapes": 8,
+    "allow_wholeline_comments": 16,
+    "case_insensitive": 32,
+    "swap_greed": 64,
+    "ignore_whitespace": 128,
+    "unicode": 256,
+}
+
+
+class Handle(Structure):
+    """A definition's or a document's. It owns what it points to."""
+
+    _fields_ = [("hidden", c_void_p)]
+
+
+class Options(Structure):
+    """Settings of a definition; zeros are the defaults."""
+
+    _fields_ = [("size_limit", c_size_t), ("set", c_uint32), ("on", c_uint32), ("nest_limit", c_uint32)]
+
+
+class Token(Structure):
+    """A lexeme: bytes from `start`, and its rule's id."""
+
+    _fields_ = [("start", c_size_t), ("len", c_size_t), ("id", c_uint32)]
+
+
+class Piece(Structure):
+    """A piece of the text, and the number of its rule."""
+
+    _fields_ = [("start", c_size_t), ("len", c_size_t), ("rule", c_size_t)]
+
+
+class Place(Structure):
+    """Line and column, from 1."""
+
+    _fields_ = [("line", c_size_t), ("column", c_size_t)]
+
+
+class Lexed(Structure):
+    """How lexing went."""
+
+    _fields_ = [("count", c_size_t), ("end", c_size_t), ("state", c_size_t), ("stopped", c_bool), ("unmatched", c_bool)]
+
+
+class Fault(Structure):
+    """A fault of a rule text."""
+
+    _fields_ = [(name, c_size_t) for name in ("start", "end", "line", "column", "spans")] + [("kind", c_uint32)]
+
+
+class Error(Exception):
+    """What this package raises, beside MemoryError for memory that has run out."""
+
+
+HANDLE, SIZE, TEXT = POINTER(Handle), c_size_t, c_char_p
+LEXED = POINTER(Lexed)
+
+# What each function gives and takes.
+FUNCTIONS = {
+    "lrlex_free": (None, [HANDLE]),
+    "lrlex_definition_new": (c_int, [HANDLE, TEXT, SIZE, POINTER(Options)]),
+    "lrlex_fault_count": (SIZE, [HANDLE]),
+    "lrlex_fault_at": (c_int, [HANDLE, SIZE, POINTER(Fault)]),
+    "lrlex_fault_text": (SIZE, [HANDLE, SIZE, TEXT, SIZE]),
+    "lrlex_rule_count": (SIZE, [HANDLE]),
+    "lrlex_name": (SIZE, [HANDLE, c_uint32, TEXT, SIZE]),
+    "lrlex_lex": (c_int, [HANDLE, TEXT, SIZE, POINTER(Token), SIZE, LEXED]),
+    "lrlex_pieces": (c_int, [HANDLE, TEXT, SIZE, POINTER(Piece), SIZE, LEXED]),
+    "lrlex_places": (c_int, [TEXT, SIZE, POINTER(SIZE), SIZE, POINTER(Place), SIZE]),
+    "lrlex_document_new": (c_int, [HANDLE, HANDLE, TEXT, SIZE]),
+    "lrlex_document_edit": (c_int, [HANDLE, SIZE, SIZE, TEXT, SIZE]),
+    "lrlex_document_tokens": (c_int, [HANDLE, SIZE, POINTER(Token), SIZE, LEXED]),
+}
+
+
+def find() -> str:
+    """The library's path: that of LRLEX_LIBRARY, a copy in this folder, or a name that the loader looks for."""
+    given = os.environ.get("LRLEX_LIBRARY")
+    beside = os.path.join(os.path.dirname(os.path.abspath(__file__)), NAME)
+    if given:
+        return given
+    return beside if os.path.exists(beside) else ctypes.util.find_library("lrlex") or NAME
+
+
+def load() -> ctypes.CDLL:
+    """The library with the types of its functions."""
+    path = find()
+    try:
+        library = ctypes.CDLL(path)
+    except OSError as fault:
+        raise ImportError(f"{path} can't be loaded: set LRLEX_LIBRARY to the path of {NAME}") from fault
+    for name, (gives, takes) in FUNCTIONS.items():
+        function = getattr(library, name)
+        function.restype, function.argtypes = gives, takes
+    return library
+
+
+LIB = load()
+
+
+def check(status: int) -> None:
+    """Raises what a status stands for."""
+    if status == NOMEM:
+        raise MemoryError
+    if status != OK:
+        raise Error(f"the C library answered status {status}")
+
+
+def text_by(function: Callable[..., int], *words: object) -> str:
+    """The text that a function writes into a buffer. It gives the length of all."""
+    room = 256
+    while True:
+        buffer = ctypes.create_string_buffer(room)
+        length = function(*words, buffer, room)
+        if length <= room:
+            return buffer.raw[:length].decode()
+        room = length

@@ -1,0 +1,261 @@
+"""Definitions, tokens and documents over the C library."""
+
+from __future__ import annotations
+
+import ctypes
+import struct
+import threading
+import weakref
+from ctypes import byref
+from typing import Any, Callable, Iterable, Iterator, NamedTuple, Optional
+
+from . import _c
+from ._c import LIB, Error, check, text_by
+
+# A token and a piece of the C library as `struct` reads them: start, length, and id or rule.
+_TOKEN = struct.Struct(f"@NNI{ctypes.sizeof(_c.Token) - 2 * ctypes.sizeof(ctypes.c_size_t) - 4}x")
+_PIECE = struct.Struct("@NNN")
+
+# Number, start and end of a token or a piece.
+_Span = tuple[int, int, int]
+
+
+class Fault(NamedTuple):
+    """A fault of a rule text: `start` and `end` are indices of it, line and column count from 1.
+
+    Of what is declared twice it is the first place.
+    """
+
+    message: str
+    line: int
+    column: int
+    start: int
+    end: int
+
+    def __str__(self) -> str:
+        return f"{self.line}:{self.column}: {self.message}"
+
+
+class RulesError(Error, ValueError):
+    """The rule text is refused. `faults` has all that is wrong with it."""
+
+    def __init__(self, faults: list[Fault]) -> None:
+        super().__init__("\n".join(map(str, faults)))
+        self.faults = faults
+
+
+class LexError(Error, ValueError):
+    """Lexing stopped before the end of the text, at the index `start`, which is the byte `byte` of it in UTF-8.
+
+    `state` is the id of the start state in which no rule matched. It is None if a rule matched that gives no token.
+    """
+
+    def __init__(self, start: int, byte: int, line: int, column: int, state: Optional[int]) -> None:
+        super().__init__(f"{line}:{column}: no token begins here")
+        self.start, self.byte, self.line, self.column, self.state = start, byte, line, column, state
+
+
+class Token(NamedTuple):
+    """A token. `start` and `end` are indices of the text: `text[start:end]` is its text."""
+
+    name: str
+    text: str
+    start: int
+    end: int
+    id: int
+
+
+class Piece(NamedTuple):
+    """A piece of a text. `rule` is the number of the rule that matched it, and `name` is None if the rule has none."""
+
+    name: Optional[str]
+    text: str
+    start: int
+    end: int
+    rule: int
+
+
+class _Text:
+    """A text as Python has it, and as the C library has it, with the offsets of one in the other."""
+
+    def __init__(self, text: str) -> None:
+        self.text, self.data = text, text.encode()
+        self.is_ascii = len(self.data) == len(text)
+
+    def index(self, byte: int) -> int:
+        """The index of the character that begins at this byte."""
+        return byte if self.is_ascii else len(self.data[:byte].decode())
+
+    def byte(self, index: int) -> int:
+        """The byte at which the character of this index begins."""
+        return index if self.is_ascii else len(self.text[:index].encode())
+
+    def spans(self, rows: Iterable[_Span]) -> list[_Span]:
+        """Number, start and end of each of these rows of start, length and number, which are in order of their starts."""
+        if self.is_ascii:
+            return [(number, start, start + length) for start, length, number in rows]
+        found, at, index, data = [], 0, 0, self.data
+        for start, length, number in rows:
+            first = index + len(data[at:start].decode())
+            at = start + length
+            index = first + len(data[start:at].decode())
+            found.append((number, first, index))
+        return found
+
+    def error(self, lexed: _c.Lexed) -> Optional[LexError]:
+        """Where and why lexing stopped, if it did."""
+        if not lexed.stopped:
+            return None
+        place = _c.Place()
+        check(LIB.lrlex_places(self.data, len(self.data), byref(ctypes.c_size_t(lexed.end)), 1, byref(place), 1))
+        state = lexed.state if lexed.unmatched else None
+        return LexError(self.index(lexed.end), lexed.end, place.line, place.column, state)
+
+
+class _Held:
+    """A handle of the C library, which stays on the thread that made it."""
+
+    def __init__(self, of: str) -> None:
+        self._handle, self._of, self._thread = _c.Handle(), of, threading.get_ident()
+        weakref.finalize(self, LIB.lrlex_free, byref(self._handle))
+
+    @property
+    def handle(self) -> Any:
+        """The handle's address, for a call."""
+        if threading.get_ident() != self._thread:
+            raise RuntimeError(f"a {self._of} is used on another thread than it was made on")
+        return byref(self._handle)
+
+
+def _rows(call: Callable[..., int], kind: type, form: struct.Struct, size: int) -> tuple[Iterator[Any], _c.Lexed]:
+    """The rows that a call writes into a buffer of tokens or pieces, of a text of this size, and how lexing went."""
+    lexed, room = _c.Lexed(), size // 2 + 16
+    while True:
+        buffer = (kind * room)()  # type: ignore[operator]
+        check(call(buffer, room, byref(lexed)))
+        if lexed.count <= room:
+            return form.iter_unpack(memoryview(buffer).cast("B")[: lexed.count * form.size]), lexed
+        room = lexed.count
+
+
+class Definition:
+    """The rules of a rule file, ready to lex texts. It stays on the thread that made it."""
+
+    def __init__(self, rules: str, *, size_limit: int = 0, nest_limit: int = 0, **flags: bool) -> None:
+        """Reads a rule text. Flags are those of the program, with `_` for `-`, such as `case_insensitive=True`.
+
+        Raises RulesError with all faults if the rule text has any.
+        """
+        unknown = flags.keys() - _c.FLAGS.keys()
+        if unknown:
+            raise TypeError(f"there is no flag {min(unknown)!r}")
+        on = sum(_c.FLAGS[name] for name, is_on in flags.items() if is_on)
+        options = _c.Options(size_limit, sum(map(_c.FLAGS.__getitem__, flags)), on, nest_limit)
+        self._held, text = _Held("Definition"), _Text(rules)
+        status = LIB.lrlex_definition_new(self._held.handle, text.data, len(text.data), byref(options))
+        if status == _c.REFUSED:
+            raise RulesError(_faults(self._held, text))
+        check(status)
+        self._names: dict[int, str] = {}
+
+    @classmethod
+    def from_str(cls, rules: str, **settings: Any) -> Definition:
+        """The definition of a rule text, as `Definition(rules, ..)`."""
+        return cls(rules, **settings)
+
+    @property
+    def rule_count(self) -> int:
+        """How many rules there are."""
+        return int(LIB.lrlex_rule_count(self._held.handle))
+
+    def rule_name(self, rule: int) -> Optional[str]:
+        """The name of the rule of this number, from 0. None if it has none."""
+        return self.name(rule) or None
+
+    def name(self, token_id: int) -> str:
+        """The name of the rule with this id, or "" if it has none."""
+        if token_id not in self._names:
+            self._names[token_id] = text_by(LIB.lrlex_name, self._held.handle, token_id)
+        return self._names[token_id]
+
+    def lex(self, text: str) -> Iterator[Token]:
+        """The tokens of the text, in order. Where no rule matches it raises LexError, after the tokens before that place."""
+        return self._tokens(*self._lexed(text))
+
+    def spans(self, text: str) -> list[_Span]:
+        """Id, start and end of each token: the quickest way to all of them. It raises LexError if lexing stops."""
+        _, spans, error = self._lexed(text)
+        if error:
+            raise error
+        return spans
+
+    def pieces(self, text: str) -> tuple[list[Piece], Optional[LexError]]:
+        """The whole text as the rules cut it, also where a rule has no name, and where lexing stopped, if it did."""
+        held = _Text(text)
+        data = held.data
+        rows, lexed = _rows(lambda *out: LIB.lrlex_pieces(self._held.handle, data, len(data), *out), _c.Piece, _PIECE, len(data))
+        return self._pieces(held, rows), held.error(lexed)
+
+    def _lexed(self, text: str) -> tuple[str, list[_Span], Optional[LexError]]:
+        held = _Text(text)
+        data = held.data
+        rows, lexed = _rows(lambda *out: LIB.lrlex_lex(self._held.handle, data, len(data), *out), _c.Token, _TOKEN, len(data))
+        return text, held.spans(rows), held.error(lexed)
+
+    def _tokens(self, text: str, spans: list[_Span], error: Optional[LexError]) -> Iterator[Token]:
+        names = {token_id: self.name(token_id) for token_id in {token_id for token_id, _, _ in spans}}
+        return _until(error, (Token(names[it], text[start:end], start, end, it) for it, start, end in spans))
+
+    def _pieces(self, held: _Text, rows: Iterable[_Span]) -> list[Piece]:
+        return [Piece(self.rule_name(rule), held.text[start:end], start, end, rule) for rule, start, end in held.spans(rows)]
+
+
+def _until(error: Optional[LexError], tokens: Iterator[Token]) -> Iterator[Token]:
+    """These tokens, and then the error, if there is one."""
+    yield from tokens
+    if error:
+        raise error
+
+
+def _faults(held: _Held, rules: _Text) -> list[Fault]:
+    """The faults that the handle of a refused rule text has."""
+    found = []
+    for number in range(LIB.lrlex_fault_count(held.handle)):
+        it = _c.Fault()
+        check(LIB.lrlex_fault_at(held.handle, number, byref(it)))
+        message = text_by(LIB.lrlex_fault_text, held.handle, number)
+        found.append(Fault(message, it.line, it.column, rules.index(it.start), rules.index(it.end)))
+    return found
+
+
+class Document:
+    """A text that is edited. An edit lexes again only what it changes. It stays on the thread that made it."""
+
+    def __init__(self, definition: Definition, text: str) -> None:
+        """Lexes the text."""
+        self.definition, self._held, self._text = definition, _Held("Document"), _Text(text)
+        data = self._text.data
+        # pylint: disable-next=protected-access
+        check(LIB.lrlex_document_new(definition._held.handle, self._held.handle, data, len(data)))
+
+    @property
+    def text(self) -> str:
+        """The text as it is now."""
+        return self._text.text
+
+    def edit(self, start: int, end: int, text: str) -> None:
+        """Puts a text in the place of `self.text[start:end]`. Raises IndexError if these aren't indices of it, in order."""
+        before = self._text.text
+        if not 0 <= start <= end <= len(before):
+            raise IndexError(f"{start}:{end} isn't in a text of {len(before)} characters")
+        put, after = text.encode(), _Text(before[:start] + text + before[end:])
+        first, last = self._text.byte(start), self._text.byte(end)
+        check(LIB.lrlex_document_edit(self._held.handle, first, last, put, len(put)))
+        self._text = after
+
+    def lex(self) -> Iterator[Token]:
+        """The tokens of the text as it is now. Where no rule matches it raises LexError, after the tokens before that place."""
+        text, call = self._text, lambda *out: LIB.lrlex_document_tokens(self._held.handle, 0, *out)
+        rows, lexed = _rows(call, _c.Token, _TOKEN, len(text.data))
+        # pylint: disable-next=protected-access
+        return self.definition._tokens(text.text, text.spans(rows), text.error(lexed))

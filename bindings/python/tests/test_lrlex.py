@@ -1,0 +1,171 @@
+"""The package over the C library: tokens, faults, documents, the command line, and Pygments where it is installed."""
+
+from __future__ import annotations
+
+import gc
+import io
+import json
+import os
+import tempfile
+import threading
+import unittest
+from contextlib import redirect_stderr
+from unittest import mock
+
+import lrlex
+from lrlex import __main__ as program
+
+WORDS = "%%\n[0-9]+ 'INT'\n[a-zé😀]+ 'ID'\n[ ]+ ;\n"
+
+
+def pairs(tokens):
+    """Name and text of each token."""
+    return [(token.name, token.text) for token in tokens]
+
+
+class Tokens(unittest.TestCase):
+    """Definitions and what they lex."""
+
+    def test_a_first_text(self):
+        definition = lrlex.Definition.from_str(WORDS)
+        self.assertEqual(pairs(definition.lex("abc 123")), [("ID", "abc"), ("INT", "123")])
+        self.assertEqual(definition.spans("abc 123"), [(1, 0, 3), (0, 4, 7)])
+        self.assertEqual(list(definition.lex("")), [])
+
+    def test_offsets_are_indices_of_the_str(self):
+        text = "é 1 😀😀  2"
+        tokens = list(lrlex.Definition(WORDS).lex(text))
+        self.assertEqual(pairs(tokens), [("ID", "é"), ("INT", "1"), ("ID", "😀😀"), ("INT", "2")])
+        self.assertEqual([text[it.start:it.end] for it in tokens], [it.text for it in tokens])
+
+    def test_more_tokens_than_half_of_the_text(self):
+        self.assertEqual(len(lrlex.Definition("%%\na 'A'").spans("a" * 1000)), 1000)
+
+    def test_lexing_stops_where_no_rule_matches(self):
+        tokens = lrlex.Definition(WORDS).lex("é 1\n?")
+        self.assertEqual(next(tokens).text, "é")
+        self.assertEqual(next(tokens).text, "1")
+        with self.assertRaises(lrlex.LexError) as raised:
+            next(tokens)
+        stop = raised.exception
+        self.assertEqual((stop.start, stop.byte, stop.line, stop.column, stop.state), (3, 4, 1, 4, 0))
+        self.assertEqual(str(stop), "1:4: no token begins here")
+        with self.assertRaises(lrlex.LexError):
+            lrlex.Definition(WORDS).spans("?")
+
+    def test_a_refused_rule_text_raises_all_its_faults(self):
+        with self.assertRaises(lrlex.RulesError) as raised:
+            lrlex.Definition.from_str("%x A A\n%%\na+b 'A'\nb 'A'\nc( 'C'\n")
+        faults = raised.exception.faults
+        self.assertEqual([(it.line, it.column) for it in faults], [(1, 4), (3, 6), (5, 1)])
+        self.assertEqual(faults[0].message, "Start state already exists")
+        self.assertEqual((faults[0].start, faults[0].end), (3, 4))
+        self.assertTrue(str(raised.exception).startswith("1:4: Start state already exists\n3:6: "))
+
+    def test_flags(self):
+        self.assertEqual(pairs(lrlex.Definition.from_str(WORDS, case_insensitive=True).lex("ABC")), [("ID", "ABC")])
+        with self.assertRaises(TypeError):
+            lrlex.Definition.from_str(WORDS, no_such_flag=True)
+
+    def test_pieces_are_the_whole_text(self):
+        pieces, stop = lrlex.Definition(WORDS).pieces("é  1?")
+        self.assertEqual([(it.name, it.text) for it in pieces], [("ID", "é"), (None, "  "), ("INT", "1")])
+        self.assertEqual(stop.start, 4)
+
+    def test_names(self):
+        definition = lrlex.Definition(WORDS)
+        self.assertEqual([definition.rule_name(it) for it in range(definition.rule_count)], ["INT", "ID", None])
+        self.assertEqual(definition.name(9), "")
+
+    def test_what_is_not_a_text(self):
+        with self.assertRaises(UnicodeEncodeError):
+            lrlex.Definition(WORDS).lex("\ud800")
+
+    def test_another_thread_is_refused(self):
+        definition, raised = lrlex.Definition(WORDS), []
+
+        def use():
+            try:
+                definition.lex("a")
+            except RuntimeError as fault:
+                raised.append(str(fault))
+
+        thread = threading.Thread(target=use)
+        thread.start()
+        thread.join()
+        self.assertEqual(raised, ["a Definition is used on another thread than it was made on"])
+
+
+class Documents(unittest.TestCase):
+    """Texts that are edited."""
+
+    def test_a_document_through_edits(self):
+        definition = lrlex.Definition(WORDS)
+        document = lrlex.Document(definition, "é 1")
+        document.edit(1, 2, "b ")
+        self.assertEqual((document.text, pairs(document.lex())), ("éb 1", [("ID", "éb"), ("INT", "1")]))
+        for start, end in [(3, 2), (0, 99), (-1, 0)]:
+            with self.assertRaises(IndexError):
+                document.edit(start, end, "")
+        document.edit(4, 4, "?")
+        with self.assertRaises(lrlex.LexError):
+            list(document.lex())
+        document.edit(4, 5, "😀")
+        self.assertEqual(pairs(document.lex()), pairs(definition.lex("éb 1😀")))
+
+    def test_the_definition_may_go_first(self):
+        document = lrlex.Document(lrlex.Definition(WORDS), "a b")
+        gc.collect()
+        self.assertEqual(len(list(document.lex())), 2)
+
+
+class Program(unittest.TestCase):
+    """python3 -m lrlex"""
+
+    def run_on(self, rules, text, *words):
+        """The status, and the bytes of standard output."""
+        with tempfile.TemporaryDirectory() as folder:
+            for name, content in [("rules", rules), ("text", text)]:
+                with open(f"{folder}/{name}", "w", encoding="utf-8", newline="") as file:
+                    file.write(content)
+            with mock.patch("sys.stdout", io.TextIOWrapper(io.BytesIO())) as out, redirect_stderr(io.StringIO()):
+                status = program.main([f"{folder}/rules", f"{folder}/text", *words])
+                return status, out.buffer.getvalue().decode()
+
+    def test_tokens_as_text_and_as_json(self):
+        self.assertEqual(self.run_on(WORDS, "é 1"), (0, "ID é\nINT 1\n"))
+        status, out = self.run_on(WORDS, "é 1", "--json")
+        self.assertEqual(status, 0)
+        self.assertEqual([json.loads(line)["text"] for line in out.splitlines()], ["é", "1"])
+
+    def test_what_is_refused(self):
+        self.assertEqual(self.run_on(WORDS, "a ?"), (1, "ID a\nCouldn't lex input starting at byte 2\n"))
+        self.assertEqual(self.run_on("%%\n( 'A'", ""), (1, ""))
+
+
+class Pygments(unittest.TestCase):
+    """A lexer of Pygments from a rule file."""
+
+    def test_the_types_of_a_text(self):
+        try:
+            from lrlex.pygments import RulesLexer
+            from pygments.token import Comment, Error, Name, Number, Text, Whitespace
+        except ImportError as why:
+            raise unittest.SkipTest("Pygments isn't installed") from why
+        with tempfile.TemporaryDirectory() as folder:
+            rules, types = os.path.join(folder, "words.l"), os.path.join(folder, "words.types")
+            with open(rules, "w", encoding="utf-8") as file:
+                file.write(WORDS + "\\n ;\n#[^\\n]* ;\n= 'IS'\n")
+            with open(types, "w", encoding="utf-8") as file:
+                file.write("# of words.l\nINT Number.Integer\nI? Name\n; Comment\n")
+            lexer = RulesLexer(rules=rules)
+            found = list(lexer.get_tokens("é = 1! #é"))
+        self.assertEqual("".join(text for _, text in found), "é = 1! #é\n")
+        kinds = [kind for kind, text in found if text.strip()]
+        self.assertEqual(kinds, [Name, Name, Number.Integer, Error, Comment])
+        self.assertIn((Whitespace, " "), found)
+        self.assertNotIn(Text, kinds)
+
+
+if __name__ == "__main__":
+    unittest.main()

@@ -1,0 +1,123 @@
+//! The C interface: what `include/lrlex.h` declares.
+
+use std::ffi::{c_int, c_void};
+use std::marker::{PhantomData, PhantomPinned};
+use std::ptr::null_mut;
+
+pub(crate) const OK: c_int = 0;
+pub(crate) const REFUSED: c_int = 1;
+pub(crate) const NOMEM: c_int = 2;
+pub(crate) const DOES_NOT_FIT: c_int = 6;
+
+/// A handle of a definition or a document. It owns what it points to, so it has no copy.
+#[repr(C)]
+pub(crate) struct Handle {
+    hidden: *mut c_void,
+    stays: PhantomData<(*mut u8, PhantomPinned)>,
+}
+
+impl Handle {
+    /// The handle that holds nothing.
+    pub(crate) const EMPTY: Handle = Handle { hidden: null_mut(), stays: PhantomData };
+}
+
+#[repr(C)]
+#[derive(Clone, Copy, Debug, Default)]
+pub(crate) struct Options {
+    pub(crate) size_limit: usize,
+    pub(crate) set: u32,
+    pub(crate) on: u32,
+    pub(crate) nest_limit: u32,
+}
+
+#[repr(C)]
+#[derive(Clone, Copy, Debug, Default)]
+pub(crate) struct Token {
+    pub(crate) start: usize,
+    pub(crate) len: usize,
+    pub(crate) id: u32,
+}
+
+#[repr(C)]
+#[derive(Clone, Copy, Debug, Default)]
+pub(crate) struct Piece {
+    pub(crate) start: usize,
+    pub(crate) len: usize,
+    pub(crate) rule: usize,
+}
+
+#[repr(C)]
+#[derive(Clone, Copy, Debug, Default)]
+pub(crate) struct Place {
+    pub(crate) line: usize,
+    pub(crate) column: usize,
+}
+
+#[repr(C)]
+#[derive(Clone, Copy, Debug, Default)]
+pub(crate) struct Lexed {
+    pub(crate) count: usize,
+    pub(crate) end: usize,
+    pub(crate) state: usize,
+    pub(crate) stopped: bool,
+    pub(crate) unmatched: bool,
+}
+
+#[repr(C)]
+#[derive(Clone, Copy, Debug, Default)]
+pub(crate) struct Fault {
+    pub(crate) start: usize,
+    pub(crate) end: usize,
+    pub(crate) line: usize,
+    pub(crate) column: usize,
+    pub(crate) spans: usize,
+    pub(crate) kind: u32,
+}
+
+unsafe extern "C" {
+    pub(crate) fn lrlex_free(handle: *mut Handle);
+    pub(crate) fn lrlex_definition_new(
+        out: *mut Handle,
+        rules: *const u8,
+        rules_len: usize,
+        options: *const Options,
+    ) -> c_int;
+    pub(crate) fn lrlex_fault_count(d: *mut Handle) -> usize;
+    pub(crate) fn lrlex_fault_at(d: *mut Handle, index: usize, out: *mut Fault) -> c_int;
+    pub(crate) fn lrlex_fault_text(d: *mut Handle, index: usize, out: *mut u8, cap: usize) -> usize;
+    pub(crate) fn lrlex_rule_count(d: *mut Handle) -> usize;
+    pub(crate) fn lrlex_name(d: *mut Handle, id: u32, out: *mut u8, cap: usize) -> usize;
+    pub(crate) fn lrlex_lex(
+        d: *mut Handle,
+        text: *const u8,
+        text_len: usize,
+        tokens: *mut Token,
+        cap: usize,
+        out: *mut Lexed,
+    ) -> c_int;
+    pub(crate) fn lrlex_pieces(
+        d: *mut Handle,
+        text: *const u8,
+        text_len: usize,
+        pieces: *mut Piece,
+        cap: usize,
+        out: *mut Lexed,
+    ) -> c_int;
+    pub(crate) fn lrlex_places(
+        text: *const u8,
+        text_len: usize,
+        bytes: *const usize,
+        n: usize,
+        out: *mut Place,
+        cap: usize,
+    ) -> c_int;
+    pub(crate) fn lrlex_document_new(d: *mut Handle, out: *mut Handle, text: *const u8, text_len: usize) -> c_int;
+    pub(crate) fn lrlex_document_edit(d: *mut Handle, from: usize, to: usize, put: *const u8, put_len: usize) -> c_int;
+    pub(crate) fn lrlex_document_tokens(
+        d: *mut Handle,
+        first: usize,
+        tokens: *mut Token,
+        cap: usize,
+        out: *mut Lexed,
+    ) -> c_int;
+}

@@ -1,0 +1,465 @@
+//! Lexers from rule files (`.l`), by a library whose every call is proved.
+//!
+//! ```
+//! use lrlex::Definition;
+//!
+//! let definition: Definition = "%%\n[0-9]+ 'INT'\n[a-z]+ 'ID'\n[ ] ;".parse()?;
+//! for lexeme in definition.lexer("abc 123")? {
+//!     let lexeme = lexeme?;
+//!     println!("{} {}", definition.name_of(lexeme.tok_id()).unwrap_or_default(), lexeme.text());
+//! }
+//! # Ok::<(), lrlex::Error>(())
+//! ```
+//!
+//! A [`Definition`] holds the rules of a rule file, a [`Lexer`] gives the lexemes of a text, and a [`Document`] is a text that is
+//! edited. The longest match wins; on a tie, the earliest rule. Spans are in bytes.
+//!
+//! A definition and a document stay on the thread that made them: they are neither `Send` nor `Sync`.
+
+mod ffi;
+
+use std::cell::{Cell, UnsafeCell};
+use std::error;
+use std::ffi::c_int;
+use std::fmt;
+use std::iter::FusedIterator;
+use std::ops::Range;
+use std::str::FromStr;
+use std::vec;
+
+/// The flags and limits of a rule file. `None` is the default that the rule file's format gives.
+#[derive(Clone, Debug, Default, PartialEq, Eq)]
+#[allow(missing_docs, reason = "the names are those of the program's options")]
+pub struct LexFlags {
+    pub dot_matches_new_line: Option<bool>,
+    pub multi_line: Option<bool>,
+    pub octal: Option<bool>,
+    pub posix_escapes: Option<bool>,
+    pub allow_wholeline_comments: Option<bool>,
+    pub case_insensitive: Option<bool>,
+    pub swap_greed: Option<bool>,
+    pub ignore_whitespace: Option<bool>,
+    pub unicode: Option<bool>,
+    /// About how many bytes a compiled pattern may take.
+    pub size_limit: Option<usize>,
+    /// How deep a pattern may nest.
+    pub nest_limit: Option<u32>,
+}
+
+impl LexFlags {
+    /// The C library's options. A limit of 0 would be read as the default, so it is 1.
+    fn options(&self) -> ffi::Options {
+        let flags = [
+            self.dot_matches_new_line,
+            self.multi_line,
+            self.octal,
+            self.posix_escapes,
+            self.allow_wholeline_comments,
+            self.case_insensitive,
+            self.swap_greed,
+            self.ignore_whitespace,
+            self.unicode,
+        ];
+        let mut options = ffi::Options {
+            size_limit: self.size_limit.map_or(0, |limit| limit.max(1)),
+            nest_limit: self.nest_limit.map_or(0, |limit| limit.max(1)),
+            ..ffi::Options::default()
+        };
+        for (bit, flag) in flags.into_iter().enumerate() {
+            options.set |= u32::from(flag.is_some()) << bit;
+            options.on |= u32::from(flag == Some(true)) << bit;
+        }
+        options
+    }
+}
+
+/// A fault of a rule text.
+#[derive(Clone, Debug, PartialEq, Eq)]
+pub struct Fault {
+    /// What is wrong, in English.
+    pub message: String,
+    /// Where it is, in bytes of the rule text. Of what is declared twice it is the first place.
+    pub span: Range<usize>,
+    /// The line of its start, from 1.
+    pub line: usize,
+    /// The column of its start, in characters from 1.
+    pub column: usize,
+}
+
+impl fmt::Display for Fault {
+    /// `LINE:COLUMN: MESSAGE`
+    fn fmt(&self, f: &mut fmt::Formatter<'_>) -> fmt::Result {
+        write!(f, "{}:{}: {}", self.line, self.column, self.message)
+    }
+}
+
+/// Where lexing stopped before the end of the text.
+#[derive(Clone, Copy, Debug, PartialEq, Eq)]
+pub struct LexError {
+    /// The byte at which no lexeme begins.
+    pub start: usize,
+    /// The line of that byte, from 1.
+    pub line: usize,
+    /// Its column, in characters from 1.
+    pub column: usize,
+    /// The id of the start state in which no rule matches there. `None` if a rule matches that gives no lexeme.
+    pub state: Option<usize>,
+}
+
+impl fmt::Display for LexError {
+    fn fmt(&self, f: &mut fmt::Formatter<'_>) -> fmt::Result {
+        write!(f, "{}:{}: no lexeme begins here", self.line, self.column)
+    }
+}
+
+impl error::Error for LexError {}
+
+/// Why a call of this crate failed.
+#[derive(Clone, Debug, PartialEq, Eq)]
+#[non_exhaustive]
+pub enum Error {
+    /// The rule text is refused, for these faults.
+    Rules(Vec<Fault>),
+    /// Lexing stopped before the end of the text.
+    Lex(LexError),
+    /// The ends of an edit are past the end of the text, inside a character, or the wrong way round.
+    DoesNotFit,
+    /// Memory ran out.
+    OutOfMemory,
+}
+
+impl fmt::Display for Error {
+    fn fmt(&self, f: &mut fmt::Formatter<'_>) -> fmt::Result {
+        match self {
+            Error::Rules(faults) => {
+                for (at, fault) in faults.iter().enumerate() {
+                    write!(f, "{}{fault}", if at == 0 { "" } else { "\n" })?;
+                }
+                Ok(())
+            }
+            Error::Lex(error) => error.fmt(f),
+            Error::DoesNotFit => f.write_str("The edit doesn't fit the text"),
+            Error::OutOfMemory => f.write_str("Out of memory"),
+        }
+    }
+}
+
+impl error::Error for Error {}
+
+impl From<LexError> for Error {
+    fn from(error: LexError) -> Self {
+        Error::Lex(error)
+    }
+}
+
+/// The result of a call that has no other status than these.
+fn checked(status: c_int) -> Result<(), Error> {
+    match status {
+        ffi::OK => Ok(()),
+        ffi::NOMEM => Err(Error::OutOfMemory),
+        ffi::DOES_NOT_FIT => Err(Error::DoesNotFit),
+        other => unreachable!("lrlex answered status {other}"),
+    }
+}
+
+/// The text that a call writes into a buffer. It gives the length of all.
+fn text_by(call: impl Fn(*mut u8, usize) -> usize) -> String {
+    let mut text = vec![0; 64];
+    loop {
+        let len = call(text.as_mut_ptr(), text.len());
+        let is_all = len <= text.len();
+        text.resize(len, 0);
+        if is_all {
+            return String::from_utf8(text).expect("the library writes UTF-8");
+        }
+    }
+}
+
+/// Line and column of a byte of the text.
+fn place(text: &str, byte: usize) -> Result<(usize, usize), Error> {
+    let mut place = ffi::Place::default();
+    // SAFETY: pointer and length are a `&str`'s; one byte is read and one place is written.
+    checked(unsafe { ffi::lrlex_places(text.as_ptr(), text.len(), &raw const byte, 1, &raw mut place, 1) })?;
+    Ok((place.line, place.column))
+}
+
+/// A handle of the C library. It is used by one call at a time: it isn't `Sync`, and no call calls back.
+#[derive(Debug)]
+struct Held {
+    handle: UnsafeCell<ffi::Handle>,
+    /// About how many tokens or pieces 1,024 bytes have: a quarter, or what the densest text had.
+    density: Cell<usize>,
+}
+
+impl Held {
+    fn empty() -> Held {
+        Held { handle: UnsafeCell::new(ffi::Handle::EMPTY), density: Cell::new(256) }
+    }
+
+    fn get(&self) -> *mut ffi::Handle {
+        self.handle.get()
+    }
+
+    /// What a call writes into a buffer of tokens or pieces, of a text of this length. Where there are more than there is room for,
+    /// the call is made twice.
+    fn filled<T>(
+        &self,
+        len: usize,
+        call: impl Fn(*mut T, usize, &mut ffi::Lexed) -> c_int,
+    ) -> Result<(Vec<T>, ffi::Lexed), Error> {
+        let mut lexed = ffi::Lexed::default();
+        let mut room = (len / 1024 + 1).saturating_mul(self.density.get());
+        loop {
+            let mut rows = Vec::new();
+            rows.try_reserve_exact(room).map_err(|_| Error::OutOfMemory)?;
+            checked(call(rows.as_mut_ptr(), room, &mut lexed))?;
+            if lexed.count <= room {
+                // SAFETY: there is room for `room` rows, and the call has written the first `count` of them.
+                unsafe { rows.set_len(lexed.count) };
+                return Ok((rows, lexed));
+            }
+            room = lexed.count;
+            self.density.set(room / (len / 1024 + 1) + 1);
+        }
+    }
+}
+
+impl Drop for Held {
+    fn drop(&mut self) {
+        // SAFETY: the handle is empty, or as a call left it, and no call uses it.
+        unsafe { ffi::lrlex_free(self.get()) }
+    }
+}
+
+/// Where and why lexing of the text stopped, if it did.
+fn stop(text: &str, lexed: &ffi::Lexed) -> Result<Option<LexError>, Error> {
+    if !lexed.stopped {
+        return Ok(None);
+    }
+    let (line, column) = place(text, lexed.end)?;
+    let state = lexed.unmatched.then_some(lexed.state);
+    Ok(Some(LexError { start: lexed.end, line, column, state }))
+}
+
+/// The rules of a rule file, ready to lex texts.
+#[derive(Debug)]
+pub struct Definition(Held);
+
+impl FromStr for Definition {
+    type Err = Error;
+
+    fn from_str(rules: &str) -> Result<Self, Error> {
+        Definition::new_with_options(rules, &LexFlags::default())
+    }
+}
+
+impl Definition {
+    /// Reads a rule text with these flags.
+    ///
+    /// # Errors
+    ///
+    /// [`Error::Rules`] with all faults of the rule text, or [`Error::OutOfMemory`].
+    pub fn new_with_options(rules: &str, flags: &LexFlags) -> Result<Self, Error> {
+        let held = Held::empty();
+        let options = flags.options();
+        // SAFETY: pointer and length are a `&str`'s, and the handle is empty.
+        match unsafe { ffi::lrlex_definition_new(held.get(), rules.as_ptr(), rules.len(), &raw const options) } {
+            ffi::REFUSED => Err(Error::Rules(faults(&held)?)),
+            status => checked(status).map(|()| Definition(held)),
+        }
+    }
+
+    /// Lexes the text.
+    ///
+    /// # Errors
+    ///
+    /// [`Error::OutOfMemory`]. A text that no rule matches isn't an error of this call but the last item of the lexer.
+    pub fn lexer<'text>(&self, text: &'text str) -> Result<Lexer<'text>, Error> {
+        let (tokens, lexed) = self.0.filled(text.len(), |out, room, lexed| {
+            // SAFETY: pointer and length are a `&str`'s, and there is room for `room` tokens.
+            unsafe { ffi::lrlex_lex(self.0.get(), text.as_ptr(), text.len(), out, room, lexed) }
+        })?;
+        Lexer::new(text, tokens, &lexed)
+    }
+
+    /// The whole text as the rules cut it, also where a rule has no name, and where lexing stopped, if it did.
+    ///
+    /// # Errors
+    ///
+    /// [`Error::OutOfMemory`].
+    pub fn pieces(&self, text: &str) -> Result<(Vec<Piece>, Option<LexError>), Error> {
+        let (pieces, lexed) = self.0.filled(text.len(), |out, room, lexed| {
+            // SAFETY: pointer and length are a `&str`'s, and there is room for `room` pieces.
+            unsafe { ffi::lrlex_pieces(self.0.get(), text.as_ptr(), text.len(), out, room, lexed) }
+        })?;
+        Ok((pieces.into_iter().map(Piece::from).collect(), stop(text, &lexed)?))
+    }
+
+    /// The name of the rule with this id. `None` if it has none.
+    #[must_use]
+    pub fn name_of(&self, tok_id: u32) -> Option<String> {
+        // SAFETY: there is room for `room` bytes.
+        let name = text_by(|out, room| unsafe { ffi::lrlex_name(self.0.get(), tok_id, out, room) });
+        (!name.is_empty()).then_some(name)
+    }
+
+    /// How many rules there are.
+    #[must_use]
+    pub fn rule_count(&self) -> usize {
+        // SAFETY: the handle is a definition's.
+        unsafe { ffi::lrlex_rule_count(self.0.get()) }
+    }
+
+    /// The name of the rule of this number, from 0. `None` if it has none.
+    #[must_use]
+    pub fn rule_name(&self, rule: usize) -> Option<String> {
+        u32::try_from(rule).ok().and_then(|id| self.name_of(id))
+    }
+}
+
+/// The faults that the handle of a refused rule text holds.
+fn faults(held: &Held) -> Result<Vec<Fault>, Error> {
+    // SAFETY: (here and below) the handle holds faults, and what is written is one struct, and as many bytes as there is room for.
+    let count = unsafe { ffi::lrlex_fault_count(held.get()) };
+    let mut faults = Vec::with_capacity(count);
+    for at in 0..count {
+        let mut it = ffi::Fault::default();
+        checked(unsafe { ffi::lrlex_fault_at(held.get(), at, &raw mut it) })?;
+        let message = text_by(|out, room| unsafe { ffi::lrlex_fault_text(held.get(), at, out, room) });
+        faults.push(Fault { message, span: it.start..it.end, line: it.line, column: it.column });
+    }
+    Ok(faults)
+}
+
+/// A lexeme of a text.
+#[derive(Clone, Copy, Debug, PartialEq, Eq, Hash)]
+pub struct Lexeme<'text> {
+    text: &'text str,
+    start: usize,
+    tok_id: u32,
+}
+
+impl<'text> Lexeme<'text> {
+    /// The id of its rule.
+    #[must_use]
+    pub fn tok_id(&self) -> u32 {
+        self.tok_id
+    }
+
+    /// Its bytes in the text that was lexed.
+    #[must_use]
+    pub fn span(&self) -> Range<usize> {
+        self.start..self.start + self.text.len()
+    }
+
+    /// Its text.
+    #[must_use]
+    pub fn text(&self) -> &'text str {
+        self.text
+    }
+}
+
+/// A piece of a text as the rules cut it.
+#[derive(Clone, Debug, PartialEq, Eq, Hash)]
+pub struct Piece {
+    /// Its bytes.
+    pub span: Range<usize>,
+    /// The number of its rule, from 0.
+    pub rule: usize,
+}
+
+impl From<ffi::Piece> for Piece {
+    fn from(it: ffi::Piece) -> Self {
+        Piece { span: it.start..it.start + it.len, rule: it.rule }
+    }
+}
+
+/// The lexemes of a text, in order. If lexing stopped before the text's end, the last item is an error.
+#[derive(Clone, Debug)]
+pub struct Lexer<'text> {
+    text: &'text str,
+    tokens: vec::IntoIter<ffi::Token>,
+    error: Option<LexError>,
+}
+
+impl<'text> Lexer<'text> {
+    fn new(text: &'text str, tokens: Vec<ffi::Token>, lexed: &ffi::Lexed) -> Result<Self, Error> {
+        Ok(Lexer { text, tokens: tokens.into_iter(), error: stop(text, lexed)? })
+    }
+}
+
+impl<'text> Iterator for Lexer<'text> {
+    type Item = Result<Lexeme<'text>, LexError>;
+
+    fn next(&mut self) -> Option<Self::Item> {
+        match self.tokens.next() {
+            Some(it) => {
+                let text = &self.text[it.start..it.start + it.len];
+                Some(Ok(Lexeme { text, start: it.start, tok_id: it.id }))
+            }
+            None => self.error.take().map(Err),
+        }
+    }
+
+    fn size_hint(&self) -> (usize, Option<usize>) {
+        let left = self.tokens.len() + usize::from(self.error.is_some());
+        (left, Some(left))
+    }
+}
+
+impl ExactSizeIterator for Lexer<'_> {}
+
+impl FusedIterator for Lexer<'_> {}
+
+/// A text that is edited. An edit lexes again only what it changes. The definition may be dropped before it.
+#[derive(Debug)]
+pub struct Document {
+    held: Held,
+    text: String,
+}
+
+impl Document {
+    /// Lexes a text.
+    ///
+    /// # Errors
+    ///
+    /// [`Error::OutOfMemory`].
+    pub fn new(definition: &Definition, text: &str) -> Result<Self, Error> {
+        let held = Held::empty();
+        // SAFETY: pointer and length are a `&str`'s, and the new handle is empty.
+        checked(unsafe { ffi::lrlex_document_new(definition.0.get(), held.get(), text.as_ptr(), text.len()) })?;
+        Ok(Document { held, text: text.to_owned() })
+    }
+
+    /// Puts a text in the place of these bytes.
+    ///
+    /// # Errors
+    ///
+    /// [`Error::DoesNotFit`] if the range isn't one of the text's characters, or [`Error::OutOfMemory`]. The document is then as
+    /// it was.
+    pub fn edit(&mut self, range: Range<usize>, put: &str) -> Result<(), Error> {
+        // SAFETY: pointer and length are a `&str`'s.
+        checked(unsafe { ffi::lrlex_document_edit(self.held.get(), range.start, range.end, put.as_ptr(), put.len()) })?;
+        self.text.replace_range(range, put);
+        Ok(())
+    }
+
+    /// The text as it is now.
+    #[must_use]
+    pub fn text(&self) -> &str {
+        &self.text
+    }
+
+    /// The lexemes of the text as it is now.
+    ///
+    /// # Errors
+    ///
+    /// [`Error::OutOfMemory`].
+    pub fn lexer(&self) -> Result<Lexer<'_>, Error> {
+        let (tokens, lexed) = self.held.filled(self.text.len(), |out, room, lexed| {
+            // SAFETY: there is room for `room` tokens.
+            unsafe { ffi::lrlex_document_tokens(self.held.get(), 0, out, room, lexed) }
+        })?;
+        Lexer::new(&self.text, tokens, &lexed)
+    }
+}

@@ -1,0 +1,105 @@
+//! A first text, a refused rule text, and a document through edits.
+
+use lrlex::{Definition, Document, Error, LexError, LexFlags, Lexeme};
+
+const WORDS: &str = "%%\n[0-9]+ 'INT'\n[a-z]+ 'ID'\n[ ] ;\n";
+
+fn words() -> Definition {
+    WORDS.parse().expect("the rules are right")
+}
+
+/// The name and the text of each lexeme.
+fn shown<'text>(
+    definition: &Definition,
+    lexemes: impl Iterator<Item = Result<Lexeme<'text>, LexError>>,
+) -> Vec<(String, &'text str)> {
+    lexemes
+        .map(|it| it.expect("every rule matches"))
+        .map(|it| (definition.name_of(it.tok_id()).expect("it has a name"), it.text()))
+        .collect()
+}
+
+fn pairs<'a>(of: &[(&'a str, &'a str)]) -> Vec<(String, &'a str)> {
+    of.iter().map(|(name, text)| ((*name).to_owned(), *text)).collect()
+}
+
+#[test]
+fn lexemes_of_a_text() {
+    let definition = words();
+    let lexer = definition.lexer("abc 123").expect("there is memory");
+    assert_eq!(lexer.len(), 2);
+    assert_eq!(shown(&definition, lexer), pairs(&[("ID", "abc"), ("INT", "123")]));
+    let spans: Vec<_> = definition.lexer("abc 123").unwrap().map(|it| it.unwrap().span()).collect();
+    assert_eq!(spans, [0..3, 4..7]);
+}
+
+#[test]
+fn an_empty_text_has_no_lexemes() {
+    assert_eq!(words().lexer("").unwrap().count(), 0);
+}
+
+#[test]
+fn more_lexemes_than_half_of_the_bytes() {
+    let definition: Definition = "%%\na 'A'\n".parse().unwrap();
+    assert_eq!(definition.lexer(&"a".repeat(1000)).unwrap().filter(Result::is_ok).count(), 1000);
+}
+
+#[test]
+fn lexing_stops_where_no_rule_matches() {
+    let items: Vec<_> = words().lexer("ab\u{a0}").unwrap().collect();
+    assert_eq!(items.len(), 2);
+    assert_eq!(items[1], Err(LexError { start: 2, line: 1, column: 3, state: Some(0) }));
+    assert_eq!(items[1].unwrap_err().to_string(), "1:3: no lexeme begins here");
+}
+
+#[test]
+fn a_refused_rule_text_has_faults() {
+    let Err(Error::Rules(faults)) = "%x A A\n%%\na+b 'A'\nb 'A'\nc( 'C'\n".parse::<Definition>() else {
+        panic!("the rules were taken");
+    };
+    assert_eq!(faults.len(), 3);
+    assert_eq!(faults[0].message, "Start state already exists");
+    assert_eq!(faults[0].span, 3..4);
+    assert_eq!(faults[0].to_string(), "1:4: Start state already exists");
+}
+
+#[test]
+fn flags_change_what_matches() {
+    let flags = LexFlags { case_insensitive: Some(true), ..LexFlags::default() };
+    let definition = Definition::new_with_options(WORDS, &flags).unwrap();
+    assert_eq!(shown(&definition, definition.lexer("ABC").unwrap()), pairs(&[("ID", "ABC")]));
+}
+
+#[test]
+fn names_of_rules() {
+    let definition: Definition = "%x STRING\n%%\na 'A'\nb ;\n".parse().unwrap();
+    assert_eq!(definition.rule_count(), 2);
+    assert_eq!(
+        (definition.rule_name(0).as_deref(), definition.rule_name(1), definition.rule_name(2)),
+        (Some("A"), None, None)
+    );
+    assert_eq!(definition.name_of(0).as_deref(), Some("A"));
+}
+
+#[test]
+fn pieces_are_the_whole_text() {
+    let (pieces, stop) = words().pieces("ab 1?").unwrap();
+    assert_eq!(pieces.iter().map(|it| it.rule).collect::<Vec<_>>(), [1, 2, 0]);
+    assert_eq!(pieces.last().unwrap().span.end, 4);
+    assert_eq!(stop.unwrap().start, 4);
+}
+
+#[test]
+fn a_document_through_edits() {
+    let definition = words();
+    let mut document = Document::new(&definition, "abc 123").unwrap();
+    document.edit(3..4, "").unwrap();
+    assert_eq!(document.text(), "abc123");
+    assert_eq!(shown(&definition, document.lexer().unwrap()), pairs(&[("ID", "abc"), ("INT", "123")]));
+    assert_eq!(document.edit(4..99, ""), Err(Error::DoesNotFit));
+    assert_eq!(document.edit(2..1, ""), Err(Error::DoesNotFit));
+    document.edit(6..6, " x").unwrap();
+    assert_eq!(document.text(), "abc123 x");
+    drop(definition);
+    assert_eq!(document.lexer().unwrap().count(), 3);
+}

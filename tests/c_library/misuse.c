@@ -1,0 +1,120 @@
+/* What a caller may do wrong is answered by a status, and leaves the handles as they were. */
+#include "check.h"
+
+static lrlex_token tokens[8];
+static lrlex_piece pieces[8];
+static lrlex_lexed lexed;
+static lrlex_fault fault;
+static lrlex_place place;
+static uint8_t text[8];
+
+/* Calls on a definition's handle that holds no definition. */
+static void none(lrlex_definition *d) {
+    void *before = d->hidden;
+    lrlex_document document = LRLEX_EMPTY;
+    lrlex_definition other = LRLEX_EMPTY;
+    CHECK(lrlex_lex(d, bytes("a"), 1, tokens, 8, &lexed) == LRLEX_MISUSE);
+    CHECK(lrlex_pieces(d, bytes("a"), 1, pieces, 8, &lexed) == LRLEX_MISUSE);
+    CHECK(lrlex_rule_count(d) == 0);
+    CHECK(lrlex_name(d, 0, text, sizeof text) == 0);
+    CHECK(lrlex_definition_share(d, &other) == LRLEX_MISUSE);
+    CHECK(lrlex_document_new(d, &document, bytes("a"), 1) == LRLEX_MISUSE);
+    CHECK(d->hidden == before && document.hidden == NULL && other.hidden == NULL);
+}
+
+/* Calls on a handle that holds no faults. */
+static void no_faults(lrlex_definition *d) {
+    CHECK(lrlex_fault_count(d) == 0);
+    CHECK(lrlex_fault_at(d, 0, &fault) != LRLEX_OK);
+    CHECK(lrlex_fault_text(d, 0, text, sizeof text) == 0);
+}
+
+/* Calls on a document's handle that holds no document. */
+static void no_document(lrlex_document *document) {
+    void *before = document->hidden;
+    CHECK(lrlex_document_edit(document, 0, 0, bytes("a"), 1) == LRLEX_MISUSE);
+    CHECK(lrlex_document_tokens(document, 0, tokens, 8, &lexed) == LRLEX_MISUSE);
+    CHECK(document->hidden == before);
+}
+
+static void handles(void) {
+    lrlex_definition d = LRLEX_EMPTY, refused = LRLEX_EMPTY;
+    lrlex_document document = LRLEX_EMPTY;
+    none(&d);
+    no_faults(&d);
+    no_document(&document);
+    lrlex_free(&d);
+    lrlex_free(&document);
+    CHECK(define(&d, WORDS) == LRLEX_OK);
+    CHECK(define(&refused, "%%\n( 'A'\n") == LRLEX_REFUSED);
+    CHECK(lrlex_document_new(&d, &document, bytes("ab"), 2) == LRLEX_OK);
+    none(&refused);
+    none((lrlex_definition *)&document);
+    no_faults(&d);
+    no_faults((lrlex_definition *)&document);
+    no_document((lrlex_document *)&d);
+    no_document((lrlex_document *)&refused);
+    CHECK(lrlex_fault_count(&refused) == 1);
+    CHECK(lrlex_fault_at(&refused, 1, &fault) == LRLEX_NONE);
+    CHECK(lrlex_fault_text(&refused, 1, text, sizeof text) == 0);
+    lrlex_free(&d);
+    lrlex_free(&d);
+    none(&d);
+    lrlex_free(&document);
+    lrlex_free(&document);
+    lrlex_free(&refused);
+    CHECK(!d.hidden && !document.hidden && !refused.hidden);
+}
+
+static void texts(void) {
+    static const char *const bad[] = {"\xff", "a\x80", "\xc3", "\xed\xa0\x80", "\xf4\x90\x80\x80"};
+    lrlex_definition d = LRLEX_EMPTY, other = LRLEX_EMPTY;
+    lrlex_document document = LRLEX_EMPTY;
+    CHECK(define(&d, WORDS) == LRLEX_OK);
+    CHECK(lrlex_document_new(&d, &document, bytes("ab"), 2) == LRLEX_OK);
+    for (size_t i = 0; i < sizeof bad / sizeof *bad; i++) {
+        const size_t size = strlen(bad[i]), at = 0;
+        lrlex_document made = LRLEX_EMPTY;
+        CHECK(define(&other, bad[i]) == LRLEX_NOT_UTF8);
+        CHECK(lrlex_lex(&d, bytes(bad[i]), size, tokens, 8, &lexed) == LRLEX_NOT_UTF8);
+        CHECK(lrlex_pieces(&d, bytes(bad[i]), size, pieces, 8, &lexed) == LRLEX_NOT_UTF8);
+        CHECK(lrlex_places(bytes(bad[i]), size, &at, 1, &place, 1) == LRLEX_NOT_UTF8);
+        CHECK(lrlex_document_new(&d, &made, bytes(bad[i]), size) == LRLEX_NOT_UTF8 && !made.hidden);
+        CHECK(lrlex_document_edit(&document, 0, 0, bytes(bad[i]), size) == LRLEX_NOT_UTF8);
+    }
+    CHECK(lrlex_lex(&d, bytes(""), 0, tokens, 8, &lexed) == LRLEX_OK && lexed.count == 0 && lexed.end == 0);
+    CHECK(lrlex_lex(&d, bytes("a b"), 3, tokens, 0, &lexed) == LRLEX_OK && lexed.count == 2);
+    CHECK(lrlex_document_edit(&document, 1, 0, bytes(""), 0) == LRLEX_DOES_NOT_FIT);
+    CHECK(lrlex_document_edit(&document, 0, 3, bytes(""), 0) == LRLEX_DOES_NOT_FIT);
+    CHECK(lrlex_document_edit(&document, SIZE_MAX, SIZE_MAX, bytes(""), 0) == LRLEX_DOES_NOT_FIT);
+    CHECK(lrlex_document_edit(&document, 2, 2, bytes("\xc3\xa9"), 2) == LRLEX_OK);
+    CHECK(lrlex_document_edit(&document, 3, 3, bytes("x"), 1) == LRLEX_DOES_NOT_FIT);
+    CHECK(lrlex_document_tokens(&document, 0, tokens, 8, &lexed) == LRLEX_OK && lexed.end == 2 && lexed.stopped);
+    CHECK(lrlex_document_tokens(&document, SIZE_MAX, tokens, 8, &lexed) == LRLEX_OK && lexed.count == 1);
+    lrlex_free(&document);
+    lrlex_free(&d);
+    CHECK(!other.hidden);
+}
+
+static void buffers(void) {
+    lrlex_definition d = LRLEX_EMPTY;
+    uint8_t name[2] = {'#', '#'};
+    CHECK(define(&d, WORDS) == LRLEX_OK);
+    CHECK(lrlex_name(&d, 0, name, 0) == 3 && name[0] == '#');
+    CHECK(lrlex_name(&d, 0, name, 1) == 3 && name[0] == 'I' && name[1] == '#');
+    CHECK(lrlex_name(&d, 2, name, 2) == 0 && lrlex_name(&d, UINT32_MAX, name, 2) == 0);
+    tokens[1].start = 77;
+    CHECK(lrlex_lex(&d, bytes("a b c"), 5, tokens, 1, &lexed) == LRLEX_OK);
+    CHECK(lexed.count == 3 && tokens[0].start == 0 && tokens[1].start == 77);
+    /* a handle that holds something is used again */
+    CHECK(define(&d, "%%\na 'A'\n") == LRLEX_OK);
+    CHECK(lrlex_rule_count(&d) == 1);
+    lrlex_free(&d);
+}
+
+int main(void) {
+    handles();
+    texts();
+    buffers();
+    return failed;
+}

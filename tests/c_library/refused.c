@@ -1,0 +1,129 @@
+/* Refuses each request for memory in turn (linked with -Wl,--wrap=malloc,--wrap=realloc,--wrap=free). A call then answers
+   LRLEX_NOMEM, or what it answers with memory for all, and the call made once more answers as it should. In the end each block was
+   freed. The last line says how many were refused. */
+#include "check.h"
+
+#include <stdlib.h>
+
+void *__real_malloc(size_t size);
+void *__real_realloc(void *block, size_t size);
+void __real_free(void *block);
+void *__wrap_malloc(size_t size);
+void *__wrap_realloc(void *block, size_t size);
+void __wrap_free(void *block);
+
+/* Requests up to the one that is refused, or less than 0; blocks that aren't freed yet. */
+static long left = -1, blocks = 0;
+
+static int is_refused(void) { return left >= 0 && left-- == 0; }
+
+void *__wrap_malloc(size_t size) {
+    if (is_refused()) return NULL;
+    void *block = __real_malloc(size);
+    blocks += block != NULL;
+    return block;
+}
+
+void *__wrap_realloc(void *block, size_t size) {
+    if (is_refused()) return NULL;
+    blocks += block == NULL;
+    return __real_realloc(block, size);
+}
+
+void __wrap_free(void *block) {
+    blocks -= block != NULL;
+    __real_free(block);
+}
+
+static const char RULES[] = "%x S\n%%\n[0-9]+ 'INT'\n[a-z]+ 'ID'\n[ ] ;\n\" <+S>;\n<S>\" <-S>;\n<S>[^\"]+ 'TEXT'\n";
+static const char FAULTY[] = "%x A A\n%%\na+b 'A'\nb 'A'\nc( 'C'\n";
+static const char TEXT[] = "ab 12 \"x y\" c", EDITED[] = "ab \" q \"x y\" c";
+
+static lrlex_definition d, shared, refused;
+static lrlex_document document;
+
+/* Whether the document is of this text: whether its tokens are those of it. */
+static int is_of(const char *text) {
+    lrlex_token one[32], other[32];
+    lrlex_lexed of_document, of_text;
+    if (lrlex_document_tokens(&document, 0, one, 32, &of_document) || lrlex_lex(&d, bytes(text), strlen(text), other, 32, &of_text)) return 0;
+    if (of_document.count != of_text.count || of_document.end != of_text.end) return 0;
+    for (size_t i = 0; i < of_text.count; i++)
+        if (one[i].start != other[i].start || one[i].len != other[i].len || one[i].id != other[i].id) return 0;
+    return 1;
+}
+
+static int make(void) { return define(&d, RULES); }
+
+static int refuse(void) { return define(&refused, FAULTY); }
+
+static int lex(void) {
+    lrlex_token tokens[32];
+    lrlex_lexed lexed;
+    return lrlex_lex(&d, bytes(TEXT), strlen(TEXT), tokens, 32, &lexed);
+}
+
+static int cut(void) {
+    lrlex_piece pieces[32];
+    lrlex_lexed lexed;
+    return lrlex_pieces(&d, bytes(TEXT), strlen(TEXT), pieces, 32, &lexed);
+}
+
+static int share(void) { return lrlex_definition_share(&d, &shared); }
+
+static int open_document(void) { return lrlex_document_new(&d, &document, bytes(TEXT), strlen(TEXT)); }
+
+static int edit(void) { return lrlex_document_edit(&document, 3, 5, bytes("\" q"), 3); }
+
+static int find_places(void) {
+    static const size_t at[] = {0, 4};
+    lrlex_place places[2];
+    return lrlex_places(bytes("a\nb\nc"), 5, at, 2, places, 2);
+}
+
+static const struct {
+    const char *name;
+    int (*call)(void);
+    int answer;
+} CALLS[] = {
+    {"lrlex_definition_new", make, LRLEX_OK},
+    {"lrlex_definition_new, refused", refuse, LRLEX_REFUSED},
+    {"lrlex_lex", lex, LRLEX_OK},
+    {"lrlex_pieces", cut, LRLEX_OK},
+    {"lrlex_definition_share", share, LRLEX_OK},
+    {"lrlex_document_new", open_document, LRLEX_OK},
+    {"lrlex_document_edit", edit, LRLEX_OK},
+    {"lrlex_places", find_places, LRLEX_OK},
+};
+
+int main(void) {
+    long requests = 0, reported = 0;
+    for (size_t k = 0; k < sizeof CALLS / sizeof *CALLS; k++) {
+        for (long request = 0;; request++) {
+            left = request;
+            int status = CALLS[k].call();
+            const int was_refused = left < 0;
+            left = -1;
+            if (!was_refused) {
+                CHECK(status == CALLS[k].answer);
+                break;
+            }
+            requests++, reported += status == LRLEX_NOMEM;
+            if (CALLS[k].call == edit) {
+                if (status == LRLEX_OK) {
+                    /* the edit did without: it is undone */
+                    CHECK(is_of(EDITED));
+                    CHECK(lrlex_document_edit(&document, 3, 6, bytes("12"), 2) == LRLEX_OK);
+                }
+                CHECK(is_of(TEXT));
+            }
+            if (status != LRLEX_NOMEM && status != CALLS[k].answer) printf("%s, request %ld: status %d\n", CALLS[k].name, request, status);
+            CHECK(status == LRLEX_NOMEM || status == CALLS[k].answer);
+        }
+    }
+    CHECK(is_of(EDITED));
+    lrlex_free(&d), lrlex_free(&shared), lrlex_free(&refused), lrlex_free(&document);
+    CHECK(blocks == 0 && reported > 0);
+    printf("%ld requests refused, %ld reported, %ld blocks left\n", requests, reported, blocks);
+    return failed;
+}

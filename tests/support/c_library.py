@@ -1,0 +1,75 @@
+"""The C library as it is built: its archive and the shared library as users get them, and programs over them.
+
+A test is skipped where the archive isn't built, or a tool isn't there. The environment variable LRLEX_ARCHIVE names the archive to
+try, as rt lib leaves it.
+"""
+
+import functools
+import os
+import shutil
+import subprocess
+import sys
+import unittest
+
+from support import programs
+
+WARNINGS = ["-Wall", "-Wextra", "-Wpedantic", "-Wconversion", "-Wshadow", "-Werror"]
+
+HEADERS = ["-I", f"{programs.TOP}/include", "-I", f"{programs.TOP}/bindings/cpp"]
+
+
+def archive():
+    """Where the archive is, built or not."""
+    return os.environ.get("LRLEX_ARCHIVE") or f"{programs.TOP}/crates/lrlex_c/out/liblrlex_c.a"
+
+
+def need(*tools):
+    """Skips the test where a tool isn't there, or the archive isn't built."""
+    for tool in tools:
+        if not shutil.which(tool):
+            raise unittest.SkipTest(f"there is no {tool}")
+    if not os.path.isfile(archive()):
+        raise unittest.SkipTest("the C library isn't built: ./dev build lrlex_c")
+
+
+@functools.lru_cache(maxsize=None)
+def packed():
+    """A folder that is packed as ./dev dist does. The program is in it if it is built."""
+    need("ar", "cc", "rt")
+    folder = f"{programs.scratch().name}/dist"
+    program = [programs.path_of("lrlex_program")] if programs.is_built("lrlex_program") else []
+    subprocess.run([sys.executable, "-B", f"{programs.TOP}/tools/dist.py", folder, archive(), *program], check=True)
+    return folder
+
+
+def static():
+    """The archive as users get it."""
+    return f"{packed()}/lib/liblrlex.a"
+
+
+def shared():
+    """The shared library as users get it."""
+    return f"{packed()}/lib/liblrlex.so.0"
+
+
+def compiled(compiler, source, *words):
+    """A program of a source and the archive, by this compiler and these words, without a warning."""
+    path = f"{programs.scratch().name}/{os.path.basename(source).replace('.', '_')}"
+    source = os.path.join(programs.TOP, source)
+    words = [compiler, *WARNINGS, "-O2", *HEADERS, *words, source, static(), "-o", path]
+    built = programs.run(words, timeout=300)
+    if built.status or built.err:
+        raise AssertionError(f"{' '.join(words)}:\n{built.err}")
+    return path
+
+
+def of_c(source, *words):
+    """A program of a source in C99."""
+    need("gcc")
+    return compiled("gcc", source, "-std=c99", *words)
+
+
+def of_cpp(source, *words):
+    """A program of a source in C++17."""
+    need("g++")
+    return compiled("g++", source, "-std=c++17", *words)

@@ -1,0 +1,125 @@
+"""The bindings of C++, Rust and Python, and the programs that show how to use them, beside the program itself."""
+
+import os
+import re
+import sys
+import unittest
+
+from support import c_library, programs
+
+RUST = f"{programs.TOP}/bindings/rust"
+PYTHON = f"{programs.TOP}/bindings/python"
+
+# A text in C of about 1 MB, and one that stops.
+LONG = programs.read("examples/sorted.c") * (1_000_000 // len(programs.read("examples/sorted.c")))
+
+# What is lexed by each binding: a rule file, and the text.
+TEXTS = [
+    ("examples/tokens.l", programs.read("examples/tokens.txt")),
+    ("rules/c.l", LONG),
+    ("rules/example.l", programs.read("tests/cli/rules_example.in")),
+    ("rules/json.l", '{"a": [1, 2.5e3, "é❤😀"]}\n'),
+    ("rules/json.l", '{"é": ?}'),
+    ("rules/conf.l", programs.read("tests/examples/conf.in")),
+    ("tests/cli/stop.l", programs.read("tests/cli/stop.in")),
+    ("rules/c.l", ""),
+]
+
+
+def python_environment():
+    """The environment in which Python finds the package and the library."""
+    return {**os.environ, "PYTHONPATH": PYTHON, "LRLEX_LIBRARY": c_library.shared(), "PYTHONDONTWRITEBYTECODE": "1"}
+
+
+def rust_program(source, *words):
+    """A program in Rust over the crate, which is built first."""
+    c_library.need("rustc")
+    scratch = programs.scratch().name
+    crate, path = f"{scratch}/liblrlex.rlib", f"{scratch}/{os.path.basename(source).replace('.', '_')}_rust"
+    options = ["rustc", "--edition", "2024", "-O", "-D", "warnings"]
+    linked = ["-L", f"native={os.path.dirname(c_library.static())}", "-l", "static=lrlex"]
+    run_well([*options, "--crate-type", "rlib", "--crate-name", "lrlex", *linked, "-o", crate, f"{RUST}/src/lib.rs"])
+    run_well([*options, *words, "--extern", f"lrlex={crate}", *linked[:2], "-o", path, os.path.join(RUST, source)])
+    return path
+
+
+def run_well(words, **how):
+    """The outcome of words that end well."""
+    came = programs.run(words, timeout=600, **how)
+    if came.status:
+        raise AssertionError(f"{' '.join(words)} ended with status {came.status}:\n{came.out}{came.err}")
+    return came
+
+
+class Bindings(unittest.TestCase):
+    """Each binding by its own tests, and by a program that prints the tokens of a text."""
+
+    def setUp(self):
+        c_library.need()
+
+    def check_tokens(self, words, environment=None):
+        """These words, with a rule file and an input after them, print what the program does."""
+        programs.need("lrlex_program")
+        path = f"{programs.scratch().name}/text"
+        for rules, text in TEXTS:
+            with self.subTest(rules=rules, text=text[:40]):
+                programs.fill(programs.scratch().name, {"text": text})
+                given = [f"{programs.TOP}/{rules}", path]
+                wanted = programs.run([programs.path_of("lrlex_program"), *given])
+                came = programs.run([*words, *given], environment=environment)
+                self.assertEqual((came.status, len(came.out)), (wanted.status, len(wanted.out)), came.err)
+                self.assertTrue(came.out == wanted.out)
+
+    def check_shown(self, kind, make):
+        """The program of this kind in docs/c.md, as `make` runs it, prints the tokens of its text."""
+        [program] = re.findall(rf"^```{kind}\n(.*?)^```$", programs.read("docs/c.md"), re.M | re.S)
+        file = f"{programs.scratch().name}/shown.{kind}"
+        programs.fill(programs.scratch().name, {f"shown.{kind}": program})
+        came = programs.run(make(file), environment=python_environment())
+        self.assertEqual((came.status, came.err), (0, ""))
+        first = re.sub("^1 ", "ID ", re.sub("^0 ", "INT ", came.out, flags=re.M), flags=re.M)
+        self.assertEqual(first.splitlines()[:2], ["ID abc", "INT 123"])
+
+    def test_the_programs_of_the_page(self):
+        self.check_shown("c", lambda file: [c_library.of_c(file)])
+        self.check_shown("cpp", lambda file: [c_library.of_cpp(file)])
+        self.check_shown("rs", lambda file: [rust_program(file)])
+        self.check_shown("py", lambda file: [sys.executable, file])
+
+    def test_c_prints_tokens(self):
+        self.check_tokens([c_library.of_c("bindings/c/tokens.c")])
+
+    def test_cpp(self):
+        came = programs.run([c_library.of_cpp("bindings/cpp/tests/lexing.cpp")])
+        self.assertEqual(came, programs.Outcome())
+
+    def test_cpp_prints_tokens(self):
+        self.check_tokens([c_library.of_cpp("bindings/cpp/tokens.cpp")])
+
+    def test_rust(self):
+        run_well([rust_program("tests/lexing.rs", "--test"), "--quiet"])
+
+    def test_the_example_of_the_crate(self):
+        rust_program("examples/tokens.rs")
+        c_library.need("rustdoc")
+        crate, native = f"lrlex={programs.scratch().name}/liblrlex.rlib", f"native={os.path.dirname(c_library.static())}"
+        words = ["rustdoc", "--edition", "2024", "--crate-name", "lrlex", "--extern", crate, "-L", native, "--test", f"{RUST}/src/lib.rs"]
+        self.assertIn("1 passed", run_well(words).out)
+
+    def test_rust_prints_tokens(self):
+        self.check_tokens([rust_program("examples/tokens.rs")])
+
+    def test_python(self):
+        words = [sys.executable, "-m", "unittest", "discover", "-s", f"{PYTHON}/tests"]
+        run_well(words, environment=python_environment())
+
+    def test_python_replays_cases(self):
+        came = run_well([sys.executable, "-m", "support.c_replay"], cwd=f"{programs.TOP}/tests", environment=python_environment())
+        self.assertRegex(came.out, r"\A\d+ cases, 175 left out, 0 differences\n\Z")
+
+    def test_python_prints_tokens(self):
+        self.check_tokens([sys.executable, "-m", "lrlex"], python_environment())
+
+
+if __name__ == "__main__":
+    unittest.main()

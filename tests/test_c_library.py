@@ -1,0 +1,110 @@
+"""The C library: what its header declares, calls from C, misuse, refused memory, and what ./dev dist packs."""
+
+import os
+import re
+import unittest
+
+from support import c_library, programs
+
+FIRST = """1:1 ID abc
+1:5 INT 123
+1:1 ID ab
+stopped at 3 in state 0
+kind 6, Start state already exists: 1:4, bytes 3 to 4
+kind 9, Rule name already exists: 3:6, bytes 15 to 16
+kind 10, Invalid regular expression: regex parse error at 2..3: unclosed group: 5:1, bytes 24 to 24
+0+3:1 4+3:0, end 7
+0+3:1 3+3:0, end 6
+0+3:1 3+3:0, end 7, stopped
+"""
+
+# What a program that links the archive has to give it, of the C library.
+NEEDED = {"malloc", "realloc", "free", "memcpy", "memmove", "memset", "memcmp"}
+
+WRAPPED = "-Wl,--wrap=malloc,--wrap=realloc,--wrap=free"
+
+# What a user's program is, to be compiled by what pkg-config says.
+INCLUDED = "#include <lrlex.h>\nint main(void) { lrlex_definition d = {0}; lrlex_free(&d); return d.hidden != 0; }\n"
+
+
+def declared():
+    """The names of the header's functions."""
+    return set(re.findall(r"^\w[\w ]*\b(lrlex_\w+)\(", programs.read("include/lrlex.h"), re.M))
+
+
+def names_in(path, *words):
+    """The names that nm prints of a library."""
+    told = programs.run(["nm", "-P", *words, path])
+    if told.status:
+        raise AssertionError(told.err)
+    return {line.split()[0].partition("@")[0] for line in told.out.splitlines() if len(line.split()) > 1}
+
+
+class CLibrary(unittest.TestCase):
+    """The C library by its header."""
+
+    def setUp(self):
+        c_library.need("gcc")
+
+    def check_run(self, words, out="", environment=None):
+        """A program ends well, and writes this."""
+        self.assertEqual(programs.run(words, environment=environment), programs.Outcome(out))
+
+    def test_a_first_text_a_refused_rule_text_and_edits(self):
+        self.check_run([c_library.of_c("tests/c_library/first.c")], FIRST)
+
+    def test_misuse_is_answered_by_a_status(self):
+        self.check_run([c_library.of_c("tests/c_library/misuse.c")])
+
+    def test_requests_for_memory_that_are_refused_in_turn(self):
+        came = programs.run([c_library.of_c("tests/c_library/refused.c", WRAPPED, "-Wno-reserved-identifier")])
+        self.assertEqual((came.status, came.err), (0, ""), came.out)
+        self.assertRegex(came.out, r"\A\d+ requests refused, \d+ reported, 0 blocks left\n\Z")
+
+    def test_no_access_is_wrong_and_no_block_lost(self):
+        c_library.need("valgrind")
+        for name in ["first", "misuse"]:
+            with self.subTest(program=name):
+                path = c_library.of_c(f"tests/c_library/{name}.c")
+                words = ["valgrind", "--quiet", "--leak-check=full", "--error-exitcode=9", path]
+                came = programs.run(words, timeout=600)
+                self.assertEqual((came.status, came.err), (0, ""))
+
+    def test_the_header_alone_is_c99_and_cpp11(self):
+        for compiler, *words in [["gcc", "-std=c99", "-x", "c"], ["g++", "-std=c++11", "-x", "c++"]]:
+            with self.subTest(compiler=compiler):
+                c_library.need(compiler)
+                words = [compiler, *words, *c_library.WARNINGS, "-fsyntax-only", f"{programs.TOP}/include/lrlex.h"]
+                came = programs.run(words)
+                self.assertEqual([it for it in came.err.splitlines() if "error" in it], [])
+                self.assertEqual(came.status, 0, came.err)
+
+    def test_both_libraries_have_the_names_of_the_header(self):
+        c_library.need("nm")
+        self.assertIn("lrlex_lex", declared())
+        self.assertEqual(names_in(c_library.shared(), "-D", "--defined-only") - {"LRLEX_0"}, declared())
+        self.assertLessEqual(declared(), names_in(c_library.static(), "--defined-only", "-g"))
+        undefined = names_in(c_library.static(), "--undefined-only") - names_in(c_library.static(), "--defined-only", "-g")
+        self.assertLessEqual({it for it in undefined if not it.startswith(("liblrlex", "_GLOBAL_"))}, NEEDED)
+
+    def test_what_is_packed_is_whole(self):
+        folder = c_library.packed()
+        for path in ["include/lrlex.h", "include/lrlex.hpp", "lib/liblrlex.so", "share/man/man1/lrlex.1", "share/doc/lrlex/LICENSE-MIT"]:
+            self.assertTrue(os.path.isfile(f"{folder}/{path}"), path)
+        came = programs.run(["sha256sum", "--quiet", "-c", "SHA256SUMS"], cwd=folder)
+        self.assertEqual(came, programs.Outcome())
+
+    def test_programs_link_by_what_pkg_config_says(self):
+        c_library.need("pkg-config")
+        folder, scratch = c_library.packed(), programs.scratch().name
+        environment = {**os.environ, "PKG_CONFIG_PATH": f"{folder}/lib/pkgconfig"}
+        flags = programs.run(["pkg-config", "--cflags", "--libs", "lrlex"], environment=environment)
+        self.assertEqual((flags.status, flags.err), (0, ""))
+        programs.fill(scratch, {"included.c": INCLUDED})
+        words = ["gcc", f"{scratch}/included.c", *flags.out.split(), "-o", f"{scratch}/included"]
+        self.check_run(words)
+        self.check_run([f"{scratch}/included"], environment={**os.environ, "LD_LIBRARY_PATH": f"{folder}/lib"})
+
+
+if __name__ == "__main__":
+    unittest.main()

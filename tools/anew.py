@@ -1,0 +1,74 @@
+"""Builds a library for the first time: anew.py NAME JOBS, over the built libraries below it.
+
+rt lib checks a new crate in batches, which it keeps in out/incremental for the next check. A check that keeps nothing shares its
+work better among processors: lrlex_boundaries takes 58 seconds on four in place of 87. So a first build has the kit make the
+library as rt lib does, but keeps nothing. The note that rt leaves beside a library is left too, so that rt takes it for its own.
+A library that was built before, or whose checks have kept something, here or in another copy on this machine, is built by rt lib;
+so is each with a kit that can't do this.
+"""
+
+import fcntl
+import importlib.machinery
+import importlib.util
+import os
+import shutil
+import sys
+
+import crates
+import processes
+import prover
+
+
+def kit_library():
+    """The kit's own library of commands, as rt loads it."""
+    loader = importlib.machinery.SourceFileLoader("rtlib", f"{prover.kit()}/bin/rtlib.py")
+    made = importlib.util.module_from_spec(importlib.util.spec_from_loader("rtlib", loader))
+    sys.modules["rtlib"] = made
+    loader.exec_module(made)
+    return made
+
+
+def is_elsewhere(crate, rtlib):
+    """Whether a check in another copy of the repository on this machine has proved the same: rt lib begins with that."""
+    noted = f"{os.path.dirname(rtlib.KIT)}/rattle-kept/work"
+    names = os.listdir(noted) if os.path.isdir(noted) else []
+    return any(crate.stamp() in (rtlib.text_of(f"{noted}/{it}") or "") for it in names if it.startswith(f"{crate.name}."))
+
+
+def build(name, jobs):
+    """Builds the library, and gives the status of the check. None where rt lib is to do it."""
+    rtlib = kit_library()
+    crate = rtlib.Crate(f"{crates.TOP}/crates/{name}", crates.TOP, {})
+    rlib, stamp, below = os.path.dirname(crate.rlib), crate.stamp(), crate.below()
+    if os.path.exists(f"{rlib}/stamp") or crate.has_kept() or is_elsewhere(crate, rtlib) or not all(it.is_built() for it in below):
+        return None
+    rtlib.guarded()
+    # in rt's order, and with others that read the libraries below
+    for it in sorted([crate.folder, *[one.folder for one in below]]):
+        fcntl.flock(os.open(it, os.O_RDONLY), fcntl.LOCK_EX if it == crate.folder else fcntl.LOCK_SH)
+    shutil.rmtree(rlib, ignore_errors=True)
+    os.makedirs(rlib)
+    status = crate.call(rtlib.RATTLE, "build", *crate.words(["--jobs", str(jobs)], keeps=False), "-o", crate.rlib)
+    # what changed meanwhile is built the next time
+    if not status and stamp == crate.stamp():
+        with open(f"{rlib}/stamp", "w", encoding="utf-8") as it:
+            it.write(stamp)
+    return status
+
+
+def main(name, jobs):
+    sys.dont_write_bytecode = True
+    processes.end_with_parent()
+    try:
+        status = build(name, jobs)
+    except (AttributeError, OSError, TypeError, ImportError) as fault:
+        print(f"anew: {fault!r}: rt lib builds it")
+        status = None
+    if status is None:
+        os.chdir(f"{crates.TOP}/crates/{name}")
+        os.execvp("rt", ["rt", "lib", "--jobs", jobs])
+    return status
+
+
+if __name__ == "__main__":
+    sys.exit(main(*sys.argv[1:]))
