@@ -1,17 +1,20 @@
 //! Documents: texts that are edited.
-ghost use Rattle.std.specs.Prelude.{◌≡◌, ◌≢◌, ◌↔◌, ◌≤◌, ℕ, drop, length, slice_range, pos, None, Some, IfOk, IfErr, IfSome, IsOk, IsErr, MatchOption};
+ghost use Rattle.std.specs.Prelude.{◌≡◌, ◌≢◌, ◌↔◌, ◌≤◌, ℕ, List, drop, length, slice_range, pos, None, Some, IfOk, IfErr, IfSome, IsOk, IsErr, MatchOption};
 ghost use Rattle.std.specs.Arc.{arc_value};
 ghost use Rattle.std.specs.Option.{option_map_or};
 ghost use Rattle.lrlex_base.specs.Edits.{edited as edited_text};
+ghost use Rattle.lrlex_base.specs.Lexemes.{lexeme_seen};
 ghost use Rattle.lrlex_base.specs.Places.{place_of};
 ghost use Rattle.lrlex_base.specs.Spans.{span};
 ghost use Rattle.lrlex.specs.Document.{lexed_bytes};
 ghost use Rattle.lrlex.specs.Nearest.{IsNearest, FitsAt};
+ghost use Rattle.lrlex.specs.Pieces.{ArePieces, ArePiecesIn};
 ghost use Rattle.lrlex.specs.Utf16.{utf16_position};
-ghost use Rattle.lrlex.specs.Views.{definition_of};
+ghost use Rattle.lrlex.specs.Views.{definition_of, items_by};
 ghost use Rattle.lrlex.specs.declared.editing.document.EditError.TheVariants.{DoesNotFit};
-ghost use Rattle.lrlex_c.specs.Answers.{AreTokensOf, ArePiecesOf, ArePartOf, WasEdited};
-ghost use Rattle.lrlex_c.specs.Buffers.{IsWritten, place_by};
+ghost use Rattle.lrlex.specs.declared.reading.pieces.Piece.{Piece as Cut};
+ghost use Rattle.lrlex_c.specs.Answers.{lexed_by, AreTokensOf, ArePiecesOf, ArePartOf, WasEdited};
+ghost use Rattle.lrlex_c.specs.Buffers.{filled, put_token, piece_by, IsWritten, place_by};
 ghost use Rattle.lrlex_c.specs.Objects.{definition_in, document_in};
 ghost use Rattle.lrlex_c.specs.declared.object.Object.TheVariants.{Document as Kept};
 
@@ -46,7 +49,7 @@ fn begun(
 
 fn begun_in(alloc: Global, object: &Object, text: &str) -> Result<Option<Box<Object>>, AllocError>
     ensures { IfOk result (λ made. MatchOption made (definition_in (Some object.now) ≡ None)
-        (λ b. IfSome (definition_in (Some object.now))
+        (λ b. MatchOption (definition_in (Some object.now)) ⊥
         (λ d. document_in (Some b.value) ≡ Some (d, text.now)))) }
 {
     match shared(object)? {
@@ -198,8 +201,11 @@ fn items_from(items: &[Item], first: usize) -> &[Item]
 }
 
 fn tokens_by(document: &Document<'_>, first: usize, tokens: &mut [Token], out: &mut Lexed)
-    ensures { AreTokensOf (definition_of (λ n. n) document.now.definition) document.now.text first
-        tokens.old tokens.new out.new }
+    ensures tokens { tokens.new
+        ≡ filled put_token (drop first (items_by (λ n. n) lexeme_seen document.now.items))
+        tokens.old }
+    ensures lexed { out.new
+        ≡ lexed_by (items_by (λ n. n) lexeme_seen document.now.items) document.now.boundaries }
 {
     copy_tokens(items_from(document.items(), first), tokens);
     *out = lexed_of(document.items(), document.end(), document.end_state());
@@ -326,19 +332,18 @@ fn text_of(
     to: usize,
     out: &mut [u8],
     len: &mut usize,
-    status: &mut i32,
-) -> Edited
-    ensures kept { document_in (Some (Kept result)) ≡ document_in (Some (Kept it)) }
-    ensures done { status.new ≡ pos 0 → IsWritten (slice_range (lexed_bytes it.text) from to)
+) -> (Edited, i32)
+    ensures kept { document_in (Some (Kept result.0)) ≡ document_in (Some (Kept it)) }
+    ensures done { result.1 ≡ pos 0 → IsWritten (slice_range (lexed_bytes it.text) from to)
         out.old out.new len.new }
-    ensures unfit { status.new ≡ pos 6 ↔ ¬ ((from ≤ to) × (to ≤ length (lexed_bytes it.text))) }
-    ensures misused { status.new ≢ pos 4 }
+    ensures unfit { result.1 ≡ pos 6 ↔ ¬ ((from ≤ to) × (to ≤ length (lexed_bytes it.text))) }
+    ensures misused { result.1 ≢ pos 4 }
 {
     let Edited { definition, text } = it;
     let document = Document::of_text(&definition, text);
-    *status = write_part(document.text(), from, to, out, len);
+    let status = write_part(document.text(), from, to, out, len);
     let text = document.into_text();
-    Edited { definition, text }
+    (Edited { definition, text }, status)
 }
 
 fn text_in(object: &mut Object, from: usize, to: usize, out: &mut [u8], len: &mut usize) -> i32
@@ -351,8 +356,8 @@ fn text_in(object: &mut Object, from: usize, to: usize, out: &mut [u8], len: &mu
 {
     match replace(object, Object::Nothing) {
         Object::Document(it) => {
-            let mut status = OK;
-            *object = Object::Document(text_of(it, from, to, out, len, &mut status));
+            let (it, status) = text_of(it, from, to, out, len);
+            *object = Object::Document(it);
             status
         }
         other => {
@@ -504,8 +509,12 @@ fn pieces_by(
     document: &Document<'_>,
     pieces: &mut [Piece],
 ) -> Result<Lexed, AllocError>
-    ensures { IfOk result (ArePiecesOf (definition_of (λ n. n) document.now.definition)
-        document.now.text pieces.old pieces.new) }
+    ensures { IfOk result (λ lexed. (cuts : List Cut)
+        × ArePieces (definition_of (λ n. n) document.now.definition) document.now.text
+        document.now.boundaries cuts
+        × (pieces.new ≡ filled (λ p _. piece_by p) cuts pieces.old)
+        × (lexed ≡ record (lexed_by (items_by (λ n. n) lexeme_seen document.now.items)
+        document.now.boundaries) { count = length cuts })) }
 {
     let found = document.pieces(alloc)?;
     copy_pieces(&found, pieces);
@@ -519,26 +528,16 @@ fn pieces_of(
     alloc: Global,
     it: Edited,
     pieces: &mut [Piece],
-    out: &mut Lexed,
-    status: &mut i32,
-) -> Edited
-    ensures kept { document_in (Some (Kept result)) ≡ document_in (Some (Kept it)) }
-    ensures done { status.new ≡ pos 0 → ArePiecesOf
-        (definition_of (λ n. n) (arc_value it.definition)) (lexed_bytes it.text) pieces.old
-        pieces.new out.new }
-    ensures misused { status.new ≢ pos 4 }
+) -> (Edited, Result<Lexed, AllocError>)
+    ensures kept { document_in (Some (Kept result.0)) ≡ document_in (Some (Kept it)) }
+    ensures done { IfOk result.1 (ArePiecesOf (definition_of (λ n. n) (arc_value it.definition))
+        (lexed_bytes it.text) pieces.old pieces.new) }
 {
     let Edited { definition, text } = it;
     let document = Document::of_text(&definition, text);
-    *status = match pieces_by(alloc, &document, pieces) {
-        Err(_) => NO_MEMORY,
-        Ok(lexed) => {
-            *out = lexed;
-            OK
-        }
-    };
+    let answer = pieces_by(alloc, &document, pieces);
     let text = document.into_text();
-    Edited { definition, text }
+    (Edited { definition, text }, answer)
 }
 
 fn pieces_in(alloc: Global, object: &mut Object, pieces: &mut [Piece], out: &mut Lexed) -> i32
@@ -549,9 +548,15 @@ fn pieces_in(alloc: Global, object: &mut Object, pieces: &mut [Piece], out: &mut
 {
     match replace(object, Object::Nothing) {
         Object::Document(it) => {
-            let mut status = OK;
-            *object = Object::Document(pieces_of(alloc, it, pieces, out, &mut status));
-            status
+            let (it, answer) = pieces_of(alloc, it, pieces);
+            *object = Object::Document(it);
+            match answer {
+                Err(_) => NO_MEMORY,
+                Ok(lexed) => {
+                    *out = lexed;
+                    OK
+                }
+            }
         }
         other => {
             *object = other;
@@ -590,8 +595,12 @@ fn part_by(
     to: usize,
     pieces: &mut [Piece],
 ) -> Result<Lexed, AllocError>
-    ensures { IfOk result (ArePartOf (definition_of (λ n. n) document.now.definition)
-        document.now.text from to pieces.old pieces.new) }
+    ensures { IfOk result (λ lexed. (cuts : List Cut)
+        × ArePiecesIn (definition_of (λ n. n) document.now.definition) document.now.text
+        document.now.boundaries from to cuts
+        × (pieces.new ≡ filled (λ p _. piece_by p) cuts pieces.old)
+        × (lexed ≡ record (lexed_by (items_by (λ n. n) lexeme_seen document.now.items)
+        document.now.boundaries) { count = length cuts })) }
 {
     let found = document.pieces_in(alloc, from, to)?;
     copy_pieces(&found, pieces);
@@ -607,26 +616,16 @@ fn part_of(
     from: usize,
     to: usize,
     pieces: &mut [Piece],
-    out: &mut Lexed,
-    status: &mut i32,
-) -> Edited
-    ensures kept { document_in (Some (Kept result)) ≡ document_in (Some (Kept it)) }
-    ensures done { status.new ≡ pos 0 → ArePartOf
-        (definition_of (λ n. n) (arc_value it.definition)) (lexed_bytes it.text) from to pieces.old
-        pieces.new out.new }
-    ensures misused { status.new ≢ pos 4 }
+) -> (Edited, Result<Lexed, AllocError>)
+    ensures kept { document_in (Some (Kept result.0)) ≡ document_in (Some (Kept it)) }
+    ensures done { IfOk result.1 (ArePartOf (definition_of (λ n. n) (arc_value it.definition))
+        (lexed_bytes it.text) from to pieces.old pieces.new) }
 {
     let Edited { definition, text } = it;
     let document = Document::of_text(&definition, text);
-    *status = match part_by(alloc, &document, from, to, pieces) {
-        Err(_) => NO_MEMORY,
-        Ok(lexed) => {
-            *out = lexed;
-            OK
-        }
-    };
+    let answer = part_by(alloc, &document, from, to, pieces);
     let text = document.into_text();
-    Edited { definition, text }
+    (Edited { definition, text }, answer)
 }
 
 fn part_in(
@@ -644,9 +643,15 @@ fn part_in(
 {
     match replace(object, Object::Nothing) {
         Object::Document(it) => {
-            let mut status = OK;
-            *object = Object::Document(part_of(alloc, it, from, to, pieces, out, &mut status));
-            status
+            let (it, answer) = part_of(alloc, it, from, to, pieces);
+            *object = Object::Document(it);
+            match answer {
+                Err(_) => NO_MEMORY,
+                Ok(lexed) => {
+                    *out = lexed;
+                    OK
+                }
+            }
         }
         other => {
             *object = other;
