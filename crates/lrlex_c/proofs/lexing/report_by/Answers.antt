@@ -1,23 +1,21 @@
-use Rattle.std.proofs.Common.{rules, ◌≡◌, ◌-◌, length, slice_get, option_map, map, unwrap_or, false, ap, sym, subst, refl, ◌∙◌, Some, Err}
+use Rattle.std.proofs.Common.{◌≡◌, ◌-◌, length, slice_get, option_map, map, unwrap_or, false, ap, sym, subst, refl, ◌∙◌}
 use Rattle.lrlex_base.specs.Lexemes.{lexeme_seen}
 use Rattle.lrlex.specs.LexRun.{end_of, end_state_of}
 use Rattle.lrlex.specs.Views.{item_of}
-use Rattle.lrlex_c.specs.Answers.{outcome, lexed_by}
+use Rattle.lrlex_c.specs.Answers.{outcome}
 use Rattle.lrlex_c.proofs.Fills.{last_seen}
 use Rattle.lrlex_c.proofs.lexing.report_by.Goals as goal
-use Rattle.lrlex_c.proofs.lexing.report_by.Goals.{in_default-via-in-Some+in_default, in_default-via-in_default}
 
-pub returns-in-Some-Err : goal.returns-in-Some-Err
-returns-in-Some-Err c =
+pub returns-in-Some : goal.returns-in-Some
+returns-in-Some c =
     let r = c.in_ok-run.run' in
-    let x : slice_get c.items.result.now (length c.items.result.now - 1) ≡ Some (Err c.in-Some-Err.error) = search in
     record {
       found = map (item_of (λ n. n) lexeme_seen) r.items;
       bounds = r.boundaries;
       run = c.in_ok-run.ensures.run;
-      error = c.in-Some-Err.error;
-      last = last_seen (item_of (λ n. n) lexeme_seen) r.items ∙ ap (λ o. option_map (item_of (λ n. n) lexeme_seen) o) (ap (λ xs. slice_get xs (length xs - 1)) (sym c.items.ensures) ∙ x);
-      shown-is = c.in_ok-stop_text_in-in-Some-Err.ensures;
+      error = c.in-Some.error.now;
+      last = last_seen (item_of (λ n. n) lexeme_seen) r.items ∙ ap (λ o. option_map (item_of (λ n. n) lexeme_seen) o) (ap (λ xs. slice_get xs (length xs - 1)) (sym c.items.ensures) ∙ c.in-Some.ensures.found);
+      shown-is = c.in_ok-stop_text_in-in-Some.ensures;
     }
 
 pub returns : goal.returns
@@ -26,11 +24,10 @@ returns c =
     let found = map (item_of (λ n. n) lexeme_seen) r.items in
     let seen : slice_get found (length found - 1) ≡ option_map (item_of (λ n. n) lexeme_seen) (slice_get c.items.result.now (length c.items.result.now - 1)) =
         last_seen (item_of (λ n. n) lexeme_seen) r.items ∙ ap (λ xs. option_map (item_of (λ n. n) lexeme_seen) (slice_get xs (length xs - 1))) (sym c.items.ensures) in
-    let none : (outcome (option_map (item_of (λ n. n) lexeme_seen) (slice_get c.items.result.now (length c.items.result.now - 1))) (length found) (end_of r.boundaries) (unwrap_or (end_state_of r.boundaries) 0)).stopped ≡ false =
-        elim c.in_default.branch [ in_default-via-in-Some+in_default w ↦ search | in_default-via-in_default w ↦ search ] in
     record {
       found = found;
       bounds = r.boundaries;
       run = c.in_ok-run.ensures.run;
-      whole = subst (λ o. (outcome o (length found) (end_of r.boundaries) (unwrap_or (end_state_of r.boundaries) 0)).stopped ≡ false) (sym seen) none;
+      whole = subst (λ o. (outcome o (length found) (end_of r.boundaries) (unwrap_or (end_state_of r.boundaries) 0)).stopped ≡ false) (sym seen)
+          (c.in-None.ensures.none refl (length found) (end_of r.boundaries) (unwrap_or (end_state_of r.boundaries) 0));
     }
