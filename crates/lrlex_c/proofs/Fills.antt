@@ -80,9 +80,9 @@ pub lexed_as : {X : Type 0} (f : X → Item) (xs ys : List X) (bounds : List Bou
     → l ≡ outcome (option_map f (slice_get ys (length ys - 1))) (length ys) e (unwrap_or o 0) → ys ≡ xs → e ≡ end_of bounds → o ≡ end_state_of bounds → l ≡ lexed_by (map f xs) bounds
 lexed_as f xs ys bounds l e o is same ends state =
     is ∙ ap (λ zs. outcome (option_map f (slice_get zs (length zs - 1))) (length zs) e (unwrap_or o 0)) same
-        ∙ ap (λ k. outcome (option_map f (slice_get xs (length xs - 1))) (length xs) k (unwrap_or o 0)) ends
-        ∙ ap (λ p. outcome (option_map f (slice_get xs (length xs - 1))) (length xs) (end_of bounds) (unwrap_or p 0)) state
-        ∙ outcome-map f xs (end_of bounds) (unwrap_or (end_state_of bounds) 0)
+    ∙ ap (λ k. outcome (option_map f (slice_get xs (length xs - 1))) (length xs) k (unwrap_or o 0)) ends
+    ∙ ap (λ p. outcome (option_map f (slice_get xs (length xs - 1))) (length xs) (end_of bounds) (unwrap_or p 0)) state
+    ∙ outcome-map f xs (end_of bounds) (unwrap_or (end_state_of bounds) 0)
 
 -- an outcome with this count
 abbrev pub with_count : ℕ → Lexed → Lexed

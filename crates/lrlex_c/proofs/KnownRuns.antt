@@ -21,11 +21,11 @@ pub pieces_known : {E : Type 0} (d e : Definition) (t u : List ℕ) (found : Lis
 pieces_known d e t u found bounds room pieces r p q run h =
     subst (λ y. IfOk r (ArePiecesOf e y room pieces)) q (subst (λ x. IfOk r (ArePiecesOf x t room pieces)) p
     (if_ok (AreCut (ArePieces d t bounds) found bounds room pieces) (ArePiecesOf d t room pieces) r
-        (λ l s. record { found = found; bounds = bounds; run = run; cuts = s.0; cuts-are = s.1; pieces-are = s.2; lexed-is = s.3 }) h))
+    (λ l s. record { found = found; bounds = bounds; run = run; cuts = s.0; cuts-are = s.1; pieces-are = s.2; lexed-is = s.3 }) h))
 
 pub part_known : {E : Type 0} (d e : Definition) (t u : List ℕ) (found : List Item) (bounds : List Boundary) (from to : ℕ) (room pieces : List Piece) (r : Result Lexed E)
     → d ≡ e → t ≡ u → IsRun d t found bounds → IfOk r (AreCut (ArePiecesIn d t bounds from to) found bounds room pieces) → IfOk r (ArePartOf e u from to room pieces)
 part_known d e t u found bounds from to room pieces r p q run h =
     subst (λ y. IfOk r (ArePartOf e y from to room pieces)) q (subst (λ x. IfOk r (ArePartOf x t from to room pieces)) p
     (if_ok (AreCut (ArePiecesIn d t bounds from to) found bounds room pieces) (ArePartOf d t from to room pieces) r
-        (λ l s. record { found = found; bounds = bounds; run = run; cuts = s.0; cuts-are = s.1; pieces-are = s.2; lexed-is = s.3 }) h))
+    (λ l s. record { found = found; bounds = bounds; run = run; cuts = s.0; cuts-are = s.1; pieces-are = s.2; lexed-is = s.3 }) h))

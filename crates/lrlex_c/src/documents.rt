@@ -326,13 +326,7 @@ fn write_part(text: &str, from: usize, to: usize, out: &mut [u8], len: &mut usiz
     OK
 }
 
-fn text_of(
-    it: Edited,
-    from: usize,
-    to: usize,
-    out: &mut [u8],
-    len: &mut usize,
-) -> (Edited, i32)
+fn text_of(it: Edited, from: usize, to: usize, out: &mut [u8], len: &mut usize) -> (Edited, i32)
     ensures kept { document_in (Some (Kept result.0)) ≡ document_in (Some (Kept it)) }
     ensures done { result.1 ≡ pos 0 → IsWritten (slice_range (lexed_bytes it.text) from to)
         out.old out.new len.new }
@@ -524,11 +518,7 @@ fn pieces_by(
     })
 }
 
-fn pieces_of(
-    alloc: Global,
-    it: Edited,
-    pieces: &mut [Piece],
-) -> (Edited, Result<Lexed, AllocError>)
+fn pieces_of(alloc: Global, it: Edited, pieces: &mut [Piece]) -> (Edited, Result<Lexed, AllocError>)
     ensures kept { document_in (Some (Kept result.0)) ≡ document_in (Some (Kept it)) }
     ensures done { IfOk result.1 (ArePiecesOf (definition_of (λ n. n) (arc_value it.definition))
         (lexed_bytes it.text) pieces.old pieces.new) }

@@ -1,4 +1,4 @@
-use Rattle.std.proofs.Common.{◌≡◌, List, sym, map, length, option_map, ap, ◌∙◌}
+use Rattle.std.proofs.Common.{List, sym, map, length, option_map, ap, ◌∙◌}
 use Rattle.lrlex_base.specs.Lexemes.{lexeme_seen}
 use Rattle.lrlex_rules.specs.RuleParts.{state_number}
 use Rattle.lrlex.specs.Views.{item_of}
@@ -14,6 +14,6 @@ returns c =
     let r = c.args.document.now in
     let p = c.copy_pieces.ensures ∙ ap (λ xs. filled (λ (p : cut.Piece) (t : Piece). piece_by p) xs c.args.pieces.now) c.deref.ensures.value in
     let l = counted_as c.lexed_of.result (lexed_by (map (item_of (λ n. n) lexeme_seen) r.items) r.boundaries) c.len.result (length c.in_ok-found.found.items)
-          (lexed_as (item_of (λ n. n) lexeme_seen) r.items c.items.result.now r.boundaries c.lexed_of.result c.end.result (option_map state_number c.end_state.result) c.lexed_of.ensures c.items.ensures c.end.ensures c.end_state.ensures)
-          (c.len.ensures ∙ sym c.deref.ensures.len ∙ ap (λ (xs : List cut.Piece). length xs) c.deref.ensures.value) in
+    (lexed_as (item_of (λ n. n) lexeme_seen) r.items c.items.result.now r.boundaries c.lexed_of.result c.end.result (option_map state_number c.end_state.result) c.lexed_of.ensures c.items.ensures c.end.ensures c.end_state.ensures)
+    (c.len.ensures ∙ sym c.deref.ensures.len ∙ ap (λ (xs : List cut.Piece). length xs) c.deref.ensures.value) in
     (c.in_ok-found.found.items, c.in_ok-found.ensures, p, l)

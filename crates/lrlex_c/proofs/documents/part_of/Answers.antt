@@ -16,6 +16,6 @@ returns-clause-done c =
     let found = items_by (λ n. n) lexeme_seen made.result.items in
     let p = ap (λ d. definition_of (λ n. n) d) (made.ensures.definition ∙ c.deref.ensures) in
     let run = same_run (definition_of (λ n. n) made.result.definition) (definition_of (λ n. n) (arc_value it.definition)) made.result.text (lexed_bytes it.text) found (items_by (λ n. n) lexeme_seen (lexed_items it.text)) made.result.boundaries (lexed_boundaries it.text)
-        p made.ensures.text (ap (λ xs. items_by (λ n. n) lexeme_seen xs) made.ensures.items) made.ensures.boundaries h in
+    p made.ensures.text (ap (λ xs. items_by (λ n. n) lexeme_seen xs) made.ensures.items) made.ensures.boundaries h in
     part_known (definition_of (λ n. n) made.result.definition) (definition_of (λ n. n) (arc_value it.definition)) made.result.text (lexed_bytes it.text) found made.result.boundaries c.args.from c.args.to c.args.pieces.now c.part_by-answer.new.pieces c.part_by-answer.result
-        p made.ensures.text run c.part_by-answer.ensures
+    p made.ensures.text run c.part_by-answer.ensures

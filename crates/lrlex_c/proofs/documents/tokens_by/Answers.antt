@@ -1,4 +1,4 @@
-use Rattle.std.proofs.Common.{◌≡◌, drop, option_map, ap, ◌∙◌}
+use Rattle.std.proofs.Common.{drop, option_map, ap, ◌∙◌}
 use Rattle.lrlex_base.specs.Lexemes.{lexeme_seen}
 use Rattle.lrlex_rules.specs.RuleParts.{state_number}
 use Rattle.lrlex.specs.Views.{item_of}
@@ -17,4 +17,4 @@ returns-clause-tokens c =
 pub returns-clause-lexed : goal.returns-clause-lexed
 returns-clause-lexed c =
     lexed_as (item_of (λ n. n) lexeme_seen) c.args.document.now.items c.items-2.result.now c.args.document.now.boundaries c.lexed_of.result c.end.result
-        (option_map state_number c.end_state.result) c.lexed_of.ensures c.items-2.ensures c.end.ensures c.end_state.ensures
+    (option_map state_number c.end_state.result) c.lexed_of.ensures c.items-2.ensures c.end.ensures c.end_state.ensures

@@ -1,4 +1,4 @@
-use Rattle.std.proofs.Common.{ap, ◌∙◌, refl}
+use Rattle.std.proofs.Common.{ap, refl}
 use Rattle.std.specs.Arc.{arc_value}
 use Rattle.lrlex_base.specs.Lexemes.{lexeme_seen}
 use Rattle.lrlex.specs.Document.{lexed_bytes, lexed_items, lexed_boundaries}

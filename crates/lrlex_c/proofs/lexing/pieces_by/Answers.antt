@@ -1,4 +1,4 @@
-use Rattle.std.proofs.Common.{◌≡◌, List, sym, map, length, option_map, ap, subst, ◌∙◌}
+use Rattle.std.proofs.Common.{List, sym, map, length, option_map, ap, subst, ◌∙◌}
 use Rattle.lrlex_base.specs.Lexemes.{lexeme_seen}
 use Rattle.lrlex_rules.specs.RuleParts.{state_number}
 use Rattle.lrlex.specs.Pieces.{ArePieces}

@@ -23,7 +23,7 @@ returns c =
     let r = c.in_ok-run.run' in
     let found = map (item_of (λ n. n) lexeme_seen) r.items in
     let seen : slice_get found (length found - 1) ≡ option_map (item_of (λ n. n) lexeme_seen) (slice_get c.items.result.now (length c.items.result.now - 1)) =
-        last_seen (item_of (λ n. n) lexeme_seen) r.items ∙ ap (λ xs. option_map (item_of (λ n. n) lexeme_seen) (slice_get xs (length xs - 1))) (sym c.items.ensures) in
+    last_seen (item_of (λ n. n) lexeme_seen) r.items ∙ ap (λ xs. option_map (item_of (λ n. n) lexeme_seen) (slice_get xs (length xs - 1))) (sym c.items.ensures) in
     record {
       found = found;
       bounds = r.boundaries;

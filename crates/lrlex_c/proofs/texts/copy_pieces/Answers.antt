@@ -1,4 +1,4 @@
-use Rattle.std.proofs.Common.{◌≡◌, ℕ, ◌+◌, ◌<◌, ◌≤◌, length, refl, ◌∙◌, sym, ap, set, arith}
+use Rattle.std.proofs.Common.{◌<◌, length, ◌∙◌, sym, ap, set, arith}
 use Rattle.lrlex.specs.declared.reading.pieces.Piece as cut
 use Rattle.lrlex_c.specs.Buffers.{piece_by}
 use Rattle.lrlex_c.specs.declared.structs.Piece.{Piece}
@@ -10,8 +10,8 @@ loop-i-preserved c =
     let here : c.loop-i.i < length c.args.pieces.now = omega arith in
     let room : c.loop-i.i < length c.args.out.now = omega arith in
     counted (λ (p : cut.Piece) (t : Piece). piece_by p) c.args.pieces.now c.args.out.now _ c.loop-i.i
-        (ap (λ us. set us c.loop-i.i c.piece_of.result) c.loop-i.invariant
-        ∙ put_next (λ (p : cut.Piece) (t : Piece). piece_by p) c.args.pieces.now c.index-pieces-i.result c.index-pieces-i.result c.args.out.now c.piece_of.result c.loop-i.i here room (sym c.index-pieces-i.is) (λ t. sym c.piece_of.ensures))
+    (ap (λ us. set us c.loop-i.i c.piece_of.result) c.loop-i.invariant
+    ∙ put_next (λ (p : cut.Piece) (t : Piece). piece_by p) c.args.pieces.now c.index-pieces-i.result c.index-pieces-i.result c.args.out.now c.piece_of.result c.loop-i.i here room (sym c.index-pieces-i.is) (λ t. sym c.piece_of.ensures))
 
 pub returns : goal.returns
 returns c = loop_end (λ (p : cut.Piece) (t : Piece). piece_by p) c.args.pieces.now c.args.out.now _ c.loop-i.i _ c.min-room.ensures c.loop-i-test.false c.loop-i.invariant

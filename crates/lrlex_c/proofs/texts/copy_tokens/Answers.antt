@@ -1,4 +1,4 @@
-use Rattle.std.proofs.Common.{◌≡◌, ℕ, ◌+◌, ◌<◌, ◌≤◌, length, refl, ◌∙◌, sym, ap, set, arith}
+use Rattle.std.proofs.Common.{◌<◌, length, refl, ◌∙◌, sym, ap, set, arith}
 use Rattle.lrlex_base.specs.Lexemes.{lexeme_seen}
 use Rattle.lrlex.specs.Views.{item_of}
 use Rattle.lrlex_c.specs.Buffers.{put_token}
