@@ -53,6 +53,17 @@
 extern "C" {
 #endif
 
+/* ---- The version ---- */
+
+#define LRLEX_VERSION_MAJOR 0
+#define LRLEX_VERSION_MINOR 1
+#define LRLEX_VERSION_PATCH 0
+/* The version of this header as one number, as lrlex_version() gives that of the library. */
+#define LRLEX_VERSION (LRLEX_VERSION_MAJOR * 10000 + LRLEX_VERSION_MINOR * 100 + LRLEX_VERSION_PATCH)
+
+/* The version of the library. Cannot fail. */
+uint32_t lrlex_version(void);
+
 /* ---- What calls return ---- */
 
 typedef enum lrlex_status {
@@ -61,8 +72,9 @@ typedef enum lrlex_status {
     LRLEX_NOMEM = 2,        /* out of memory */
     LRLEX_NOT_UTF8 = 3,     /* a text is not UTF-8 */
     LRLEX_MISUSE = 4,       /* the handle is empty, or of another kind */
-    LRLEX_NONE = 5,         /* there is nothing at this index */
-    LRLEX_DOES_NOT_FIT = 6  /* offsets past the text's end, inside a character, or in the wrong order */
+    LRLEX_NONE = 5,         /* there is nothing at this index, or nothing to report */
+    LRLEX_DOES_NOT_FIT = 6, /* offsets past the text's end, inside a character, or in the wrong order */
+    LRLEX_SHARED = 7        /* the definition has other owners, so it cannot be changed */
 } lrlex_status;
 
 /* ---- Handles ---- */
@@ -97,13 +109,17 @@ enum {
 /* The settings that a rule text is read with. All zero is the usual. */
 typedef struct lrlex_options {
     size_t size_limit;   /* about how many bytes a compiled pattern may take; 0 is 10 MiB */
+    size_t table_rows;   /* with limit_tables: how many rows of tables to make at most, of some 512 bytes each */
+    size_t table_work;   /* with limit_tables: how much work to spend on tables at most; 1,000 for each row, and more */
     uint32_t set;        /* which flags are set, */
     uint32_t on;         /* and which of these are on */
     uint32_t nest_limit; /* how deep a pattern may nest; 0 is 250, and the most is 1,000 */
+    bool limit_tables;   /* whether table_rows and table_work limit the tables. With none, each rule is matched by its regular
+                            expression, which is slower. The answers are the same */
 } lrlex_options;
 
 /* The usual settings: all zero. */
-#define LRLEX_OPTIONS { 0, 0, 0, 0 }
+#define LRLEX_OPTIONS { 0, 0, 0, 0, 0, 0, false }
 
 /* Reads a rule text. What `out` has is freed first.
  * LRLEX_OK: `out` has the definition. LRLEX_REFUSED: `out` has the errors of the text, for the calls lrlex_fault_*; free it too.
@@ -132,24 +148,70 @@ typedef struct lrlex_fault {
     uint32_t kind;
 } lrlex_fault;
 
+/* A span in the rule text, in bytes, with line and column. */
+typedef struct lrlex_fault_span {
+    size_t start, end;
+    size_t line, column; /* of start, from 1; the column counts characters */
+} lrlex_fault_span;
+
 /* How many errors the handle has: at least one after LRLEX_REFUSED, and else 0. Cannot fail. */
 size_t lrlex_fault_count(lrlex_definition *d);
 
 /* The error at this index. LRLEX_OK; LRLEX_NONE: there are fewer; LRLEX_MISUSE: the handle has no errors. */
 int lrlex_fault_at(lrlex_definition *d, size_t index, lrlex_fault *out);
 
-/* What the error at this index is, in English, without a full stop. Returns how many bytes that takes, or 0 if there is no such error or
- * no memory. */
-size_t lrlex_fault_text(lrlex_definition *d, size_t index, uint8_t *out, size_t cap);
+/* A span of the error at this index. Span 0 is that of lrlex_fault_at. Of a duplicate it is the first place, and the others are
+ * where it is declared again.
+ * LRLEX_OK; LRLEX_NONE: there are fewer errors or fewer spans; LRLEX_MISUSE. */
+int lrlex_fault_span_at(lrlex_definition *d, size_t index, size_t span, lrlex_fault_span *out);
 
-/* ---- Rules ---- */
+/* What the error at this index is, in English, without a full stop. `len` is how many bytes that takes.
+ * LRLEX_OK; LRLEX_NONE; LRLEX_MISUSE; LRLEX_NOMEM. */
+int lrlex_fault_text(lrlex_definition *d, size_t index, uint8_t *out, size_t cap, size_t *len);
+
+/* A report of all errors for people: of each FILE:LINE:COLUMN, the message, the line, and carets under the place. `file` is the
+ * name to show. `len` is how many bytes that takes.
+ * LRLEX_OK; LRLEX_NOT_UTF8; LRLEX_MISUSE; LRLEX_NOMEM. */
+int lrlex_fault_report(lrlex_definition *d, const uint8_t *file, size_t file_len, uint8_t *out, size_t cap, size_t *len);
+
+/* ---- Rules and start states ---- */
+
+typedef struct lrlex_rule {
+    size_t name_start, name_end; /* where the name is in the rule text */
+    size_t name_len;             /* how many bytes the name has */
+    uint32_t id;                 /* if has_id */
+    bool has_id;
+    bool has_name;               /* a rule without a name gives no lexeme */
+} lrlex_rule;
+
+typedef struct lrlex_state {
+    size_t id;
+    size_t name_start, name_end; /* where the name is in the rule text */
+    size_t name_len;             /* how many bytes the name has */
+    bool exclusive;              /* whether only rules that list the state are active in it */
+} lrlex_state;
 
 /* How many rules the definition has, or 0 if the handle has none. Cannot fail. */
 size_t lrlex_rule_count(lrlex_definition *d);
 
-/* The name of the first rule that has a name and this id: what a token with the id is called. Returns how many bytes it takes, or 0 if
- * there is no such rule. */
-size_t lrlex_name(lrlex_definition *d, uint32_t id, uint8_t *out, size_t cap);
+/* The rule at this index. LRLEX_OK; LRLEX_NONE: there are fewer; LRLEX_MISUSE. */
+int lrlex_rule_at(lrlex_definition *d, size_t index, lrlex_rule *out);
+
+/* The name of the rule at this index. LRLEX_OK; LRLEX_NONE: there are fewer, or it has none; LRLEX_MISUSE. */
+int lrlex_rule_name(lrlex_definition *d, size_t index, uint8_t *out, size_t cap, size_t *len);
+
+/* The name of the first rule that has a name and this id: what a token with the id is called.
+ * LRLEX_OK; LRLEX_NONE: there is no such rule; LRLEX_MISUSE. */
+int lrlex_name(lrlex_definition *d, uint32_t id, uint8_t *out, size_t cap, size_t *len);
+
+/* How many start states the definition has, with INITIAL, or 0 if the handle has none. Cannot fail. */
+size_t lrlex_state_count(lrlex_definition *d);
+
+/* The start state at this index. LRLEX_OK; LRLEX_NONE: there are fewer; LRLEX_MISUSE. */
+int lrlex_state_at(lrlex_definition *d, size_t index, lrlex_state *out);
+
+/* The name of the start state at this index. LRLEX_OK; LRLEX_NONE: there are fewer; LRLEX_MISUSE. */
+int lrlex_state_name(lrlex_definition *d, size_t index, uint8_t *out, size_t cap, size_t *len);
 
 /* ---- Lexing ---- */
 
@@ -169,7 +231,7 @@ typedef struct lrlex_piece {
 typedef struct lrlex_lexed {
     size_t count;   /* how many lexemes or pieces there are, even if there was room for fewer */
     size_t end;     /* where lexing ended: the text's length, or the place of the error */
-    size_t state;   /* if `unmatched`: the id of the start state there */
+    size_t state;   /* the id of the start state there */
     bool stopped;   /* whether it ended at an error */
     bool unmatched; /* whether that error is that no rule matches. Else the rule that matches gives no lexeme */
 } lrlex_lexed;
@@ -182,14 +244,20 @@ int lrlex_lex(lrlex_definition *d, const uint8_t *text, size_t text_len, lrlex_t
  * LRLEX_OK; LRLEX_NOT_UTF8; LRLEX_MISUSE; LRLEX_NOMEM. */
 int lrlex_pieces(lrlex_definition *d, const uint8_t *text, size_t text_len, lrlex_piece *pieces, size_t cap, lrlex_lexed *out);
 
+/* A report for people of the error at which lexing this text stops: FILE:LINE:COLUMN, the message, the line, and a caret. `file` is
+ * the name to show. `len` is how many bytes that takes.
+ * LRLEX_OK; LRLEX_NONE: lexing does not stop; LRLEX_NOT_UTF8: one of the texts is not UTF-8; LRLEX_MISUSE; LRLEX_NOMEM. */
+int lrlex_stop_report(lrlex_definition *d, const uint8_t *file, size_t file_len, const uint8_t *text, size_t text_len, uint8_t *out,
+                      size_t cap, size_t *len);
+
 /* ---- Lines and columns ---- */
 
 typedef struct lrlex_place {
     size_t line, column;
 } lrlex_place;
 
-/* Line and column, from 1, of the place before each of these bytes; a column counts characters. Inside a character and past the text's
- * end both are 0. Writes as many as both `n` and `cap` allow.
+/* Line and column, from 1, of the place before each of these bytes; a column counts characters. Inside a character it is the place
+ * before that, and past the text's end the end. Writes as many as both `n` and `cap` allow.
  * LRLEX_OK; LRLEX_NOT_UTF8; LRLEX_NOMEM. */
 int lrlex_places(const uint8_t *text, size_t text_len, const size_t *bytes, size_t n, lrlex_place *out, size_t cap);
 
@@ -206,6 +274,29 @@ int lrlex_document_edit(lrlex_document *d, size_t from, size_t to, const uint8_t
 
 /* The lexemes from index `first` on; `count` of `out` counts all of the document, those before `first` too. LRLEX_OK; LRLEX_MISUSE. */
 int lrlex_document_tokens(lrlex_document *d, size_t first, lrlex_token *tokens, size_t cap, lrlex_lexed *out);
+
+/* How many bytes the document has. LRLEX_OK; LRLEX_MISUSE. */
+int lrlex_document_len(lrlex_document *d, size_t *len);
+
+/* The bytes from `from` up to `to`. The ends may be inside characters. `len` is `to - from`.
+ * LRLEX_OK; LRLEX_DOES_NOT_FIT: `to` is past the end or before `from`; LRLEX_MISUSE. */
+int lrlex_document_text(lrlex_document *d, size_t from, size_t to, uint8_t *out, size_t cap, size_t *len);
+
+/* The pieces of the whole document, as lrlex_pieces gives them. LRLEX_OK; LRLEX_MISUSE; LRLEX_NOMEM. */
+int lrlex_document_pieces(lrlex_document *d, lrlex_piece *pieces, size_t cap, lrlex_lexed *out);
+
+/* The pieces that have a byte from `from` up to `to`, such as those of the lines that an editor shows. Each is whole: the first may begin
+ * before `from`, and the last end after `to`. Any numbers will do. `count` of `out` counts these pieces.
+ * LRLEX_OK; LRLEX_MISUSE; LRLEX_NOMEM. */
+int lrlex_document_pieces_in(lrlex_document *d, size_t from, size_t to, lrlex_piece *pieces, size_t cap, lrlex_lexed *out);
+
+/* Line and column, from 1, of the place before this byte; the column counts characters. Inside a character it is the place before that,
+ * and past the text's end the end. LRLEX_OK; LRLEX_MISUSE. */
+int lrlex_document_place(lrlex_document *d, size_t byte, lrlex_place *out);
+
+/* The same place as the Language Server Protocol counts it: line and column from 0, the column in code units of UTF-16.
+ * LRLEX_OK; LRLEX_MISUSE. */
+int lrlex_document_position(lrlex_document *d, size_t byte, lrlex_place *out);
 
 #ifdef __cplusplus
 }
