@@ -10,12 +10,34 @@ FIRST = """1:1 ID abc
 1:5 INT 123
 1:1 ID ab
 stopped at 3 in state 0
-kind 6, Start state already exists: 1:4, bytes 3 to 4
-kind 9, Rule name already exists: 3:6, bytes 15 to 16
+kind 6, Start state already exists: 1:4, bytes 3 to 4 1:6, bytes 5 to 6
+kind 9, Rule name already exists: 3:6, bytes 15 to 16 4:4, bytes 21 to 22
 kind 10, Invalid regular expression: regex parse error at 2..3: unclosed group: 5:1, bytes 24 to 24
+a.l:1:6: Start state already exists
+1 | %x A A
+  |      ^
+a.l:1:4: first here
+1 | %x A A
+  |    ^
+a.l:4:4: Rule name already exists
+4 | b 'A'
+  |    ^
+a.l:3:6: first here
+3 | a+b 'A'
+  |      ^
+a.l:5:1: Invalid regular expression: unclosed group
+5 | c( 'C'
+  | ^
+rule 0: A, id 0, bytes 16 to 17
+state 0: INITIAL
+state 1: STRING, exclusive
 0+3:1 4+3:0, end 7
 0+3:1 3+3:0, end 6
 0+3:1 3+3:0, end 7, stopped
+abc123 ?, to 1:9, 0:8
+3 pieces
+piece 3+3 of rule 0
+piece 6+1 of rule 2
 """
 
 # What a program that links the archive has to give it, of the C library.

@@ -2,6 +2,7 @@
 #include <lrlex.h>
 #include <stdio.h>
 #include <stdlib.h>
+#include <string.h>
 
 /* The bytes of a file. A NULL in `bytes` is none. */
 typedef struct text { uint8_t *bytes; size_t len; } text;
@@ -23,15 +24,18 @@ static text read_file(const char *path) {
     return it;
 }
 
-static int print_faults(lrlex_definition *definition) {
-    for (size_t i = 0, count = lrlex_fault_count(definition); i < count; i++) {
-        lrlex_fault fault;
-        uint8_t message[256];
-        size_t len = lrlex_fault_text(definition, i, message, sizeof message);
-        if (len > sizeof message) len = sizeof message;
-        if (lrlex_fault_at(definition, i, &fault)) return 1;
-        fprintf(stderr, "%zu:%zu: %.*s\n", fault.line, fault.column, (int)len, (const char *)message);
-    }
+/* Prints what is wrong with the rule text, as compilers print errors. */
+static int print_faults(lrlex_definition *definition, const char *path) {
+    uint8_t *report = NULL;
+    size_t len = 0, room;
+    do {
+        room = len + 4096;
+        free(report);
+        report = malloc(room);
+        if (!report || lrlex_fault_report(definition, (const uint8_t *)path, strlen(path), report, room, &len)) break;
+    } while (len > room);
+    if (report && len <= room) fwrite(report, 1, len, stderr);
+    free(report);
     return 1;
 }
 
@@ -45,7 +49,8 @@ static int print_tokens(lrlex_definition *definition, text input) {
     }
     for (size_t i = 0; i < lexed.count; i++) {
         uint8_t name[256];
-        size_t len = lrlex_name(definition, tokens[i].id, name, sizeof name);
+        size_t len = 0;
+        lrlex_name(definition, tokens[i].id, name, sizeof name, &len);
         fwrite(name, 1, len < sizeof name ? len : sizeof name, stdout);
         putchar(' ');
         fwrite(input.bytes + tokens[i].start, 1, tokens[i].len, stdout);
@@ -65,7 +70,7 @@ int main(int count, char **words) {
     if (rules.bytes && input.bytes) {
         int answer = lrlex_definition_new(&definition, rules.bytes, rules.len, &options);
         if (answer == LRLEX_OK) status = print_tokens(&definition, input);
-        if (answer == LRLEX_REFUSED) status = print_faults(&definition);
+        if (answer == LRLEX_REFUSED) status = print_faults(&definition, words[1]);
     }
     lrlex_free(&definition);
     free(rules.bytes);

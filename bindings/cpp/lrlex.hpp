@@ -36,13 +36,12 @@ private:
     int status_;
 };
 
-/// A fault of a rule text: what is wrong, and where, in bytes. Of what is declared twice it is the first place. Line and column count
-/// from 1.
+/// A fault of a rule text: what is wrong, and where. There is more than one span if something is declared twice: the first place, and
+/// where it is declared again. Lines and columns count from 1.
 struct Fault {
     std::string message;
     std::uint32_t kind;
-    std::size_t line, column;
-    std::size_t start, end;
+    std::vector<lrlex_fault_span> spans;
 };
 
 /// The rule text is refused. `faults()` has all that is wrong with it.
@@ -56,7 +55,11 @@ private:
         std::string text;
         for (const Fault &fault : faults) {
             if (!text.empty()) text += '\n';
-            text += std::to_string(fault.line) + ':' + std::to_string(fault.column) + ": " + fault.message;
+            for (std::size_t at = 0; at < fault.spans.size(); at++) {
+                if (at) text += at == 1 ? ", again at " : ", ";
+                text += std::to_string(fault.spans[at].line) + ':' + std::to_string(fault.spans[at].column);
+                if (!at) text += ": " + fault.message;
+            }
         }
         return text;
     }
@@ -102,6 +105,13 @@ public:
     }
     Options &size_limit(std::size_t bytes) { options_.size_limit = bytes; return *this; }
     Options &nest_limit(std::uint32_t levels) { options_.nest_limit = levels; return *this; }
+    /// How much may be spent on tables. It changes how fast texts are lexed, and no answer.
+    Options &budget(std::size_t rows, std::size_t work) {
+        options_.limit_tables = true;
+        options_.table_rows = rows;
+        options_.table_work = work;
+        return *this;
+    }
     const lrlex_options *get() const noexcept { return &options_; }
 
 private:
@@ -125,12 +135,15 @@ inline void check(int status) {
     }
 }
 
-/// The text that a call writes into a buffer. It gives the length of all.
+/// The text that a call writes into a buffer, with its length; empty if there is none.
 template <class Call> std::string text_by(Call call) {
     std::string text(64, '\0');
     for (;;) {
         const std::size_t room = text.size();
-        const std::size_t length = call(reinterpret_cast<std::uint8_t *>(&text[0]), room);
+        std::size_t length = 0;
+        const int status = call(reinterpret_cast<std::uint8_t *>(&text[0]), room, &length);
+        if (status == LRLEX_NONE) return {};
+        check(status);
         text.resize(length);
         if (length <= room) return text;
     }
@@ -189,9 +202,9 @@ template <class Handle, class Call> Tokens tokens_by(const Owner<Handle> &owner,
 
 /// The pieces that a call writes into a buffer, of a text that it has cut.
 template <class Handle, class Call>
-Pieces pieces_by(const Owner<Handle> &owner, std::string_view text, Call call) {
+Pieces pieces_by(const Owner<Handle> &owner, std::string_view text, std::size_t length, Call call) {
     lrlex_lexed lexed;
-    const auto rows = owner.template rows_by<lrlex_piece>(text.size(), lexed, call);
+    const auto rows = owner.template rows_by<lrlex_piece>(length, lexed, call);
     Pieces pieces;
     pieces.assign(rows.get(), rows.get() + lexed.count);
     pieces.stop = stop(text, lexed);
@@ -219,21 +232,34 @@ public:
 
     /// The whole text as the rules cut it, up to where lexing stops.
     Pieces pieces(std::string_view text) const {
-        return detail::pieces_by(owner_, text, [&](lrlex_piece *out, std::size_t room, lrlex_lexed *lexed) {
+        return detail::pieces_by(owner_, text, text.size(), [&](lrlex_piece *out, std::size_t room, lrlex_lexed *lexed) {
             return lrlex_pieces(owner_.get(), detail::bytes(text), text.size(), out, room, lexed);
         });
     }
 
-    /// The name of the rule with this id; empty if it has none.
+    /// The name of the first rule that has a name and this id; empty if there is none.
     std::string name(std::uint32_t id) const {
-        return detail::text_by([&](std::uint8_t *out, std::size_t room) { return lrlex_name(owner_.get(), id, out, room); });
+        return detail::text_by([&](std::uint8_t *out, std::size_t room, std::size_t *length) {
+            return lrlex_name(owner_.get(), id, out, room, length);
+        });
     }
 
     /// How many rules there are.
     std::size_t rule_count() const noexcept { return lrlex_rule_count(owner_.get()); }
 
     /// The name of the rule of this number, from 0; empty if it has none.
-    std::string rule_name(std::size_t rule) const { return rule < rule_count() ? name(static_cast<std::uint32_t>(rule)) : ""; }
+    std::string rule_name(std::size_t rule) const {
+        return detail::text_by([&](std::uint8_t *out, std::size_t room, std::size_t *length) {
+            return lrlex_rule_name(owner_.get(), rule, out, room, length);
+        });
+    }
+
+    /// The name of the start state of this number, from 0; empty if there is none.
+    std::string state_name(std::size_t state) const {
+        return detail::text_by([&](std::uint8_t *out, std::size_t room, std::size_t *length) {
+            return lrlex_state_name(owner_.get(), state, out, room, length);
+        });
+    }
 
     /// The handle, for calls of lrlex.h.
     lrlex_definition *get() const noexcept { return owner_.get(); }
@@ -244,9 +270,13 @@ private:
         for (std::size_t at = 0, count = lrlex_fault_count(owner_.get()); at < count; at++) {
             lrlex_fault fault;
             detail::check(lrlex_fault_at(owner_.get(), at, &fault));
-            std::string message = detail::text_by(
-                [&](std::uint8_t *out, std::size_t room) { return lrlex_fault_text(owner_.get(), at, out, room); });
-            found.push_back({std::move(message), fault.kind, fault.line, fault.column, fault.start, fault.end});
+            Fault it{{}, fault.kind, std::vector<lrlex_fault_span>(fault.spans)};
+            for (std::size_t span = 0; span < fault.spans; span++)
+                detail::check(lrlex_fault_span_at(owner_.get(), at, span, &it.spans[span]));
+            it.message = detail::text_by([&](std::uint8_t *out, std::size_t room, std::size_t *length) {
+                return lrlex_fault_text(owner_.get(), at, out, room, length);
+            });
+            found.push_back(std::move(it));
         }
         return found;
     }
@@ -276,6 +306,28 @@ public:
         return detail::tokens_by(owner_, text_, [&](lrlex_token *out, std::size_t room, lrlex_lexed *lexed) {
             return lrlex_document_tokens(owner_.get(), 0, out, room, lexed);
         });
+    }
+
+    /// The pieces that have a byte from `from` up to `to`, such as those of the lines that an editor shows. Each is whole.
+    Pieces pieces(std::size_t from, std::size_t to) const {
+        const std::size_t length = from < to ? (to < text_.size() ? to : text_.size()) : 0;
+        return detail::pieces_by(owner_, text_, length, [&](lrlex_piece *out, std::size_t room, lrlex_lexed *lexed) {
+            return lrlex_document_pieces_in(owner_.get(), from, to, out, room, lexed);
+        });
+    }
+
+    /// Line and column of a byte, from 1; the column counts characters.
+    lrlex_place place(std::size_t byte) const {
+        lrlex_place place;
+        detail::check(lrlex_document_place(owner_.get(), byte, &place));
+        return place;
+    }
+
+    /// The same place as the Language Server Protocol counts it: from 0, in code units of UTF-16.
+    lrlex_place position(std::size_t byte) const {
+        lrlex_place place;
+        detail::check(lrlex_document_position(owner_.get(), byte, &place));
+        return place;
     }
 
     /// The handle, for calls of lrlex.h.

@@ -7,8 +7,8 @@ static void show(lrlex_definition *d, const char *text, const lrlex_token *token
     for (size_t i = 0; i < lexed->count; i++) {
         uint8_t name[64];
         lrlex_place place;
-        size_t len = lrlex_name(d, tokens[i].id, name, sizeof name);
-        CHECK(len <= sizeof name);
+        size_t len = 0;
+        CHECK(lrlex_name(d, tokens[i].id, name, sizeof name, &len) == LRLEX_OK && len <= sizeof name);
         CHECK(lrlex_places(bytes(text), strlen(text), &tokens[i].start, 1, &place, 1) == LRLEX_OK);
         printf("%zu:%zu %.*s %.*s\n", place.line, place.column, (int)len, (const char *)name, (int)tokens[i].len,
                text + tokens[i].start);
@@ -36,16 +36,45 @@ static void lex(const char *text) {
 
 static void refuse(const char *rules) {
     lrlex_definition d = LRLEX_EMPTY;
+    uint8_t text[512];
+    size_t len = 0;
     CHECK(define(&d, rules) == LRLEX_REFUSED);
     const size_t count = lrlex_fault_count(&d);
     for (size_t i = 0; i < count; i++) {
         lrlex_fault fault;
-        uint8_t text[128];
         CHECK(lrlex_fault_at(&d, i, &fault) == LRLEX_OK);
-        const size_t len = lrlex_fault_text(&d, i, text, sizeof text);
-        CHECK(len <= sizeof text);
-        printf("kind %u, %.*s: %zu:%zu, bytes %zu to %zu\n", (unsigned)fault.kind, (int)len, (const char *)text, fault.line,
-               fault.column, fault.start, fault.end);
+        CHECK(lrlex_fault_text(&d, i, text, sizeof text, &len) == LRLEX_OK && len <= sizeof text);
+        printf("kind %u, %.*s:", (unsigned)fault.kind, (int)len, (const char *)text);
+        for (size_t k = 0; k < fault.spans; k++) {
+            lrlex_fault_span span;
+            CHECK(lrlex_fault_span_at(&d, i, k, &span) == LRLEX_OK);
+            CHECK(k > 0 || (span.start == fault.start && span.end == fault.end && span.line == fault.line && span.column == fault.column));
+            printf(" %zu:%zu, bytes %zu to %zu", span.line, span.column, span.start, span.end);
+        }
+        puts("");
+    }
+    CHECK(lrlex_fault_report(&d, bytes("a.l"), 3, text, sizeof text, &len) == LRLEX_OK && len <= sizeof text);
+    fwrite(text, 1, len, stdout);
+    lrlex_free(&d);
+}
+
+/* The names of a definition's rules and start states. */
+static void names(void) {
+    lrlex_definition d = LRLEX_EMPTY;
+    uint8_t name[64];
+    size_t len = 0;
+    CHECK(define(&d, "%x STRING\n%%\na 'A'\n<STRING>b ;\n") == LRLEX_OK);
+    for (size_t i = 0; i < lrlex_rule_count(&d); i++) {
+        lrlex_rule rule;
+        CHECK(lrlex_rule_at(&d, i, &rule) == LRLEX_OK);
+        CHECK(lrlex_rule_name(&d, i, name, sizeof name, &len) == (rule.has_name ? LRLEX_OK : LRLEX_NONE));
+        if (rule.has_name) printf("rule %zu: %.*s, id %u, bytes %zu to %zu\n", i, (int)len, (const char *)name, (unsigned)rule.id, rule.name_start, rule.name_end);
+    }
+    for (size_t i = 0; i < lrlex_state_count(&d); i++) {
+        lrlex_state state;
+        CHECK(lrlex_state_at(&d, i, &state) == LRLEX_OK);
+        CHECK(lrlex_state_name(&d, i, name, sizeof name, &len) == LRLEX_OK && len == state.name_len);
+        printf("state %zu: %.*s%s\n", state.id, (int)len, (const char *)name, state.exclusive ? ", exclusive" : "");
     }
     lrlex_free(&d);
 }
@@ -56,6 +85,24 @@ static void show_document(lrlex_document *document) {
     CHECK(lrlex_document_tokens(document, 0, tokens, 16, &lexed) == LRLEX_OK);
     for (size_t i = 0; i < lexed.count; i++) printf("%s%zu+%zu:%u", i ? " " : "", tokens[i].start, tokens[i].len, (unsigned)tokens[i].id);
     printf(", end %zu%s\n", lexed.end, lexed.stopped ? ", stopped" : "");
+}
+
+/* The document's text, its places, and the pieces of a part. */
+static void show_parts(lrlex_document *document) {
+    uint8_t text[32];
+    lrlex_piece pieces[16];
+    lrlex_lexed lexed;
+    lrlex_place place, position;
+    size_t len = 0, written = 0;
+    CHECK(lrlex_document_len(document, &len) == LRLEX_OK);
+    CHECK(lrlex_document_text(document, 0, len, text, sizeof text, &written) == LRLEX_OK && written == len);
+    CHECK(lrlex_document_place(document, len, &place) == LRLEX_OK);
+    CHECK(lrlex_document_position(document, len, &position) == LRLEX_OK);
+    printf("%.*s, to %zu:%zu, %zu:%zu\n", (int)len, (const char *)text, place.line, place.column, position.line, position.column);
+    CHECK(lrlex_document_pieces(document, pieces, 16, &lexed) == LRLEX_OK);
+    printf("%zu pieces\n", lexed.count);
+    CHECK(lrlex_document_pieces_in(document, 4, 7, pieces, 16, &lexed) == LRLEX_OK);
+    for (size_t i = 0; i < lexed.count; i++) printf("piece %zu+%zu of rule %zu\n", pieces[i].start, pieces[i].len, pieces[i].rule);
 }
 
 static void edit(void) {
@@ -69,6 +116,7 @@ static void edit(void) {
     show_document(&document);
     CHECK(lrlex_document_edit(&document, 6, 6, bytes(" ?"), 2) == LRLEX_OK);
     show_document(&document);
+    show_parts(&document);
     lrlex_free(&document);
     CHECK(document.hidden == NULL);
 }
@@ -78,6 +126,8 @@ int main(void) {
     lex("ab ?");
     lex("");
     refuse("%x A A\n%%\na+b 'A'\nb 'A'\nc( 'C'\n");
+    names();
     edit();
+    CHECK(lrlex_version() == LRLEX_VERSION);
     return failed;
 }

@@ -5,8 +5,12 @@ static lrlex_token tokens[8];
 static lrlex_piece pieces[8];
 static lrlex_lexed lexed;
 static lrlex_fault fault;
+static lrlex_fault_span span;
+static lrlex_rule rule;
+static lrlex_state state;
 static lrlex_place place;
 static uint8_t text[8];
+static size_t len;
 
 /* Calls on a definition's handle that holds no definition. */
 static void none(lrlex_definition *d) {
@@ -15,8 +19,13 @@ static void none(lrlex_definition *d) {
     lrlex_definition other = LRLEX_EMPTY;
     CHECK(lrlex_lex(d, bytes("a"), 1, tokens, 8, &lexed) == LRLEX_MISUSE);
     CHECK(lrlex_pieces(d, bytes("a"), 1, pieces, 8, &lexed) == LRLEX_MISUSE);
-    CHECK(lrlex_rule_count(d) == 0);
-    CHECK(lrlex_name(d, 0, text, sizeof text) == 0);
+    CHECK(lrlex_stop_report(d, bytes("f"), 1, bytes("a"), 1, text, sizeof text, &len) == LRLEX_MISUSE);
+    CHECK(lrlex_rule_count(d) == 0 && lrlex_state_count(d) == 0);
+    CHECK(lrlex_rule_at(d, 0, &rule) == LRLEX_MISUSE);
+    CHECK(lrlex_rule_name(d, 0, text, sizeof text, &len) == LRLEX_MISUSE);
+    CHECK(lrlex_name(d, 0, text, sizeof text, &len) == LRLEX_MISUSE);
+    CHECK(lrlex_state_at(d, 0, &state) == LRLEX_MISUSE);
+    CHECK(lrlex_state_name(d, 0, text, sizeof text, &len) == LRLEX_MISUSE);
     CHECK(lrlex_definition_share(d, &other) == LRLEX_MISUSE);
     CHECK(lrlex_document_new(d, &document, bytes("a"), 1) == LRLEX_MISUSE);
     CHECK(d->hidden == before && document.hidden == NULL && other.hidden == NULL);
@@ -25,8 +34,10 @@ static void none(lrlex_definition *d) {
 /* Calls on a handle that holds no faults. */
 static void no_faults(lrlex_definition *d) {
     CHECK(lrlex_fault_count(d) == 0);
-    CHECK(lrlex_fault_at(d, 0, &fault) != LRLEX_OK);
-    CHECK(lrlex_fault_text(d, 0, text, sizeof text) == 0);
+    CHECK(lrlex_fault_at(d, 0, &fault) == LRLEX_MISUSE);
+    CHECK(lrlex_fault_span_at(d, 0, 0, &span) == LRLEX_MISUSE);
+    CHECK(lrlex_fault_text(d, 0, text, sizeof text, &len) == LRLEX_MISUSE);
+    CHECK(lrlex_fault_report(d, bytes("f"), 1, text, sizeof text, &len) == LRLEX_MISUSE);
 }
 
 /* Calls on a document's handle that holds no document. */
@@ -34,6 +45,12 @@ static void no_document(lrlex_document *document) {
     void *before = document->hidden;
     CHECK(lrlex_document_edit(document, 0, 0, bytes("a"), 1) == LRLEX_MISUSE);
     CHECK(lrlex_document_tokens(document, 0, tokens, 8, &lexed) == LRLEX_MISUSE);
+    CHECK(lrlex_document_len(document, &len) == LRLEX_MISUSE);
+    CHECK(lrlex_document_text(document, 0, 0, text, sizeof text, &len) == LRLEX_MISUSE);
+    CHECK(lrlex_document_pieces(document, pieces, 8, &lexed) == LRLEX_MISUSE);
+    CHECK(lrlex_document_pieces_in(document, 0, 1, pieces, 8, &lexed) == LRLEX_MISUSE);
+    CHECK(lrlex_document_place(document, 0, &place) == LRLEX_MISUSE);
+    CHECK(lrlex_document_position(document, 0, &place) == LRLEX_MISUSE);
     CHECK(document->hidden == before);
 }
 
@@ -56,7 +73,11 @@ static void handles(void) {
     no_document((lrlex_document *)&refused);
     CHECK(lrlex_fault_count(&refused) == 1);
     CHECK(lrlex_fault_at(&refused, 1, &fault) == LRLEX_NONE);
-    CHECK(lrlex_fault_text(&refused, 1, text, sizeof text) == 0);
+    CHECK(lrlex_fault_span_at(&refused, 0, 1, &span) == LRLEX_NONE);
+    CHECK(lrlex_fault_span_at(&refused, 1, 0, &span) == LRLEX_NONE);
+    CHECK(lrlex_fault_span_at(&refused, SIZE_MAX, SIZE_MAX, &span) == LRLEX_NONE);
+    CHECK(lrlex_fault_text(&refused, 1, text, sizeof text, &len) == LRLEX_NONE);
+    CHECK(lrlex_fault_report(&refused, bytes("\xff"), 1, text, sizeof text, &len) == LRLEX_NOT_UTF8);
     lrlex_free(&d);
     lrlex_free(&d);
     none(&d);
@@ -78,6 +99,8 @@ static void texts(void) {
         CHECK(define(&other, bad[i]) == LRLEX_NOT_UTF8);
         CHECK(lrlex_lex(&d, bytes(bad[i]), size, tokens, 8, &lexed) == LRLEX_NOT_UTF8);
         CHECK(lrlex_pieces(&d, bytes(bad[i]), size, pieces, 8, &lexed) == LRLEX_NOT_UTF8);
+        CHECK(lrlex_stop_report(&d, bytes("f"), 1, bytes(bad[i]), size, text, sizeof text, &len) == LRLEX_NOT_UTF8);
+        CHECK(lrlex_stop_report(&d, bytes(bad[i]), size, bytes("?"), 1, text, sizeof text, &len) == LRLEX_NOT_UTF8);
         CHECK(lrlex_places(bytes(bad[i]), size, &at, 1, &place, 1) == LRLEX_NOT_UTF8);
         CHECK(lrlex_document_new(&d, &made, bytes(bad[i]), size) == LRLEX_NOT_UTF8 && !made.hidden);
         CHECK(lrlex_document_edit(&document, 0, 0, bytes(bad[i]), size) == LRLEX_NOT_UTF8);
@@ -91,6 +114,16 @@ static void texts(void) {
     CHECK(lrlex_document_edit(&document, 3, 3, bytes("x"), 1) == LRLEX_DOES_NOT_FIT);
     CHECK(lrlex_document_tokens(&document, 0, tokens, 8, &lexed) == LRLEX_OK && lexed.end == 2 && lexed.stopped);
     CHECK(lrlex_document_tokens(&document, SIZE_MAX, tokens, 8, &lexed) == LRLEX_OK && lexed.count == 1);
+    CHECK(lrlex_document_text(&document, 3, 4, text, sizeof text, &len) == LRLEX_OK && len == 1 && text[0] == 0xa9);
+    CHECK(lrlex_document_text(&document, 0, 5, text, sizeof text, &len) == LRLEX_DOES_NOT_FIT);
+    CHECK(lrlex_document_text(&document, 2, 1, text, sizeof text, &len) == LRLEX_DOES_NOT_FIT);
+    CHECK(lrlex_document_text(&document, SIZE_MAX, SIZE_MAX, text, sizeof text, &len) == LRLEX_DOES_NOT_FIT);
+    CHECK(lrlex_document_pieces_in(&document, 0, SIZE_MAX, pieces, 8, &lexed) == LRLEX_OK && lexed.count == 1);
+    CHECK(lrlex_document_pieces_in(&document, 9, 1, pieces, 8, &lexed) == LRLEX_OK && lexed.count == 0);
+    CHECK(lrlex_document_place(&document, 3, &place) == LRLEX_OK && place.line == 1 && place.column == 3);
+    CHECK(lrlex_document_place(&document, SIZE_MAX, &place) == LRLEX_OK && place.line == 1 && place.column == 4);
+    CHECK(lrlex_document_position(&document, SIZE_MAX, &place) == LRLEX_OK && place.line == 0 && place.column == 3);
+    CHECK(lrlex_stop_report(&d, bytes("f"), 1, bytes("a"), 1, text, sizeof text, &len) == LRLEX_NONE);
     lrlex_free(&document);
     lrlex_free(&d);
     CHECK(!other.hidden);
@@ -100,9 +133,12 @@ static void buffers(void) {
     lrlex_definition d = LRLEX_EMPTY;
     uint8_t name[2] = {'#', '#'};
     CHECK(define(&d, WORDS) == LRLEX_OK);
-    CHECK(lrlex_name(&d, 0, name, 0) == 3 && name[0] == '#');
-    CHECK(lrlex_name(&d, 0, name, 1) == 3 && name[0] == 'I' && name[1] == '#');
-    CHECK(lrlex_name(&d, 2, name, 2) == 0 && lrlex_name(&d, UINT32_MAX, name, 2) == 0);
+    CHECK(lrlex_name(&d, 0, name, 0, &len) == LRLEX_OK && len == 3 && name[0] == '#');
+    CHECK(lrlex_name(&d, 0, name, 1, &len) == LRLEX_OK && len == 3 && name[0] == 'I' && name[1] == '#');
+    CHECK(lrlex_name(&d, 2, name, 2, &len) == LRLEX_NONE && lrlex_name(&d, UINT32_MAX, name, 2, &len) == LRLEX_NONE);
+    CHECK(lrlex_rule_name(&d, 2, name, 2, &len) == LRLEX_NONE && lrlex_rule_name(&d, 3, name, 2, &len) == LRLEX_NONE);
+    CHECK(lrlex_rule_at(&d, 3, &rule) == LRLEX_NONE && lrlex_rule_at(&d, SIZE_MAX, &rule) == LRLEX_NONE);
+    CHECK(lrlex_state_at(&d, 1, &state) == LRLEX_NONE && lrlex_state_name(&d, SIZE_MAX, name, 2, &len) == LRLEX_NONE);
     tokens[1].start = 77;
     CHECK(lrlex_lex(&d, bytes("a b c"), 5, tokens, 1, &lexed) == LRLEX_OK);
     CHECK(lexed.count == 3 && tokens[0].start == 0 && tokens[1].start == 77);

@@ -81,6 +81,27 @@ static int find_places(void) {
     return lrlex_places(bytes("a\nb\nc"), 5, at, 2, places, 2);
 }
 
+static uint8_t written[512];
+static size_t len;
+
+static int tell_fault(void) { return lrlex_fault_text(&refused, 0, written, sizeof written, &len); }
+
+static int report_faults(void) { return lrlex_fault_report(&refused, bytes("a.l"), 3, written, sizeof written, &len); }
+
+static int report_stop(void) { return lrlex_stop_report(&d, bytes("a"), 1, bytes("ab ?"), 4, written, sizeof written, &len); }
+
+static int cut_document(void) {
+    lrlex_piece pieces[32];
+    lrlex_lexed lexed;
+    return lrlex_document_pieces(&document, pieces, 32, &lexed);
+}
+
+static int cut_part(void) {
+    lrlex_piece pieces[32];
+    lrlex_lexed lexed;
+    return lrlex_document_pieces_in(&document, 3, 9, pieces, 32, &lexed);
+}
+
 static const struct {
     const char *name;
     int (*call)(void);
@@ -88,11 +109,16 @@ static const struct {
 } CALLS[] = {
     {"lrlex_definition_new", make, LRLEX_OK},
     {"lrlex_definition_new, refused", refuse, LRLEX_REFUSED},
+    {"lrlex_fault_text", tell_fault, LRLEX_OK},
+    {"lrlex_fault_report", report_faults, LRLEX_OK},
     {"lrlex_lex", lex, LRLEX_OK},
     {"lrlex_pieces", cut, LRLEX_OK},
+    {"lrlex_stop_report", report_stop, LRLEX_OK},
     {"lrlex_definition_share", share, LRLEX_OK},
     {"lrlex_document_new", open_document, LRLEX_OK},
     {"lrlex_document_edit", edit, LRLEX_OK},
+    {"lrlex_document_pieces", cut_document, LRLEX_OK},
+    {"lrlex_document_pieces_in", cut_part, LRLEX_OK},
     {"lrlex_places", find_places, LRLEX_OK},
 };
 

@@ -1,7 +1,7 @@
 """Replays cases of crates/lrlex_replay/stdin through the C library: python3 -m support.c_replay, in tests/.
 
-The package lrlex of bindings/python and LRLEX_LIBRARY say how the library is called. A case is compared in its faults, the
-names of its rules, its items and places, and the count of its pieces; then a document that becomes its input by edits is compared too.
+The package lrlex of bindings/python and LRLEX_LIBRARY say how the library is called. A case is compared in its faults with all spans,
+rules, start states, items, places, and the count of its pieces; then a document that becomes its input by edits is compared too.
 
 Cases of definitions from parts, of ids from names, of the most rules that smaller ids allow, and of limits of 0 can't be said in C:
 they are counted as left out.
@@ -57,14 +57,30 @@ def each(count, call, kind):
 
 
 def faults_of(handle):
-    """Kind, first span, and number of spans of each fault of a refused rule text."""
-    faults = each(LIB.lrlex_fault_count(handle), lambda *to: LIB.lrlex_fault_at(handle, *to), _c.Fault)
-    return [[KINDS[it.kind], [it.start, it.end], it.spans] for it in faults]
+    """The faults of a refused rule text."""
+    found = []
+    for number, it in enumerate(each(LIB.lrlex_fault_count(handle), lambda *to: LIB.lrlex_fault_at(handle, *to), _c.Fault)):
+        # pylint: disable-next=cell-var-from-loop
+        spans = each(it.spans, lambda *to: LIB.lrlex_fault_span_at(handle, number, *to), _c.FaultSpan)
+        found.append({"kind": KINDS[it.kind], "spans": [[span.start, span.end] for span in spans]})
+    return found
 
 
-def names_of(handle):
-    """The name of each rule."""
-    return [_c.text_by(LIB.lrlex_name, handle, number) or None for number in range(LIB.lrlex_rule_count(handle))]
+def rules_of(handle):
+    """Id, name and the name's span of each rule."""
+    found = []
+    for number, it in enumerate(each(LIB.lrlex_rule_count(handle), lambda *to: LIB.lrlex_rule_at(handle, *to), _c.Rule)):
+        name = _c.text_by(LIB.lrlex_rule_name, handle, number)
+        found.append([it.id if it.has_id else None, name, [it.name_start, it.name_end]])
+    return found
+
+
+def states_of(handle):
+    """Id, name, whether it is exclusive, and the name's span of each start state."""
+    found = []
+    for number, it in enumerate(each(LIB.lrlex_state_count(handle), lambda *to: LIB.lrlex_state_at(handle, *to), _c.State)):
+        found.append([it.id, _c.text_by(LIB.lrlex_state_name, handle, number), it.exclusive, [it.name_start, it.name_end]])
+    return found
 
 
 def rows_of(call, kind, size):
@@ -114,19 +130,19 @@ def replay(case):
     try:
         status = LIB.lrlex_definition_new(byref(handle), rules, len(rules), byref(options_of(case["flags"])))
         if status == _c.REFUSED:
-            faults = [[it["kind"], it["spans"][0], len(it["spans"])] for it in wanted.get("faults", [])]
-            return {"faults": faults_of(byref(handle))}, {"faults": faults}
+            return {"faults": faults_of(byref(handle))}, {"faults": wanted.get("faults")}
         _c.check(status)
         items = items_of(lambda *out: LIB.lrlex_lex(byref(handle), data, len(data), *out), len(data))
         pieces, _ = rows_of(lambda *out: LIB.lrlex_pieces(byref(handle), data, len(data), *out), _c.Piece, len(data))
         got = {
-            "rules": names_of(byref(handle)),
+            "states": states_of(byref(handle)),
+            "rules": rules_of(byref(handle)),
             "items": items,
             "linecols": places_of(data, items),
             "tiles": len(pieces),
             "edited": document_items(byref(handle), case["input"]),
         }
-        named = [it["name"] for it in wanted.get("rules", [])]
+        named = [[it["tok_id"], it["name"], it["name_span"]] for it in wanted.get("rules", [])]
         return got, {**{key: wanted.get(key) for key in got}, "rules": named, "edited": wanted.get("items")}
     finally:
         LIB.lrlex_free(byref(handle))

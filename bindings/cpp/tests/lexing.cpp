@@ -51,8 +51,8 @@ void a_refused_rule_text() {
         EXPECT(error.faults().size() == 3);
         EXPECT(error.faults()[0].message == "Start state already exists");
         EXPECT(error.faults()[0].kind == LRLEX_DUPLICATE_START_STATE);
-        EXPECT(error.faults()[0].line == 1 && error.faults()[0].column == 4 && error.faults()[0].start == 3);
-        EXPECT(std::string(error.what()).find("1:4: Start state already exists\n3:6: ") == 0);
+        EXPECT(error.faults()[0].spans.size() == 2 && error.faults()[0].spans[1].start == 5);
+        EXPECT(std::string(error.what()).find("1:4: Start state already exists, again at 1:6\n3:6: ") == 0);
     }
 }
 
@@ -68,6 +68,7 @@ void a_text_that_is_not_utf8() {
 void options_change_what_matches() {
     const lrlex::Definition definition(WORDS, lrlex::Options().on(LRLEX_CASE_INSENSITIVE));
     EXPECT(shown(definition, definition.lex("ABC")) == "ID ABC\n");
+    EXPECT(lrlex::Definition(WORDS, lrlex::Options().budget(0, 0)).lex("a 1").size() == 2);
 }
 
 void pieces_are_the_whole_text() {
@@ -75,6 +76,7 @@ void pieces_are_the_whole_text() {
     const lrlex::Pieces pieces = definition.pieces("ab 1?");
     EXPECT(pieces.size() == 3 && pieces.stop && pieces.stop->start == 4);
     EXPECT(definition.rule_count() == 3 && definition.rule_name(pieces[0].rule) == "ID" && definition.rule_name(2).empty());
+    EXPECT(definition.state_name(0) == "INITIAL" && definition.state_name(1).empty());
 }
 
 lrlex::Document moved(lrlex::Document document) { return document; }
@@ -95,6 +97,8 @@ void a_document_through_edits() {
     }
     document.edit(6, 6, " x");
     EXPECT(document.text() == "abc123 x" && document.lex().size() == 3);
+    EXPECT(document.place(7).column == 8 && document.position(7).column == 7);
+    EXPECT(document.pieces(4, 7).size() == 2 && document.pieces(0, SIZE_MAX).size() == 4 && document.pieces(3, 1).empty());
 }
 
 void a_definition_is_moved() {

@@ -13,7 +13,7 @@ A Definition and a Document stay on the thread that made them.
 """
 
 from ._c import Error
-from ._lexing import Definition, Document, Fault, LexError, Piece, RulesError, Token
+from ._lexing import Definition, Document, Fault, LexError, Piece, Place, RulesError, Token
 
-__all__ = ["Definition", "Document", "Error", "Fault", "LexError", "Piece", "RulesError", "Token"]
+__all__ = ["Definition", "Document", "Error", "Fault", "LexError", "Piece", "Place", "RulesError", "Token"]
 __version__ = "0.1.0"

@@ -50,7 +50,7 @@ def main(words: list[str]) -> int:
     except LexError as stop:
         status = 1
         if asked.json:
-            print(f"{asked.input}:{stop}", file=sys.stderr)
+            print(definition.stop_report(text, asked.input), end="", file=sys.stderr)
         else:
             out.write(f"Couldn't lex input starting at byte {stop.byte}\n".encode())
     out.flush()

@@ -5,8 +5,8 @@ from __future__ import annotations
 import ctypes
 import ctypes.util
 import os
-from ctypes import POINTER, Structure, c_bool, c_char_p, c_int, c_size_t, c_uint32, c_void_p
-from typing import Callable
+from ctypes import POINTER, Structure, byref, c_bool, c_char_p, c_int, c_size_t, c_uint32, c_void_p
+from typing import Callable, Optional
 
 NAME = "liblrlex.so.0"
 
@@ -35,7 +35,9 @@ class Handle(Structure):
 class Options(Structure):
     """Settings of a definition; zeros are the defaults."""
 
-    _fields_ = [("size_limit", c_size_t), ("set", c_uint32), ("on", c_uint32), ("nest_limit", c_uint32)]
+    _fields_ = [(name, c_size_t) for name in ("size_limit", "table_rows", "table_work")] + [
+        (name, c_uint32) for name in ("set", "on", "nest_limit")
+    ] + [("limit_tables", c_bool)]
 
 
 class Token(Structure):
@@ -68,28 +70,60 @@ class Fault(Structure):
     _fields_ = [(name, c_size_t) for name in ("start", "end", "line", "column", "spans")] + [("kind", c_uint32)]
 
 
+class FaultSpan(Structure):
+    """A place of a fault."""
+
+    _fields_ = [(name, c_size_t) for name in ("start", "end", "line", "column")]
+
+
+class Rule(Structure):
+    """A rule."""
+
+    _fields_ = [(name, c_size_t) for name in ("name_start", "name_end", "name_len")] + [
+        ("id", c_uint32), ("has_id", c_bool), ("has_name", c_bool)
+    ]
+
+
+class State(Structure):
+    """A start state."""
+
+    _fields_ = [(name, c_size_t) for name in ("id", "name_start", "name_end", "name_len")] + [("exclusive", c_bool)]
+
+
 class Error(Exception):
     """What this package raises, beside MemoryError for memory that has run out."""
 
 
 HANDLE, SIZE, TEXT = POINTER(Handle), c_size_t, c_char_p
-LEXED = POINTER(Lexed)
+LEXED, WRITTEN = POINTER(Lexed), [TEXT, SIZE, POINTER(SIZE)]
 
 # What each function gives and takes.
 FUNCTIONS = {
+    "lrlex_version": (c_uint32, []),
     "lrlex_free": (None, [HANDLE]),
     "lrlex_definition_new": (c_int, [HANDLE, TEXT, SIZE, POINTER(Options)]),
     "lrlex_fault_count": (SIZE, [HANDLE]),
     "lrlex_fault_at": (c_int, [HANDLE, SIZE, POINTER(Fault)]),
-    "lrlex_fault_text": (SIZE, [HANDLE, SIZE, TEXT, SIZE]),
+    "lrlex_fault_span_at": (c_int, [HANDLE, SIZE, SIZE, POINTER(FaultSpan)]),
+    "lrlex_fault_text": (c_int, [HANDLE, SIZE, *WRITTEN]),
+    "lrlex_fault_report": (c_int, [HANDLE, TEXT, SIZE, *WRITTEN]),
     "lrlex_rule_count": (SIZE, [HANDLE]),
-    "lrlex_name": (SIZE, [HANDLE, c_uint32, TEXT, SIZE]),
+    "lrlex_rule_at": (c_int, [HANDLE, SIZE, POINTER(Rule)]),
+    "lrlex_rule_name": (c_int, [HANDLE, SIZE, *WRITTEN]),
+    "lrlex_name": (c_int, [HANDLE, c_uint32, *WRITTEN]),
+    "lrlex_state_count": (SIZE, [HANDLE]),
+    "lrlex_state_at": (c_int, [HANDLE, SIZE, POINTER(State)]),
+    "lrlex_state_name": (c_int, [HANDLE, SIZE, *WRITTEN]),
     "lrlex_lex": (c_int, [HANDLE, TEXT, SIZE, POINTER(Token), SIZE, LEXED]),
     "lrlex_pieces": (c_int, [HANDLE, TEXT, SIZE, POINTER(Piece), SIZE, LEXED]),
+    "lrlex_stop_report": (c_int, [HANDLE, TEXT, SIZE, TEXT, SIZE, *WRITTEN]),
     "lrlex_places": (c_int, [TEXT, SIZE, POINTER(SIZE), SIZE, POINTER(Place), SIZE]),
     "lrlex_document_new": (c_int, [HANDLE, HANDLE, TEXT, SIZE]),
     "lrlex_document_edit": (c_int, [HANDLE, SIZE, SIZE, TEXT, SIZE]),
     "lrlex_document_tokens": (c_int, [HANDLE, SIZE, POINTER(Token), SIZE, LEXED]),
+    "lrlex_document_pieces_in": (c_int, [HANDLE, SIZE, SIZE, POINTER(Piece), SIZE, LEXED]),
+    "lrlex_document_place": (c_int, [HANDLE, SIZE, POINTER(Place)]),
+    "lrlex_document_position": (c_int, [HANDLE, SIZE, POINTER(Place)]),
 }
 
 
@@ -126,12 +160,15 @@ def check(status: int) -> None:
         raise Error(f"the C library answered status {status}")
 
 
-def text_by(function: Callable[..., int], *words: object) -> str:
-    """The text that a function writes into a buffer. It gives the length of all."""
-    room = 256
+def text_by(function: Callable[..., int], *words: object) -> Optional[str]:
+    """The text that a function writes into a buffer, with its length. None if there is none."""
+    room, length = 256, SIZE()
     while True:
         buffer = ctypes.create_string_buffer(room)
-        length = function(*words, buffer, room)
-        if length <= room:
-            return buffer.raw[:length].decode()
-        room = length
+        status = function(*words, buffer, room, byref(length))
+        if status == NONE:
+            return None
+        check(status)
+        if length.value <= room:
+            return buffer.raw[: length.value].decode()
+        room = length.value

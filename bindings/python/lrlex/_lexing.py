@@ -20,28 +20,37 @@ _PIECE = struct.Struct("@NNN")
 _Span = tuple[int, int, int]
 
 
-class Fault(NamedTuple):
-    """A fault of a rule text: `start` and `end` are indices of it, line and column count from 1.
+class Place(NamedTuple):
+    """A place of a rule text: `start` and `end` are indices of it, and line and column count from 1."""
 
-    Of what is declared twice it is the first place.
-    """
-
-    message: str
     line: int
     column: int
     start: int
     end: int
 
+
+class Fault(NamedTuple):
+    """A fault of a rule text. It has more than one place if something is declared twice: the first, and where it is again."""
+
+    message: str
+    places: list[Place]
+
     def __str__(self) -> str:
-        return f"{self.line}:{self.column}: {self.message}"
+        first, *more = [f"{it.line}:{it.column}" for it in self.places]
+        return f"{first}: {self.message}" + (f", again at {', '.join(more)}" if more else "")
 
 
 class RulesError(Error, ValueError):
     """The rule text is refused. `faults` has all that is wrong with it."""
 
-    def __init__(self, faults: list[Fault]) -> None:
+    def __init__(self, faults: list[Fault], held: Optional[_Held] = None) -> None:
         super().__init__("\n".join(map(str, faults)))
-        self.faults = faults
+        self.faults, self._held = faults, held
+
+    def report(self, file: str) -> str:
+        """All faults for people: the file's name with line and column, the message, the line itself, and carets below the place."""
+        name = file.encode()
+        return text_by(LIB.lrlex_fault_report, self._held.handle, name, len(name)) or "" if self._held else str(self)
 
 
 class LexError(Error, ValueError):
@@ -141,22 +150,29 @@ def _rows(call: Callable[..., int], kind: type, form: struct.Struct, size: int) 
 class Definition:
     """The rules of a rule file, ready to lex texts. It stays on the thread that made it."""
 
-    def __init__(self, rules: str, *, size_limit: int = 0, nest_limit: int = 0, **flags: bool) -> None:
+    def __init__(
+        self, rules: str, *, size_limit: int = 0, nest_limit: int = 0, budget: Optional[tuple[int, int]] = None, **flags: bool
+    ) -> None:
         """Reads a rule text. Flags are those of the program, with `_` for `-`, such as `case_insensitive=True`.
 
+        `budget` is how many rows and how much work may be spent on tables. It changes how fast texts are lexed, and no answer.
         Raises RulesError with all faults if the rule text has any.
         """
         unknown = flags.keys() - _c.FLAGS.keys()
         if unknown:
             raise TypeError(f"there is no flag {min(unknown)!r}")
-        on = sum(_c.FLAGS[name] for name, is_on in flags.items() if is_on)
-        options = _c.Options(size_limit, sum(map(_c.FLAGS.__getitem__, flags)), on, nest_limit)
+        rows, work = budget or (0, 0)
+        options = _c.Options(
+            size_limit, rows, work, sum(map(_c.FLAGS.__getitem__, flags)),
+            sum(_c.FLAGS[name] for name, is_on in flags.items() if is_on), nest_limit, budget is not None,
+        )
         self._held, text = _Held("Definition"), _Text(rules)
         status = LIB.lrlex_definition_new(self._held.handle, text.data, len(text.data), byref(options))
         if status == _c.REFUSED:
-            raise RulesError(_faults(self._held, text))
+            raise RulesError(_faults(self._held, text), self._held)
         check(status)
         self._names: dict[int, str] = {}
+        self._rule_names = [text_by(LIB.lrlex_rule_name, self._held.handle, rule) for rule in range(self.rule_count)]
 
     @classmethod
     def from_str(cls, rules: str, **settings: Any) -> Definition:
@@ -170,12 +186,16 @@ class Definition:
 
     def rule_name(self, rule: int) -> Optional[str]:
         """The name of the rule of this number, from 0. None if it has none."""
-        return self.name(rule) or None
+        return self._rule_names[rule]
+
+    def state_name(self, state: int) -> Optional[str]:
+        """The name of the start state of this number, from 0. None if there is none."""
+        return text_by(LIB.lrlex_state_name, self._held.handle, state)
 
     def name(self, token_id: int) -> str:
-        """The name of the rule with this id, or "" if it has none."""
+        """The name of the first rule that has a name and this id, or "" if there is none."""
         if token_id not in self._names:
-            self._names[token_id] = text_by(LIB.lrlex_name, self._held.handle, token_id)
+            self._names[token_id] = text_by(LIB.lrlex_name, self._held.handle, token_id) or ""
         return self._names[token_id]
 
     def lex(self, text: str) -> Iterator[Token]:
@@ -196,6 +216,14 @@ class Definition:
         rows, lexed = _rows(lambda *out: LIB.lrlex_pieces(self._held.handle, data, len(data), *out), _c.Piece, _PIECE, len(data))
         return self._pieces(held, rows), held.error(lexed)
 
+    def stop_report(self, text: str, file: str) -> Optional[str]:
+        """Where lexing stops, for people: the file's name with line and column, the message, the line itself, and a caret.
+
+        None if the whole text is lexed.
+        """
+        name, data = file.encode(), text.encode()
+        return text_by(LIB.lrlex_stop_report, self._held.handle, name, len(name), data, len(data))
+
     def _lexed(self, text: str) -> tuple[str, list[_Span], Optional[LexError]]:
         held = _Text(text)
         data = held.data
@@ -207,7 +235,7 @@ class Definition:
         return _until(error, (Token(names[it], text[start:end], start, end, it) for it, start, end in spans))
 
     def _pieces(self, held: _Text, rows: Iterable[_Span]) -> list[Piece]:
-        return [Piece(self.rule_name(rule), held.text[start:end], start, end, rule) for rule, start, end in held.spans(rows)]
+        return [Piece(self._rule_names[rule], held.text[start:end], start, end, rule) for rule, start, end in held.spans(rows)]
 
 
 def _until(error: Optional[LexError], tokens: Iterator[Token]) -> Iterator[Token]:
@@ -221,10 +249,13 @@ def _faults(held: _Held, rules: _Text) -> list[Fault]:
     """The faults that the handle of a refused rule text has."""
     found = []
     for number in range(LIB.lrlex_fault_count(held.handle)):
-        it = _c.Fault()
-        check(LIB.lrlex_fault_at(held.handle, number, byref(it)))
-        message = text_by(LIB.lrlex_fault_text, held.handle, number)
-        found.append(Fault(message, it.line, it.column, rules.index(it.start), rules.index(it.end)))
+        fault, places = _c.Fault(), []
+        check(LIB.lrlex_fault_at(held.handle, number, byref(fault)))
+        for at in range(fault.spans):
+            it = _c.FaultSpan()
+            check(LIB.lrlex_fault_span_at(held.handle, number, at, byref(it)))
+            places.append(Place(it.line, it.column, rules.index(it.start), rules.index(it.end)))
+        found.append(Fault(text_by(LIB.lrlex_fault_text, held.handle, number) or "", places))
     return found
 
 
@@ -259,3 +290,28 @@ class Document:
         rows, lexed = _rows(call, _c.Token, _TOKEN, len(text.data))
         # pylint: disable-next=protected-access
         return self.definition._tokens(text.text, text.spans(rows), text.error(lexed))
+
+    def pieces(self, start: int = 0, end: Optional[int] = None) -> list[Piece]:
+        """The pieces that have a character of `self.text[start:end]`, such as those of the lines that an editor shows.
+
+        Each is whole, so the first may begin before `start`, and the last end after `end`.
+        """
+        text = self._text
+        first, last, _ = slice(start, end).indices(len(text.text))
+        first, last = text.byte(first), text.byte(last)
+        call = lambda *out: LIB.lrlex_document_pieces_in(self._held.handle, first, last, *out)  # noqa: E731
+        rows, _ = _rows(call, _c.Piece, _PIECE, max(0, last - first))
+        # pylint: disable-next=protected-access
+        return self.definition._pieces(text, rows)
+
+    def place(self, index: int) -> tuple[int, int]:
+        """Line and column of an index of the text, both from 1; the column counts characters."""
+        place = _c.Place()
+        check(LIB.lrlex_document_place(self._held.handle, self._text.byte(index), byref(place)))
+        return place.line, place.column
+
+    def position(self, index: int) -> tuple[int, int]:
+        """The same place as the Language Server Protocol counts it: both from 0, the column in code units of UTF-16."""
+        place = _c.Place()
+        check(LIB.lrlex_document_position(self._held.handle, self._text.byte(index), byref(place)))
+        return place.line, place.column

@@ -57,10 +57,11 @@ class Tokens(unittest.TestCase):
         with self.assertRaises(lrlex.RulesError) as raised:
             lrlex.Definition.from_str("%x A A\n%%\na+b 'A'\nb 'A'\nc( 'C'\n")
         faults = raised.exception.faults
-        self.assertEqual([(it.line, it.column) for it in faults], [(1, 4), (3, 6), (5, 1)])
+        self.assertEqual([it.places[0][:2] for it in faults], [(1, 4), (3, 6), (5, 1)])
         self.assertEqual(faults[0].message, "Start state already exists")
-        self.assertEqual((faults[0].start, faults[0].end), (3, 4))
-        self.assertTrue(str(raised.exception).startswith("1:4: Start state already exists\n3:6: "))
+        self.assertEqual([(it.start, it.end) for it in faults[0].places], [(3, 4), (5, 6)])
+        self.assertTrue(str(raised.exception).startswith("1:4: Start state already exists, again at 1:6\n3:6: "))
+        self.assertTrue(raised.exception.report("words.l").startswith("words.l:1:6: Start state already exists\n1 | %x A A\n"))
 
     def test_flags(self):
         self.assertEqual(pairs(lrlex.Definition.from_str(WORDS, case_insensitive=True).lex("ABC")), [("ID", "ABC")])
@@ -72,10 +73,15 @@ class Tokens(unittest.TestCase):
         self.assertEqual([(it.name, it.text) for it in pieces], [("ID", "é"), (None, "  "), ("INT", "1")])
         self.assertEqual(stop.start, 4)
 
-    def test_names(self):
+    def test_names_and_reports(self):
         definition = lrlex.Definition(WORDS)
         self.assertEqual([definition.rule_name(it) for it in range(definition.rule_count)], ["INT", "ID", None])
-        self.assertEqual(definition.name(9), "")
+        self.assertEqual((definition.state_name(0), definition.state_name(1), definition.name(9)), ("INITIAL", None, ""))
+        self.assertTrue(definition.stop_report("a ?", "text").startswith("text:1:3: "))
+        self.assertIsNone(definition.stop_report("a", "text"))
+
+    def test_a_budget_changes_no_answer(self):
+        self.assertEqual(lrlex.Definition(WORDS, budget=(0, 0)).spans("a 1"), [(1, 0, 1), (0, 2, 3)])
 
     def test_what_is_not_a_text(self):
         with self.assertRaises(UnicodeEncodeError):
@@ -112,6 +118,9 @@ class Documents(unittest.TestCase):
             list(document.lex())
         document.edit(4, 5, "😀")
         self.assertEqual(pairs(document.lex()), pairs(definition.lex("éb 1😀")))
+        self.assertEqual([it.text for it in document.pieces(1, 3)], ["éb", " "])
+        self.assertEqual([it.text for it in document.pieces()], ["éb", " ", "1", "😀"])
+        self.assertEqual((document.place(5), document.position(5)), ((1, 6), (0, 6)))
 
     def test_the_definition_may_go_first(self):
         document = lrlex.Document(lrlex.Definition(WORDS), "a b")

@@ -7,6 +7,7 @@ use std::ptr::null_mut;
 pub(crate) const OK: c_int = 0;
 pub(crate) const REFUSED: c_int = 1;
 pub(crate) const NOMEM: c_int = 2;
+pub(crate) const NONE: c_int = 5;
 pub(crate) const DOES_NOT_FIT: c_int = 6;
 
 /// A handle of a definition or a document. It owns what it points to, so it has no copy.
@@ -25,9 +26,12 @@ impl Handle {
 #[derive(Clone, Copy, Debug, Default)]
 pub(crate) struct Options {
     pub(crate) size_limit: usize,
+    pub(crate) table_rows: usize,
+    pub(crate) table_work: usize,
     pub(crate) set: u32,
     pub(crate) on: u32,
     pub(crate) nest_limit: u32,
+    pub(crate) limit_tables: bool,
 }
 
 #[repr(C)]
@@ -74,6 +78,15 @@ pub(crate) struct Fault {
     pub(crate) kind: u32,
 }
 
+#[repr(C)]
+#[derive(Clone, Copy, Debug, Default)]
+pub(crate) struct FaultSpan {
+    pub(crate) start: usize,
+    pub(crate) end: usize,
+    pub(crate) line: usize,
+    pub(crate) column: usize,
+}
+
 unsafe extern "C" {
     pub(crate) fn lrlex_free(handle: *mut Handle);
     pub(crate) fn lrlex_definition_new(
@@ -84,9 +97,13 @@ unsafe extern "C" {
     ) -> c_int;
     pub(crate) fn lrlex_fault_count(d: *mut Handle) -> usize;
     pub(crate) fn lrlex_fault_at(d: *mut Handle, index: usize, out: *mut Fault) -> c_int;
-    pub(crate) fn lrlex_fault_text(d: *mut Handle, index: usize, out: *mut u8, cap: usize) -> usize;
+    pub(crate) fn lrlex_fault_span_at(d: *mut Handle, index: usize, span: usize, out: *mut FaultSpan) -> c_int;
+    pub(crate) fn lrlex_fault_text(d: *mut Handle, index: usize, out: *mut u8, cap: usize, len: *mut usize) -> c_int;
     pub(crate) fn lrlex_rule_count(d: *mut Handle) -> usize;
-    pub(crate) fn lrlex_name(d: *mut Handle, id: u32, out: *mut u8, cap: usize) -> usize;
+    pub(crate) fn lrlex_rule_name(d: *mut Handle, index: usize, out: *mut u8, cap: usize, len: *mut usize) -> c_int;
+    pub(crate) fn lrlex_name(d: *mut Handle, id: u32, out: *mut u8, cap: usize, len: *mut usize) -> c_int;
+    pub(crate) fn lrlex_state_count(d: *mut Handle) -> usize;
+    pub(crate) fn lrlex_state_name(d: *mut Handle, index: usize, out: *mut u8, cap: usize, len: *mut usize) -> c_int;
     pub(crate) fn lrlex_lex(
         d: *mut Handle,
         text: *const u8,
@@ -120,4 +137,14 @@ unsafe extern "C" {
         cap: usize,
         out: *mut Lexed,
     ) -> c_int;
+    pub(crate) fn lrlex_document_pieces_in(
+        d: *mut Handle,
+        from: usize,
+        to: usize,
+        pieces: *mut Piece,
+        cap: usize,
+        out: *mut Lexed,
+    ) -> c_int;
+    pub(crate) fn lrlex_document_place(d: *mut Handle, byte: usize, out: *mut Place) -> c_int;
+    pub(crate) fn lrlex_document_position(d: *mut Handle, byte: usize, out: *mut Place) -> c_int;
 }

@@ -44,6 +44,17 @@ pub struct LexFlags {
     pub size_limit: Option<usize>,
     /// How deep a pattern may nest.
     pub nest_limit: Option<u32>,
+    /// How much may be spent on tables. It changes how fast texts are lexed, and no answer.
+    pub budget: Option<Budget>,
+}
+
+/// How much a definition may spend on the tables that it lexes by.
+#[derive(Clone, Copy, Debug, PartialEq, Eq)]
+pub struct Budget {
+    /// The most rows, of about 512 bytes each.
+    pub rows: usize,
+    /// The most work: 1,000 for each row, and more.
+    pub work: usize,
 }
 
 impl LexFlags {
@@ -63,6 +74,9 @@ impl LexFlags {
         let mut options = ffi::Options {
             size_limit: self.size_limit.map_or(0, |limit| limit.max(1)),
             nest_limit: self.nest_limit.map_or(0, |limit| limit.max(1)),
+            table_rows: self.budget.map_or(0, |it| it.rows),
+            table_work: self.budget.map_or(0, |it| it.work),
+            limit_tables: self.budget.is_some(),
             ..ffi::Options::default()
         };
         for (bit, flag) in flags.into_iter().enumerate() {
@@ -73,23 +87,36 @@ impl LexFlags {
     }
 }
 
+/// A place of a rule text: its bytes, and line and column of its start, from 1. The column counts characters.
+#[derive(Clone, Debug, PartialEq, Eq)]
+#[allow(missing_docs, reason = "said above")]
+pub struct FaultSpan {
+    pub span: Range<usize>,
+    pub line: usize,
+    pub column: usize,
+}
+
 /// A fault of a rule text.
 #[derive(Clone, Debug, PartialEq, Eq)]
 pub struct Fault {
     /// What is wrong, in English.
     pub message: String,
-    /// Where it is, in bytes of the rule text. Of what is declared twice it is the first place.
-    pub span: Range<usize>,
-    /// The line of its start, from 1.
-    pub line: usize,
-    /// The column of its start, in characters from 1.
-    pub column: usize,
+    /// Where it is. There is more than one span if something is declared twice: the first, and where it is declared again.
+    pub spans: Vec<FaultSpan>,
 }
 
 impl fmt::Display for Fault {
-    /// `LINE:COLUMN: MESSAGE`
+    /// `LINE:COLUMN: MESSAGE`, and `, again at LINE:COLUMN` with all other places.
     fn fmt(&self, f: &mut fmt::Formatter<'_>) -> fmt::Result {
-        write!(f, "{}:{}: {}", self.line, self.column, self.message)
+        if let Some(first) = self.spans.first() {
+            write!(f, "{}:{}: ", first.line, first.column)?;
+        }
+        f.write_str(&self.message)?;
+        for (at, it) in self.spans.iter().skip(1).enumerate() {
+            let comma = if at == 0 { ", again at" } else { "," };
+            write!(f, "{comma} {}:{}", it.line, it.column)?;
+        }
+        Ok(())
     }
 }
 
@@ -162,15 +189,19 @@ fn checked(status: c_int) -> Result<(), Error> {
     }
 }
 
-/// The text that a call writes into a buffer. It gives the length of all.
-fn text_by(call: impl Fn(*mut u8, usize) -> usize) -> String {
+/// The text that a call writes into a buffer, with its length. `None` if there is none.
+fn text_by(call: impl Fn(*mut u8, usize, &mut usize) -> c_int) -> Result<Option<String>, Error> {
     let mut text = vec![0; 64];
     loop {
-        let len = call(text.as_mut_ptr(), text.len());
+        let mut len = 0;
+        match call(text.as_mut_ptr(), text.len(), &mut len) {
+            ffi::NONE => return Ok(None),
+            status => checked(status)?,
+        }
         let is_all = len <= text.len();
         text.resize(len, 0);
         if is_all {
-            return String::from_utf8(text).expect("the library writes UTF-8");
+            return Ok(Some(String::from_utf8(text).expect("the library writes UTF-8")));
         }
     }
 }
@@ -295,12 +326,11 @@ impl Definition {
         Ok((pieces.into_iter().map(Piece::from).collect(), stop(text, &lexed)?))
     }
 
-    /// The name of the rule with this id. `None` if it has none.
+    /// The name of the first rule that has a name and this id.
     #[must_use]
     pub fn name_of(&self, tok_id: u32) -> Option<String> {
-        // SAFETY: there is room for `room` bytes.
-        let name = text_by(|out, room| unsafe { ffi::lrlex_name(self.0.get(), tok_id, out, room) });
-        (!name.is_empty()).then_some(name)
+        // SAFETY: (here and below) there is room for `room` bytes.
+        text_by(|out, room, len| unsafe { ffi::lrlex_name(self.0.get(), tok_id, out, room, len) }).ok()?
     }
 
     /// How many rules there are.
@@ -313,7 +343,20 @@ impl Definition {
     /// The name of the rule of this number, from 0. `None` if it has none.
     #[must_use]
     pub fn rule_name(&self, rule: usize) -> Option<String> {
-        u32::try_from(rule).ok().and_then(|id| self.name_of(id))
+        text_by(|out, room, len| unsafe { ffi::lrlex_rule_name(self.0.get(), rule, out, room, len) }).ok()?
+    }
+
+    /// How many start states there are, with `INITIAL`.
+    #[must_use]
+    pub fn state_count(&self) -> usize {
+        // SAFETY: the handle is a definition's.
+        unsafe { ffi::lrlex_state_count(self.0.get()) }
+    }
+
+    /// The name of the start state of this number, from 0.
+    #[must_use]
+    pub fn state_name(&self, state: usize) -> Option<String> {
+        text_by(|out, room, len| unsafe { ffi::lrlex_state_name(self.0.get(), state, out, room, len) }).ok()?
     }
 }
 
@@ -323,10 +366,16 @@ fn faults(held: &Held) -> Result<Vec<Fault>, Error> {
     let count = unsafe { ffi::lrlex_fault_count(held.get()) };
     let mut faults = Vec::with_capacity(count);
     for at in 0..count {
-        let mut it = ffi::Fault::default();
-        checked(unsafe { ffi::lrlex_fault_at(held.get(), at, &raw mut it) })?;
-        let message = text_by(|out, room| unsafe { ffi::lrlex_fault_text(held.get(), at, out, room) });
-        faults.push(Fault { message, span: it.start..it.end, line: it.line, column: it.column });
+        let mut fault = ffi::Fault::default();
+        checked(unsafe { ffi::lrlex_fault_at(held.get(), at, &raw mut fault) })?;
+        let mut spans = Vec::with_capacity(fault.spans);
+        for number in 0..fault.spans {
+            let mut it = ffi::FaultSpan::default();
+            checked(unsafe { ffi::lrlex_fault_span_at(held.get(), at, number, &raw mut it) })?;
+            spans.push(FaultSpan { span: it.start..it.end, line: it.line, column: it.column });
+        }
+        let message = text_by(|out, room, len| unsafe { ffi::lrlex_fault_text(held.get(), at, out, room, len) })?;
+        faults.push(Fault { message: message.unwrap_or_default(), spans });
     }
     Ok(faults)
 }
@@ -461,5 +510,39 @@ impl Document {
             unsafe { ffi::lrlex_document_tokens(self.held.get(), 0, out, room, lexed) }
         })?;
         Lexer::new(&self.text, tokens, &lexed)
+    }
+
+    /// The pieces that have a byte in this range, such as those of the lines that an editor shows. Each is whole, so the first may
+    /// begin before the range, and the last end after it.
+    ///
+    /// # Errors
+    ///
+    /// [`Error::OutOfMemory`].
+    pub fn pieces_in(&self, range: Range<usize>) -> Result<Vec<Piece>, Error> {
+        let (pieces, _) = self.held.filled(range.len().min(self.text.len()), |out, room, lexed| {
+            // SAFETY: there is room for `room` pieces.
+            unsafe { ffi::lrlex_document_pieces_in(self.held.get(), range.start, range.end, out, room, lexed) }
+        })?;
+        Ok(pieces.into_iter().map(Piece::from).collect())
+    }
+
+    /// Line and column of a byte, from 1; the column counts characters. A byte inside a character has the character's place.
+    #[must_use]
+    pub fn place(&self, byte: usize) -> (usize, usize) {
+        let mut place = ffi::Place::default();
+        // SAFETY: one place is written.
+        let status = unsafe { ffi::lrlex_document_place(self.held.get(), byte, &raw mut place) };
+        debug_assert_eq!(status, ffi::OK);
+        (place.line, place.column)
+    }
+
+    /// The place of a byte as the Language Server Protocol counts it: line and column from 0, in code units of UTF-16.
+    #[must_use]
+    pub fn position(&self, byte: usize) -> (usize, usize) {
+        let mut place = ffi::Place::default();
+        // SAFETY: one place is written.
+        let status = unsafe { ffi::lrlex_document_position(self.held.get(), byte, &raw mut place) };
+        debug_assert_eq!(status, ffi::OK);
+        (place.line, place.column)
     }
 }

@@ -1,6 +1,6 @@
 //! A first text, a refused rule text, and a document through edits.
 
-use lrlex::{Definition, Document, Error, LexError, LexFlags, Lexeme};
+use lrlex::{Budget, Definition, Document, Error, LexError, LexFlags, Lexeme};
 
 const WORDS: &str = "%%\n[0-9]+ 'INT'\n[a-z]+ 'ID'\n[ ] ;\n";
 
@@ -59,8 +59,8 @@ fn a_refused_rule_text_has_faults() {
     };
     assert_eq!(faults.len(), 3);
     assert_eq!(faults[0].message, "Start state already exists");
-    assert_eq!(faults[0].span, 3..4);
-    assert_eq!(faults[0].to_string(), "1:4: Start state already exists");
+    assert_eq!(faults[0].spans.iter().map(|it| it.span.clone()).collect::<Vec<_>>(), [3..4, 5..6]);
+    assert_eq!(faults[0].to_string(), "1:4: Start state already exists, again at 1:6");
 }
 
 #[test]
@@ -71,13 +71,21 @@ fn flags_change_what_matches() {
 }
 
 #[test]
-fn names_of_rules() {
+fn a_budget_changes_no_answer() {
+    let flags = LexFlags { budget: Some(Budget { rows: 0, work: 0 }), ..LexFlags::default() };
+    let definition = Definition::new_with_options(WORDS, &flags).unwrap();
+    assert_eq!(shown(&definition, definition.lexer("ab 1").unwrap()), pairs(&[("ID", "ab"), ("INT", "1")]));
+}
+
+#[test]
+fn names_of_rules_and_start_states() {
     let definition: Definition = "%x STRING\n%%\na 'A'\nb ;\n".parse().unwrap();
-    assert_eq!(definition.rule_count(), 2);
+    assert_eq!((definition.rule_count(), definition.state_count()), (2, 2));
     assert_eq!(
         (definition.rule_name(0).as_deref(), definition.rule_name(1), definition.rule_name(2)),
         (Some("A"), None, None)
     );
+    assert_eq!(definition.state_name(1).as_deref(), Some("STRING"));
     assert_eq!(definition.name_of(0).as_deref(), Some("A"));
 }
 
@@ -99,6 +107,8 @@ fn a_document_through_edits() {
     assert_eq!(document.edit(4..99, ""), Err(Error::DoesNotFit));
     assert_eq!(document.edit(2..1, ""), Err(Error::DoesNotFit));
     document.edit(6..6, " x").unwrap();
+    assert_eq!((document.place(7), document.position(7)), ((1, 8), (0, 7)));
+    assert_eq!(document.pieces_in(4..7).unwrap().iter().map(|it| it.span.clone()).collect::<Vec<_>>(), [3..6, 6..7]);
     assert_eq!(document.text(), "abc123 x");
     drop(definition);
     assert_eq!(document.lexer().unwrap().count(), 3);
