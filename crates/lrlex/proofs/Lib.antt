@@ -15,6 +15,7 @@ pub mod PlaceLemmas
 pub mod ReachLemmas
 pub mod EntryLemmas
 pub mod ScanLemmas
+pub mod ScannerLemmas
 pub mod SpliceLemmas
 pub mod TailLemmas
 pub mod TilingLemmas

@@ -12,8 +12,9 @@ pub use crate::definition::non_streaming::LRNonStreamingLexerDef;
 pub use crate::editing::document::{Document, EditError, LexedText};
 pub use crate::editing::restart::{ahead_laws, decided_laws, resume_laws};
 pub use crate::errors::LRLexError;
-pub use crate::lexing::laws::{item_laws, run_laws, tiling_laws, utf16_laws};
+pub use crate::lexing::laws::{item_laws, run_laws, scan_laws, tiling_laws, utf16_laws};
 pub use crate::lexing::run::LexRun;
+pub use crate::lexing::scanner::{ScanEnd, ScannedTile, Scanner, Step};
 pub use crate::reading::lexer::LRNonStreamingLexer;
 pub use crate::reading::pieces::Piece;
 pub use lrlex_base::{

@@ -1,4 +1,4 @@
-ghost use Rattle.std.specs.Prelude.{◌≡◌, ℕ, ◌+◌, ◌≤◌, List, [], ◌∷◌, length, map, drop, Some, slice_get, IsUtf8};
+ghost use Rattle.std.specs.Prelude.{◌≡◌, ℕ, ◌+◌, ◌≤◌, true, List, [], ◌∷◌, ◌++◌, length, map, drop, Some, slice_get, IsUtf8};
 ghost use Rattle.std.specs.Char.Escape.{encode_utf16};
 ghost use Rattle.std.specs.List.{concat};
 ghost use Rattle.std.specs.Str.{chars};
@@ -11,6 +11,14 @@ ghost use Rattle.lrlex.specs.Moves.{items_from};
 ghost use Rattle.lrlex.specs.Reach.{IsLexed, IsRun};
 ghost use Rattle.lrlex.specs.ItemLaws.{HaveLaws};
 ghost use Rattle.lrlex.specs.Utf16.{units};
+ghost use Rattle.lrlex.specs.Active.{is_state};
+ghost use Rattle.lrlex.specs.Scanner.{AreScanned, IsStep, Scanned, after_step, at_front};
+ghost use Rattle.lrlex.specs.Tiling.{End as TheEnd, Tile as TheTile};
+ghost use Rattle.lrlex.specs.declared.lexing.scanner.ScannedTile.{ScannedTile};
+ghost use Rattle.lrlex.specs.declared.lexing.scanner.ScanEnd.{ScanEnd};
+ghost use Rattle.lrlex.specs.declared.lexing.scanner.Step.TheVariants.{Tile, End};
+
+use lrlex_base::Numbered;
 
 /// What holds of the items of each run, as `run`, `relex` and a document say it of theirs.
 pub fn item_laws()
@@ -51,4 +59,20 @@ pub fn run_laws()
 pub fn utf16_laws()
     ensures encoded { (cs : List ℕ) → units cs ≡ length (concat (map encode_utf16 cs)) }
     ensures few { (text : List ℕ) → IsUtf8 text → units (chars text) ≤ length text }
+{}
+
+/// What the steps of a scanner give: from the front of a text on, the tiles that led it to its place. With its end they are the
+/// one tiling of the text, so that `run` gives their items.
+pub fn scan_laws<S: Numbered>()
+    ensures front { (d : Definition) (text : List ℕ) → is_state d 0 ≡ true
+        → AreScanned [] (at_front d text) }
+    ensures taken { (ts : List TheTile) (s : Scanned) (x : ScannedTile S)
+        (h : IsStep S.number s (Tile x)) → AreScanned ts s
+        → AreScanned (ts ++ h.0 ∷ []) (after_step s (Tile x)) }
+    ensures ended { (ts : List TheTile) (s : Scanned) (e : ScanEnd S)
+        → is_state s.definition 0 ≡ true → IsStep S.number s (End e) → AreScanned ts s
+        → (end : TheEnd) × IsTiling s.definition s.text (0 ∷ []) ts end }
+    ensures run { (d : Definition) (text : List ℕ) (found : List Item) (bounds : List Boundary)
+        → IsLexed d text found bounds → (ts : List TheTile) (e : TheEnd)
+        → IsTiling d text (0 ∷ []) ts e → found ≡ items d 0 ts e }
 {}

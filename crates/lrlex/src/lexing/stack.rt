@@ -1,4 +1,4 @@
-ghost use Rattle.std.specs.Prelude.{◌≡◌, ◌+◌, ◌-◌, ◌^◌, ◌<◌, [], ◌∷◌, ◌++◌, length, take, IfOk};
+ghost use Rattle.std.specs.Prelude.{◌≡◌, ◌+◌, ◌-◌, ◌^◌, ◌<◌, [], ◌∷◌, ◌++◌, length, take, IfOk, OnErr};
 ghost use Rattle.lrlex.specs.Tiling.{top, or_initial, stack_after};
 ghost use Rattle.lrlex_boundaries.specs.Entries.{plain, AreEntries, Stay};
 
@@ -13,6 +13,7 @@ fn push_state(entries: &mut Vec<(usize, usize)>, id: usize) -> Result<usize, All
     ensures pushed { IfOk result (λ _. plain entries.new.items
         ≡ plain entries.old.items ++ id ∷ []) }
     ensures stay { IfOk result (λ k. Stay k entries.old.items entries.new.items) }
+    ensures same { OnErr result (entries.new.items ≡ entries.old.items) }
 {
     match entries.pop() {
         Some((count, state)) if state == id => {
@@ -40,6 +41,7 @@ fn pop_state(entries: &mut Vec<(usize, usize)>) -> Result<usize, AllocError>
     ensures popped { IfOk result (λ _. plain entries.new.items
         ≡ or_initial (take (length (plain entries.old.items) - 1) (plain entries.old.items))) }
     ensures stay { IfOk result (λ k. Stay k entries.old.items entries.new.items) }
+    ensures same { OnErr result (entries.new.items ≡ entries.old.items) }
 {
     let last = entries.pop();
     let kept = entries.len();
@@ -67,6 +69,7 @@ pub(crate) fn step(
     ensures moved { IfOk result (λ _. plain entries.new.items
         ≡ stack_after (plain entries.old.items) target) }
     ensures stay { IfOk result (λ k. Stay k entries.old.items entries.new.items) }
+    ensures same { OnErr result (entries.new.items ≡ entries.old.items) }
 {
     match target {
         None => Ok(entries.len()),

@@ -114,8 +114,7 @@ fn winner_with_search<'d, S: Numbered>(
         × (t.rule < vec_len table.now.rules))) }
     ensures asked { IfOk result (λ _. HasAsked S.number table.now state
         asked.old asked.new) }
-    ensures matchers { IfOk result (λ _. AreMatchers table.now.rules.items
-        matchers.new) }
+    ensures matchers { AreMatchers table.now.rules.items matchers.new }
     ensures ends { (ends.new.lists ≡ ends.old.lists) × (ends.new.text ≡ ends.old.text) }
 {
     let active = rules.active;
@@ -196,9 +195,8 @@ impl<'d, 't> Searcher<'d, 't> {
             × (t.rule < vec_len table.now.rules))) }
         ensures asked { IfOk result (λ _. HasAsked S.number table.now state
             asked.old asked.new) }
-        ensures searcher { IfOk result (λ _. (input : List ℕ) →
-            IsSearcherOf table.now input self.old →
-            IsSearcherOf table.now input self.new) }
+        ensures searcher { (input : List ℕ) → IsSearcherOf table.now input self.old
+            → IsSearcherOf table.now input self.new }
     {
         if rules.tables.asked().is_empty() {
             let ends = &mut self.ends;

@@ -253,3 +253,19 @@ returns-clause-asked g c =
 
 pub winner_at-scan-requires-clause-tables : goal.winner_at-scan-requires-clause-tables
 winner_at-scan-requires-clause-tables g c = ap (λ xs. slice_get xs c.args.rules.list) c.requires.held.1 ∙ c.requires.rules.list
+
+pub returns-in_err-len-clause-matchers : goal.returns-in_err-len-clause-matchers
+returns-in_err-len-clause-matchers g c =
+    let rules = c.args.table.now.rules.items in
+    let d = definition_by g.S.Numbered.number c.args.table.now in
+    let t = c.args.rules.tables.now in
+    let places = c.args.rules.active.now in
+    let k = get_or c.asked.result.now c.others.index 0 in
+    let place = get_or places k 0 in
+    let r = c.index-rule.result.now in
+    let within = other_within d c.args.state c.args.text.now places c.asked.result.now c.requires.rules.active t c.asked.ensures c.requires.rules.tables c.others.index
+    (omega (arith, ap length c.asked.ensures, ap length c.asked-index-end.ensures)) in
+    let rules_len = length-map rules (as_rule g.S.Numbered.number) in
+    let below : place < length rules = omega (arith, rules_len, active_within d c.args.state places c.requires.rules.active k within) in
+    let at = slice_get_read rules (length rules) place r refl below c.index-rule.ensures in
+    matchers_set rules c.others.matchers c.others.invariant.matchers place r at c.match_rule.new.slot c.in_err-len.ensures.slot

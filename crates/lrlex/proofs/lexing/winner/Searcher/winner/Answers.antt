@@ -21,3 +21,13 @@ returns-clause-searcher g c input is = record {
   lists = ap (λ x. x.now) c.in_ok-scan.ensures.ends.0 ∙ is.lists;
   text = ap (λ x. x.now) c.in_ok-scan.ensures.ends.1 ∙ is.text;
 }
+
+pub returns-in_err-scan-clause-searcher : goal.returns-in_err-scan-clause-searcher
+returns-in_err-scan-clause-searcher g c input is = record {
+  matchers = subst (AreMatchers c.args.table.now.rules.items)
+      (sym (taken_back c.winner_with_search.new.matchers (drop (length c.winner_with_search.new.matchers) c.args.self.now.matchers.items) c.args.self.now.matchers.len
+      (omega (arith, c.args.self.now.matchers.ok.0, c.in_err-scan.ensures.matchers.0, is.matchers.0))))
+      c.in_err-scan.ensures.matchers;
+  lists = ap (λ x. x.now) c.in_err-scan.ensures.ends.0 ∙ is.lists;
+  text = ap (λ x. x.now) c.in_err-scan.ensures.ends.1 ∙ is.text;
+}

@@ -1,0 +1,22 @@
+use Rattle.std.proofs.Common.{◌≡◌, false, None, IfOk, sym, ap, ◌∙◌, subst}
+use Rattle.lrlex.specs.Active.{is_state}
+use Rattle.lrlex.specs.Scanner.{IsStep, Scanned, scanned, scanned_by}
+use Rattle.lrlex.specs.Views.{definition_by}
+use Rattle.lrlex.proofs.lexing.scanner.Scanner.next.Goals as goal
+use Rattle.lrlex.proofs.lexing.scanner.Scanner.next.Goals.{in-Some, in-None}
+
+pub next_step-requires : goal.next_step-requires
+next_step-requires g c = rw c.in-Some.is at c.self.invariant
+
+pub returns-clause-step : goal.returns-clause-step
+returns-clause-step g c =
+    let d = definition_by g.S.Numbered.number c.self.inside.table.now in
+    let text = c.self.inside.text.now in
+    elim c.match-self.branch [
+      | in-Some w ↦
+          let at : scanned_by d text w.in-Some.cursor ≡ c.args.self.now = ap (scanned d text) (sym w.in-Some.is) ∙ c.self.view_is in
+          subst (λ r. IfOk r (IsStep g.S.Numbered.number c.args.self.now)) (sym w.result-is) (subst (λ s. IfOk w.next_step.result (IsStep g.S.Numbered.number s)) at w.next_step.ensures.step)
+      | in-None w ↦
+          let at : scanned d text None ≡ c.args.self.now = ap (scanned d text) (sym w.in-None.is) ∙ c.self.view_is in
+          subst (λ r. IfOk r (IsStep g.S.Numbered.number c.args.self.now)) (sym w.result-is) (subst (λ (s : Scanned). is_state s.definition 0 ≡ false) at (rw w.in-None.is at c.self.invariant))
+    ]

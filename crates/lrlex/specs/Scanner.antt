@@ -1,0 +1,101 @@
+-- A scanner, and what its steps say.
+use Rattle.std.specs.Prelude.{◌≡◌, ℕ, ◌+◌, ◌^◌, ◌<◌, ◌≤◌, Bool, true, false, List, All, [], ◌∷◌, ◌++◌, length, drop, Option, Some, None, option_map, if◌then◌else◌, IsCharBoundary}
+use Rattle.lrlex_base.specs.Spans.{as_span, span, span_end}
+use Rattle.lrlex_boundaries.specs.Entries.{plain, AreEntries}
+use Rattle.lrlex_rules.specs.Definition.{Definition}
+use Rattle.lrlex_rules.specs.RuleParts.{state_number}
+use Rattle.lrlex.specs.Active.{is_state, lexeme_id, lacks_id, rule_at}
+use Rattle.lrlex.specs.Searcher.{AreOf, IsSearcherOf}
+use Rattle.lrlex.specs.Tiling.{Tile, End, Done, NoMatch, NoTarget, IsEnd, IsTaken, IsTiling, IsWinner, stack_after, top}
+use Rattle.lrlex.specs.Views.{definition_by}
+use Rattle.lrlex.specs.declared.definition.rule_table.RuleTable.{RuleTable}
+use Rattle.lrlex.specs.declared.lexing.scanner.Cursor.{Cursor}
+use Rattle.lrlex.specs.declared.lexing.scanner.ScannedTile.{ScannedTile}
+use Rattle.lrlex.specs.declared.lexing.scanner.ScanEnd.{ScanEnd}
+use Rattle.lrlex.specs.declared.lexing.scanner.ScanEnd.TheVariants.{NoId, NoState}
+use Rattle.lrlex.specs.declared.lexing.scanner.ScanEnd.TheVariants.{Done as IsDone, NoMatch as HasNoMatch, NoTarget as HasNoTarget}
+use Rattle.lrlex.specs.declared.lexing.scanner.Step.{Step}
+use Rattle.lrlex.specs.declared.lexing.scanner.Step.TheVariants.{Tile as Found, End as Over}
+
+-- The definition that a scanner goes by, its text, the place up to which it has come, and its stack of start states there,
+-- from bottom to top. The stack is empty where the definition has no state 0.
+pub record Scanned : Type 0 where
+  pub definition : Definition
+  pub text : List ℕ
+  pub place : ℕ
+  pub stack : List ℕ
+
+-- a scanner at the front of a text
+abbrev pub at_front : Definition → List ℕ → Scanned
+at_front d text = record { definition = d; text = text; place = 0; stack = if is_state d 0 then 0 ∷ [] else [] }
+
+-- the text from its place on
+abbrev pub left : Scanned → List ℕ
+left s = drop s.place s.text
+
+-- a tile that a scanner gives at this place: its rule, the id of the rule's lexemes, and its bytes
+pub record IsTileAt {S : Type 0} (number : S → ℕ) (d : Definition) (place : ℕ) (x : ScannedTile S) (t : Tile) : Type 0 where
+  pub rule : x.rule ≡ t.rule
+  pub id : option_map number x.id ≡ lexeme_id (rule_at d t.rule)
+  pub bytes : as_span x.span ≡ span place (place + t.len)
+
+-- why it gives no more tiles
+abbrev pub EndsBy : {S : Type 0} → (S → ℕ) → Scanned → ScanEnd S → Type 0
+EndsBy number s IsDone = IsEnd s.definition (left s) s.stack Done
+EndsBy number s (HasNoMatch q) = IsEnd s.definition (left s) s.stack (NoMatch (state_number q))
+EndsBy number s (NoId k) = (t : Tile) × (t.rule ≡ k) × IsWinner s.definition (left s) s.stack t × (lacks_id (rule_at s.definition k) ≡ true)
+EndsBy number s (HasNoTarget x) = (t : Tile) × IsTileAt number s.definition s.place x t × IsEnd s.definition (left s) s.stack (NoTarget t)
+EndsBy number s NoState = is_state s.definition 0 ≡ false
+
+-- A step says what comes at the scanner's place: the tile that is taken there, or why there is none.
+abbrev pub IsStep : {S : Type 0} → (S → ℕ) → Scanned → Step S → Type 0
+IsStep number s (Found x) = (t : Tile) × IsTileAt number s.definition s.place x t × IsTaken s.definition (left s) s.stack t
+IsStep number s (Over e) = EndsBy number s e
+
+-- a scanner past a tile: the rule's target has moved its stack
+abbrev pub past : {S : Type 0} → Scanned → ScannedTile S → Scanned
+past s x = record {
+  definition = s.definition;
+  text = s.text;
+  place = span_end x.span;
+  stack = stack_after s.stack (rule_at s.definition x.rule).target;
+}
+
+-- after a step it stands past the tile, and at an end where it was
+abbrev pub after_step : {S : Type 0} → Scanned → Step S → Scanned
+after_step s (Found x) = past s x
+after_step s (Over e) = s
+
+-- what a scanner is inside, by its definition and text
+abbrev pub scanned_by : Definition → List ℕ → Cursor → Scanned
+scanned_by d text c = record { definition = d; text = text; place = c.place; stack = plain c.stack.items }
+
+-- Its place is between characters, its stack is one of the definition's states, and what finds winners is of the definition
+-- and the text.
+pub record IsCursorOf {S : Type 0} (number : S → ℕ) (table : RuleTable S) (text : List ℕ) (c : Cursor) : Type 0 where
+  pub boundary : IsCharBoundary text c.place
+  pub entries : AreEntries c.stack.items
+  pub states : All (λ q. is_state (definition_by number table) q ≡ true) (plain c.stack.items)
+  pub some : 0 < length (plain c.stack.items)
+  pub initial : is_state (definition_by number table) 0 ≡ true
+  pub room : length (plain c.stack.items) + length text < 2 ^ 64 + c.place
+  pub rules : AreOf number table c.rules.state c.rules
+  pub searcher : IsSearcherOf table text c.searcher
+
+-- the same of what there may be
+abbrev pub scanned : Definition → List ℕ → Option Cursor → Scanned
+scanned d text (Some c) = scanned_by d text c
+scanned d text None = record { definition = d; text = text; place = 0; stack = [] }
+
+abbrev pub IsScannerOf : {S : Type 0} → (S → ℕ) → RuleTable S → List ℕ → Option Cursor → Type 0
+IsScannerOf number table text (Some c) = IsCursorOf number table text c
+IsScannerOf number table text None = is_state (definition_by number table) 0 ≡ false
+
+-- place and stack are what they were
+pub record StayedAt (old new : Cursor) : Type 0 where
+  pub place : new.place ≡ old.place
+  pub stack : new.stack.items ≡ old.stack.items
+
+-- From the front of its text these tiles lead a scanner here.
+pub record AreScanned (ts : List Tile) (s : Scanned) : Type 0 where
+  pub goes_on : (us : List Tile) (e : End) → IsTiling s.definition (left s) s.stack us e → IsTiling s.definition s.text (0 ∷ []) (ts ++ us) e

@@ -1,0 +1,201 @@
+//! A lexer that is pulled: one tile at a time, and no list is kept.
+ghost use Rattle.std.specs.Prelude.{◌≡◌, true, OnErr, IfOk};
+ghost use Rattle.lrlex.specs.Active.{is_state};
+ghost use Rattle.lrlex.specs.Scanner.{IsCursorOf, IsStep, StayedAt, after_step, at_front, scanned_by};
+ghost use Rattle.lrlex.specs.Views.{definition_by, definition_of};
+
+use crate::definition::active::{lacks_id, lexeme_id};
+use crate::definition::non_streaming::LRNonStreamingLexerDef;
+use crate::definition::rule_table::{RuleTable, StateRules};
+use crate::errors::LRLexError;
+use crate::lexing::stack::{step, top_of};
+use crate::lexing::winner::Searcher;
+use lrlex_base::{LexerTypes, Numbered, Span};
+use lrlex_rules::StartStateId;
+use std::alloc::{AllocError, Global};
+use std::marker::Model;
+
+/// Bytes that a rule wins: the place of the rule among the definition's, from 0, its token id, and the bytes. A rule without a
+/// name, as one for white space, gives no id.
+#[derive(Clone, Copy)]
+pub struct ScannedTile<S> {
+    pub rule: usize,
+    pub id: Option<S>,
+    pub span: Span,
+}
+
+/// Why a scanner gives no more tiles.
+#[derive(Clone, Copy)]
+pub enum ScanEnd<S> {
+    /// The text ends.
+    Done,
+    /// No rule that is active in this start state matches a byte.
+    NoMatch(StartStateId),
+    /// The rule at this place among the definition's wins, and has a name but no token id.
+    NoId(usize),
+    /// The rule of this tile wins, and its target is no start state. The tile counts, and nothing after it.
+    NoTarget(ScannedTile<S>),
+    /// The definition has no start state 0, so that lexing can't begin.
+    NoState,
+}
+
+/// What a scanner finds at its place.
+#[derive(Clone, Copy)]
+pub enum Step<S> {
+    /// The next tile. The scanner stands behind it.
+    Tile(ScannedTile<S>),
+    /// No more tiles, and why. The scanner stays where it is, and says the same again.
+    End(ScanEnd<S>),
+}
+
+/// Where a scanner stands, the rules of the start state that it was in last, and what finds winners.
+#[derive(Drop)]
+struct Cursor<'d, 't> {
+    place: usize,
+    stack: Vec<(usize, usize)>,
+    rules: StateRules<'d>,
+    searcher: Searcher<'d, 't>,
+}
+
+/// A cursor at the front of the text.
+fn cursor_of<'d, 't, S: Numbered>(
+    alloc: Global,
+    table: &'d RuleTable<S>,
+    text: &'t str,
+) -> Result<Cursor<'d, 't>, AllocError>
+    requires { is_state (definition_by S.number table.now) 0 ≡ true }
+    ensures cursor { IfOk result (IsCursorOf S.number table.now text.now) }
+    ensures front { IfOk result (λ c. scanned_by (definition_by S.number table.now) text.now c
+        ≡ at_front (definition_by S.number table.now) text.now) }
+{
+    let mut stack = Vec::new(alloc);
+    stack.push((1, 0))?;
+    let searcher = Searcher::new(alloc, table, text)?;
+    Ok(Cursor {
+        place: 0,
+        stack,
+        rules: table.rules_in(0),
+        searcher,
+    })
+}
+
+/// Takes the next step. After refused memory the cursor stands where it stood.
+fn next_step<'d, S: Numbered>(
+    alloc: Global,
+    table: &'d RuleTable<S>,
+    text: &str,
+    cursor: &mut Cursor<'d, '_>,
+) -> Result<Step<S>, AllocError>
+    requires { IsCursorOf S.number table.now text.now cursor.old }
+    ensures cursor { IsCursorOf S.number table.now text.now cursor.new }
+    ensures step { IfOk result (IsStep S.number
+        (scanned_by (definition_by S.number table.now) text.now cursor.old)) }
+    ensures moved { IfOk result (λ s. scanned_by (definition_by S.number table.now) text.now
+        cursor.new ≡ after_step (scanned_by (definition_by S.number table.now) text.now
+        cursor.old) s) }
+    ensures stayed { OnErr result (StayedAt cursor.old cursor.new) }
+{
+    let place = cursor.place;
+    if place == text.len() {
+        return Ok(Step::End(ScanEnd::Done));
+    }
+    let state = top_of(&cursor.stack);
+    let rules = table.rules_at(cursor.rules, state);
+    cursor.rules = rules;
+    let mut asked = 0;
+    let scan = cursor.searcher.winner(
+        alloc,
+        table,
+        state,
+        rules,
+        place,
+        &text[place..],
+        &mut asked,
+    )?;
+    let Some(tile) = scan.winner else {
+        return Ok(Step::End(ScanEnd::NoMatch(StartStateId::new(state))));
+    };
+    let rule = &table.rules[tile.rule];
+    if lacks_id(rule) {
+        return Ok(Step::End(ScanEnd::NoId(tile.rule)));
+    }
+    let found = ScannedTile {
+        rule: tile.rule,
+        id: lexeme_id(rule),
+        span: Span::new(place, place + tile.len),
+    };
+    if table.lacks_target(rule) {
+        return Ok(Step::End(ScanEnd::NoTarget(found)));
+    }
+    step(&mut cursor.stack, rule.target_state())?;
+    cursor.place = place + tile.len;
+    Ok(Step::Tile(found))
+}
+
+/// A lexer that is pulled: `next` gives one tile after the other, and nothing of them is kept. Beside the stack of start states
+/// it holds the matchers of rules without a table, and what stops a look ahead that is known to lead nowhere.
+#[derive(Drop)]
+pub struct Scanner<'lexer, 'input, S: Numbered> {
+    table: &'lexer RuleTable<S>,
+    text: &'input str,
+    /// None where the definition has no start state 0.
+    cursor: Option<Cursor<'lexer, 'input>>,
+}
+
+impl<'lexer, 'input, S: Numbered> Model for Scanner<'lexer, 'input, S> {
+    ghost use Rattle.lrlex.specs.Scanner.{IsScannerOf, Scanned, scanned};
+    ghost use Rattle.lrlex.specs.Views.{definition_by};
+
+    ghost Value = { Scanned };
+
+    ghost view = { λ s. scanned (definition_by S.number s.table.now) s.text.now s.cursor };
+
+    ghost invariant = { λ s. IsScannerOf S.number s.table.now s.text.now s.cursor };
+}
+
+impl<'lexer, 'input, S: Numbered> Scanner<'lexer, 'input, S> {
+    /// The next tile, or why there is none. At an end, and after refused memory, the scanner is what it was.
+    pub fn next(&mut self, alloc: Global) -> Result<Step<S>, AllocError>
+        ensures step { IfOk result (IsStep S.number self.old) }
+        ensures moved { IfOk result (λ s. self.new ≡ after_step self.old s) }
+        ensures same { OnErr result (self.new ≡ self.old) }
+    {
+        match &mut self.cursor {
+            Some(cursor) => next_step(alloc, self.table, self.text, cursor),
+            None => Ok(Step::End(ScanEnd::NoState)),
+        }
+    }
+
+    /// The place up to which it has come, in bytes: that of the next tile.
+    pub fn place(&self) -> usize
+        ensures { result ≡ self.now.place }
+    {
+        match &self.cursor {
+            Some(cursor) => cursor.place,
+            None => 0,
+        }
+    }
+}
+
+impl<L: LexerTypes<LexErrorT = LRLexError>> LRNonStreamingLexerDef<L> {
+    /// A scanner at the front of the text. Its steps up to the end are the tiles of `run`.
+    pub fn scanner<'lexer, 'input>(
+        &'lexer self,
+        alloc: Global,
+        text: &'input str,
+    ) -> Result<Scanner<'lexer, 'input, L::StorageT>, AllocError>
+        ensures { IfOk result (λ s. s ≡ at_front (definition_of L.StorageT.number self.now) text.now) }
+    {
+        let table = &self.table;
+        let cursor = if table.is_state(0) {
+            Some(cursor_of(alloc, table, text)?)
+        } else {
+            None
+        };
+        Ok(Scanner {
+            table,
+            text,
+            cursor,
+        })
+    }
+}
