@@ -204,6 +204,28 @@ def compare_ways(answers, tally):
     tally.at = None
 
 
+def tiles_by_pieces(pieces):
+    """The tiles of the pieces of a definition that was read, each with its rule's place as its id, if that has a name."""
+    return [[rule, start, length, None if name is None else rule] for rule, start, length, name in pieces]
+
+
+def end_by_items(items):
+    """Why a scanner gives no more tiles: the state of the error, if there is one."""
+    return items[-1][2] if items and items[-1][0] == "err" else "done"
+
+
+def compare_scans(answers, tally):
+    """The steps of a scanner are the pieces of a run and its end, at each place of a text, by tables and by `regex`."""
+    for way in ["regex", "tabled", "mixed"]:
+        for name, lines in answers[way].items():
+            if isinstance(name, tuple) and name[0] == "from":
+                tally.at = name[1]
+                run = one_run(lines)
+                want = tiles_by_pieces(json.loads(run.pieces)) + [end_by_items(json.loads(run.items))]
+                tally.same(f"a scanner, {way}", want, value(answers[way]["scanned from", name[1]][0], b"scan"))
+    tally.at = None
+
+
 def count_sizes(rules, answers, tally):
     """Counts the rules and their tables."""
     tables, rows, untabled = value(answers["tabled"]["definition"][0], b"tables")
@@ -345,6 +367,24 @@ def items_by_map(run, ids):
     return items + [item for item in json.loads(run.items)[-1:] if item[0] == "err"]
 
 
+def end_by_map(pieces, items, ids):
+    """Why a scanner gives no more tiles under the map: the rule of the first tile whose name has no id, or the end of the items."""
+    for rule, _, _, name in pieces:
+        if name is not None and name not in ids:
+            return [rule]
+    return end_by_items(items)
+
+
+def tiles_by_map(pieces, ids):
+    """The tiles of the pieces with the map's ids, up to one whose name has none."""
+    tiles = []
+    for rule, start, length, name in pieces:
+        if name is not None and name not in ids:
+            break
+        tiles.append([rule, start, length, ids.get(name)])
+    return tiles
+
+
 def compare_mapping(case, rules, answers, run, tally):
     """Compares what setting ids tells, and what comes of it, with the run before."""
     (line,) = answers["ids"]
@@ -358,6 +398,9 @@ def compare_mapping(case, rules, answers, run, tally):
     compare_finds(mapped, answers["mapped find"], tally)
     after = one_run(answers["mapped run"])
     tally.same("items by a map", items_by_map(run, case.ids), json.loads(after.items))
+    pieces = json.loads(run.pieces)
+    want = tiles_by_map(pieces, case.ids) + [end_by_map(pieces, json.loads(run.items), case.ids)]
+    tally.same("a scanner by a map", want, value(answers["mapped scan"][0], b"scan"))
 
 
 # All of a case
@@ -380,6 +423,7 @@ def compare_case(case, answers, tally):
     tally.same("rules by each way", 1, len({tuple(way["definition"][1:]) for way in ways.values()}))
     count_sizes(rules, ways, tally)
     compare_ways(ways, tally)
+    compare_scans(ways, tally)
     asked = ways[case.run_way]
     run = one_run(asked["one run"])
     compare_tiling(case.run_text, run, rules, tally)

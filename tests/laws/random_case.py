@@ -145,9 +145,10 @@ class RandomCase:
             self.readings.append(Reading(first, read_text, twice))
 
     def ask_places(self, asked):
-        """Asks for a run from each place of the short text on."""
+        """Asks for a run from each place of the short text on, and for the tiles that a scanner gives."""
         for place, tail in tails_of(self.short):
             asked.ask(("from", place), "run", tail, [])
+            asked.ask(("scanned from", place), "scan", tail)
 
     def ask_run(self, asked):
         """Asks for a run, a lexer and a part of a text."""
@@ -170,6 +171,7 @@ class RandomCase:
         asked.ask("ids", "ids", self.ids, self.spanned)
         asked.ask("mapped definition", "definition")
         asked.ask("mapped run", "run", self.run_text, [])
+        asked.ask("mapped scan", "scan", self.run_text)
         asked.ask("mapped find", "find", IDS, [])
 
     def asked(self):

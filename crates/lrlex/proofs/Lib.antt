@@ -16,6 +16,7 @@ pub mod ReachLemmas
 pub mod EntryLemmas
 pub mod ScanLemmas
 pub mod ScannerLemmas
+pub mod StepsLemmas
 pub mod SpliceLemmas
 pub mod TailLemmas
 pub mod TilingLemmas

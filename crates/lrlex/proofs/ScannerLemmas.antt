@@ -1,7 +1,7 @@
 -- The tiles that a scanner gives are those of its text.
-use Rattle.std.proofs.Common.{◌≡◌, ℕ, ◌+◌, true, false, List, [], ◌∷◌, ◌++◌, length, drop, refl, sym, ap, ◌∙◌, subst, true≢false, append_assoc, append-nil}
+use Rattle.std.proofs.Common.{◌≡◌, ℕ, ◌+◌, ◌<◌, arith, true, false, List, [], ◌∷◌, ◌++◌, length, drop, refl, sym, ap, ◌∙◌, subst, true≢false, append_assoc, append-nil}
 use Rattle.std.proofs.lemmas.Bool.{cond-true}
-use Rattle.std.proofs.lemmas.List.{drop-drop}
+use Rattle.std.proofs.lemmas.List.{drop-drop, length-drop}
 use Rattle.lrlex_base.specs.Spans.{Span, span_end}
 use Rattle.lrlex_rules.specs.Definition.{Definition}
 use Rattle.lrlex_rules.specs.RuleParts.{state_number}
@@ -9,9 +9,10 @@ use Rattle.lrlex_boundaries.specs.Boundaries.{Boundary}
 use Rattle.lrlex.specs.Active.{is_state, lacks_id, rule_at}
 use Rattle.lrlex.specs.Reach.{IsLexed}
 use Rattle.lrlex.specs.Scanner.{AreScanned, EndsBy, IsTileAt, Scanned, at_front, left, past}
-use Rattle.lrlex.specs.Tiling.{Item, Tile, End, Done, NoMatch, IsEnd, IsTaken, IsTiling, items, stack_after, stack_past}
+use Rattle.lrlex.specs.Tiling.{Item, Tile, End, Done, NoMatch, IsEnd, IsTaken, IsTiling, items, stack_after, stack_past, top}
 use Rattle.lrlex.specs.Tiling.{NoId as LacksId, NoTarget as LacksTarget}
 use Rattle.lrlex.specs.declared.lexing.scanner.ScannedTile.{ScannedTile}
+use Rattle.lrlex.proofs.TilingLemmas.{Wins-le}
 use Rattle.lrlex.specs.declared.lexing.scanner.ScanEnd.{ScanEnd}
 use Rattle.lrlex.specs.declared.lexing.scanner.ScanEnd.TheVariants.{NoId, NoState}
 use Rattle.lrlex.specs.declared.lexing.scanner.ScanEnd.TheVariants.{Done as IsDone, NoMatch as HasNoMatch, NoTarget as HasNoTarget}
@@ -51,3 +52,11 @@ pub run_of_scanned : (d : Definition) (text : List ℕ) (found : List Item) (bou
 run_of_scanned d text found bounds h ts e tiling =
     let same = h.only ts e tiling in
     h.items_are ∙ ap (λ us. items d 0 us h.end) (sym same.0) ∙ ap (items d 0 ts) (sym same.1)
+
+-- past a tile less of the text is left
+pub less_left : {S : Type 0} (number : S → ℕ) (s : Scanned) (x : ScannedTile S) (t : Tile) → IsTileAt number s.definition s.place x t → IsTaken s.definition (left s) s.stack t →
+    length (left (past s x)) < length (left s)
+less_left number s x t at taken =
+    let place : span_end x.span ≡ s.place + t.len = ap (λ (sp : Span). sp.end) at.bytes in
+    let most = Wins-le s.definition (top s.stack) (left s) t.rule t.len taken.wins in
+    omega (arith, place, most, taken.wins.some, length-drop s.place s.text, length-drop (span_end x.span) s.text)

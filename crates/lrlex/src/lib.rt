@@ -15,6 +15,7 @@ pub use crate::errors::LRLexError;
 pub use crate::lexing::laws::{item_laws, run_laws, scan_laws, tiling_laws, utf16_laws};
 pub use crate::lexing::run::LexRun;
 pub use crate::lexing::scanner::{ScanEnd, ScannedTile, Scanner, Step};
+pub use crate::lexing::steps::Steps;
 pub use crate::reading::lexer::LRNonStreamingLexer;
 pub use crate::reading::pieces::Piece;
 pub use lrlex_base::{

@@ -8,5 +8,6 @@ pub mod lexing;
 pub mod listing;
 pub mod modules;
 pub mod reporting;
+pub mod scanning;
 pub mod serving;
 pub mod tokens;

@@ -13,6 +13,7 @@ mod lookups;
 mod replay;
 mod reports;
 mod runs;
+mod scanners;
 mod steps;
 
 use crate::replay::replay;

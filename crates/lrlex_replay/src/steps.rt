@@ -7,6 +7,7 @@ use crate::lexers::ask_lexer;
 use crate::lookups::{find, set_ids};
 use crate::reports::report;
 use crate::runs::{cut_run, lex, tell_end};
+use crate::scanners::scan;
 use lrlex::{DEFAULT_LEX_FLAGS, LexerDef};
 use lrlex_doc_callers::editing::highlighted;
 use lrlex_doc_callers::lexing::words;
@@ -75,6 +76,7 @@ fn ask(told: &mut Told, definition: &Definition<u32>, asked: Asked<'_>) -> Resul
             tell_words(told, words)
         }
         Asked::End(text) => Ok(tell_end(told, definition, text)?),
+        Asked::Scan(text) => Ok(scan(told, definition, text)?),
         Asked::After(text, edits) => keep_run(told, definition, text, edits),
     }
 }

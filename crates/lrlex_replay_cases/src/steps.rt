@@ -30,6 +30,8 @@ pub enum Asked<'v> {
     Highlighted(&'v str),
     /// Where lexing a text ends, and the start state there.
     End(&'v str),
+    /// The tiles of a text, one after the other.
+    Scan(&'v str),
     /// The items of a run's lexer after edits, each of which has the text that it makes.
     After(&'v str, &'v [Value]),
 }
@@ -114,6 +116,7 @@ fn of_text<'v>(name: &str, text: &'v str) -> Result<Step<'v>, Trouble> {
         "words" => Ok(Step::Asks(Asked::Words(text))),
         "highlighted" => Ok(Step::Asks(Asked::Highlighted(text))),
         "end" => Ok(Step::Asks(Asked::End(text))),
+        "scan" => Ok(Step::Asks(Asked::Scan(text))),
         "first_fault" => Ok(Step::Reports(Report::FirstFault(text))),
         _ => Err(Trouble::Malformed),
     }

@@ -4,4 +4,5 @@ pub(crate) mod run;
 pub(crate) mod scanner;
 pub(crate) mod stack;
 pub(crate) mod step;
+pub(crate) mod steps;
 pub(crate) mod winner;

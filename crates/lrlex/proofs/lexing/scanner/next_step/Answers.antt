@@ -70,12 +70,15 @@ returns-then-lacks_target-clause-step g c =
     let on_top : c.top_of-state.result ≡ top stack = c.top_of-state.ensures ∙ ap (λ s. top (plain s)) c.deref.ensures.value in
     let within : t.rule < length c.args.table.now.rules.items = omega (arith, c.args.table.now.rules.ok.0, (rw c.in-Some.is at c.in_ok-scan.ensures.tile).1) in
     let rule_is = rule_read g.S.Numbered.number c.args.table.now t.rule c.index-rule.result.now within c.index-rule.ensures in
-    let wins = wins_at d c.top_of-state.result stack c.range_from.result.now (drop c.args.cursor.now.place c.args.text.now) t on_top c.range_from.ensures.value (rw c.in-Some.is at c.in_ok-scan.ensures.scan.winner) in
-    (t, record {
-      rule = refl;
-      id = c.lexeme_id.ensures ∙ sym (ap lexeme_id rule_is);
-      bytes = ap₂ span c.new-2.ensures.start c.new-2.ensures.end;
-    }, (wins, ap lacks_id rule_is ∙ sym c.if-lacks_id.ensures, ap (lacks_target d) rule_is ∙ sym c.if-lacks_target.ensures))
+    let wins = wins_at d c.top_of-state.result stack c.range_from.result.now (drop c.args.cursor.now.place c.args.text.now) t on_top c.range_from.ensures.value (rw c.in-Some.is at c.in_ok-scan.ensures.scan.winner) in (
+      t,
+      record {
+        rule = refl;
+        id = c.lexeme_id.ensures ∙ sym (ap lexeme_id rule_is);
+        bytes = ap₂ span c.new-2.ensures.start c.new-2.ensures.end;
+      },
+      (wins, ap lacks_id rule_is ∙ sym c.if-lacks_id.ensures, ap (lacks_target d) rule_is ∙ sym c.if-lacks_target.ensures),
+    )
 
 pub returns-clause-step : goal.returns-clause-step
 returns-clause-step g c =
@@ -85,16 +88,19 @@ returns-clause-step g c =
     let on_top : c.top_of-state.result ≡ top stack = c.top_of-state.ensures ∙ ap (λ s. top (plain s)) c.deref.ensures.value in
     let within : t.rule < length c.args.table.now.rules.items = omega (arith, c.args.table.now.rules.ok.0, (rw c.in-Some.is at c.in_ok-scan.ensures.tile).1) in
     let rule_is = rule_read g.S.Numbered.number c.args.table.now t.rule c.index-rule.result.now within c.index-rule.ensures in
-    let wins = wins_at d c.top_of-state.result stack c.range_from.result.now (drop c.args.cursor.now.place c.args.text.now) t on_top c.range_from.ensures.value (rw c.in-Some.is at c.in_ok-scan.ensures.scan.winner) in
-    (t, record {
-      rule = refl;
-      id = c.lexeme_id.ensures ∙ sym (ap lexeme_id rule_is);
-      bytes = ap₂ span c.new-2.ensures.start c.new-2.ensures.end;
-    }, record {
-      wins = wins;
-      has_id = ap lacks_id rule_is ∙ sym c.if-lacks_id.ensures;
-      has_target = ap (lacks_target d) rule_is ∙ sym c.if-lacks_target.ensures;
-    })
+    let wins = wins_at d c.top_of-state.result stack c.range_from.result.now (drop c.args.cursor.now.place c.args.text.now) t on_top c.range_from.ensures.value (rw c.in-Some.is at c.in_ok-scan.ensures.scan.winner) in (
+      t,
+      record {
+        rule = refl;
+        id = c.lexeme_id.ensures ∙ sym (ap lexeme_id rule_is);
+        bytes = ap₂ span c.new-2.ensures.start c.new-2.ensures.end;
+      },
+      record {
+        wins = wins;
+        has_id = ap lacks_id rule_is ∙ sym c.if-lacks_id.ensures;
+        has_target = ap (lacks_target d) rule_is ∙ sym c.if-lacks_target.ensures;
+      },
+    )
 
 pub returns-clause-moved : goal.returns-clause-moved
 returns-clause-moved g c =

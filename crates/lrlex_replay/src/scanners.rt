@@ -1,0 +1,44 @@
+//! What a scanner answers.
+use crate::building::Definition;
+use lrlex::{ScanEnd, ScannedTile, Step};
+use lrlex_replay_cases::told::Told;
+use std::alloc::AllocError;
+
+/// Tells a tile: its rule, its first byte, how many bytes it has, and its id or null.
+fn tell_tile(told: &mut Told, tile: ScannedTile<u32>) {
+    told.open("[");
+    told.number(tile.rule);
+    told.number(tile.span.start());
+    told.number(tile.span.len());
+    match tile.id {
+        Some(id) => told.number(id as usize),
+        None => told.null(),
+    }
+    told.close("]");
+}
+
+/// Tells why there are no more tiles.
+fn tell_end(told: &mut Told, end: ScanEnd<u32>) {
+    match end {
+        ScanEnd::Done => told.text("done"),
+        ScanEnd::NoMatch(state) => told.number(state.id()),
+        ScanEnd::NoId(rule) => told.numbers(&[rule]),
+        ScanEnd::NoTarget(tile) => tell_tile(told, tile),
+        ScanEnd::NoState => told.null(),
+    }
+}
+
+/// Tells the tiles of a text as a scanner gives them, and as the last of them why there are no more.
+pub fn scan(told: &mut Told, definition: &Definition<u32>, text: &str) -> Result<(), AllocError> {
+    let scanner = definition.scanner(told.alloc(), text)?;
+    told.key("scan");
+    told.open("[");
+    for step in scanner.steps(told.alloc()) {
+        match step? {
+            Step::Tile(tile) => tell_tile(told, tile),
+            Step::End(end) => tell_end(told, end),
+        }
+    }
+    told.close("]");
+    Ok(())
+}
