@@ -79,6 +79,43 @@ FIRST = [
 ]
 
 
+# Rule texts, with what an editor underlines between « and », and the message.
+MARKS = [
+    ("«»", "File ends prematurely"),
+    ("%x A\n«»", "File ends prematurely"),
+    ("%%\na 'A'\n«%%  int x;»  \n", "Routines not currently supported"),
+    ("«%option yylineno» \n%%\n", "Unknown declaration"),
+    ("  «%s»\t\n%%\n", "Unknown declaration"),
+    ("«\ufeff%%»\na 'A'\n", "Unknown declaration: the text begins with a byte order mark (U+FEFF)"),
+    ("%%\n«漢語» \na 'A'\n", "Rule is missing a space"),
+    ("%%\n[a-z]+ «ID»\n", "Invalid rule name"),
+    ("%%\n[a-z]+ «'ID»\t\r\n", "Invalid rule name"),
+    ("%x A\n%%\nb «<+B>»'ID'\n", "Start state not known"),
+    ("%x A\n%%\n«<A, B>»b c 'ID'\n", "Start state not known"),
+    # a list that doesn't end
+    ("%%\nb« <+INITIAL'ID'» \n", "Invalid start state"),
+    ("%%\n«<INITIAL b 'ID'»\n", "Invalid start state"),
+    ("%x A «1B» C\n%%\n", "Invalid start state name"),
+    ("%x A «漢語»\n%%\n", "Invalid start state name"),
+    # an empty name between two blanks
+    ("%x A « »B\n%%\n", "Invalid start state name"),
+    ("%x AB «AB» CD AB\n%%\n", "Start state already exists"),
+    ("%x «INITIAL»\n%%\n", "Start state already exists"),
+    ("%%\na 'AB'\nb '«AB»'\n", "Rule name already exists"),
+    ("%%\n« int x; »\na 'A'\n", "Verbatim code not supported"),
+    ("%%\n«(b c»  'A'\n", "Invalid regular expression: unclosed group"),
+    ("%x S\n%%\n«<S>a)»\t'A'\n", "Invalid regular expression: unopened group"),
+]
+
+
+def unmarked(text):
+    """A text without its marks, and the bytes between which they were."""
+    before, rest = text.split("«")
+    inside, after = rest.split("»")
+    start = len(before.encode())
+    return before + inside + after, f"{start}..{start + len(inside.encode())}"
+
+
 def shown(step):
     """What is shown by the step."""
     return replay.answer(from_text("%%\n").case(step)).last("shown")
@@ -102,6 +139,18 @@ class Reports(replay.TestCase):
 
     def test_the_first_fault_alone(self):
         self.check_shown([(["first_fault", rules], f"{text}\n{place}" if text else "") for rules, text, place in FIRST])
+
+    def test_what_an_editor_underlines(self):
+        rows = [(*unmarked(text), message) for text, message in MARKS]
+        self.check_shown([(["diagnostics", rules], f"{span} {message}\n") for rules, span, message in rows])
+
+    def test_why_lexing_stops_in_one_line(self):
+        for text, wanted in STOPS:
+            line = wanted.split("\n", 1)[0]
+            reason = line.split(": ", 1)[1] if line else ""
+            with self.subTest(text=text):
+                answered = shown(["stop", RULES, text])
+                self.assertEqual(answered.rstrip("\n").split(" ", 1)[1:], [reason] if reason else [])
 
     def test_a_refused_pattern_has_the_reason_of_regex(self):
         text = shown(["first_fault", "%%\n( 'A'"])

@@ -6,6 +6,7 @@ pub mod editing;
 pub mod lending;
 pub mod lexing;
 pub mod listing;
+pub mod marking;
 pub mod modules;
 pub mod reporting;
 pub mod scanning;

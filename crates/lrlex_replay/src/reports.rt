@@ -3,6 +3,7 @@ use lrlex::{
     DefaultLexerTypes, LRLexError, LRNonStreamingLexerDef, LexBuildError, LexerDef, Span,
     StartStateId,
 };
+use lrlex_doc_callers::marking::{Diagnostic, faults, stop};
 use lrlex_doc_callers::reporting::{complaints, complaints_of_file};
 use lrlex_replay_cases::facts::tell_report;
 use lrlex_replay_cases::reading::{Trouble, file_of};
@@ -36,6 +37,32 @@ fn first_fault(alloc: Global, rules: &str) -> Result<String, AllocError> {
     }
 }
 
+/// A range and its message, as `START..END MESSAGE`.
+fn shown_mark(alloc: Global, mark: &Diagnostic) -> Result<String, AllocError> {
+    let (start, end) = (mark.range.start(), mark.range.end());
+    format!(in alloc; "{start}..{end} {}\n", mark.message)
+}
+
+/// What an editor marks in a rule text, each in a line.
+fn shown_marks(alloc: Global, rules: &str) -> Result<String, AllocError> {
+    let mut shown = String::new(alloc);
+    for mark in &faults(alloc, rules)? {
+        shown.push_str(&shown_mark(alloc, mark)?)?;
+    }
+    Ok(shown)
+}
+
+/// Why lexing an input by a rule text stops; nothing where it doesn't, or where the rule text has faults.
+fn shown_reason(alloc: Global, rules: &str, input: &str) -> Result<String, AllocError> {
+    match LRNonStreamingLexerDef::<DefaultLexerTypes<u32>>::from_str(alloc, rules)? {
+        Ok(definition) => match stop(alloc, &definition, input)? {
+            Some(mark) => shown_mark(alloc, &mark),
+            None => Ok(String::new(alloc)),
+        },
+        Err(_) => Ok(String::new(alloc)),
+    }
+}
+
 /// What is shown where lexing the text stops at this place, in this state.
 fn shown_of_stop(
     alloc: Global,
@@ -55,6 +82,8 @@ pub fn report(told: &mut Told, asked: Report<'_>) -> Result<(), Trouble> {
         Report::OfText(rules, input) => complaints(alloc, rules, input),
         Report::OfFile(bytes, input) => return tell_of_file(told, bytes, input),
         Report::FirstFault(rules) => first_fault(alloc, rules),
+        Report::Marks(rules) => shown_marks(alloc, rules),
+        Report::Stop(rules, input) => shown_reason(alloc, rules, input),
         Report::AtSpan(text, span, message) => place_text(alloc, "f", text, span, message),
         Report::AtStop(text, place, state) => shown_of_stop(alloc, text, place, state),
     };

@@ -60,6 +60,10 @@ pub enum Report<'v> {
     OfFile(&'v [Value], &'v str),
     /// The first fault of a rule text.
     FirstFault(&'v str),
+    /// What an editor marks in a rule text.
+    Marks(&'v str),
+    /// Why lexing an input by a rule text stops.
+    Stop(&'v str, &'v str),
     /// A message at a span of a text.
     AtSpan(&'v str, Span, &'v str),
     /// Where lexing a text stops, in which state.
@@ -118,6 +122,7 @@ fn of_text<'v>(name: &str, text: &'v str) -> Result<Step<'v>, Trouble> {
         "end" => Ok(Step::Asks(Asked::End(text))),
         "scan" => Ok(Step::Asks(Asked::Scan(text))),
         "first_fault" => Ok(Step::Reports(Report::FirstFault(text))),
+        "diagnostics" => Ok(Step::Reports(Report::Marks(text))),
         _ => Err(Trouble::Malformed),
     }
 }
@@ -127,6 +132,7 @@ fn of_texts<'v>(name: &str, text: &'v str, other: &'v str) -> Option<Step<'v>> {
     match name {
         "replaced" => Some(Step::Replaces(text, other)),
         "complaints" => Some(Step::Reports(Report::OfText(text, other))),
+        "stop" => Some(Step::Reports(Report::Stop(text, other))),
         _ => None,
     }
 }

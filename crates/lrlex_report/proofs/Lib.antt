@@ -1,4 +1,5 @@
 pub mod CaretLemmas
 pub mod FaultLemmas
 pub mod PlaceLemmas
+pub mod RangeLemmas
 pub mod StateLemmas

@@ -45,11 +45,14 @@ places_text file rules said (x ∷ []) = place_text file rules (as_span x) said
 places_text file rules said (x ∷ y ∷ ys) =
     at_each file rules said (y ∷ ys) ++ first_text file rules x
 
+-- what is wrong, without its places
+abbrev pub IsFaultMessage : (rules : List ℕ) → LexBuildError → List ℕ → Type 0
+IsFaultMessage rules e text = (said : List ℕ) × IsMessageOf (fault_kind e) said × (text ≡ said ++ fault_note rules e)
+
 -- what is shown of an error
 abbrev pub IsFaultText : (file rules : List ℕ) → LexBuildError → List ℕ → Type 0
 IsFaultText file rules e text =
-    (said : List ℕ) × IsMessageOf (fault_kind e) said
-    × (text ≡ places_text file rules (said ++ fault_note rules e) (fault_spans e))
+    (said : List ℕ) × IsFaultMessage rules e said × (text ≡ places_text file rules said (fault_spans e))
 
 -- what is shown of errors, one after the other
 abbrev pub AreFaultTexts : (file rules : List ℕ) → List LexBuildError → List ℕ → Type 0

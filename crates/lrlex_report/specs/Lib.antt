@@ -1,5 +1,6 @@
 pub mod Carets
 pub mod Encoding
+pub mod FaultRanges
 pub mod FaultTexts
 pub mod PlaceTexts
 pub mod Reasons

@@ -19,12 +19,15 @@ state_name states id =
 abbrev pub error_state : LRLexError → Option ℕ
 error_state e = option_map state_number (lex_error_state e)
 
--- what is shown of the error, with the name of the start state in which no rule matched
+-- why lexing stopped, with the name of the start state in which no rule matched
+abbrev pub stop_message : (input : List ℕ) → LRLexError → (name : Option (List ℕ)) → List ℕ
+stop_message input e name =
+    let at = span_start (lex_error_span e) in
+    reason (error_state e) (char_at input (nearest input at)) name ++ mark_note input at
+
+-- what is shown of the error
 abbrev pub stop_text : (file input : List ℕ) → LRLexError → (name : Option (List ℕ)) → List ℕ
-stop_text file input e name =
-    let span = lex_error_span e in
-    let said = reason (error_state e) (char_at input (nearest input (span_start span))) name in
-    place_text file input (as_span span) (said ++ mark_note input (span_start span))
+stop_text file input e name = place_text file input (as_span (lex_error_span e)) (stop_message input e name)
 
 -- the name, among these start states, of the one in which no rule matched
 abbrev pub name_in : List StartState → LRLexError → Option (List ℕ)

@@ -1,7 +1,7 @@
 //! The errors of a rule text, as people read them.
 ghost use Rattle.std.specs.Prelude.{◌≡◌, ◌++◌, IfOk, OnOk, string_bytes};
 ghost use Rattle.lrlex_rules.specs.LexBuildError.{fault_kind, fault_spans};
-ghost use Rattle.lrlex_report.specs.FaultTexts.{IsMessageOf, fault_note, at_each, first_text, places_text, IsFaultText, AreFaultTexts};
+ghost use Rattle.lrlex_report.specs.FaultTexts.{IsMessageOf, fault_note, at_each, first_text, places_text, IsFaultMessage, IsFaultText, AreFaultTexts};
 
 use crate::encoding::mark_note;
 use crate::places::Source;
@@ -42,6 +42,20 @@ fn fault_note(rules: &str, fault: &LexBuildError) -> &'static str
         (LexErrorKind::UnknownDeclaration, Some(first)) => mark_note(rules, first.start()),
         _ => "",
     }
+}
+
+/// What is wrong with a rule text, in one line, without its places: the kind's message. The reason follows where `regex` refuses
+/// a pattern, and a byte order mark is named where that is the unknown declaration. `rules` is the text that has the error.
+pub fn fault_message(
+    alloc: Global,
+    rules: &str,
+    fault: &LexBuildError,
+) -> Result<String, AllocError>
+    ensures { IfOk result (λ said. IsFaultMessage rules.now fault.now (string_bytes said)) }
+{
+    let mut message = message_of(alloc, fault)?;
+    message.push_str(fault_note(rules, fault))?;
+    Ok(message)
 }
 
 /// Adds the message at each span.
@@ -113,8 +127,7 @@ fn shown_fault(
     ensures { IfOk result (λ shown. IsFaultText source.now.file.now source.now.text.now fault.now
         (string_bytes shown)) }
 {
-    let mut message = message_of(alloc, fault)?;
-    message.push_str(fault_note(source.text, fault))?;
+    let message = fault_message(alloc, source.text, fault)?;
     let mut shown = String::new(alloc);
     push_places(alloc, &mut shown, source, &message, fault.spans())?;
     Ok(shown)

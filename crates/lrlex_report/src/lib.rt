@@ -6,10 +6,12 @@ mod carets;
 mod encoding;
 mod faults;
 mod places;
+mod ranges;
 mod reasons;
 mod stops;
 
 pub use crate::encoding::bad_byte_text;
-pub use crate::faults::{fault_text, faults_text};
+pub use crate::faults::{fault_message, fault_text, faults_text};
 pub use crate::places::place_text;
-pub use crate::stops::{stop_text, stop_text_in};
+pub use crate::ranges::fault_range;
+pub use crate::stops::{stop_message_in, stop_text, stop_text_in};

@@ -4,7 +4,7 @@ ghost use Rattle.std.specs.Option.{option_copied};
 ghost use Rattle.std.specs.Slice.Iter.{iter_rest};
 ghost use Rattle.lrlex_rules.specs.RuleParts.{as_state};
 ghost use Rattle.lrlex.specs.Views.{definition_states};
-ghost use Rattle.lrlex_report.specs.StopTexts.{state_name, error_state, stop_text, name_in};
+ghost use Rattle.lrlex_report.specs.StopTexts.{state_name, error_state, stop_message, stop_text, name_in};
 
 use crate::encoding::mark_note;
 use crate::places::{nearest, place_text};
@@ -23,6 +23,23 @@ fn error_state(error: &LRLexError) -> Option<usize>
     }
 }
 
+/// Why lexing stopped. `name` is the name of the start state in which no rule matched.
+fn stop_message(
+    alloc: Global,
+    input: &str,
+    error: &LRLexError,
+    name: Option<&str>,
+) -> Result<String, AllocError>
+    ensures { IfOk result (λ said. string_bytes said
+        ≡ stop_message input.now error.now (option_map (λ t. t.now) name.entry)) }
+{
+    let at = error.span().start();
+    let found = char_at(input, nearest(input, at));
+    let mut message = reason(alloc, error_state(error), found, name)?;
+    message.push_str(mark_note(input, at))?;
+    Ok(message)
+}
+
 /// The error that stopped lexing, as people read it. `name` is the name of the start state in which no rule matched.
 fn shown_stop(
     alloc: Global,
@@ -34,11 +51,8 @@ fn shown_stop(
     ensures { IfOk result (λ shown. string_bytes shown
         ≡ stop_text file.now input.now error.now (option_map (λ t. t.now) name.entry)) }
 {
-    let span = error.span();
-    let found = char_at(input, nearest(input, span.start()));
-    let mut reason = reason(alloc, error_state(error), found, name)?;
-    reason.push_str(mark_note(input, span.start()))?;
-    place_text(alloc, file, input, span, &reason)
+    let message = stop_message(alloc, input, error, name)?;
+    place_text(alloc, file, input, error.span(), &message)
 }
 
 /// The error that stopped lexing an input, as people read it: `FILE:L:C: MESSAGE`, then the line with its number, then a caret
@@ -75,6 +89,35 @@ fn state_name(states: Iter<'_, StartState>, id: usize) -> Option<&str>
     }
 }
 
+/// The name of the start state in which no rule matched; `None` for `INITIAL`, and where lexing stopped for another reason.
+fn name_in<'d, L: LexerTypes>(
+    definition: &'d LRNonStreamingLexerDef<L>,
+    error: &LRLexError,
+) -> Option<&'d str>
+    ensures { option_map (λ t. t.now) result ≡ name_in (definition_states definition.now)
+        error.now }
+{
+    match error_state(error) {
+        Some(id) => state_name(definition.iter_start_states(), id),
+        None => None,
+    }
+}
+
+/// Why lexing an input by a definition stopped, in one line, without its place: the character at which no rule matched, or the
+/// text's end. If that was in a start state other than `INITIAL`, the message names that state.
+pub fn stop_message_in<L: LexerTypes>(
+    alloc: Global,
+    definition: &LRNonStreamingLexerDef<L>,
+    input: &str,
+    error: &LRLexError,
+) -> Result<String, AllocError>
+    ensures { IfOk result (λ said. string_bytes said
+        ≡ stop_message input.now error.now
+        (name_in (definition_states definition.now) error.now)) }
+{
+    stop_message(alloc, input, error, name_in(definition, error))
+}
+
 /// The error that stopped lexing an input by a definition, as people read it: `FILE:L:C: MESSAGE`, then the line with its number,
 /// then a caret under the place. If no rule matched in a start state other than `INITIAL`, the message names that state.
 pub fn stop_text_in<L: LexerTypes>(
@@ -88,9 +131,5 @@ pub fn stop_text_in<L: LexerTypes>(
         ≡ stop_text file.now input.now error.now
         (name_in (definition_states definition.now) error.now)) }
 {
-    let name = match error_state(error) {
-        Some(id) => state_name(definition.iter_start_states(), id),
-        None => None,
-    };
-    shown_stop(alloc, file, input, error, name)
+    shown_stop(alloc, file, input, error, name_in(definition, error))
 }
