@@ -107,11 +107,13 @@ module _ {S : Type 0} (number : S → ℕ) (flags : LexFlags) (greatest : ℕ) (
   hit asked = hits_if (answers (get_or ls i d).at) (get_or ls i d).at ∙ at_line (get_or ls i d).at now inv.0
 
   pub rules_more : AddsRules number flags greatest begun new (take (i + 1) ls)
-  rules_more =
-      (answers, λ asked e events was.
-      let line = as_piece (get_or ls i d) in
-      let f = rule_events asked greatest answers in
-      let so_far : IsCalm number flags b (all_after f events (map as_piece (take i ls))) = subst (IsCalm number flags b) (same_rules asked greatest inv.0 answers i ls alike events) (inv.1 asked e events was) in
-      let suits : Suits (settings_at asked greatest answers line.at) flags greatest = record { flags_are = e; greatest_is = refl } in
-      subst (IsCalm number flags new) (all_after_more f events ls i d lt)
-      (passes flags _ (rule_step number flags greatest b mid (all_after f events (map as_piece (take i ls))) line (settings_at asked greatest answers line.at) suits so_far told adds (hit asked))))
+  rules_more = (
+    answers,
+    λ asked e events was.
+        let line = as_piece (get_or ls i d) in
+        let f = rule_events asked greatest answers in
+        let so_far : IsCalm number flags b (all_after f events (map as_piece (take i ls))) = subst (IsCalm number flags b) (same_rules asked greatest inv.0 answers i ls alike events) (inv.1 asked e events was) in
+        let suits : Suits (settings_at asked greatest answers line.at) flags greatest = record { flags_are = e; greatest_is = refl } in
+        subst (IsCalm number flags new) (all_after_more f events ls i d lt)
+        (passes flags _ (rule_step number flags greatest b mid (all_after f events (map as_piece (take i ls))) line (settings_at asked greatest answers line.at) suits so_far told adds (hit asked))),
+  )
