@@ -42,17 +42,17 @@ LINES = (
 
 STOP = "stop:1:4: unexpected character '@'\n1 | ab @\n  |    ^\n"
 BAD = (
-    "bad.l:4:1: Invalid regular expression: unclosed group\n4 | ( 'B'\n  | ^\n"
     "bad.l:3:4: Rule name already exists\n3 | b 'A'\n  |    ^\n"
     "bad.l:2:4: first here\n2 | a 'A'\n  |    ^\n"
+    "bad.l:4:1: Invalid regular expression: unclosed group\n4 | ( 'B'\n  | ^\n"
 )
 OTHER = (
     "other.l:1:6: Start state already exists\n1 | %s k k\n  |      ^\n"
     "other.l:1:4: first here\n1 | %s k k\n  |    ^\n"
 )
 LATIN = "latin:2:1: not UTF-8, byte 0xE9 at offset 3\n2 | \n  | ^\n"
-MISSING = "rolgumzai: none: No such file or directory\n"
-FOLDER = "rolgumzai: folder: Is a directory\n"
+MISSING = "rolgumzai: none: No such file or directory (os error 2)\n"
+FOLDER = "rolgumzai: folder: Is a directory (os error 21)\n"
 
 # Words, standard input, and what comes of them.
 ROWS = [
@@ -312,7 +312,7 @@ class Rolgumzai(unittest.TestCase):
                     ended = subprocess.run(
                         [program, *words.split()], stdout=full, stderr=subprocess.PIPE, cwd=self.folder, check=False
                     )
-                self.assertEqual((ended.stderr, ended.returncode), (b"rolgumzai: No space left on device\n", 2))
+                self.assertEqual((ended.stderr, ended.returncode), (b"rolgumzai: No space left on device (os error 28)\n", 2))
 
 
 class Replayed(unittest.TestCase):
