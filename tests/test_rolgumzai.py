@@ -130,8 +130,8 @@ ROWS = [
         "explain states.l open 11",
         "",
         Outcome(
-            "open:1:11: ; of states.l:6 wins with 3 bytes: no other rule matches\n"
-            "1 | a /* b /* c */\n  |           ^^^\n"
+            "open:1:10: ; of states.l:6 wins with 3 bytes: no other rule matches\n"
+            "1 | a /* b /* c */\n  |          ^^^\n"
             "stack, from the bottom: INITIAL COMMENT (2 times)\n"
             "bytes  active rules\n"
             "    0  states.l:4: <COMMENT>/\\* <+COMMENT>;\n"
@@ -275,6 +275,13 @@ class Rolgumzai(unittest.TestCase):
         newest = re.search(r"^## (\d+\.\d+\.\d+)", programs.read("CHANGELOG.md"), re.M)[1]
         for program in programs.by_each_compiler(PROGRAM):
             self.assertEqual(self.run_in_folder(program, ["--version"]), Outcome(f"rolgumzai {newest}\n"))
+
+    def test_the_script_at_the_top(self):
+        if not os.path.exists(f"{programs.TOP}/crates/{PROGRAM}/out/{PROGRAM}"):
+            self.skipTest("it would build the program")
+        words = [f"{programs.TOP}/{PROGRAM}", "tokens", "tokens.l", "input"]
+        programs.run(words, cwd=self.folder, timeout=None)
+        self.assertEqual(programs.run(words, cwd=self.folder), Outcome(LINES))
 
     def test_a_reader_that_has_gone(self):
         programs.fill(self.folder, {"long": "if ifs 12\n" * 100_000, "many.l": "%%\n" + "a 'A'\n" * 2_000})
