@@ -4,12 +4,9 @@ The stored run of an example is its input examples/NAME.in, or examples/NAME.txt
 examples/NAME.out.
 """
 
-import html
 import os
-import re
 import unittest
 
-from support import replay
 from support import programs
 from support.programs import Outcome
 
@@ -38,28 +35,8 @@ ROWS = [
     ("json_check", b"[\xff]", "stdin:1:2: not UTF-8, byte 0xFF at offset 1\n1 | [\n  |  ^\n", 1),
 ]
 
-# Texts that are highlighted, each by a rule file.
-SHOWN = [
-    ("rules/c.l", "examples/sorted.c"),
-    ("rules/py.l", "tests/support/replay.py"),
-    ("rules/json.l", "tests/examples/json_check.in"),
-    ("rules/conf.l", "tests/examples/conf.in"),
-    ("rules/c.l", "tests/examples/conf.in"),
-]
-
 # Words that are refused.
-REFUSED = [[], ["none"], ["calc", "more"], ["highlight", "rules/c.l"], ["highlight", "--page", "a", "b"]]
-
-# Files that aren't there.
-MISSING = [["none.l", "examples/tokens.txt"], ["rules/c.l", "none.txt"]]
-
-
-def text_of_page(page):
-    """The text of a page's element pre, without tags and with characters read back."""
-    found = re.fullmatch(r"<!DOCTYPE html>.*?<pre>(.*)</pre>\n", page, re.S)
-    if not found:
-        raise AssertionError(f"no page: {page[:200]!r}")
-    return html.unescape(re.sub(r"</?span[^>]*>", "", found.group(1)))
+REFUSED = [[], ["none"], ["calc", "more"]]
 
 
 class Examples(unittest.TestCase):
@@ -83,42 +60,13 @@ class Examples(unittest.TestCase):
             with self.subTest(example=name, given=given, program=program):
                 self.assertEqual(programs.run([program, name], given), Outcome(out, "", status))
 
-    def test_highlighted_for_a_terminal(self):
-        for program, (rules, path) in self.rows(SHOWN):
-            with self.subTest(rules=rules, path=path, program=program):
-                out, err, status = programs.run([program, "highlight", rules, path])
-                self.assertIn("\x1b[", out, "no colour")
-                self.assertEqual((re.sub(r"\x1b\[\d+m", "", out), err, status), (programs.read(path), "", 0))
-
-    def test_highlighted_as_a_page(self):
-        for program, (rules, path) in self.rows(SHOWN):
-            with self.subTest(rules=rules, path=path, program=program):
-                out, err, status = programs.run([program, "highlight", "--html", rules, path])
-                self.assertIn("<span class=", out, "no colour")
-                self.assertEqual((text_of_page(out), err, status), (programs.read(path), "", 0))
-
-    def test_rules_with_faults_highlight_nothing(self):
-        for program in programs.by_each_compiler(PROGRAM):
-            out, err, status = programs.run([program, "highlight", "examples/faults.l", "examples/tokens.txt"])
-            self.assertEqual((out, status), ("", 1))
-            self.assertTrue(err.startswith("examples/faults.l:"), err)
-
-    def test_files_that_are_missing_or_not_utf_8(self):
-        for program, words in self.rows([*MISSING, ["rules/c.l", "docs/highlighted.png"]]):
-            with self.subTest(words=words, program=program):
-                out, err, status = programs.run([program, "highlight", *words])
-                self.assertEqual((out, status), ("", 1))
-                self.assertIn("" if words in MISSING else "not UTF-8", err)
-                self.assertTrue(err)
-
     def test_help(self):
-        names = [*STORED, "highlight"]
         for program in programs.by_each_compiler(PROGRAM):
             out, err, status = programs.run([program, "--help"])
             self.assertEqual((err, status), ("", 0))
-            for name in names:
+            for name in STORED:
                 self.assertIn(f"  {name} ", out)
-        for program, name in self.rows(names):
+        for program, name in self.rows(STORED):
             with self.subTest(example=name, program=program):
                 out, err, status = programs.run([program, name, "--help"])
                 self.assertEqual((err, status), ("", 0))

@@ -1,4 +1,4 @@
-"""Builds crates with all that they need, side by side: build.py [CRATE..], lrlex_program without a name.
+"""Builds crates with all that they need, side by side: build.py [CRATE..], the programs of the top without a name.
 
 A crate is built once those that it needs are: a library for the first time by anew.py, which shares the work best, and later by
 rt lib, which proves what changed; a program by rt run. The crate with the longest chain of others after it goes ahead, and the
@@ -79,9 +79,9 @@ class Build:
         """Says how far the build is, over the line before on a terminal, or this text, which a pipe gets too."""
         if sys.stderr.isatty():
             width = shutil.get_terminal_size().columns - 1
-            print(f"\r\033[K{f'lrlex: {self.said()}'[:width]}", end="", file=sys.stderr, flush=True)
+            print(f"\r\033[K{f'build: {self.said()}'[:width]}", end="", file=sys.stderr, flush=True)
         elif text:
-            print(f"lrlex: {text}", file=sys.stderr, flush=True)
+            print(f"build: {text}", file=sys.stderr, flush=True)
 
     def jobs_for(self, name, used):
         """How many processes may check the crate at once; none where memory is short."""
@@ -147,32 +147,32 @@ class Build:
 def main(names=(), is_timed=False, jobs=0):
     """Builds these crates. The status is 1 where one fails, whose log is printed."""
     if not shutil.which("rt"):
-        print("lrlex: building takes the Rattle kit: rt isn't on PATH", file=sys.stderr)
+        print("build: it takes the Rattle kit: rt isn't on PATH", file=sys.stderr)
         return 1
     processes.end_all_at_exit()
     held = os.open(f"{crates.TOP}/crates", os.O_RDONLY)
     try:
         fcntl.flock(held, fcntl.LOCK_EX | fcntl.LOCK_NB)
     except BlockingIOError:
-        print("lrlex: waiting for another build in this folder to end", file=sys.stderr)
+        print("build: waiting for another build in this folder to end", file=sys.stderr)
         fcntl.flock(held, fcntl.LOCK_EX)
     except OSError:
         pass
-    build = Build(list(names) or [crates.PROGRAM], jobs)
+    build = Build(list(names) or crates.PROGRAMS, jobs)
     name, log = build.all()
     if sys.stderr.isatty():
         print("\r\033[K", end="", file=sys.stderr)
     if name:
-        print(f"{log}lrlex: the build of {name} failed", file=sys.stderr)
+        print(f"{log}build: {name} failed", file=sys.stderr)
         return 1
     if is_timed:
         for it, (begun, ended) in build.done.items():
             print(f"    {it}: {ended - begun:.0f} s, from {begun:.0f} to {ended:.0f}", file=sys.stderr)
-    print(f"lrlex: built in {time.monotonic() - build.begun:.0f} seconds", file=sys.stderr)
+    print(f"build: done in {time.monotonic() - build.begun:.0f} seconds", file=sys.stderr)
     return 0
 
 
 if __name__ == "__main__":
-    # ./lrlex waits for it
+    # ./lrlex and ./rolgumzai wait for it
     processes.end_with_parent()
     sys.exit(main(sys.argv[1:]))

@@ -6,6 +6,8 @@ import os
 TOP = os.path.dirname(os.path.dirname(os.path.abspath(__file__)))
 FAMILIES = ("public", "inside lrlex", "program", "tests and docs", "edge")
 PROGRAM = "lrlex_program"
+# The programs that the scripts at the top run.
+PROGRAMS = (PROGRAM, "rolgumzai")
 
 
 @dataclasses.dataclass(frozen=True)

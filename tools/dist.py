@@ -1,6 +1,6 @@
-"""Packs the program and the C library into a folder: dist.py FOLDER ARCHIVE [PROGRAM], or ./dev dist and ./dev install, into dist/.
+"""Packs the programs and the C library into a folder: dist.py FOLDER ARCHIVE [PROGRAM..], or ./dev dist and ./dev install, into dist/.
 
-The folder gets the program, the header and that of C++, the archive and the shared library, what pkg-config reads, the manual page, the
+The folder gets the programs, the header and that of C++, the archive and the shared library, what pkg-config reads, the manual page, the
 licences, and the checksums of all. The archive that rt lib leaves lacks the three functions by which a crate asks for memory: those
 of the kit, over malloc, realloc and free, are joined in. The shared library shows the names of the header alone.
 
@@ -22,6 +22,8 @@ import prover
 LIBRARY = "lrlex_c"
 BUILT = f"{crates.TOP}/crates/{LIBRARY}/out/lib{LIBRARY}.a"
 SONAME = "liblrlex.so.0"
+# What a packed program is called, by its crate.
+CALLED = {crates.PROGRAM: "lrlex"}
 FOLDER = f"{crates.TOP}/dist"
 C = f"{crates.TOP}/bindings/c"
 
@@ -85,14 +87,15 @@ def files(folder):
     return sorted(os.path.relpath(f"{at}/{it}", folder) for at, _, names in os.walk(folder) for it in names)
 
 
-def pack(folder, archive, program=""):
-    """Fills the folder from an archive as rt lib leaves it, and the program, if there is one."""
+def pack(folder, archive, *programs):
+    """Fills the folder from an archive as rt lib leaves it, and these programs."""
     top = crates.TOP
     join(archive, f"{folder}/lib/liblrlex.a")
     link(f"{folder}/lib/liblrlex.a", f"{folder}/lib/{SONAME}")
     os.symlink(SONAME, f"{folder}/lib/liblrlex.so")
-    if program:
-        copy(program, f"{folder}/bin/lrlex", 0o755)
+    for it in programs:
+        crate = os.path.basename(it)
+        copy(it, f"{folder}/bin/{CALLED.get(crate, crate)}", 0o755)
     copy(f"{top}/include/lrlex.h", f"{folder}/include/lrlex.h")
     copy(f"{top}/bindings/cpp/lrlex.hpp", f"{folder}/include/lrlex.hpp")
     fill_in(f"{C}/lrlex.pc.in", f"{folder}/lib/pkgconfig/lrlex.pc")
@@ -129,10 +132,10 @@ def main(prefix=""):
     if lost := lacking():
         print(f"dist: {lost} isn't on PATH", file=sys.stderr)
         return 1
-    if status := build.main([crates.PROGRAM, LIBRARY]):
+    if status := build.main([*crates.PROGRAMS, LIBRARY]):
         return status
     shutil.rmtree(FOLDER, ignore_errors=True)
-    pack(FOLDER, BUILT, f"{crates.TOP}/crates/{crates.PROGRAM}/out/{crates.PROGRAM}")
+    pack(FOLDER, BUILT, *(f"{crates.TOP}/crates/{it}/out/{it}" for it in crates.PROGRAMS))
     if prefix:
         install(FOLDER, prefix)
     else:

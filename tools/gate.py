@@ -2,7 +2,7 @@
 
 The proofs by rt ci, each from nothing, with the tests and the programs; the edits of one function that the prover must refuse;
 the pages; the tests of tests/ over the programs that rt ci has built, with the runs of ./lrlex, and over the C library; refused
-memory; the recursions of the program; and laws on 10,000 random cases. Nothing is written into the tree but what rt builds in crates/*/out. What this
+memory; the recursions of the programs; and laws on 10,000 random cases. Nothing is written into the tree but what rt builds in crates/*/out. What this
 machine can't try, as where there is no cc, is counted as skipped. At the end it says what took how long; the last line is
 'N passed, M failed', or 'N passed, M failed, K skipped'.
 
@@ -131,7 +131,7 @@ class Gate:
                 self.count(0, 1)
 
     def build(self):
-        """Has ./lrlex take the program of rt ci, and runs it on a line. Without it each of its tests would try a build."""
+        """Has ./lrlex and ./rolgumzai take the programs of rt ci, and runs each. Without it each of their tests would try a build."""
         with open(f"{self.scratch}/tokens.l", "w", encoding="utf-8") as it:
             it.write("%%\n[a-z]+ 'WORD'\n")
         with open(f"{self.scratch}/tokens.txt", "w", encoding="utf-8") as it:
@@ -140,7 +140,11 @@ class Gate:
         if status or "WORD" not in told:
             print(f"the build of ./lrlex: FAILED, or its run on a word:\n{told}", flush=True)
             self.count(0, 1)
-        self.since("the build of ./lrlex")
+        status, told = processes.run([f"{crates.TOP}/rolgumzai", "check", f"{self.scratch}/tokens.l"])
+        if status or told:
+            print(f"the build of ./rolgumzai: FAILED, or its run on a rule:\n{told}", flush=True)
+            self.count(0, 1)
+        self.since("the builds of ./lrlex and ./rolgumzai")
 
     def all(self):
         """Does all of it, and gives the status."""
@@ -161,7 +165,7 @@ class Gate:
         self.count(*tests.counts("tests", "passed"))
         self.since("the tests, what was left of them")
         self.step(recursion.main())
-        self.since("the recursions of the program")
+        self.since("the recursions of the programs")
         self.step(soak.main())
         self.since("the laws on 10,000 random cases")
         print(f"times, {time.monotonic() - self.began:.0f} s in all:")

@@ -19,7 +19,7 @@ import subprocess
 import crates
 
 KNOWN = f"{crates.TOP}/tools/recursion.txt"
-BUILT = f"{crates.TOP}/crates/{crates.PROGRAM}/out/{crates.PROGRAM}"
+BUILT = [f"{crates.TOP}/crates/{it}/out/{it}" for it in crates.PROGRAMS]
 
 FUNCTION = re.compile(r"^([0-9a-f]+) <(.*)>:$")
 GOES = re.compile(r"^ *[0-9a-f]+:\s+(?:bnd |notrack )?(call|j[a-z]+)q? +([0-9a-f]+) <")
@@ -114,27 +114,33 @@ def lacking(program):
     if not shutil.which("objdump"):
         return "there is no objdump"
     if not os.access(program, os.X_OK):
-        return f"{os.path.relpath(program)} isn't built: ./lrlex builds the program"
+        return f"{os.path.relpath(program)} isn't built: ./dev build builds it"
     form = subprocess.run(["objdump", "-f", program], capture_output=True, text=True, check=False).stdout
     return "" if "x86-64" in form else "it reads programs for x86-64 alone"
 
 
 def main(program=""):
-    """Tries the program, that of ./lrlex without a word. The status is 0 where all is known, 1 where not, 2 where it can't be tried."""
-    program = program or BUILT
+    """Tries the program, or those of ./lrlex and ./rolgumzai. The status is 0 where all is known, 1 where not, 2 where one can't be tried."""
+    statuses = [tried(it) for it in ([program] if program else BUILT)]
+    return 1 if 1 in statuses else max(statuses)
+
+
+def tried(program):
+    """Tries a program, and gives the status."""
+    name = os.path.basename(program)
     why = lacking(program)
     if why:
-        print(f"recursion: skipped, {why}")
+        print(f"recursion: {name}: skipped, {why}")
         return 2
     try:
         faults, counts = faults_of(program)
     except (subprocess.CalledProcessError, ValueError) as fault:
-        print(f"recursion: FAILED, the program can't be read: {fault}")
+        print(f"recursion: {name}: FAILED, the program can't be read: {fault}")
         return 1
     for it in faults:
         print(it)
     if faults:
-        print(f"recursion: FAILED, {len(faults)} to be explained in tools/recursion.txt; {counts}")
+        print(f"recursion: {name}: FAILED, {len(faults)} to be explained in tools/recursion.txt; {counts}")
         return 1
-    print(f"recursion: passed, {counts}: all in tools/recursion.txt")
+    print(f"recursion: {name}: passed, {counts}: all in tools/recursion.txt")
     return 0

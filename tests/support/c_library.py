@@ -34,11 +34,11 @@ def need(*tools):
 
 @functools.lru_cache(maxsize=None)
 def packed():
-    """A folder that is packed as ./dev dist does. The program is in it if it is built."""
+    """A folder that is packed as ./dev dist does. The programs are in it if they are built."""
     need("ar", "cc", "rt")
     folder = f"{programs.scratch().name}/dist"
-    program = [programs.path_of("lrlex_program")] if programs.is_built("lrlex_program") else []
-    subprocess.run([sys.executable, "-B", f"{programs.TOP}/tools/dist.py", folder, archive(), *program], check=True)
+    built = [programs.path_of(it) for it in ("lrlex_program", "rolgumzai") if programs.is_built(it)]
+    subprocess.run([sys.executable, "-B", f"{programs.TOP}/tools/dist.py", folder, archive(), *built], check=True)
     return folder
 
 

@@ -1,12 +1,13 @@
-"""Refuses two programs their requests for memory, and says how they met it: python3 -m support.refusing, in tests/.
+"""Refuses three programs their requests for memory, and says how they met it: python3 -m support.refusing, in tests/.
 
 Each request in turn is refused, from the first until no more are made: at first that one alone, and then all after it too. On each
 row of cli_rows.py the program must say 'Out of memory' and nothing else, or do what it does with memory for all. On each case of
 library_calls.py lrlex_replay must write the lines that were worked out by hand; where a call answers that memory ran out, also what
-it was lent as it was, and what the call answers when it is made once more; or a beginning of these lines and 'Out of memory'.
+it was lent as it was, and what the call answers when it is made once more; or a beginning of these lines and 'Out of memory'. Each
+command of rolgumzai must write what it does with memory for all, or a beginning of it and 'rolgumzai: out of memory'.
 
-It needs cc, and the programs that ./lrlex and the gate build. The last two lines say how many requests were refused. The status is
-0 where each was met so, 1 where one wasn't, and 2 where that can't be tried.
+It needs cc, and the programs that ./lrlex and the gate build. The last three lines say how many requests were refused. The status
+is 0 where each was met so, 1 where one wasn't, and 2 where that can't be tried.
 """
 
 import json
@@ -22,6 +23,24 @@ from collections import Counter
 from support import cli_rows, library_calls, program_rows, programs, replay
 
 OUT_OF_MEMORY = b"Out of memory\n"
+
+ROLGUMZAI = "rolgumzai"
+ROLGUMZAI_OUT_OF_MEMORY = b"rolgumzai: out of memory\n"
+
+# Commands of rolgumzai, and the status of each.
+COMMANDS = [
+    ("--help", 0),
+    ("none", 2),
+    ("tokens --help", 0),
+    ("tokens --octal false examples/tokens.l examples/tokens.txt", 0),
+    ("tokens --json examples/tokens.l examples/tokens.txt", 0),
+    ("tokens examples/tokens.l examples/sorted.c", 1),
+    ("tokens examples/faults.l examples/tokens.txt", 1),
+    ("check examples/faults.l none examples/tokens.l", 2),
+    ("highlight --map ID=class examples/tokens.l examples/tokens.txt", 0),
+    ("highlight --html examples/tokens.l examples/tokens.txt", 0),
+    ("explain examples/tokens.l examples/tokens.txt 5", 0),
+]
 
 # How a program met a refusal.
 REPORTED, NOT_NEEDED, WRONG = "reported", "not needed", "wrong"
@@ -64,6 +83,28 @@ class Example(Run):
         if came == (1, b"", OUT_OF_MEMORY):
             return REPORTED
         return NOT_NEEDED if came == self.right else WRONG
+
+
+class Command(Run):
+    """A run of a command of rolgumzai."""
+
+    def __init__(self, words, status):
+        super().__init__(f"rolgumzai {words}", [programs.path_of(ROLGUMZAI), *words.split()], os.devnull)
+        self.right, self.status = None, status
+
+    def learn(self):
+        """What is wrong with memory for all: another status."""
+        self.right = self.start({})
+        return None if self.right[0] == self.status else f"{self.name}: {self.right}"
+
+    def met(self, came, _rest):
+        """How it met a refusal."""
+        if came == self.right:
+            return NOT_NEEDED
+        (status, out, errors), (_, all_out, all_errors) = came, self.right
+        is_told = status == 2 and errors.endswith(ROLGUMZAI_OUT_OF_MEMORY)
+        is_beginning = all_out.startswith(out) and all_errors.startswith(errors.removesuffix(ROLGUMZAI_OUT_OF_MEMORY))
+        return REPORTED if is_told and is_beginning else WRONG
 
 
 class Calls(Run):
@@ -161,6 +202,11 @@ def examples():
     return [Example(row) for row in cli_rows.ROWS if row.is_refused]
 
 
+def commands():
+    """The runs of rolgumzai."""
+    return [Command(words, status) for words, status in COMMANDS]
+
+
 def calls(folder):
     """The runs on calls of the library. Each reads a file of its own in the folder."""
     runs = []
@@ -225,18 +271,20 @@ def refuse_and_print(what, runs, library, folder):
 
 
 def main():
-    """Refuses memory to both programs."""
+    """Refuses memory to the programs."""
     try:
         library = programs.preloaded("refuse_memory")
         programs.need(program_rows.PROGRAM)
         programs.need(replay.PROGRAM)
+        programs.need(ROLGUMZAI)
     except unittest.SkipTest as why:
         print(f"refused memory: skipped, {why}")
         return 2
     with tempfile.TemporaryDirectory() as folder:
         of_examples = refuse_and_print("examples", examples(), library, folder)
         of_calls = refuse_and_print("cases with calls", calls(folder), library, folder)
-    return 0 if of_examples and of_calls else 1
+        of_commands = refuse_and_print("commands", commands(), library, folder)
+    return 0 if of_examples and of_calls and of_commands else 1
 
 
 if __name__ == "__main__":

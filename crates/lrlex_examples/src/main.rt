@@ -1,11 +1,10 @@
-//! Five examples of what stands on a lexer, in one program: `lrlex_examples EXAMPLE`. Each has a folder of its own, which needs
+//! Four examples of what stands on a lexer, in one program: `lrlex_examples EXAMPLE`. Each has a folder of its own, which needs
 //! nothing of the others. `lrlex_examples --help` names them, and `lrlex_examples EXAMPLE --help` says what one does.
 #![tactic(auto)]
 
 mod calc;
 mod conf;
 mod edit_loop;
-mod highlight;
 mod json_check;
 mod rules;
 mod words;
@@ -21,7 +20,6 @@ fn serve(rt: &HostRuntime, words: &ArgMatches<'_>) -> io::Result<ExitCode> {
         Some(("calc", _)) => calc::serve(rt),
         Some(("conf", _)) => conf::serve(rt),
         Some(("edit_loop", _)) => edit_loop::serve(rt),
-        Some(("highlight", words)) => highlight::serve(rt, words),
         Some(("json_check", _)) => json_check::serve(rt),
         // Not met: the command takes no words without one of these.
         _ => Ok(ExitCode::FAILURE),

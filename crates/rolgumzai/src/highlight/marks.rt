@@ -17,6 +17,9 @@ const HEAD: &str = "<!DOCTYPE html>\n<meta charset=\"utf-8\">\n<style>\n\
     .keyword { color: #cf222e; }\n\
     .number { color: #0550ae; }\n\
     .text { color: #0a7d33; }\n\
+    .type { color: #953800; }\n\
+    .function { color: #8250df; }\n\
+    .name { color: #116b7a; }\n\
     .rest { background: #ffebe9; }\n</style>\n<pre>";
 
 /// Adds the text, with the three characters that HTML reads as its own written out.
@@ -57,6 +60,9 @@ fn push_html(page: &mut String, class: Class, text: &str) -> Result<(), AllocErr
         Class::Keyword => push_span(page, "keyword", text),
         Class::Number => push_span(page, "number", text),
         Class::Text => push_span(page, "text", text),
+        Class::Type => push_span(page, "type", text),
+        Class::Function => push_span(page, "function", text),
+        Class::Name => push_span(page, "name", text),
     }
 }
 
@@ -67,11 +73,14 @@ fn push_terminal(page: &mut String, class: Class, text: &str) -> Result<(), Allo
         Class::Keyword => push_coloured(page, "31", text),
         Class::Number => push_coloured(page, "34", text),
         Class::Text => push_coloured(page, "32", text),
+        Class::Type => push_coloured(page, "33", text),
+        Class::Function => push_coloured(page, "35", text),
+        Class::Name => push_coloured(page, "36", text),
     }
 }
 
 impl Marks {
-    /// What stands before the text.
+    /// What precedes the text.
     pub fn head(self) -> &'static str {
         match self {
             Marks::Terminal => "",
@@ -79,7 +88,7 @@ impl Marks {
         }
     }
 
-    /// What stands behind it.
+    /// What follows it.
     pub fn tail(self) -> &'static str {
         match self {
             Marks::Terminal => "",
@@ -95,7 +104,7 @@ impl Marks {
         }
     }
 
-    /// Adds what the rules don't cut, behind the last piece.
+    /// Adds what the rules don't cut, after the last piece.
     pub fn push_rest(self, page: &mut String, text: &str) -> Result<(), AllocError> {
         match self {
             _ if text.is_empty() => Ok(()),

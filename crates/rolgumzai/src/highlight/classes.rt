@@ -9,6 +9,9 @@ pub enum Class {
     Keyword,
     Number,
     Text,
+    Type,
+    Function,
+    Name,
 }
 
 /// A word that its rule is named after, as `if` by `'IF'` or `'Kif'`.

@@ -1,0 +1,113 @@
+//! The words of the command line.
+use crate::flags::with_flags;
+use clap::{Arg, ArgAction, Command, value_parser};
+use std::alloc::{AllocError, Global};
+
+/// A path that has to be there.
+fn path<'a>(alloc: Global, name: &'a str, shown: &'a str, help: &'a str) -> Arg<'a> {
+    Arg::new(alloc, name)
+        .value_name(shown)
+        .help(help)
+        .required(true)
+}
+
+/// A switch.
+fn switch<'a>(alloc: Global, name: &'a str, help: &'a str) -> Arg<'a> {
+    Arg::new(alloc, name)
+        .long(name)
+        .help(help)
+        .action(ArgAction::SetTrue)
+}
+
+/// Adds the path of a rule file, that of an input, and the flags.
+fn with_files<'a>(
+    alloc: Global,
+    command: Command<'a>,
+    input: &'a str,
+) -> Result<Command<'a>, AllocError> {
+    let command = command.arg(path(alloc, "rules", "RULES", "The rule file"))?;
+    let command = command.arg(path(alloc, "input", "INPUT", input))?;
+    with_flags(alloc, command)
+}
+
+/// What shows the faults of rule files.
+fn check<'a>(alloc: Global) -> Result<Command<'a>, AllocError> {
+    let command = Command::new(alloc, "check")
+        .about("Shows what is wrong with rule files")
+        .after_help(
+            "Each fault is shown with its place, its line and carets. The status is 1 where a file has one.",
+        )
+        .arg(
+            path(alloc, "rules", "RULES", "The rule files")
+                .action(ArgAction::Append)
+                .num_args(1..),
+        )?;
+    with_flags(alloc, command)
+}
+
+/// What prints tokens.
+fn tokens<'a>(alloc: Global) -> Result<Command<'a>, AllocError> {
+    let command = Command::new(alloc, "tokens")
+        .about("Prints the tokens of a text, one on a line")
+        .after_help(
+            "A line is LINE:COLUMN START..END NAME TEXT. Line and column count characters from 1, START and END bytes from 0. \
+            TEXT is in quotes, with the escapes of JSON. Where lexing stops, or the text ends within a start state, standard error \
+            says so.",
+        )
+        .arg(switch(alloc, "json", "Prints each token as a line of JSON"))?;
+    with_files(alloc, command, "The text to lex")
+}
+
+/// What colours a text.
+fn highlight<'a>(alloc: Global) -> Result<Command<'a>, AllocError> {
+    let map = Arg::new(alloc, "map")
+        .long("map")
+        .value_name("NAME=TOKENTYPE")
+        .help(
+            "Shows the tokens of rule NAME as this token type of the Language Server Protocol, or as plain text where none is given",
+        )
+        .action(ArgAction::Append);
+    let command = Command::new(alloc, "highlight")
+        .about("Shows a text in colours, by the pieces into which the rules cut it")
+        .after_help(
+            "What no --map names is guessed by the rule's name and by the text, as a rule IF that matches if is a keyword.",
+        )
+        .arg(switch(
+            alloc,
+            "html",
+            "Writes a page of HTML, and no text for a terminal",
+        ))?
+        .arg(map)?;
+    with_files(alloc, command, "The text to show")
+}
+
+/// What says why a token is what it is.
+fn explain<'a>(alloc: Global) -> Result<Command<'a>, AllocError> {
+    let offset = path(alloc, "offset", "OFFSET", "A byte of the text, from 0").value_parser(
+        value_parser!(usize),
+    );
+    let command = Command::new(alloc, "explain")
+        .about("Says which rule wins at a byte of a text, and why")
+        .after_help(
+            "It shows the piece with this byte, the start states on the stack, each rule that is active there, and how many bytes \
+            it matches.",
+        );
+    with_files(alloc, command, "The text to lex")?.arg(offset)
+}
+
+/// The command, which takes the name of a command and then its words.
+pub fn command<'a>(alloc: Global) -> Result<Command<'a>, AllocError> {
+    Command::new(alloc, "rolgumzai")
+        .about("Checks rule files, and shows how texts are lexed by them.")
+        .version("0.1.0")
+        .after_help(
+            "A file named - is standard input. The status is 0 where all is well, 1 where a rule file has a fault or lexing stops, \
+            and 2 where the words are refused or a file can't be read.",
+        )
+        .subcommand_required(true)
+        .arg_required_else_help(true)
+        .subcommand(check(alloc)?)?
+        .subcommand(tokens(alloc)?)?
+        .subcommand(highlight(alloc)?)?
+        .subcommand(explain(alloc)?)
+}

@@ -1,0 +1,132 @@
+//! What is explained, in lines.
+use crate::explain::active::{Active, active_in};
+use crate::explain::boundary::{Run, boundary_before, push_stack};
+use crate::explain::reasons::reason;
+use crate::explain::rule_file::RuleFile;
+use crate::output::FAULTY;
+use lrlex::{LRLexError, Piece, Span};
+use lrlex_report::{place_text, stop_text_in};
+use std::alloc::{AllocError, Global};
+use std::fmt::Write;
+
+/// The text that is asked about, with the name of its file.
+#[derive(Clone, Copy)]
+pub struct Input<'a> {
+    pub file: &'a str,
+    pub text: &'a str,
+}
+
+/// What is at a byte of a text.
+#[derive(Clone, Copy)]
+enum Found<'d, 't> {
+    Piece(Piece<'d, 't>),
+    /// Lexing stopped before it.
+    Stop(LRLexError),
+    /// It is the text's end.
+    End,
+}
+
+/// What is at a byte of a run's text.
+fn found_at<'d, 't>(
+    alloc: Global,
+    run: &Run<'d, 't>,
+    offset: usize,
+) -> Result<Found<'d, 't>, AllocError> {
+    let pieces = run.pieces_in(alloc, offset, offset.saturating_add(1))?;
+    if let Some(piece) = pieces.first() {
+        return Ok(Found::Piece(*piece));
+    }
+    match run.items().last() {
+        Some(Err(error)) => Ok(Found::Stop(*error)),
+        _ => Ok(Found::End),
+    }
+}
+
+/// Which rule wins the piece, and why, with the piece's line.
+fn winner_text(
+    alloc: Global,
+    rules: &RuleFile<'_>,
+    input: Input<'_>,
+    piece: &Piece<'_, '_>,
+    active: &[Active],
+) -> Result<String, AllocError> {
+    let len = piece.text.len();
+    let reason = reason(alloc, active, len)?;
+    let line = rules.line_of(piece.rule);
+    let (file, number) = (line.file, line.line);
+    let name = piece.name.unwrap_or(";");
+    let message = format!(in alloc; "{name} of {file}:{number} wins with {len} bytes: {reason}")?;
+    place_text(alloc, input.file, input.text, piece.span, &message)
+}
+
+/// What is found, with its line.
+fn found_text(
+    alloc: Global,
+    rules: &RuleFile<'_>,
+    input: Input<'_>,
+    found: &Found<'_, '_>,
+    active: &[Active],
+) -> Result<String, AllocError> {
+    match found {
+        Found::Piece(piece) => winner_text(alloc, rules, input, piece, active),
+        Found::Stop(error) => {
+            stop_text_in(alloc, rules.definition, input.file, input.text, error)
+        }
+        Found::End => {
+            let end = Span::new(input.text.len(), input.text.len());
+            place_text(alloc, input.file, input.text, end, "the text ends here")
+        }
+    }
+}
+
+/// Adds the line of each active rule. That of the winner has an asterisk.
+fn push_active(
+    shown: &mut String,
+    rules: &RuleFile<'_>,
+    active: &[Active],
+    winner: Option<usize>,
+) -> Result<(), AllocError> {
+    shown.push_str("bytes  active rules\n")?;
+    for one in active {
+        let line = rules.line_of(one.rule);
+        let mark = if winner == Some(one.rule) { '*' } else { ' ' };
+        let (len, file, number) = (one.len, line.file, line.line);
+        let (front, back) = (line.front, line.back);
+        write!(shown, "{len:>5}{mark} {file}:{number}: {front}{back}\n")?;
+    }
+    Ok(())
+}
+
+/// The rule that wins, if one does.
+fn winner_of(found: &Found<'_, '_>) -> Option<usize> {
+    match found {
+        Found::Piece(piece) => Some(piece.rule),
+        _ => None,
+    }
+}
+
+/// The status of what is found.
+fn status_of(found: &Found<'_, '_>) -> u8 {
+    match found {
+        Found::Stop(_) => FAULTY,
+        _ => 0,
+    }
+}
+
+/// What is to be said of a byte of a text, and the status.
+pub fn explained(
+    alloc: Global,
+    rules: &RuleFile<'_>,
+    input: Input<'_>,
+    offset: usize,
+) -> Result<(String, u8), AllocError> {
+    let run = rules.definition.run(alloc, input.text)?;
+    let found = found_at(alloc, &run, offset)?;
+    let boundary = boundary_before(&run, offset);
+    let (_, rest) = input.text.split_at_checked(boundary.at).unwrap_or(("", ""));
+    let active = active_in(alloc, rules.definition, boundary.state(), rest)?;
+    let mut shown = found_text(alloc, rules, input, &found, active.as_slice())?;
+    push_stack(&mut shown, rules.definition, boundary.stack)?;
+    push_active(&mut shown, rules, active.as_slice(), winner_of(&found))?;
+    Ok((shown, status_of(&found)))
+}

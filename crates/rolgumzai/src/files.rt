@@ -1,0 +1,90 @@
+//! The texts that the words name, and the definitions of rule files.
+use crate::flags::flags_of;
+use crate::output::{FAULTY, UNABLE};
+use clap::ArgMatches;
+use lrlex::{DefaultLexerTypes, LRNonStreamingLexerDef};
+use lrlex_report::{bad_byte_text, faults_text};
+use std::io::{ErrorKind, Read};
+use std::{fs, io};
+
+/// The types of the program's lexers.
+pub type Types = DefaultLexerTypes<u32>;
+
+pub type Definition = LRNonStreamingLexerDef<Types>;
+
+/// What a file is called in a report.
+pub fn name_of(path: &str) -> &str {
+    if path == "-" { "stdin" } else { path }
+}
+
+/// The bytes of a file, or of standard input where the path is `-`.
+fn bytes_at(rt: &HostRuntime, path: &str) -> io::Result<Vec<u8>> {
+    if path != "-" {
+        return fs::read(rt, path);
+    }
+    let mut bytes = Vec::new(rt.alloc());
+    let _ = rt.reader().read_to_end(&mut bytes)?;
+    Ok(bytes)
+}
+
+/// Reports that a file can't be read. Memory that ran out is no fault of the file.
+fn refuse(rt: &HostRuntime, path: &str, error: io::Error) -> io::Result<Option<String>> {
+    if error.kind() == ErrorKind::OutOfMemory {
+        return Err(error);
+    }
+    let name = name_of(path);
+    eprintln!(rt; "rolgumzai: {name}: {error}")?;
+    Ok(None)
+}
+
+/// The text of a file, or of standard input where the path is `-`. None where it can't be read or isn't UTF-8, which is reported.
+pub fn text_at(rt: &HostRuntime, path: &str) -> io::Result<Option<String>> {
+    let bytes = match bytes_at(rt, path) {
+        Ok(bytes) => bytes,
+        Err(error) => return refuse(rt, path, error),
+    };
+    match bad_byte_text(rt.alloc(), name_of(path), &bytes)? {
+        Some(shown) => {
+            eprint!(rt; "{shown}")?;
+            Ok(None)
+        }
+        None => Ok(Some(String::from_utf8(bytes).unwrap())),
+    }
+}
+
+/// The path that the words name by this id. It is there: the command takes no words without it.
+pub fn path_of<'a>(words: &ArgMatches<'a>, id: &str) -> &'a str {
+    words.get_str(id).unwrap_or("")
+}
+
+/// The definition of a rule text, under the flags of the words. The status where the text has faults, which are reported.
+fn definition_of(
+    rt: &HostRuntime,
+    words: &ArgMatches<'_>,
+    text: &str,
+) -> io::Result<Result<Definition, u8>> {
+    let flags = flags_of(words);
+    match Definition::new_with_options(rt.alloc(), text, flags)? {
+        Ok(definition) => Ok(Ok(definition)),
+        Err(faults) => {
+            let name = name_of(path_of(words, "rules"));
+            let shown = faults_text(rt.alloc(), name, text, &faults)?;
+            eprint!(rt; "{shown}")?;
+            Ok(Err(FAULTY))
+        }
+    }
+}
+
+/// The text of the words' rule file, and its definition. The status where there is none, after a report of why.
+pub fn rules_of(
+    rt: &HostRuntime,
+    words: &ArgMatches<'_>,
+) -> io::Result<Result<(String, Definition), u8>> {
+    let Some(text) = text_at(rt, path_of(words, "rules"))? else {
+        return Ok(Err(UNABLE));
+    };
+    match definition_of(rt, words, &text)? {
+        Ok(definition) => Ok(Ok((text, definition))),
+        Err(status) => Ok(Err(status)),
+    }
+}

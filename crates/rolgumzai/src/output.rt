@@ -1,0 +1,35 @@
+//! Standard output, and what the program ends with where it or memory fails.
+use std::io;
+use std::io::{BufWriter, ErrorKind, Printer, Write};
+
+/// The status where a rule file has a fault, or lexing stops.
+pub const FAULTY: u8 = 1;
+
+/// The status where the words are refused, a file can't be read, or memory or standard output fails.
+pub const UNABLE: u8 = 2;
+
+/// Standard output, with a buffer.
+pub type Output<'a> = BufWriter<Printer<'a, HostRuntime>>;
+
+/// Standard output, with nothing written yet.
+pub fn output(rt: &HostRuntime) -> io::Result<Output<'_>> {
+    BufWriter::new(rt.alloc(), io::writer(rt))
+}
+
+/// Writes the whole text to standard output.
+pub fn print(rt: &HostRuntime, text: &str) -> io::Result<()> {
+    io::writer(rt).write_all(text.as_bytes())
+}
+
+/// Reports what a stream or memory failed with, and gives the status. A reader of standard output that has gone wants no more:
+/// that is no fault.
+pub fn tell(rt: &HostRuntime, fault: &io::Error) -> u8 {
+    let told = match fault.kind() {
+        ErrorKind::BrokenPipe => return 0,
+        ErrorKind::OutOfMemory => eprintln!(rt; "rolgumzai: out of memory"),
+        _ => eprintln!(rt; "rolgumzai: {fault}"),
+    };
+    // There is nowhere to tell of a fault of standard error.
+    let _ = told;
+    UNABLE
+}

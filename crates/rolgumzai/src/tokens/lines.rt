@@ -1,0 +1,68 @@
+//! A token, and its line.
+use crate::files::{Definition, Types};
+use crate::output::Output;
+use lrlex::{DefaultLexeme, LRNonStreamingLexer, Lexeme};
+use serde::Serialize;
+use std::alloc::{AllocError, Global};
+use std::io;
+use std::io::Write;
+
+/// A lexer with the program's types.
+pub type LexerOf<'d, 't> = LRNonStreamingLexer<'d, 't, Types>;
+
+/// A token, as a line of JSON has it. Bytes count from 0, lines and columns from 1, columns in characters.
+#[derive(Drop, Serialize)]
+pub struct Token<'a> {
+    name: &'a str,
+    text: &'a str,
+    start: usize,
+    end: usize,
+    line: usize,
+    column: usize,
+    end_line: usize,
+    end_column: usize,
+}
+
+/// The token of a lexeme.
+pub fn token_of<'a>(
+    definition: &'a Definition,
+    lexer: &LexerOf<'a, 'a>,
+    lexeme: &DefaultLexeme<u32>,
+) -> Token<'a> {
+    let span = lexeme.span();
+    let (line, column) = lexer.place(span.start());
+    let (end_line, end_column) = lexer.place(span.end());
+    Token {
+        name: definition.name_of(lexeme.tok_id()).unwrap_or(""),
+        text: lexer.text_of(span),
+        start: span.start(),
+        end: span.end(),
+        line,
+        column,
+        end_line,
+        end_column,
+    }
+}
+
+/// A value as JSON. Writing these values fails for memory alone.
+fn json_of<T: Serialize>(alloc: Global, value: &T) -> Result<String, AllocError> {
+    serde_json::to_string(alloc, value).map_err(|_| AllocError)
+}
+
+/// Writes the line of a token.
+pub fn write_token(
+    alloc: Global,
+    out: &mut Output<'_>,
+    token: &Token<'_>,
+    is_json: bool,
+) -> io::Result<()> {
+    if is_json {
+        let json = json_of(alloc, token)?;
+        return writeln!(out, "{json}");
+    }
+    let text = json_of(alloc, &token.text)?;
+    let (line, column) = (token.line, token.column);
+    let (start, end) = (token.start, token.end);
+    let name = token.name;
+    writeln!(out, "{line}:{column} {start}..{end} {name} {text}")
+}

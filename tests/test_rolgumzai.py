@@ -1,0 +1,469 @@
+"""./rolgumzai: what each command prints, its messages and its statuses, as both compilers build the program.
+
+Expected texts are written by hand; tokens and winners are those of the replayed cases.
+"""
+
+import html
+import json
+import os
+import re
+import subprocess
+import tempfile
+import unittest
+
+from support import programs
+from support.programs import Outcome
+
+PROGRAM = "rolgumzai"
+
+# Files in the folder of each row.
+FILES = {
+    "tokens.l": "%%\nif 'IF'\n[a-z]+ 'ID'\n[0-9]+ 'INT'\n\"[^\"]*\" 'STRING'\n[ \\n]+ ;\n",
+    "states.l": "%x COMMENT TEXT\n%%\n"
+    "/\\* <+COMMENT>;\n<COMMENT>/\\* <+COMMENT>;\n<COMMENT>\\*/ <-COMMENT>;\n<COMMENT>[^*/]+|[*/] ;\n"
+    "' <+TEXT>;\n<TEXT>' <-TEXT>;\n<TEXT>[^']+ 'INSIDE'\n[a-z]+ 'ID'\n[ \\n]+ ;\n",
+    "bad.l": "%%\na 'A'\nb 'A'\n( 'B'\n",
+    "other.l": "%s k k\n%%\n",
+    "comments.l": "// c\n%%\na 'A'\n",
+    "empty": "",
+    "latin": b"ab\n\xe9t\xe9",
+    "input": "if ifs\n 12 \"a❤\t\"",
+    "stop": "ab @",
+    "open": "a /* b /* c */\nd",
+    "quoted": "'x' 'y",
+    "folder/input": "ab",
+}
+
+LINES = (
+    '1:1 0..2 IF "if"\n'
+    '1:4 3..6 ID "ifs"\n'
+    '2:2 8..10 INT "12"\n'
+    '2:5 11..18 STRING "\\"a❤\\t\\""\n'
+)
+
+STOP = "stop:1:4: unexpected character '@'\n1 | ab @\n  |    ^\n"
+BAD = (
+    "bad.l:3:4: Rule name already exists\n3 | b 'A'\n  |    ^\n"
+    "bad.l:2:4: first here\n2 | a 'A'\n  |    ^\n"
+    "bad.l:4:1: Invalid regular expression: unclosed group\n4 | ( 'B'\n  | ^\n"
+)
+OTHER = (
+    "other.l:1:6: Start state already exists\n1 | %s k k\n  |      ^\n"
+    "other.l:1:4: first here\n1 | %s k k\n  |    ^\n"
+)
+LATIN = "latin:2:1: not UTF-8, byte 0xE9 at offset 3\n2 | \n  | ^\n"
+MISSING = "rolgumzai: none: No such file or directory (os error 2)\n"
+FOLDER = "rolgumzai: folder: Is a directory (os error 21)\n"
+
+# Words, standard input, and what comes of them.
+ROWS = [
+    ("tokens tokens.l input", "", Outcome(LINES)),
+    ("tokens tokens.l -", "if 1", Outcome('1:1 0..2 IF "if"\n1:4 3..4 INT "1"\n')),
+    ("tokens - input", FILES["tokens.l"], Outcome(LINES)),
+    ("tokens - -", FILES["tokens.l"], Outcome()),
+    ("tokens tokens.l empty", "", Outcome()),
+    ("tokens tokens.l stop", "", Outcome('1:1 0..2 ID "ab"\n', STOP, 1)),
+    ("tokens --case-insensitive true tokens.l -", "IF", Outcome('1:1 0..2 IF "IF"\n')),
+    ("tokens bad.l input", "", Outcome("", BAD, 1)),
+    ("tokens bad.l none", "", Outcome("", BAD, 1)),
+    ("tokens tokens.l none", "", Outcome("", MISSING, 2)),
+    ("tokens none input", "", Outcome("", MISSING, 2)),
+    ("tokens tokens.l folder", "", Outcome("", FOLDER, 2)),
+    ("tokens tokens.l latin", "", Outcome("", LATIN, 2)),
+    ("tokens latin input", "", Outcome("", LATIN, 2)),
+    ("tokens tokens.l -", b"a\xff", Outcome("", "stdin:1:2: not UTF-8, byte 0xFF at offset 1\n1 | a\n  |  ^\n", 2)),
+    ("tokens tokens.l -", "a@", Outcome('1:1 0..1 ID "a"\n', "stdin:1:2: unexpected character '@'\n1 | a@\n  |  ^\n", 1)),
+    (
+        "tokens states.l open",
+        "",
+        Outcome(
+            '1:1 0..1 ID "a"\n',
+            "open:1:3: the text ends in start state COMMENT, which is entered here\n1 | a /* b /* c */\n  |   ^^\n",
+        ),
+    ),
+    (
+        "tokens states.l quoted",
+        "",
+        Outcome(
+            '1:2 1..2 INSIDE "x"\n1:6 5..6 INSIDE "y"\n',
+            "quoted:1:5: the text ends in start state TEXT, which is entered here\n1 | 'x' 'y\n  |     ^\n",
+        ),
+    ),
+    ("check tokens.l states.l", "", Outcome()),
+    ("check bad.l", "", Outcome(BAD, "", 1)),
+    ("check tokens.l bad.l other.l", "", Outcome(BAD + OTHER, "", 1)),
+    ("check bad.l none other.l", "", Outcome(BAD + OTHER, MISSING, 2)),
+    ("check -", "a", Outcome("stdin:1:1: Unknown declaration\n1 | a\n  | ^\n", "", 1)),
+    ("check empty", "", Outcome("empty:1:1: File ends prematurely\n1 | \n  | ^\n", "", 1)),
+    ("check latin folder", "", Outcome("", LATIN + FOLDER, 2)),
+    ("check comments.l", "", Outcome("comments.l:1:1: Unknown declaration\n1 | // c\n  | ^\n", "", 1)),
+    ("check --allow-wholeline-comments true comments.l", "", Outcome()),
+    ("highlight tokens.l -", "if @", Outcome("\x1b[31mif\x1b[0m \x1b[41m@\x1b[0m")),
+    (
+        "highlight --map ID=comment --map STRING= tokens.l input",
+        "",
+        Outcome('\x1b[31mif\x1b[0m \x1b[90mifs\x1b[0m\n \x1b[34m12\x1b[0m "a❤\t"'),
+    ),
+    (
+        "highlight --map ID=class --map INT=method --map IF=variable tokens.l -",
+        "if a 1",
+        Outcome("\x1b[36mif\x1b[0m \x1b[33ma\x1b[0m \x1b[35m1\x1b[0m"),
+    ),
+    ("highlight tokens.l empty", "", Outcome()),
+    ("highlight bad.l input", "", Outcome("", BAD, 1)),
+    ("highlight tokens.l none", "", Outcome("", MISSING, 2)),
+    ("highlight tokens.l latin", "", Outcome("", LATIN, 2)),
+    ("highlight --map ID tokens.l input", "", Outcome("", "rolgumzai: --map ID: NAME=TOKENTYPE is wanted\n", 2)),
+    ("highlight --map NO=class tokens.l input", "", Outcome("", "rolgumzai: --map NO=class: no rule has this name\n", 2)),
+    (
+        "highlight --map ID=Class tokens.l input",
+        "",
+        Outcome("", "rolgumzai: --map ID=Class: the Language Server Protocol has no such token type\n", 2),
+    ),
+    (
+        "explain tokens.l input 1",
+        "",
+        Outcome(
+            "input:1:1: IF of tokens.l:2 wins with 2 bytes: of the 2 rules that match as many, it is the first\n"
+            "1 | if ifs\n  | ^^\n"
+            "stack, from the bottom: INITIAL\n"
+            "bytes  active rules\n"
+            "    2* tokens.l:2: if 'IF'\n"
+            "    2  tokens.l:3: [a-z]+ 'ID'\n"
+            "    0  tokens.l:4: [0-9]+ 'INT'\n"
+            "    0  tokens.l:5: \"[^\"]*\" 'STRING'\n"
+            "    0  tokens.l:6: [ \\n]+ ;\n"
+        ),
+    ),
+    (
+        "explain states.l open 11",
+        "",
+        Outcome(
+            "open:1:10: ; of states.l:6 wins with 3 bytes: no other rule matches\n"
+            "1 | a /* b /* c */\n  |          ^^^\n"
+            "stack, from the bottom: INITIAL COMMENT (2 times)\n"
+            "bytes  active rules\n"
+            "    0  states.l:4: <COMMENT>/\\* <+COMMENT>;\n"
+            "    0  states.l:5: <COMMENT>\\*/ <-COMMENT>;\n"
+            "    3* states.l:6: <COMMENT>[^*/]+|[*/] ;\n"
+        ),
+    ),
+    (
+        "explain tokens.l stop 3",
+        "",
+        Outcome(
+            STOP + "stack, from the bottom: INITIAL\n"
+            "bytes  active rules\n"
+            "    0  tokens.l:2: if 'IF'\n"
+            "    0  tokens.l:3: [a-z]+ 'ID'\n"
+            "    0  tokens.l:4: [0-9]+ 'INT'\n"
+            "    0  tokens.l:5: \"[^\"]*\" 'STRING'\n"
+            "    0  tokens.l:6: [ \\n]+ ;\n",
+            "",
+            1,
+        ),
+    ),
+    ("explain tokens.l input 99", "", Outcome("", "rolgumzai: input: there is no byte 99, the text has 18\n", 2)),
+    ("explain bad.l input 0", "", Outcome("", BAD, 1)),
+    ("explain tokens.l none 0", "", Outcome("", MISSING, 2)),
+]
+
+# How many of the replayed cases are tried: the worked ones, which come first.
+MANY = 302
+
+# Words that are refused: each with a part of what is said.
+REFUSED = [
+    ("", "Usage: rolgumzai"),
+    ("none", "none"),
+    ("tokens", "<RULES>"),
+    ("tokens tokens.l", "<INPUT>"),
+    ("tokens tokens.l input more", "more"),
+    ("tokens --yaml tokens.l input", "--yaml"),
+    ("tokens --octal yes tokens.l input", "yes"),
+    ("tokens --octal true --octal true tokens.l input", "--octal"),
+    ("tokens --nest-limit 4294967296 tokens.l input", "4294967296"),
+    ("tokens --size-limit=-1 tokens.l input", "-1"),
+    ("check", "<RULES>"),
+    ("highlight --page tokens.l input", "--page"),
+    ("explain tokens.l input", "<OFFSET>"),
+    ("explain tokens.l input x", "x"),
+    ("explain tokens.l input 18446744073709551616", "18446744073709551616"),
+]
+
+COMMANDS = ["check", "tokens", "highlight", "explain"]
+FLAGS = [
+    "dot-matches-new-line", "multi-line", "octal", "posix-escapes", "allow-wholeline-comments", "case-insensitive", "swap-greed",
+    "ignore-whitespace", "unicode", "size-limit", "dfa-size-limit", "nest-limit",
+]
+
+
+def replayed():
+    """The replayed cases that the program can be given: rules as a text, ids as they come."""
+    cases = [json.loads(line) for line in programs.read("crates/lrlex_replay/stdin").splitlines()]
+    return [it for it in cases if "from_rules" not in it and "ids" not in it and it["storage"] == "u32"]
+
+
+def words_of(flags):
+    """The flags of a case as words."""
+    return [f"--{name.replace('_', '-')}={str(value).lower()}" for name, value in flags.items()]
+
+
+def place_of(text, byte):
+    """Line and column of a byte, from 1, in characters."""
+    before = text.encode()[:byte].decode()
+    return before.count("\n") + 1, len(before) - before.rfind("\n")
+
+
+def names_of(case):
+    """The name of each rule of a case, by its token id."""
+    return {it["tok_id"]: it["name"] for it in case["expected"]["rules"] if it["name"] is not None}
+
+
+def wanted_tokens(case):
+    """The tokens that must come of a case, as lines of JSON have them."""
+    data, names, found = case["input"].encode(), names_of(case), []
+    for item, ((line, column), (end_line, end_column)) in zip(case["expected"]["items"], case["expected"]["linecols"]):
+        if item[0] == "lex":
+            _, number, start, length = item
+            token = {"name": names[number], "text": data[start:start + length].decode(), "start": start, "end": start + length}
+            found.append({**token, "line": line, "column": column, "end_line": end_line, "end_column": end_column})
+    return found
+
+
+class Rolgumzai(unittest.TestCase):
+    """What comes of each command."""
+
+    def setUp(self):
+        programs.need(PROGRAM)
+        folder = tempfile.TemporaryDirectory()
+        self.addCleanup(folder.cleanup)
+        self.folder = folder.name
+        programs.fill(self.folder, FILES)
+
+    def each(self, rows):
+        """Each program with each of the rows."""
+        return [(program, row) for program in programs.by_each_compiler(PROGRAM) for row in rows]
+
+    def run_in_folder(self, program, words, stdin=""):
+        """The outcome of these words in the folder of the files."""
+        return programs.run([program, *words], stdin, cwd=self.folder)
+
+    def test_rows(self):
+        for program, (words, stdin, wanted) in self.each(ROWS):
+            with self.subTest(words=words, program=program):
+                self.assertEqual(self.run_in_folder(program, words.split(), stdin), wanted)
+
+    def test_words_that_are_refused(self):
+        for program, (words, part) in self.each(REFUSED):
+            with self.subTest(words=words, program=program):
+                out, err, status = self.run_in_folder(program, words.split())
+                self.assertEqual((out, status), ("", 2))
+                self.assertIn(part, err)
+
+    def test_words_that_are_not_utf_8(self):
+        for program in programs.by_each_compiler(PROGRAM):
+            ended = subprocess.run([program, "check", b"\xff.l"], capture_output=True, check=False, cwd=self.folder)
+            self.assertEqual((ended.stdout, ended.returncode), (b"", 2))
+            self.assertTrue(ended.stderr.startswith(b"rolgumzai: "), ended.stderr)
+
+    def test_help(self):
+        for program in programs.by_each_compiler(PROGRAM):
+            out, err, status = self.run_in_folder(program, ["--help"])
+            self.assertEqual((err, status), ("", 0))
+            for command in COMMANDS:
+                self.assertIn(f"  {command} ", out)
+        for program, command in self.each(COMMANDS):
+            with self.subTest(command=command, program=program):
+                out, err, status = self.run_in_folder(program, [command, "--help"])
+                self.assertEqual((err, status), ("", 0))
+                self.assertIn(f"Usage: {os.path.basename(program)} {command}", out)
+                for flag in FLAGS:
+                    self.assertIn(f"--{flag} <", out)
+
+    def test_version(self):
+        newest = re.search(r"^## (\d+\.\d+\.\d+)", programs.read("CHANGELOG.md"), re.M)[1]
+        for program in programs.by_each_compiler(PROGRAM):
+            self.assertEqual(self.run_in_folder(program, ["--version"]), Outcome(f"rolgumzai {newest}\n"))
+
+    def test_the_script_at_the_top(self):
+        if not os.path.exists(f"{programs.TOP}/crates/{PROGRAM}/out/{PROGRAM}"):
+            self.skipTest("it would build the program")
+        words = [f"{programs.TOP}/{PROGRAM}", "tokens", "tokens.l", "input"]
+        programs.run(words, cwd=self.folder, timeout=None)
+        self.assertEqual(programs.run(words, cwd=self.folder), Outcome(LINES))
+
+    def test_a_reader_that_has_gone(self):
+        programs.fill(self.folder, {"long": "if ifs 12\n" * 100_000, "many.l": "%%\n" + "a 'A'\n" * 2_000})
+        rows = ["tokens tokens.l long", "tokens --json tokens.l long", "highlight tokens.l long", "check many.l"]
+        for program, words in self.each(rows):
+            with self.subTest(words=words, program=program):
+                with subprocess.Popen(
+                    [program, *words.split()], stdout=subprocess.PIPE, stderr=subprocess.PIPE, cwd=self.folder
+                ) as child:
+                    self.assertTrue(child.stdout.readline())
+                    child.stdout.close()
+                    self.assertEqual((child.stderr.read(), child.wait()), (b"", 0))
+
+    def test_hostile_inputs(self):
+        deep = "/*" * 200_000
+        many = "%%\n" + "".join(f"a{it} 'R{it}'\n" for it in range(2_000))
+        programs.fill(self.folder, {"deep": deep, "nul": "a\0", "many.l": many})
+        for program in programs.by_each_compiler(PROGRAM):
+            out, err, status = self.run_in_folder(program, ["tokens", "states.l", "deep"])
+            self.assertEqual((out, status), ("", 0))
+            told = "deep:1:399999: the text ends in start state COMMENT, which is entered here\n1 | /*"
+            self.assertEqual(err[:len(told)], told)
+            self.assertTrue(err.rstrip("\n").endswith(" ^^"))
+            out, err, status = self.run_in_folder(program, ["explain", "states.l", "deep", "400000"])
+            self.assertEqual((err, status), ("", 0))
+            self.assertIn("stack, from the bottom: INITIAL COMMENT (200000 times)\n", out)
+            nul = "nul:1:2: unexpected character '\\u{0}'\n1 | a\ufffd\n  |  ^\n"
+            self.assertEqual(self.run_in_folder(program, ["tokens", "tokens.l", "nul"]), Outcome('1:1 0..1 ID "a"\n', nul, 1))
+            out, err, status = self.run_in_folder(program, ["explain", "many.l", "-", "0"], "a1999")
+            self.assertIn("R1999 of many.l:2001 wins with 5 bytes: no other rule matches as many\n", out)
+            self.assertEqual((len(out.splitlines()), err, status), (2_005, "", 0))
+
+    def test_standard_output_that_fails(self):
+        rows = ["tokens tokens.l input", "highlight tokens.l input", "check bad.l", "explain tokens.l input 0"]
+        for program, words in self.each(rows):
+            with self.subTest(words=words, program=program):
+                with open("/dev/full", "wb") as full:
+                    ended = subprocess.run(
+                        [program, *words.split()], stdout=full, stderr=subprocess.PIPE, cwd=self.folder, check=False
+                    )
+                self.assertEqual((ended.stderr, ended.returncode), (b"rolgumzai: No space left on device (os error 28)\n", 2))
+
+
+class Replayed(unittest.TestCase):
+    """The commands over replayed cases."""
+
+    def setUp(self):
+        programs.need(PROGRAM)
+        folder = tempfile.TemporaryDirectory()
+        self.addCleanup(folder.cleanup)
+        self.folder = folder.name
+
+    def run_in_folder(self, program, *words):
+        """The outcome of these words in the folder of the cases."""
+        return programs.run([program, *words], cwd=self.folder)
+
+    def check_each(self, kind, least, check):
+        """Checks each program on each of the first cases of this kind. There are at least so many."""
+        cases = [it for it in replayed()[:MANY] if kind in it["expected"]]
+        self.assertGreaterEqual(len(cases), least)
+        for number, case in enumerate(cases):
+            programs.fill(self.folder, {f"{number}.l": case["rules"], f"{number}.txt": case["input"]})
+            words = [*words_of(case["flags"]), f"{number}.l", f"{number}.txt"]
+            for program in programs.by_each_compiler(PROGRAM):
+                with self.subTest(case=case["id"], program=program):
+                    check(program, case, words)
+
+    def check_tokens(self, program, case, words):
+        """The lines of JSON are the items, and standard error has the place of a stop."""
+        out, err, status = self.run_in_folder(program, "tokens", "--json", *words)
+        self.assertEqual([json.loads(line) for line in out.splitlines()], wanted_tokens(case))
+        stops = [it for it in case["expected"]["items"] if it[0] == "err"]
+        self.assertEqual(status, 1 if stops else 0)
+        if stops:
+            line, column = case["expected"]["linecols"][-1][0]
+            self.assertIn(f".txt:{line}:{column}: ", err)
+
+    def check_faults(self, program, case, words):
+        """A place of each fault is shown, by each command alike."""
+        out, err, status = self.run_in_folder(program, "check", *words[:-1])
+        self.assertEqual((err, status), ("", 1))
+        for fault in case["expected"]["faults"]:
+            line, column = place_of(case["rules"], fault["spans"][-1][0])
+            self.assertRegex(out, rf"(?m)^\d+\.l:{line}:{column}: ")
+        self.assertEqual(self.run_in_folder(program, "tokens", *words), Outcome("", out, 1))
+
+    def check_winners(self, program, case, words):
+        """The rule of each of the first lexemes wins at its last byte."""
+        for item in case["expected"]["items"][:2]:
+            if item[0] == "lex":
+                _, number, start, length = item
+                out, err, status = self.run_in_folder(program, "explain", *words, str(start + length - 1))
+                self.assertEqual((err, status), ("", 0))
+                name = re.escape(names_of(case)[number])
+                self.assertRegex(out, rf"^\d+\.txt:\d+:\d+: {name} of \d+\.l:\d+ wins with {length} bytes: ")
+                self.assertEqual(len(re.findall(rf"^ *{length}\* ", out, re.M)), 1)
+
+    def test_tokens_as_json(self):
+        self.check_each("items", 100, self.check_tokens)
+
+    def test_faults(self):
+        self.check_each("faults", 50, self.check_faults)
+
+    def test_winners(self):
+        self.check_each("items", 100, self.check_winners)
+
+
+class Page(unittest.TestCase):
+    """What docs/rolgumzai.md shows."""
+
+    def setUp(self):
+        programs.need(PROGRAM)
+
+    def test_each_output_is_real(self):
+        page = programs.read("docs/rolgumzai.md")
+        blocks = re.findall(r"^```\n\$ ((?:printf '[^']*' \| )?)\./rolgumzai (.*)\n((?:(?!```).*\n)*)```", page, re.M)
+        self.assertGreaterEqual(len(blocks), 6)
+        for program in programs.by_each_compiler(PROGRAM):
+            for given, words, shown in blocks:
+                with self.subTest(words=words, program=program):
+                    came = programs.run([program, *words.split()], given[len("printf '"):-len("' | ")])
+                    self.assertEqual(came.out + came.err, shown)
+
+
+# Texts that are highlighted, each by a rule file.
+SHOWN = [
+    ("rules/c.l", "examples/sorted.c"),
+    ("rules/py.l", "tests/support/replay.py"),
+    ("rules/json.l", "tests/examples/json_check.in"),
+    ("rules/conf.l", "tests/examples/conf.in"),
+    ("rules/c.l", "tests/examples/conf.in"),
+]
+
+
+def text_of_page(page):
+    """The text of a page's element pre, without tags and with characters read back."""
+    found = re.fullmatch(r"<!DOCTYPE html>.*?<pre>(.*)</pre>\n", page, re.S)
+    if not found:
+        raise AssertionError(f"no page: {page[:200]!r}")
+    return html.unescape(re.sub(r"</?span[^>]*>", "", found.group(1)))
+
+
+class Highlighted(unittest.TestCase):
+    """Texts of the repository in colours."""
+
+    def setUp(self):
+        programs.need(PROGRAM)
+
+    def check_each(self, mark, text_of, *words):
+        """Each text is coloured, and is all that is shown."""
+        for program in programs.by_each_compiler(PROGRAM):
+            for rules, path in SHOWN:
+                with self.subTest(rules=rules, path=path, program=program):
+                    out, err, status = programs.run([program, "highlight", *words, rules, path])
+                    self.assertIn(mark, out, "no colour")
+                    self.assertEqual((text_of(out), err, status), (programs.read(path), "", 0))
+
+    def test_for_a_terminal(self):
+        self.check_each("\x1b[", lambda out: re.sub(r"\x1b\[\d+m", "", out))
+
+    def test_as_a_page(self):
+        self.check_each("<span class=", text_of_page, "--html")
+
+    def test_a_token_type_for_each_class(self):
+        kinds = "class method variable keyword comment string number".split()
+        classes = "type function name keyword comment text number".split()
+        for program in programs.by_each_compiler(PROGRAM):
+            for kind, wanted in zip(kinds, classes):
+                words = ["highlight", "--html", "--map", f"ID={kind}", "examples/tokens.l", "-"]
+                out, err, status = programs.run([program, *words], "ab")
+                self.assertEqual((err, status), ("", 0))
+                self.assertIn(f'<pre><span class="{wanted}">ab</span></pre>', out)
+
+
+if __name__ == "__main__":
+    unittest.main()
