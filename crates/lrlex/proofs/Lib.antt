@@ -23,6 +23,9 @@ pub mod TilingLemmas
 pub mod ViewLemmas
 pub mod WithinLemmas
 pub mod TableLemmas
+pub mod NeverLemmas
+pub mod NeverRunLemmas
+pub mod MarkLemmas
 pub mod ResumeLemmas
 pub mod DecidedLemmas
 pub mod LookaheadLemmas

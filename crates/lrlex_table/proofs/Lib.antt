@@ -14,4 +14,5 @@ pub mod LongestLemmas
 pub mod PartLemmas
 pub mod DeadEndLemmas
 pub mod WinnerLemmas
+pub mod NeverLemmas
 pub mod ForCallers

@@ -74,7 +74,7 @@ tabled_more parts i d lt k is = sym (list_any_more (λ (p : Part). is_among p.pa
 
 -- ---- the winner of a part
 
-length_of : (ps : List Re) (patterns : List ℕ) (text : List ℕ) (i : ℕ) → i < length patterns →
+pub length_of : (ps : List Re) (patterns : List ℕ) (text : List ℕ) (i : ℕ) → i < length patterns →
     match_length (pattern_at (map (λ k. pattern_at ps k) patterns) i) text ≡ match_length (pattern_at ps (get_or patterns i 0)) text
 length_of ps patterns text i lt = ap (λ re. match_length re text) (get_or-map (λ k. pattern_at ps k) patterns i 0 empty lt)
 

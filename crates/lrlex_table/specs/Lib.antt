@@ -6,4 +6,5 @@ pub mod Determinizer
 pub mod ProductBuilder
 pub mod Source
 pub mod Tables
+pub mod Never
 pub mod DeadEnds

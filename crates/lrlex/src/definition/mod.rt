@@ -5,6 +5,7 @@ pub(crate) mod ids;
 pub(crate) mod lexer_def;
 pub(crate) mod lookups;
 pub(crate) mod names;
+pub(crate) mod never;
 pub(crate) mod non_streaming;
 pub(crate) mod rule_table;
 pub(crate) mod state_tables;

@@ -34,11 +34,11 @@ pub(crate) struct RuleTable<S> {
     /// Whether the id of each state is its place, as in every definition that was read.
     placed: bool,
     /// The places of active rules: each list once, since states with the same rules share theirs.
-    lists: Vec<Vec<usize>>,
+    pub(crate) lists: Vec<Vec<usize>>,
     /// The tables of each list.
     pub(crate) tables: Vec<Tables>,
     /// Which of the lists each state has.
-    list_at: Vec<usize>,
+    pub(crate) list_at: Vec<usize>,
     ghost distinct: { IsTrue own_ids → HaveDistinctIds rules.items },
     ghost at_places: { IsTrue placed → ArePlaced start_states.items },
     ghost listed: { map (list_in (map (λ v. v.items) lists.items)) list_at.items ≡ map (λ s. active_places (map as_state start_states.items) (map (as_rule (λ _. 0)) rules.items) (as_state s).id) start_states.items },
