@@ -252,7 +252,7 @@ newline_first : (at x : ℕ) (a S : List ℕ) (k : ℕ) → is_newline x ≡ tru
 newline_first at x a S zero y h l = let none : at + 1 - (at + 1) ≡ 0 = omega arith in ap (λ n. is_newline (get_or (x ∷ a) n 0)) none ∙ y
 newline_first at x a S (suc k) y h l = h k (omega arith)
 
-starts_newline : (at : ℕ) (a : List ℕ) (k : ℕ) → k < length (starts at a) → is_newline (get_or a (get_or (starts at a) k 0 - (at + 1)) 0) ≡ true
+pub starts_newline : (at : ℕ) (a : List ℕ) (k : ℕ) → k < length (starts at a) → is_newline (get_or a (get_or (starts at a) k 0 - (at + 1)) 0) ≡ true
 starts_newline at [] k h = absurd (omega arith)
 starts_newline at (x ∷ a) k h =
     let N = newlines_from (at + 1) a in
@@ -308,3 +308,53 @@ line_end_fits text at h =
           IsCharBoundary-before_ascii text (at + m) (omega arith) (omega arith)
       | inr g ↦ let all : length text ≡ at + m = omega arith in subst (IsCharBoundary text) all (IsCharBoundary-end text)
     ]
+
+-- the line with so many newlines before it
+pub record IsLineOf (text : List ℕ) (n b e : ℕ) : Type 0 where
+  pub within : b ≤ length text
+  pub number : count_by is_newline (take b text) ≡ n
+  pub begins : length (after_last is_newline (take b text)) ≡ 0
+  pub end : e ≡ b + position_or_len is_newline (drop b text)
+
+start_within : (text : List ℕ) (n : ℕ) → n ≤ length (starts 0 text) → get_or (0 ∷ starts 0 text) n 0 ≤ length text
+start_within text zero h = omega arith
+start_within text (suc k) h = omega (arith, (starts-within 0 text k (omega (arith, h))).1)
+
+pub no_front : (text : List ℕ) → take 0 text ≡ []
+no_front [] = refl
+no_front (x ∷ text) = refl
+
+start_number : (text : List ℕ) (n : ℕ) → n ≤ length (starts 0 text) → begun text (get_or (0 ∷ starts 0 text) n 0) ≡ n
+start_number text zero h = ap (count_by is_newline) (no_front text)
+start_number text (suc k) h =
+    let s = get_or (starts 0 text) k 0 in
+    let below : k < length (starts 0 text) = omega (arith, h) in
+    let w = starts-within 0 text k below in
+    let in_text : s - 1 < length text = omega (arith, w.0, w.1) in
+    let up : s - 1 + 1 ≡ s = omega (arith, w.0) in
+    let one : s - (0 + 1) ≡ s - 1 = omega arith in
+    let here : is_newline (get_or text (s - 1) 0) ≡ true = ap (λ j. is_newline (get_or text j 0)) (sym one) ∙ starts_newline 0 text k below in
+    let more : begun text s ≡ begun text (s - 1) + 1 = ap (begun text) (sym up) ∙ count_by_more_yes is_newline text (s - 1) 0 in_text here in
+    let few : begun text (s - 1) ≤ k = elim (cases_lt k (begun text (s - 1))) [ inl l ↦ absurd (omega (arith, before_place text (s - 1) k (omega (arith, in_text)) l, w.0)) | inr g ↦ g ] in
+    let many : k < begun text s = elim (cases_lt k (begun text s)) [ inl l ↦ l | inr g ↦ absurd (omega (arith, behind_place text s k (omega (arith, w.1)) g below)) ] in
+    omega (arith, more, few, many)
+
+pub line_known : (S D text : List ℕ) (n b e bytes : ℕ) → S ≡ starts_after (newlines_from 0 text) → D ≡ S → bytes ≡ length text → n ≤ length S → b ≡ get_or (0 ∷ D) n 0
+    → (n < length S → e ≡ get_or S n 0 - 1) → (length S ≤ n → e ≡ bytes) → IsLineOf text n b e
+line_known S D text n b e bytes is same long bound begin inner last =
+    let all : b ≡ get_or (0 ∷ starts 0 text) n 0 = begin ∙ ap (λ l. get_or (0 ∷ l) n 0) (same ∙ is) in
+    let size : length S ≡ length (starts 0 text) = ap length is in
+    let known : n ≤ length (starts 0 text) = omega (arith, size, bound) in
+    let within : b ≤ length text = omega (arith, all, start_within text n known) in
+    let number : begun text b ≡ n = ap (begun text) all ∙ start_number text n known in
+    let at = line_begin text b within in
+    let behind = line_end text b n within (sym number) in
+    record {
+      within = within;
+      number = number;
+      begins = omega (arith, at, all, ap (λ m. get_or (0 ∷ starts 0 text) m 0) number);
+      end = elim (cases_lt n (length S)) [
+        | inl l ↦ omega (arith, inner l, ap (λ xs. get_or xs n 0) is, behind.0 (omega (arith, l, size)))
+        | inr g ↦ omega (arith, last g, long, behind.1 (omega (arith, g, size)))
+      ];
+    }

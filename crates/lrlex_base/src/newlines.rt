@@ -1,7 +1,7 @@
 ghost use Rattle.std.specs.Prelude.{◌≡◌, ◌≢◌, ◌<◌, ◌≤◌, ◌+◌, ◌-◌, map, ◌^◌, ◌++◌, ◌∷◌, slice_index, ◌⊎◌, ◌↔◌, ℕ, List, IsOk, IfOk, OnOk, OnErr, IsNone, IfSome, [], length, take, drop, count_by, All, IsCharBoundary, IsUtf8, nat_le};
 ghost use Rattle.lrlex_base.specs.Edits.{edited};
 ghost use Rattle.lrlex_base.specs.Places.{newlines_from, starts_after, AreBreaksOf, is_newline, place_of, whole_lines};
-ghost use Rattle.lrlex_base.specs.Spans.{span_start, span_end, as_span};
+ghost use Rattle.lrlex_base.specs.Spans.{Fits, at_place, span_start, span_end, as_span};
 
 use crate::spans::Span;
 use std::alloc::{AllocError, Allocator, Global};
@@ -170,6 +170,38 @@ impl<A: Allocator> NewlineCache<A> {
         let begin = line_begin(&self.starts, n);
         let front = src[begin..byte].chars().count();
         Some((n + 1, 1 + front))
+    }
+
+    /// The number of the line that has the place before this byte, counted from 0: how many newlines precede it.
+    pub fn line_at(&self, byte: usize) -> usize
+        requires { byte ≤ self.now.fed }
+        ensures { (text : List ℕ) → AreBreaksOf text self.now →
+            result ≡ count_by is_newline (take byte text) }
+    {
+        lines_begun(&self.starts, byte)
+    }
+
+    /// The bytes of a line without its newline; lines count from 0. A text has one line more than newlines. None past the last
+    /// line.
+    pub fn line_span(&self, line: usize) -> Option<Span>
+        ensures none { IsNone result ↔ length self.now.newlines < line }
+        ensures number { (text : List ℕ) → AreBreaksOf text self.now →
+            IfSome result (λ s. count_by is_newline (take (span_start s) text) ≡ line) }
+        ensures whole { (text : List ℕ) → AreBreaksOf text self.now →
+            IfSome result (λ s. as_span s ≡ whole_lines text (at_place (span_start s))) }
+        ensures fits { (text : List ℕ) → IsUtf8 text → AreBreaksOf text self.now →
+            IfSome result (Fits text) }
+    {
+        if line > self.starts.len() {
+            return None;
+        }
+        let begin = line_begin(&self.starts, line);
+        let end = if line < self.starts.len() {
+            self.starts[line] - 1
+        } else {
+            self.bytes
+        };
+        Some(Span::new(begin, end))
     }
 
     /// The ends of the whole lines that the span touches, without the newline of the last one.

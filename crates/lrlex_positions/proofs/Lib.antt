@@ -1,0 +1,3 @@
+pub mod Utf16Lemmas
+pub mod ColumnLemmas
+pub mod PositionLemmas

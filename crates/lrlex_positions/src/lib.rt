@@ -1,0 +1,8 @@
+//! Positions of the Language Server Protocol: the line and column of a place, and the place of a line and column.
+#![tactic(auto)]
+
+mod encoding;
+mod positions;
+
+pub use crate::encoding::PositionEncoding;
+pub use crate::positions::{offset_at, position_at};
