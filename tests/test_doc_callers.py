@@ -26,6 +26,14 @@ AFTER_EDITS = [
 TYPED = [("ab cd", 2, "x\ny", [2, 2]), ("ab cd", 9, "x", None)]
 
 
+# A text, an edit, which tokens it changes, and those that come.
+RETYPED = [
+    ("ab cd ef", [3, 5, "x y"], [1, 1, 2], [["ID", "x"], ["ID", "y"]]),
+    ("ab cd", [2, 3, ""], [0, 2, 1], [["ID", "abcd"]]),
+    ("ab cd", [9, 9, "x"], None, None),
+]
+
+
 def last(step, key, rules=WORDS):
     """The last value of this key that the step answers."""
     answers = replay.answer(from_text(rules).case(step))
@@ -42,6 +50,12 @@ class DocCallers(replay.TestCase):
             with self.subTest(rules=rules, text=text):
                 words = last(["words", text], "words", rules)
                 self.assertEqual("|".join(f"{name} {part}" for name, part in words), wanted)
+
+    def test_which_tokens_an_edit_changes(self):
+        for text, edit, changed, came in RETYPED:
+            with self.subTest(text=text, edit=edit):
+                answers = replay.answer(from_text(WORDS).case(["retyped", text, edit]))
+                self.assertEqual([answers.last("retyped"), answers.last("words")], [changed, came])
 
     def test_a_run_is_kept_through_edits(self):
         for edits, wanted in AFTER_EDITS:

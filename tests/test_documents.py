@@ -4,6 +4,7 @@ import unittest
 
 from support import replay
 from support.definitions import from_rules, from_text, rule
+from support.edits import is_change, moved_item, moved_piece
 from support.formatting import format_items, format_pieces, format_places, names_of
 from support.rule_texts import COMMENTS, LINES, NESTED, WORDS
 
@@ -127,9 +128,48 @@ ENDS = [
 ]
 
 
+# What a row shows, how its definition is made, its text, the edits, and what each changed, after what a new document says: of
+# items and of pieces the first, how many went and how many came. The answer of an edit that doesn't fit is that before it.
+CHANGES = [
+    ("a new document", from_text(WORDS), "ab cd ef", [], [[[0, 0, 3], [0, 0, 5]]]),
+    ("an empty one", from_text(WORDS), "", [], [[[0, 0, 0], [0, 0, 0]]]),
+    ("one that stops with an error", from_text(WORDS), "ab !", [], [[[0, 0, 2], [0, 0, 2]]]),
+    (
+        "a first word is replaced", from_text(WORDS), "ab cd ef", [(0, 2, "xyz")],
+        [[[0, 0, 3], [0, 0, 5]], [[0, 1, 1], [0, 1, 1]]],
+    ),
+    (
+        "an edit that doesn't fit, and one that changes nothing", from_text(WORDS), "ab cd", [(3, 9, "x"), (0, 0, "")],
+        [[[0, 0, 2], [0, 0, 3]], [[0, 0, 2], [0, 0, 3]], [[0, 0, 0], [0, 0, 0]]],
+    ),
+    (
+        "all goes", from_text(WORDS), "ab cd", [(0, 5, "")],
+        [[[0, 0, 2], [0, 0, 3]], [[0, 2, 0], [0, 3, 0]]],
+    ),
+    (
+        "without a state 0 nothing changes", from_rules(LETTERS, False), "aa", [(0, 1, "b")],
+        [[[0, 0, 1], [0, 0, 0]], [[1, 0, 0], [0, 0, 0]]],
+    ),
+]
+
+# Texts through edits, of which each must say truly what it changed.
+CHAINS = [
+    (WORDS, "ab cd ef gh", [(3, 5, "x y"), (0, 0, "q "), (9, 9, "z"), (4, 4, "!"), (4, 5, ""), (0, 4, "")]),
+    (COMMENTS, "one two three", [(4, 4, "/* "), (10, 10, " */"), (4, 7, ""), (0, 3, "/*")]),
+    (NESTED, "((x)y)", [(1, 1, "("), (0, 1, ""), (3, 4, ")"), (0, 0, "x")]),
+    (FACES, "a😀a a", [(1, 5, ""), (0, 0, "😀 "), (5, 5, "😀")]),
+]
+
+
 def document_case(rules, text, edits):
     """A document of a text through edits."""
     return from_text(rules).case(["definition"], ["document", text, edits])
+
+
+def distance(edit):
+    """How many bytes the text grows by an edit."""
+    start, end, put = edit
+    return len(put.encode()) - (end - start)
 
 
 def format_texts(texts):
@@ -157,6 +197,31 @@ class Documents(replay.TestCase):
                 self.check_document(of_document, wanted)
                 for key in ["items", "pieces"]:
                     self.assertEqual(of_document.last(key), of_run.last(key), key)
+
+    def test_what_an_edit_changed(self):
+        for name, definition, text, edits, wanted in CHANGES:
+            with self.subTest(row=name):
+                answers = replay.answer(definition.case(["document", text, edits]))
+                self.assertEqual(answers.values("changed"), wanted)
+
+    def check_change(self, change, lists, move, recut):
+        """The change makes the second list of the first, and no more came than tiles were cut anew, but for an error."""
+        before, after = lists
+        self.assertTrue(is_change(change, before, after, move), (change, before, after))
+        self.assertLessEqual(change[2], recut + 1)
+
+    def test_a_change_makes_the_lists_after_an_edit_of_those_before_it(self):
+        for rules, text, edits in CHAINS:
+            answers = replay.answer(document_case(rules, text, edits))
+            columns = [answers.values(key) for key in ["document", "changed", "items", "pieces"]]
+            states = list(zip(*columns, strict=True))
+            for number, edit in enumerate(edits):
+                with self.subTest(rules=rules, text=text, edit=edit):
+                    (_, _, *before), (counts, changed, *after) = states[number:number + 2]
+                    moves = [lambda item, by=edit: moved_item(item, distance(by)), lambda piece, by=edit: moved_piece(piece, distance(by))]
+                    for change, old, new, move in zip(changed, before, after, moves, strict=True):
+                        self.check_change(change, (old, new), move, counts[1])
+                    self.assertEqual(changed[1][2], counts[1])
 
     def test_a_key_in_a_long_document_recuts_few_tiles(self):
         cases = [document_case(WORDS, "ab " * 300, [key]) for key in KEYS]

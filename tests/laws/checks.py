@@ -3,6 +3,7 @@
 import json
 
 from laws.random_case import IDS
+from support.edits import is_change, moved_item, moved_piece
 from support.places import counted, fits, said_of_span
 
 
@@ -267,12 +268,13 @@ def compare_part(case, lines, run, tally):
 
 
 class DocumentState:
-    """What a document is, as its four lines have it."""
+    """What a document is, as its five lines have it."""
 
     def __init__(self, lines):
         self.lines = lines
-        counts, text, items, pieces = lines
+        counts, changed, text, items, pieces = lines
         self.tiles, self.recut, self.searches = value(counts, b"document")
+        self.changed = value(changed, b"changed")
         self.text, self.items, self.pieces = value(text, b"text"), raw(items, b"items"), raw(pieces, b"pieces")
 
 
@@ -303,6 +305,17 @@ def compare_relexed(shown, recomputed, again, tally):
     tally.same("counts of a document", counts, [shown.tiles, shown.recut, shown.searches])
 
 
+def compare_changed(edit, before, shown, tally):
+    """What an edit changed makes the lists after it of those before it, and puts in as many pieces as were cut anew."""
+    distance = len(edit.after) - len(before.text.encode())
+    items, pieces = shown.changed
+    lists = [[json.loads(one) for one in (document.items, document.pieces)] for document in (before, shown)]
+    (old_items, old_pieces), (new_items, new_pieces) = lists
+    tally.law("changed items", is_change(items, old_items, new_items, lambda item: moved_item(item, distance)), f": {items}")
+    tally.law("changed pieces", is_change(pieces, old_pieces, new_pieces, lambda piece: moved_piece(piece, distance)), f": {pieces}")
+    tally.same("pieces that came", shown.recut, pieces[2])
+
+
 def compare_unfit(before, shown, tally):
     """An edit that doesn't fit changes nothing."""
     tally.add("unfit")
@@ -313,13 +326,13 @@ def compare_edits(case, answers, tally):
     """Compares a document and a run after each edit with the run of the new text."""
     lines = answers["document"]
     runs = iter(runs_of(answers["edited runs"]))
-    before, recomputed = DocumentState(lines[:4]), one_run(answers["recomputed", None])
+    before, recomputed = DocumentState(lines[:5]), one_run(answers["recomputed", None])
     compare_document(before, case.edit_text, recomputed, tally)
     compare_relexed(before, recomputed, next(runs), tally)
     for number, edit in enumerate(case.edits):
         tally.at = number
-        fit, *four, places = lines[4 + 6 * number:10 + 6 * number]
-        shown = DocumentState(four)
+        fit, *five, places = lines[5 + 7 * number:12 + 7 * number]
+        shown = DocumentState(five)
         tally.same("whether an edit fits", edit.fits, value(fit, b"edit"))
         if edit.fits:
             recomputed = one_run(answers["recomputed", number])
@@ -328,12 +341,13 @@ def compare_edits(case, answers, tally):
             tally.add("tiles_recut", shown.recut)
             compare_document(shown, edit.after.decode(), recomputed, tally)
             compare_relexed(shown, recomputed, next(runs), tally)
+            compare_changed(edit, before, shown, tally)
         else:
             compare_unfit(before, shown, tally)
         compare_places(edit, places, tally)
         before = shown
     tally.at = None
-    tally.law("no more runs than edits", next(runs, None) is None and len(lines) == 4 + 6 * len(case.edits))
+    tally.law("no more runs than edits", next(runs, None) is None and len(lines) == 5 + 7 * len(case.edits))
 
 
 # Token ids from a map

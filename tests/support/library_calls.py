@@ -85,6 +85,7 @@ class Lexed:
         """The lines of a document."""
         return [
             ("document", [len(self.tiles), ANY, ANY]),
+            ("changed", ANY),
             ("text", self.text),
             ("items", self.items()),
             ("pieces", self.pieces()),

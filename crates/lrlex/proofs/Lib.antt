@@ -1,6 +1,7 @@
 pub mod RecutLemmas
 pub mod BegunLemmas
 pub mod BestLemmas
+pub mod ChangeLemmas
 pub mod CountLemmas
 pub mod EditLemmas
 pub mod IdLemmas

@@ -97,7 +97,7 @@ most-pushes d place s [] h = omega arith
 most-pushes d place s (t ∷ ts) h =
     omega (arith, entry_count-after s (rule_at d t.rule).target h, most-pushes d (place + t.len) (stack_past d s t) ts (some_after s (rule_at d t.rule).target h))
 
-length-boundaries : (d : Definition) (place : ℕ) (s : List ℕ) (ts : List Tile) → length (boundaries d place s ts) ≡ length ts + 1
+pub length-boundaries : (d : Definition) (place : ℕ) (s : List ℕ) (ts : List Tile) → length (boundaries d place s ts) ≡ length ts + 1
 length-boundaries d place s [] = refl
 length-boundaries d place s (t ∷ ts) = omega (arith, length-boundaries d (place + t.len) (stack_past d s t) ts)
 

@@ -9,6 +9,7 @@ use Rattle.lrlex.specs.Searches.{asks_by}
 use Rattle.lrlex.specs.Lookahead.{LooksAhead}
 use Rattle.lrlex.specs.Reach.{IsRun}
 use Rattle.lrlex.specs.Relex.{AreCountsOf}
+use Rattle.lrlex.specs.Changes.{HasChanged}
 use Rattle.lrlex.specs.Progress.{HasSame}
 use Rattle.lrlex.specs.Views.{definition_by, items_by}
 use Rattle.lrlex_boundaries.specs.Boundaries.{Boundary}
@@ -40,6 +41,12 @@ pub record WasEdited {S X : Type 0} (number : S → ℕ) (seen : X → LexemePar
   pub looks : LooksAhead (definition_by number d) (string_bytes new.text) new.lexed.boundaries new.lexed.ahead.items
   pub run : IsRun (definition_by number d) (string_bytes new.text) (items_by number seen new.lexed.items.items) new.lexed.boundaries
   pub counts : AreCountsOf (definition_by number d) (asks_by d (string_bytes new.text)) old.lexed.boundaries old.lexed.ahead.items removed put (string_bytes new.text) new.lexed.boundaries new.lexed.asked new.lexed.recut
+
+-- what that changed
+abbrev pub HasChangedText : {S X : Type 0} → (S → ℕ) → (X → LexemeParts S) → RuleTable S → Span → List ℕ → (old new : LexedText X) → Type 0
+HasChangedText number seen d removed put old new =
+    HasChanged (definition_by number d) (string_bytes old.text) (string_bytes new.text) removed put (items_by number seen old.lexed.items.items) (items_by number seen new.lexed.items.items)
+    old.lexed.boundaries new.lexed.boundaries new.lexed.changed new.lexed.recut
 
 -- all is what it was
 pub record WasLeft {X : Type 0} (old new : LexedText X) : Type 0 where

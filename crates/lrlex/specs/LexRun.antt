@@ -7,11 +7,13 @@ use Rattle.lrlex.specs.ItemLaws.{HaveLaws}
 use Rattle.lrlex.specs.Reach.{IsRun}
 use Rattle.lrlex.specs.Tiling.{top}
 use Rattle.lrlex.specs.Views.{definition_of, items_by}
+use Rattle.lrlex.specs.declared.editing.changes.Changed.{Changed}
 use Rattle.lrlex.specs.declared.errors.LRLexError.{LRLexError}
 use Rattle.lrlex.specs.declared.definition.non_streaming.LRNonStreamingLexerDef.{LRNonStreamingLexerDef}
 
 -- The definition that a run went by, its text, what it gave, its boundaries, for each of them how many bytes past its place
--- the tiles before it looked (255 stands for more), and what the call that made it took: searches, and tiles cut anew.
+-- the tiles before it looked (255 stands for more), what the call that made it took: searches, and tiles cut anew, and what that
+-- call changed in the items and pieces.
 pub record Run (D X : Type 0) : Type 0 where
   pub definition : D
   pub text : List ℕ
@@ -20,10 +22,11 @@ pub record Run (D X : Type 0) : Type 0 where
   pub ahead : List ℕ
   pub asked : ℕ
   pub recut : ℕ
+  pub changed : Changed
 
 -- a run that has these
-abbrev pub run_with : {D X : Type 0} → D → List ℕ → List (Result X LRLexError) → List Boundary → List ℕ → ℕ → ℕ → Run D X
-run_with d text items bounds ahead asked recut = record { definition = d; text = text; items = items; boundaries = bounds; ahead = ahead; asked = asked; recut = recut }
+abbrev pub run_with : {D X : Type 0} → D → List ℕ → List (Result X LRLexError) → List Boundary → List ℕ → ℕ → ℕ → Changed → Run D X
+run_with d text items bounds ahead asked recut changed = record { definition = d; text = text; items = items; boundaries = bounds; ahead = ahead; asked = asked; recut = recut; changed = changed }
 
 -- it is the run of this definition on this text
 abbrev pub IsRunOf : {L X S E P Q : Type 0} → (S → ℕ) → (X → LexemeParts S) → LRNonStreamingLexerDef L X S E P Q → List ℕ → Run (LRNonStreamingLexerDef L X S E P Q) X → Type 0

@@ -12,6 +12,7 @@ use Rattle.lrlex_boundaries.specs.Moves.{moved_boundary}
 use Rattle.lrlex.specs.Moves.{items_from}
 use Rattle.lrlex_boundaries.specs.Boundaries.{Boundary, boundary_at}
 use Rattle.lrlex.specs.Reach.{IsLexed, IsRun, Reached, searches}
+use Rattle.lrlex.specs.Changes.{all_new}
 use Rattle.lrlex.specs.Relex.{AreCountsOf}
 use Rattle.lrlex_boundaries.specs.Entries.{AreEntries, plain}
 use Rattle.lrlex.specs.Tiling.{Item, rebased, stack_after, top}
@@ -51,14 +52,16 @@ pub record HasFinished {X : Type 0} (p : Progress X) (cut : ℕ) (r : Lexed X) :
   pub asked : r.asked ≡ p.asked
   pub ahead : r.ahead.items ≡ p.ahead.items
   pub recut : r.recut ≡ cut
+  pub changed : r.changed ≡ all_new (length p.items.items) cut
 
--- the same was found, at the same cost
+-- the same was found, at the same cost, and by the same change
 pub record HasSame {X : Type 0} (old new : Lexed X) : Type 0 where
   pub items : new.items.items ≡ old.items.items
   pub boundaries : new.boundaries ≡ old.boundaries
   pub ahead : new.ahead.items ≡ old.ahead.items
   pub asked : new.asked ≡ old.asked
   pub recut : new.recut ≡ old.recut
+  pub changed : new.changed ≡ old.changed
 
 -- All old boundaries before the cursor stand before the place, as it was before the edit; where a meeting was found, the one at
 -- the cursor stands there, with the same stack.

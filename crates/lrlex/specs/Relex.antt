@@ -3,13 +3,15 @@ use Rattle.std.specs.Prelude.{◌≡◌, ℕ, ◌+◌, ◌-◌, ◌*◌, ◌<◌
 use Rattle.lrlex_base.specs.Spans.{Span}
 use Rattle.lrlex_rules.specs.Definition.{Definition}
 use Rattle.lrlex.specs.Active.{is_state}
+use Rattle.lrlex.specs.Changes.{HasChanged}
 use Rattle.lrlex.specs.Searches.{asks, WasRecut}
 use Rattle.lrlex.specs.Lookahead.{IsSafe}
 use Rattle.lrlex_boundaries.specs.Moves.{Meets}
 use Rattle.lrlex_boundaries.specs.Boundaries.{Boundary}
 use Rattle.lrlex.specs.LexRun.{Run}
 use Rattle.lrlex.specs.Reach.{searches}
-use Rattle.lrlex.specs.Views.{definition_of}
+use Rattle.lrlex.specs.Views.{definition_of, items_by}
+use Rattle.lrlex_base.specs.LexemeParts.{LexemeParts}
 use Rattle.lrlex.specs.declared.definition.non_streaming.LRNonStreamingLexerDef.{LRNonStreamingLexerDef}
 
 -- The counts of lexing again, by this definition and these searches at boundaries, where the old run had these boundaries, with
@@ -27,3 +29,8 @@ pub record AreCountsOf (d : Definition) (searched : List Boundary → ℕ) (old 
 -- the counts of a run of the text after an edit
 abbrev pub WasRelexed : {L X S E P Q : Type 0} → (S → ℕ) → List Boundary → List ℕ → Span → List ℕ → Run (LRNonStreamingLexerDef L X S E P Q) X → Type 0
 WasRelexed number old ahead removed put r = AreCountsOf (definition_of number r.definition) (asks r.definition r.text) old ahead removed put r.text r.boundaries r.asked r.recut
+
+-- what an edit changed, of a document or a run that was this before
+abbrev pub WasChanged : {L X S E P Q : Type 0} → (S → ℕ) → (X → LexemeParts S) → Span → List ℕ → (old new : Run (LRNonStreamingLexerDef L X S E P Q) X) → Type 0
+WasChanged number seen removed put old new =
+    HasChanged (definition_of number new.definition) old.text new.text removed put (items_by number seen old.items) (items_by number seen new.items) old.boundaries new.boundaries new.changed new.recut

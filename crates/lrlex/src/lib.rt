@@ -10,6 +10,7 @@ mod reading;
 pub use crate::definition::lexer_def::LexerDef;
 pub use crate::definition::never::never_laws;
 pub use crate::definition::non_streaming::LRNonStreamingLexerDef;
+pub use crate::editing::changes::{Change, Changed};
 pub use crate::editing::document::{Document, EditError, LexedText};
 pub use crate::editing::restart::{ahead_laws, decided_laws, resume_laws};
 pub use crate::errors::LRLexError;

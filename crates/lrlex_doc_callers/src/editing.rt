@@ -1,5 +1,5 @@
 //! For a highlighter and an editor, at the usual types.
-use lrlex::{DefaultLexerTypes, Document, EditError, LRNonStreamingLexerDef};
+use lrlex::{Change, DefaultLexerTypes, Document, EditError, LRNonStreamingLexerDef, Lexeme};
 use std::alloc::{AllocError, Global};
 
 /// The whole text as it was cut: each piece with the name of its rule, or "" where that has none.
@@ -25,6 +25,27 @@ pub fn typed(
 ) -> Result<(usize, usize), EditError> {
     document.edit(alloc, at, at, keys)?;
     Ok(document.place(at.saturating_add(keys.len())))
+}
+
+/// Makes an edit. Which tokens that changed, and the name and text of each that came.
+pub fn retyped<'d, 't>(
+    alloc: Global,
+    document: &'t mut Document<'d, DefaultLexerTypes<u32>>,
+    from: usize,
+    to: usize,
+    put: &str,
+) -> Result<(Change, Vec<(&'d str, &'t str)>), EditError> {
+    document.edit(alloc, from, to, put)?;
+    let change = document.changed().items;
+    let mut came = Vec::new(alloc);
+    let items = document.items().iter();
+    for item in items.skip(change.first).take(change.inserted) {
+        if let Ok(lexeme) = item {
+            let name = document.definition().name_of(lexeme.tok_id());
+            came.push((name.unwrap_or(""), document.text_of(lexeme.span())))?;
+        }
+    }
+    Ok((change, came))
 }
 
 /// What a window shows of a document: each piece with a byte in `from..to`, and its rule's name, or "".

@@ -3,7 +3,7 @@ use crate::building::Definition;
 use crate::items::tell_items;
 use crate::runs::{most_of, tell_pieces};
 use lrlex::{DefaultLexerTypes, Document, EditError};
-use lrlex_doc_callers::editing::{typed, visible};
+use lrlex_doc_callers::editing::{retyped, typed, visible};
 use lrlex_doc_callers::serving::range_of;
 use lrlex_replay_cases::facts::tell_words;
 use lrlex_replay_cases::reading::{Change, Trouble, bytes_of, change_of, count_of, loose_span_of};
@@ -15,7 +15,13 @@ use std::alloc::AllocError;
 /// A document of a definition with ids of type `u32`.
 type Edited<'d> = Document<'d, DefaultLexerTypes<u32>>;
 
-/// Tells what a document shows: its counts, its text, its items and its pieces.
+/// Tells a change: `[first, removed, inserted]`.
+fn tell_change(told: &mut Told, change: lrlex::Change) {
+    told.numbers(&[change.first, change.removed, change.inserted]);
+}
+
+/// Tells what a document shows: its counts, what the last edit changed in its items and in its pieces, its text, its items and its
+/// pieces.
 fn tell_shown(told: &mut Told, document: &Edited<'_>) -> Result<(), AllocError> {
     told.key("document");
     told.numbers(&[
@@ -23,6 +29,11 @@ fn tell_shown(told: &mut Told, document: &Edited<'_>) -> Result<(), AllocError> 
         document.recut_tiles(),
         most_of(document.asked()),
     ]);
+    told.key("changed");
+    told.open("[");
+    tell_change(told, document.changed().items);
+    tell_change(told, document.changed().pieces);
+    told.close("]");
     told.key("text");
     told.text(document.text());
     tell_items(told, document.items());
@@ -111,6 +122,24 @@ fn type_keys(
     Ok(())
 }
 
+/// Makes an edit, and tells which tokens it changed and those that came; null where it doesn't fit.
+fn retype(told: &mut Told, document: &mut Edited<'_>, change: Change<'_>) -> Result<(), Trouble> {
+    let (from, to, put) = change;
+    match retyped(told.alloc(), document, from, to, put) {
+        Ok((changed, came)) => {
+            told.key("retyped");
+            tell_change(told, changed);
+            tell_words(told, Ok(came))
+        }
+        Err(EditError::DoesNotFit) => {
+            told.key("retyped");
+            told.null();
+            Ok(())
+        }
+        Err(EditError::OutOfMemory) => Err(Trouble::from(AllocError)),
+    }
+}
+
 /// Tells the texts that the document has at these spans.
 fn tell_texts(told: &mut Told, document: &Edited<'_>, spans: &[Value]) -> Result<(), Trouble> {
     told.key("texts");
@@ -135,6 +164,7 @@ fn tell_document(
             tell_words(told, words)
         }
         Shown::Typed(change) => Ok(type_keys(told, document, change)?),
+        Shown::Retyped(change) => retype(told, document, change),
         Shown::Texts(spans) => tell_texts(told, document, spans),
         Shown::Range(span) => {
             told.key("range");

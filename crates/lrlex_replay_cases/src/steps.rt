@@ -45,6 +45,8 @@ pub enum Shown<'v> {
     Visible(Span),
     /// Where typing ends.
     Typed(Change<'v>),
+    /// Which tokens an edit changes, and those that come.
+    Retyped(Change<'v>),
     /// The texts at spans.
     Texts(&'v [Value]),
     /// Where a span begins and ends, as the Language Server Protocol counts.
@@ -156,6 +158,7 @@ fn of_text_and<'v>(name: &str, text: &'v str, value: &'v Value) -> Result<Step<'
         "visible" => Shown::Visible(loose_span_of(value)?),
         "range" => Shown::Range(loose_span_of(value)?),
         "typed" => Shown::Typed(change_of(value)?),
+        "retyped" => Shown::Retyped(change_of(value)?),
         "engine_report" => return Ok(Step::Drives(Engine::Report(text), value)),
         _ => return Err(Trouble::Malformed),
     };

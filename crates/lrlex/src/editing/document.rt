@@ -4,20 +4,22 @@ ghost use Rattle.std.specs.String.{string_bytes, string_len, string_capacity};
 ghost use Rattle.lrlex_base.specs.Edits.{edited};
 ghost use Rattle.lrlex_base.specs.Places.{AreBreaksOf, place_of};
 ghost use Rattle.lrlex_base.specs.Spans.{Fits, as_span, span, span_start, span_end};
-ghost use Rattle.lrlex.specs.Document.{IsLexedBy, WasEdited, WasLeft, lexed_boundaries, lexed_bytes, lexed_items};
+ghost use Rattle.lrlex.specs.Document.{HasChangedText, IsLexedBy, WasEdited, WasLeft, lexed_boundaries, lexed_bytes, lexed_items};
 ghost use Rattle.lrlex.specs.Lookahead.{LooksAhead};
 ghost use Rattle.lrlex.specs.Nearest.{IsNearest, FitsAt};
 ghost use Rattle.lrlex.specs.Pieces.{ArePieces, ArePiecesIn};
 ghost use Rattle.lrlex.specs.LexRun.{IsRunOf, HasItemLaws, end_of, end_state_of};
 ghost use Rattle.lrlex_rules.specs.RuleParts.{state_number};
 ghost use Rattle.lrlex.specs.Reach.{IsRun};
-ghost use Rattle.lrlex.specs.Relex.{WasRelexed};
+ghost use Rattle.lrlex.specs.Changes.{all_new};
+ghost use Rattle.lrlex.specs.Relex.{WasChanged, WasRelexed};
 ghost use Rattle.lrlex.specs.Utf16.{utf16_position};
 ghost use Rattle.lrlex.specs.Views.{definition_by, definition_of, items_by};
 ghost use Rattle.lrlex.specs.declared.editing.document.EditError.TheVariants.{DoesNotFit};
 
 use crate::definition::non_streaming::LRNonStreamingLexerDef;
 use crate::definition::rule_table::RuleTable;
+use crate::editing::changes::Changed;
 use crate::editing::relex::relex_in_place;
 use crate::errors::LRLexError;
 use crate::lexing::run::{Lexed, end_of, end_state_of, lex};
@@ -114,6 +116,8 @@ fn lexed_text<S: Numbered, X: Lexeme<S>>(
         (items_by S.number X.seen t.lexed.items.items) t.lexed.boundaries) }
     ensures looks { IfOk result (λ t. LooksAhead (definition_by S.number table.now) text.now
         t.lexed.boundaries t.lexed.ahead.items) }
+    ensures changed { IfOk result (λ t. t.lexed.changed ≡ all_new (length t.lexed.items.items)
+        (length t.lexed.boundaries - 1)) }
 {
     let newlines = NewlineCache::from_str(alloc, text)?;
     let lexed = lex(alloc, table, text)?;
@@ -163,6 +167,8 @@ fn edit_in_place<S: Numbered, X: Lexeme<S>>(
     requires known { IsLexedBy S.number X.seen table.now it.old }
     ensures made { OnOk result (WasEdited S.number X.seen table.now (as_span edit.now.removed)
         edit.now.put.now it.old it.new) }
+    ensures changed { OnOk result (HasChangedText S.number X.seen table.now
+        (as_span edit.now.removed) edit.now.put.now it.old it.new) }
     ensures kept { OnErr result (WasLeft it.old it.new) }
 {
     let (newlines, gone) = prepared(alloc, &mut it.text, &it.newlines, edit.removed, edit.put)?;
@@ -170,10 +176,11 @@ fn edit_in_place<S: Numbered, X: Lexeme<S>>(
     let to = edit.removed.end();
     put_text(&mut it.text, from, to, edit.put);
     match relex_in_place(alloc, table, &mut it.lexed, edit, &it.text) {
-        Ok((asked, recut)) => {
+        Ok((asked, changed)) => {
             it.newlines = newlines;
             it.lexed.asked = asked;
-            it.lexed.recut = recut;
+            it.lexed.recut = changed.pieces.inserted;
+            it.lexed.changed = changed;
             Ok(())
         }
         Err(refused) => {
@@ -196,6 +203,8 @@ fn edit_bytes<S: Numbered, X: Lexeme<S>>(
     ensures fits { OnOk result (FitsAt (string_bytes it.old.text) from to) }
     ensures made { OnOk result (WasEdited S.number X.seen table.now (span from to) put.now it.old
         it.new) }
+    ensures changed { OnOk result (HasChangedText S.number X.seen table.now (span from to) put.now
+        it.old it.new) }
     ensures refused { IfErr result (λ e. e ≡ DoesNotFit
         ↔ ¬ (FitsAt (string_bytes it.old.text) from to)) }
     ensures kept { OnErr result (WasLeft it.old it.new) }
@@ -234,6 +243,7 @@ impl<'lexer, L: LexerTypes<LexErrorT = LRLexError>> Model for Document<'lexer, L
       ahead = d.held.lexed.ahead.items;
       asked = d.held.lexed.asked;
       recut = d.held.lexed.recut;
+      changed = d.held.lexed.changed;
     } };
 
     ghost invariant = { λ d. IsLexedBy L.StorageT.number L.LexemeT.seen d.definition.now.table d.held };
@@ -252,6 +262,8 @@ impl<'lexer, L: LexerTypes<LexErrorT = LRLexError>> Document<'lexer, L> {
             text.now) }
         ensures definition { IfOk result (λ d. d.definition ≡ definition.now) }
         ensures text { IfOk result (λ d. d.text ≡ text.now) }
+        ensures changed { IfOk result (λ d. d.changed ≡ all_new (length d.items)
+            (length d.boundaries - 1)) }
     {
         let held = lexed_text(alloc, &definition.table, text)?;
         Ok(Document { definition, held })
@@ -301,6 +313,8 @@ impl<'lexer, L: LexerTypes<LexErrorT = LRLexError>> Document<'lexer, L> {
             self.new.text self.new) }
         ensures counts { OnOk result (WasRelexed L.StorageT.number self.old.boundaries
             self.old.ahead (span from to) put.now self.new) }
+        ensures changed { OnOk result (WasChanged L.StorageT.number L.LexemeT.seen (span from to)
+            put.now self.old self.new) }
         ensures refused { IfErr result (λ e. e ≡ DoesNotFit ↔ ¬ (FitsAt self.old.text from to)) }
         ensures kept { OnErr result (self.new ≡ self.old) }
     {
@@ -382,6 +396,15 @@ impl<'lexer, L: LexerTypes<LexErrorT = LRLexError>> Document<'lexer, L> {
         ensures { result ≡ self.now.recut }
     {
         self.held.lexed.recut
+    }
+
+    /// Which items and which pieces the last edit changed: from the `first` on, so many went and so many came. Those before stayed,
+    /// and so did those after, moved with the text. As many pieces came as tiles were cut anew. Of a new document nothing went, and
+    /// all came.
+    pub fn changed(&self) -> Changed
+        ensures { result ≡ self.now.changed }
+    {
+        self.held.lexed.changed
     }
 
     /// The place up to which the text was lexed: its length, or the place of the error that stopped lexing.

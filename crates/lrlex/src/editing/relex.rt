@@ -12,11 +12,13 @@ ghost use Rattle.lrlex.specs.Reach.{IsRun};
 ghost use Rattle.lrlex.specs.Lookahead.{LooksAhead, items_before};
 ghost use Rattle.lrlex.specs.Searches.{asks_by};
 ghost use Rattle.lrlex.specs.LexRun.{IsRunOf, HasItemLaws};
+ghost use Rattle.lrlex.specs.Changes.{HasChanged};
 ghost use Rattle.lrlex.specs.Relex.{AreCountsOf, WasRelexed};
 ghost use Rattle.lrlex.specs.Views.{definition_by, items_by, item_of};
 ghost use Rattle.lrlex.specs.Progress.{HasRecut, HasSame, IsEditOf, HasReplacedTail, HasReplacedMiddle, TellsMeeting};
 
 use crate::definition::rule_table::RuleTable;
+use crate::editing::changes::{Change, Changed};
 use crate::editing::restart::{append_raised, count_up_to, last_safe, resume};
 use crate::errors::LRLexError;
 use crate::lexing::run::{LexRun, Lexed};
@@ -301,14 +303,14 @@ fn replace_tail<X: Copy>(
 }
 
 /// Puts what was cut anew in the place of what the old run has up to the boundary that was met, and moves what follows that
-/// one. Where memory is refused, nothing changes.
+/// one. Answers how many old items were before that one. Where memory is refused, nothing changes.
 fn replace_middle<S: Numbered, X: Lexeme<S>>(
     items: &mut Vec<Result<X, LRLexError>>,
     boundaries: &mut Boundaries,
     ahead: &mut Vec<u8>,
     recut: Recut<X>,
     met: usize,
-) -> Result<(), AllocError>
+) -> Result<usize, AllocError>
     requires first { (recut.first ≤ length items.old.items)
         × (items_by S.number X.seen (take recut.first items.old.items)
         ≡ items_before (boundary_at boundaries.old recut.index).place
@@ -327,6 +329,10 @@ fn replace_middle<S: Numbered, X: Lexeme<S>>(
         (drop (met + 1) boundaries.old) }
     ensures put { OnOk result (HasReplacedMiddle S.number X.seen items.old.items
         boundaries.old ahead.old.items recut met items.new.items boundaries.new ahead.new.items) }
+    ensures last { IfOk result (λ last. (recut.first ≤ last) × (last ≤ length items.old.items)
+        × (drop last (items_by S.number X.seen items.old.items)
+        ≡ items_from (boundary_at boundaries.old met).place
+        (items_by S.number X.seen items.old.items))) }
     ensures kept { OnErr result ((items.new.items ≡ items.old.items)
         × (boundaries.new ≡ boundaries.old) × (ahead.new.items ≡ ahead.old.items)) }
 {
@@ -354,18 +360,18 @@ fn replace_middle<S: Numbered, X: Lexeme<S>>(
     splice(items, first, last, &found);
     move_items::<S, X>(items, first + found.len(), from, to);
     splice(ahead, index, far, &numbers);
-    Ok(())
+    Ok(last)
 }
 
-/// Lexes the text after an edit in place, and answers how many searches that needed and how many tiles it cut anew, which the run
-/// has yet to be told. What is before these tiles stays, and what follows is moved. Where memory is refused, nothing changes.
+/// Lexes the text after an edit in place, and answers how many searches that needed and what it changed, which the run has yet to
+/// be told. What is before these tiles stays, and what follows is moved. Where memory is refused, nothing changes.
 pub(crate) fn relex_in_place<S: Numbered, X: Lexeme<S>>(
     alloc: Global,
     table: &RuleTable<S>,
     lexed: &mut Lexed<X>,
     edit: &Edit<'_>,
     new: &str,
-) -> Result<(u128, usize), AllocError>
+) -> Result<(u128, Changed), AllocError>
     requires known { IsEditOf S.number X.seen table.now lexed.old.items.items
         lexed.old.boundaries lexed.old.ahead.items edit.now.removed edit.now.put.now new.now }
     ensures run { OnOk result (IsRun (definition_by S.number table.now) new.now
@@ -374,11 +380,20 @@ pub(crate) fn relex_in_place<S: Numbered, X: Lexeme<S>>(
         new.now lexed.new.boundaries lexed.new.ahead.items) }
     ensures counts { IfOk result (λ n. AreCountsOf (definition_by S.number table.now)
         (asks_by table.now new.now) lexed.old.boundaries lexed.old.ahead.items
-        (as_span edit.now.removed) edit.now.put.now new.now lexed.new.boundaries n.0 n.1) }
+        (as_span edit.now.removed) edit.now.put.now new.now lexed.new.boundaries n.0
+        n.1.pieces.inserted) }
+    ensures changed { IfOk result (λ n. (known : IsEditOf S.number X.seen table.now
+        lexed.old.items.items lexed.old.boundaries lexed.old.ahead.items edit.now.removed
+        edit.now.put.now new.now)
+        → HasChanged (definition_by S.number table.now) known.text new.now
+        (as_span edit.now.removed) edit.now.put.now
+        (items_by S.number X.seen lexed.old.items.items)
+        (items_by S.number X.seen lexed.new.items.items) lexed.old.boundaries
+        lexed.new.boundaries n.1 n.1.pieces.inserted) }
     ensures kept { OnErr result (HasSame lexed.old lexed.new) }
 {
     if !table.is_state(0) {
-        return Ok((0, 0));
+        return Ok((0, Changed::none(lexed.items.len())));
     }
     lexed.boundaries.tidy(alloc)?;
     let old = Old {
@@ -388,6 +403,9 @@ pub(crate) fn relex_in_place<S: Numbered, X: Lexeme<S>>(
     };
     let recut = lex_changed(alloc, table, &old, edit, new)?;
     let asked = recut.progress.asked;
+    let index = recut.index;
+    let first = recut.first;
+    let inserted = recut.progress.items.len();
     let cut = recut.progress.boundaries.len() - 1;
     let Lexed {
         items,
@@ -396,10 +414,33 @@ pub(crate) fn relex_in_place<S: Numbered, X: Lexeme<S>>(
         ..
     } = lexed;
     match recut.met {
-        Some(met) => replace_middle::<S, X>(items, boundaries, ahead, recut, met)?,
-        None => replace_tail(items, boundaries, ahead, &recut)?,
+        Some(met) => {
+            let last = replace_middle::<S, X>(items, boundaries, ahead, recut, met)?;
+            let items_between = Change::between(first, last, inserted);
+            let tiles_between = Change::between(index, met, cut);
+            Ok((
+                asked,
+                Changed {
+                    items: items_between,
+                    pieces: tiles_between,
+                },
+            ))
+        }
+        None => {
+            let many = items.len();
+            let end = boundaries.len() - 1;
+            let items_behind = Change::between(first, many, inserted);
+            let tiles_behind = Change::between(index, end, cut);
+            replace_tail(items, boundaries, ahead, &recut)?;
+            Ok((
+                asked,
+                Changed {
+                    items: items_behind,
+                    pieces: tiles_behind,
+                },
+            ))
+        }
     }
-    Ok((asked, cut))
 }
 
 /// What lexing the text after an edit gives. The old run stays what it is.
@@ -421,9 +462,10 @@ fn relexed<S: Numbered, X: Lexeme<S>>(
         (as_span edit.now.removed) edit.now.put.now new.now r.boundaries r.asked r.recut) }
 {
     let mut lexed = old.copied(alloc)?;
-    let (asked, recut) = relex_in_place(alloc, table, &mut lexed, edit, new)?;
+    let (asked, changed) = relex_in_place(alloc, table, &mut lexed, edit, new)?;
     lexed.asked = asked;
-    lexed.recut = recut;
+    lexed.recut = changed.pieces.inserted;
+    lexed.changed = changed;
     Ok(lexed)
 }
 

@@ -9,10 +9,12 @@ ghost use Rattle.lrlex.specs.Lookahead.{LooksAhead};
 ghost use Rattle.lrlex.specs.Views.{definition_by, definition_of, items_by};
 ghost use Rattle.lrlex.specs.LexRun.{IsRunOf, HasItemLaws, end_of, end_state_of};
 ghost use Rattle.lrlex_rules.specs.RuleParts.{state_number};
+ghost use Rattle.lrlex.specs.Changes.{all_new};
 ghost use Rattle.lrlex.specs.Progress.{HasFinished};
 
 use crate::definition::non_streaming::LRNonStreamingLexerDef;
 use crate::definition::rule_table::RuleTable;
+use crate::editing::changes::Changed;
 use crate::errors::LRLexError;
 use crate::lexing::stack::top_of;
 use crate::lexing::step::{Progress, advance, begin, push_error};
@@ -54,6 +56,7 @@ impl<'lexer, 'input, L: LexerTypes<LexErrorT = LRLexError>> Model for LexRun<'le
       ahead = r.lexed.ahead.items;
       asked = r.lexed.asked;
       recut = r.lexed.recut;
+      changed = r.lexed.changed;
     } };
 
     ghost invariant = { λ r. ∥ LooksAhead (definition_of L.StorageT.number r.definition.now) r.text.now r.lexed.boundaries r.lexed.ahead.items ∥₁
@@ -168,6 +171,8 @@ pub(crate) struct Lexed<X> {
     pub(crate) ahead: Vec<u8>,
     /// How many tiles were cut anew.
     pub(crate) recut: usize,
+    /// Which items and which tiles went, and which came.
+    pub(crate) changed: Changed,
 }
 
 impl<X: Copy> Lexed<X> {
@@ -183,6 +188,7 @@ impl<X: Copy> Lexed<X> {
             asked: self.asked,
             ahead: copied(alloc, &self.ahead)?,
             recut: self.recut,
+            changed: self.changed,
         })
     }
 }
@@ -226,6 +232,7 @@ fn stateless<S: Numbered, X: Lexeme<S>>(alloc: Global) -> Result<Lexed<X>, Alloc
     ensures asked { IfOk result (λ r. r.asked ≡ 0) }
     ensures none { IfOk result (λ r. r.boundaries ≡ []) }
     ensures lexed { IfOk result (λ r. r.recut ≡ 0) }
+    ensures changed { IfOk result (λ r. r.changed ≡ all_new (vec_len r.items) 0) }
 {
     let mut items = Vec::new(alloc);
     push_error::<S, X>(&mut items, 0, None)?;
@@ -235,6 +242,7 @@ fn stateless<S: Numbered, X: Lexeme<S>>(alloc: Global) -> Result<Lexed<X>, Alloc
         asked: 0,
         ahead: Vec::new(alloc),
         recut: 0,
+        changed: Changed::all_new(1, 0),
     })
 }
 
@@ -252,12 +260,14 @@ fn finished<X>(progress: Progress<X>) -> Lexed<X>
         lookahead: _,
     } = progress;
     let recut = boundaries.len().saturating_sub(1);
+    let changed = Changed::all_new(items.len(), recut);
     Lexed {
         items,
         boundaries,
         asked,
         ahead,
         recut,
+        changed,
     }
 }
 
@@ -277,6 +287,8 @@ pub(crate) fn lex<S: Numbered, X: Lexeme<S>>(
         (definition_by S.number table.now).rules) }
     ensures exact { IfOk result (λ r. r.asked ≡ asks_by table.now text.now r.boundaries) }
     ensures lexed { IfOk result (λ r. r.recut ≡ length r.boundaries - 1) }
+    ensures changed { IfOk result (λ r. r.changed ≡ all_new (length r.items.items)
+        (length r.boundaries - 1)) }
 {
     if !table.is_state(0) {
         return stateless::<S, X>(alloc);

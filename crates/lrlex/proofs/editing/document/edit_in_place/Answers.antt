@@ -1,7 +1,10 @@
-use Rattle.std.proofs.Common.{◌≡◌, ◌+◌, ◌∙◌, ap, ap₂, length, refl, slice_range, subst, sym}
+use Rattle.std.proofs.Common.{rules, ◌≡◌, ◌+◌, ◌∙◌, ap, ap₂, length, refl, slice_range, subst, sym}
 use Rattle.std.specs.String.{string_bytes}
 use Rattle.lrlex_base.specs.Edits.{edited}
-use Rattle.lrlex_base.specs.Spans.{span}
+use Rattle.lrlex_base.specs.Spans.{as_span, span}
+use Rattle.lrlex.specs.Changes.{HasChanged}
+use Rattle.lrlex.specs.Progress.{IsEditOf}
+use Rattle.lrlex.specs.Views.{definition_by, items_by}
 use Rattle.lrlex.specs.Nearest.{FitsAt}
 use Rattle.lrlex.proofs.DocumentLemmas.{edited_back, edited_fits, span_fits}
 use Rattle.lrlex.proofs.editing.document.edit_in_place.Goals as goal
@@ -31,3 +34,23 @@ returns-in-Err-clause-kept g c =
       newlines = refl;
       found = c.in-Err.ensures.kept;
     }
+
+pub returns-in-Ok-clause-changed : goal.returns-in-Ok-clause-changed
+returns-in-Ok-clause-changed g c =
+    let was = string_bytes c.args.it.now.text in
+    let put = c.args.edit.now.put.now in
+    let from = c.start-from.result in
+    let to = c.end-to.result in
+    let made : c.deref.result.now ≡ edited was (as_span c.args.edit.now.removed) put =
+    c.deref.ensures ∙ c.put_text.ensures.text ∙ ap₂ (λ t x. edited t x put) c.in_ok-newlines.ensures.text (ap₂ span c.start-from.ensures c.end-to.ensures) in
+    let known : IsEditOf g.S.Numbered.number g.X.Lexeme.seen c.args.table.now c.args.it.now.lexed.items.items c.args.it.now.lexed.boundaries c.args.it.now.lexed.ahead.items c.args.edit.now.removed put c.deref.result.now = record {
+      text = was;
+      small = search rules;
+      looks = c.requires.known.1;
+      run = c.requires.known.2;
+      fits = c.requires.fits;
+      gives = made;
+    } in
+    subst (λ t. HasChanged (definition_by g.S.Numbered.number c.args.table.now) was t (as_span c.args.edit.now.removed) put (items_by g.S.Numbered.number g.X.Lexeme.seen c.args.it.now.lexed.items.items)
+    (items_by g.S.Numbered.number g.X.Lexeme.seen c.relex_in_place.new.lexed.items.items) c.args.it.now.lexed.boundaries c.relex_in_place.new.lexed.boundaries c.in-Ok.changed c.in-Ok.changed.pieces.inserted)
+    c.deref.ensures (c.in-Ok.ensures.changed known)

@@ -1,10 +1,10 @@
-use Rattle.std.proofs.Common.{◌≡◌, ◌+◌, All, ◌++◌, length, map, take, drop, sym, ap, ap₂, ◌∙◌, subst, arith}
+use Rattle.std.proofs.Common.{◌≡◌, ◌+◌, ◌≤◌, All, ◌++◌, length, map, take, drop, sym, ap, ap₂, ◌∙◌, subst, arith}
 use Rattle.lrlex.specs.Tiling.{rebased}
 use Rattle.lrlex_boundaries.specs.Boundaries.{boundary_at}
 use Rattle.lrlex.specs.Moves.{IsMovable, items_from}
 use Rattle.lrlex.specs.Lookahead.{AreRaised, items_before}
 use Rattle.lrlex.specs.Views.{item_of}
-use Rattle.std.proofs.lemmas.List.{take_at}
+use Rattle.std.proofs.lemmas.List.{take_at, drop-map}
 use Rattle.lrlex.proofs.RaisedLemmas.{raised_behind}
 use Rattle.lrlex.proofs.PutLemmas.{places_rise, ends_rise, put_tail, put_moved}
 use Rattle.lrlex.proofs.editing.relex.replace_middle.Goals as goal
@@ -79,3 +79,22 @@ returns-clause-put g c =
       ahead =
           subst (AreRaised bounds numbers met lookahead (length bounds) (take index numbers ++ front)) (sym numbers_is) (raised_behind bounds numbers met lookahead front (take index numbers) (length bounds) (more ++ drop far numbers) raised);
     }
+
+pub returns-clause-last : goal.returns-clause-last
+returns-clause-last g c =
+    let view = item_of g.S.Numbered.number g.X.Lexeme.seen in
+    let old = c.args.items.now.items in
+    let bounds = c.args.boundaries.now in
+    let index = c.args.recut.index in
+    let last = c.count_before-last.result in
+    let q = (boundary_at bounds c.args.met).place in
+    let before : map view (take last old) ≡ items_before q (map view old) =
+    subst (λ xs. map view (take last xs) ≡ items_before q (map view xs)) c.deref.ensures.value
+    (subst (λ r. map view (take last c.deref.result.now) ≡ items_before r (map view c.deref.result.now)) c.place-from.ensures c.count_before-last.ensures.before) in
+    let tail : map view (drop last old) ≡ items_from q (map view old) =
+    subst (λ xs. map view (drop last xs) ≡ items_from q (map view xs)) c.deref.ensures.value
+    (subst (λ r. map view (drop last c.deref.result.now) ≡ items_from r (map view c.deref.result.now)) c.place-from.ensures c.count_before-last.ensures.from) in
+    let within : last ≤ length old = omega (arith, c.count_before-last.ensures.within, ap length c.deref.ensures.value) in
+    let order = ends_rise view old c.args.recut.first last (boundary_at bounds index).place q (places_rise bounds index c.args.met c.requires.sorted c.requires.within.0 c.requires.within.1) c.requires.first.0
+    within c.requires.first.1 before in
+    (order, within, drop-map view last old ∙ tail)
