@@ -10,7 +10,7 @@ ghost use Rattle.lrlex.specs.Peaks.{pushes};
 ghost use Rattle.lrlex.specs.Moves.{items_from};
 ghost use Rattle.lrlex.specs.Reach.{IsLexed, IsRun};
 ghost use Rattle.lrlex.specs.ItemLaws.{HaveLaws};
-ghost use Rattle.lrlex.specs.Utf16.{units};
+ghost use Rattle.lrlex_positions.specs.Columns.{units};
 
 /// What holds of the items of each run, as `run`, `relex` and a document say it of theirs.
 pub fn item_laws()
