@@ -38,7 +38,6 @@ pub mod SearchLemmas
 pub mod RestLemmas
 pub mod PieceLemmas
 pub mod DocumentLemmas
-pub mod Utf16Lemmas
 pub mod ListLemmas
 pub mod NotedLemmas
 pub mod MergedLemmas

@@ -24,6 +24,7 @@ pub use lrlex_base::{
     DefaultLexeme, Edit, Id, Items, LexError, Lexeme, Lexer, LexerTypes, NewlineCache,
     NonStreamingLexer, Span, Spanned, SpansKind,
 };
+pub use lrlex_positions::PositionEncoding;
 pub use lrlex_rules::{
     DEFAULT_LEX_FLAGS, LexBuildError, LexBuildResult, LexErrorKind, LexFlags, Rule, StartState,
     StartStateId, StartStateOperation, UNSPECIFIED_LEX_FLAGS, flag_laws, line_laws, operation_laws,

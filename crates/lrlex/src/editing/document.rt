@@ -14,6 +14,7 @@ ghost use Rattle.lrlex.specs.Reach.{IsRun};
 ghost use Rattle.lrlex.specs.Changes.{all_new};
 ghost use Rattle.lrlex.specs.Relex.{WasChanged, WasRelexed};
 ghost use Rattle.lrlex.specs.Utf16.{utf16_position};
+ghost use Rattle.lrlex_positions.specs.Positions.{position_of, IsLastUpTo};
 ghost use Rattle.lrlex.specs.Views.{definition_by, definition_of, items_by};
 ghost use Rattle.lrlex.specs.declared.editing.document.EditError.TheVariants.{DoesNotFit};
 
@@ -24,8 +25,9 @@ use crate::editing::relex::relex_in_place;
 use crate::errors::LRLexError;
 use crate::lexing::run::{Lexed, end_of, end_state_of, lex};
 use crate::reading::pieces::{Piece, pieces_in, pieces_of};
-use crate::reading::positions::{place_of, text_of, utf16_position};
+use crate::reading::positions::{place_of, position_in, text_of};
 use lrlex_base::{Edit, Lexeme, LexerTypes, NewlineCache, Numbered, Span};
+use lrlex_positions::{PositionEncoding, offset_at};
 use lrlex_rules::StartStateId;
 use std::alloc::{AllocError, Global};
 use std::error::Error;
@@ -449,6 +451,28 @@ impl<'lexer, L: LexerTypes<LexErrorT = LRLexError>> Document<'lexer, L> {
         ensures nearest { (at : ℕ) → IsNearest self.now.text byte at
             → result ≡ utf16_position self.now.text at }
     {
-        utf16_position(&self.held.newlines, &self.held.text, byte)
+        self.position_in(byte, PositionEncoding::Utf16)
+    }
+
+    /// Line and column of the place before this byte, both from 0, the column counted as the encoding says. Inside a character
+    /// it is the place before that, and past the text's end the end.
+    pub fn position_in(&self, byte: usize, encoding: PositionEncoding) -> (usize, usize)
+        ensures fits { IsCharBoundary self.now.text byte
+            → result ≡ position_of encoding self.now.text byte }
+        ensures nearest { (at : ℕ) → IsNearest self.now.text byte at
+            → result ≡ position_of encoding self.now.text at }
+    {
+        position_in(&self.held.newlines, &self.held.text, byte, encoding)
+    }
+
+    /// The byte of a line and column, both from 0, the column counted as the encoding says: the last place between two
+    /// characters whose position isn't behind that. Past a line's end it is the line's end, past the last line the text's end,
+    /// and inside a character the place before that. It walks over one line at most.
+    pub fn offset_at(&self, position: (usize, usize), encoding: PositionEncoding) -> usize
+        ensures last { IsLastUpTo encoding self.now.text position result }
+        ensures inverse { (at : ℕ) → IsCharBoundary self.now.text at →
+            position_of encoding self.now.text at ≡ position → result ≡ at }
+    {
+        offset_at(&self.held.newlines, &self.held.text, position, encoding)
     }
 }

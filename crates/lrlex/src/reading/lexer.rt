@@ -6,13 +6,15 @@ ghost use Rattle.lrlex_boundaries.specs.Boundaries.{Boundary};
 ghost use Rattle.lrlex.specs.Nearest.{IsNearest};
 ghost use Rattle.lrlex.specs.Reach.{IsRun};
 ghost use Rattle.lrlex.specs.Utf16.{utf16_position};
+ghost use Rattle.lrlex_positions.specs.Positions.{position_of, IsLastUpTo};
 ghost use Rattle.lrlex.specs.Views.{definition_of, items_by};
 
 use crate::definition::non_streaming::LRNonStreamingLexerDef;
 use crate::errors::LRLexError;
 use crate::lexing::run::LexRun;
-use crate::reading::positions::{place_of, text_of, utf16_position};
+use crate::reading::positions::{place_of, position_in, text_of};
 use lrlex_base::{Items, Lexer, LexerTypes, NewlineCache, NonStreamingLexer, Span};
+use lrlex_positions::{PositionEncoding, offset_at};
 use std::alloc::{AllocError, Global};
 use std::marker::{Model, PhantomData};
 
@@ -111,7 +113,29 @@ impl<'lexer, 'input, L: LexerTypes<LexErrorT = LRLexError>> LRNonStreamingLexer<
         ensures nearest { (at : ℕ) → IsNearest (lexer_text self.now) byte at
             → result ≡ utf16_position (lexer_text self.now) at }
     {
-        utf16_position(&self.input.newlines, self.input.text, byte)
+        self.position_in(byte, PositionEncoding::Utf16)
+    }
+
+    /// Line and column of the place before this byte, both from 0, the column counted as the encoding says. Inside a character
+    /// it is the place before that, and past the input's end the end.
+    pub fn position_in(&self, byte: usize, encoding: PositionEncoding) -> (usize, usize)
+        ensures fits { IsCharBoundary (lexer_text self.now) byte
+            → result ≡ position_of encoding (lexer_text self.now) byte }
+        ensures nearest { (at : ℕ) → IsNearest (lexer_text self.now) byte at
+            → result ≡ position_of encoding (lexer_text self.now) at }
+    {
+        position_in(&self.input.newlines, self.input.text, byte, encoding)
+    }
+
+    /// The byte of a line and column, both from 0, the column counted as the encoding says: the last place between two
+    /// characters whose position isn't behind that. Past a line's end it is the line's end, past the last line the input's end,
+    /// and inside a character the place before that. It walks over one line at most.
+    pub fn offset_at(&self, position: (usize, usize), encoding: PositionEncoding) -> usize
+        ensures last { IsLastUpTo encoding (lexer_text self.now) position result }
+        ensures inverse { (at : ℕ) → IsCharBoundary (lexer_text self.now) at →
+            position_of encoding (lexer_text self.now) at ≡ position → result ≡ at }
+    {
+        offset_at(&self.input.newlines, self.input.text, position, encoding)
     }
 }
 

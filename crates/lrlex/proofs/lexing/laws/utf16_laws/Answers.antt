@@ -1,4 +1,4 @@
-use Rattle.lrlex.proofs.Utf16Lemmas.{units_encode, units_fit}
+use Rattle.lrlex_positions.proofs.Utf16Lemmas.{units_encode, units_fit}
 use Rattle.lrlex.proofs.lexing.laws.utf16_laws.Goals as goal
 
 pub returns : goal.returns
