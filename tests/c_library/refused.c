@@ -102,6 +102,38 @@ static int cut_part(void) {
     return lrlex_document_pieces_in(&document, 3, 9, pieces, 32, &lexed);
 }
 
+/* Calls that ask for no memory. */
+static int look(void) {
+    lrlex_fault fault;
+    lrlex_fault_span span;
+    lrlex_rule rule;
+    lrlex_state state;
+    lrlex_token tokens[32];
+    lrlex_lexed lexed;
+    lrlex_place place;
+    const int answers[] = {
+        lrlex_fault_at(&refused, 0, &fault),
+        lrlex_fault_span_at(&refused, 0, 0, &span),
+        lrlex_rule_at(&d, 0, &rule),
+        lrlex_rule_name(&d, 0, written, sizeof written, &len),
+        lrlex_name(&d, 0, written, sizeof written, &len),
+        lrlex_state_at(&d, 0, &state),
+        lrlex_state_name(&d, 0, written, sizeof written, &len),
+        lrlex_document_tokens(&document, 0, tokens, 32, &lexed),
+        lrlex_document_len(&document, &len),
+        lrlex_document_text(&document, 0, 1, written, sizeof written, &len),
+        lrlex_document_place(&document, 1, &place),
+        lrlex_document_position(&document, 1, &place),
+        lrlex_fault_count(&refused) == 0,
+        lrlex_rule_count(&d) == 0,
+        lrlex_state_count(&d) == 0,
+        lrlex_version() == 0,
+    };
+    for (size_t i = 0; i < sizeof answers / sizeof *answers; i++)
+        if (answers[i]) return answers[i];
+    return LRLEX_OK;
+}
+
 static const struct {
     const char *name;
     int (*call)(void);
@@ -120,6 +152,7 @@ static const struct {
     {"lrlex_document_pieces", cut_document, LRLEX_OK},
     {"lrlex_document_pieces_in", cut_part, LRLEX_OK},
     {"lrlex_places", find_places, LRLEX_OK},
+    {"calls that ask for no memory", look, LRLEX_OK},
 };
 
 int main(void) {
@@ -132,6 +165,7 @@ int main(void) {
             left = -1;
             if (!was_refused) {
                 CHECK(status == CALLS[k].answer);
+                CHECK((request == 0) == (CALLS[k].call == look));
                 break;
             }
             requests++, reported += status == LRLEX_NOMEM;

@@ -37,6 +37,22 @@ void tokens_of_a_text() {
     EXPECT(lrlex::Definition("%%\na 'A'\n").lex(std::string(1000, 'a')).size() == 1000);
 }
 
+void a_text_that_grows_denser() {
+    const lrlex::Definition definition(WORDS);
+    std::string text(10000, ' ');
+    for (int at = 0; at < 10000; at++) text += "a1";
+    for (int time = 0; time < 2; time++) {
+        EXPECT(definition.lex(text).size() == 20000);
+        EXPECT(definition.pieces(text).size() == 30000);
+    }
+    const lrlex::Document document(definition, text);
+    lrlex::Tokens tokens = document.lex();
+    definition.lex("a", tokens);
+    EXPECT(tokens.size() == 1 && tokens[0].text == "a" && !tokens.stop);
+    definition.lex(text, tokens);
+    EXPECT(tokens.size() == 20000 && tokens[19999].text == "1" && tokens[19999].start == 29999);
+}
+
 void lexing_stops_where_no_rule_matches() {
     const lrlex::Tokens tokens = lrlex::Definition(WORDS).lex("ab\n?");
     EXPECT(tokens.size() == 1 && tokens.stop);
@@ -112,6 +128,7 @@ void a_definition_is_moved() {
 
 int main() {
     tokens_of_a_text();
+    a_text_that_grows_denser();
     lexing_stops_where_no_rule_matches();
     a_refused_rule_text();
     a_text_that_is_not_utf8();

@@ -45,6 +45,17 @@ fn more_lexemes_than_half_of_the_bytes() {
 }
 
 #[test]
+fn a_text_that_grows_denser() {
+    let definition = words();
+    let text = " ".repeat(10_000) + &"a1".repeat(10_000);
+    for _ in 0..2 {
+        assert_eq!(definition.lexer(&text).unwrap().len(), 20_000);
+        assert_eq!(definition.pieces(&text).unwrap().0.len(), 30_000);
+    }
+    assert_eq!(Document::new(&definition, &text).unwrap().lexer().unwrap().filter(Result::is_ok).count(), 20_000);
+}
+
+#[test]
 fn lexing_stops_where_no_rule_matches() {
     let items: Vec<_> = words().lexer("ab\u{a0}").unwrap().collect();
     assert_eq!(items.len(), 2);
