@@ -31,6 +31,10 @@ a.l:5:1: Invalid regular expression: unclosed group
 rule 0: A, id 0, bytes 16 to 17
 state 0: INITIAL
 state 1: STRING, exclusive
+no rule has the name WORD
+rule 0 has no id
+1:1 ID abc
+stopped at 4 in state 0
 0+3:1 4+3:0, end 7
 0+3:1 3+3:0, end 6
 0+3:1 3+3:0, end 7, stopped

@@ -162,6 +162,17 @@ private:
     std::size_t size_ = 0;
 };
 
+/// An id for the rules of a name.
+struct NamedId {
+    std::string_view name;
+    std::uint32_t id;
+};
+
+/// The names with an id that no rule has, and the names of rules that have no id.
+struct Unmatched {
+    std::vector<std::string> missing, unused;
+};
+
 /// The flags and limits of a rule file, as of lrlex_options. Options().on(LRLEX_CASE_INSENSITIVE).off(LRLEX_UNICODE)
 class Options {
 public:
@@ -203,6 +214,7 @@ inline void check(int status) {
     case LRLEX_NOMEM: throw std::bad_alloc();
     case LRLEX_NOT_UTF8: throw Error("the text isn't UTF-8", status);
     case LRLEX_DOES_NOT_FIT: throw Error("the edit doesn't fit the text", status);
+    case LRLEX_SHARED: throw Error("the definition is that of a document too", status);
     default: throw Error("lrlex status " + std::to_string(status), status);
     }
 }
@@ -350,6 +362,25 @@ public:
         return detail::text_by([&](std::uint8_t *out, std::size_t room, std::size_t *length) {
             return lrlex_state_name(owner_.get(), state, out, room, length);
         });
+    }
+
+    /// Gives each named rule the id of its name here, or none, as for a parser whose grammar has the ids. Lexing stops where a rule
+    /// matches that has a name and no id. Throws Error if a document has the definition too. On an exception it is as it was.
+    Unmatched set_rule_ids(const std::vector<NamedId> &ids) {
+        std::vector<lrlex_named_id> given;
+        for (const NamedId &it : ids) given.push_back({detail::bytes(it.name), it.name.size(), it.id});
+        const std::unique_ptr<bool[]> missing(new bool[ids.size() + 1]());
+        given.push_back({});
+        detail::check(lrlex_definition_set_rule_ids(owner_.get(), given.data(), ids.size(), missing.get(), ids.size()));
+        Unmatched found;
+        for (std::size_t at = 0; at < ids.size(); at++)
+            if (missing[at]) found.missing.emplace_back(ids[at].name);
+        for (std::size_t at = 0; at < rule_count(); at++) {
+            lrlex_rule rule;
+            detail::check(lrlex_rule_at(owner_.get(), at, &rule));
+            if (rule.has_name && !rule.has_id) found.unused.push_back(rule_name(at));
+        }
+        return found;
     }
 
     /// The handle, for calls of lrlex.h.

@@ -8,7 +8,7 @@
 #include <string.h>
 #include <time.h>
 
-enum { LONGEST = 6000, ROOM = 16384 };
+enum { LONGEST = 6000, ROOM = 16384, NAMES = 4 };
 
 typedef struct text {
     uint8_t bytes[ROOM];
@@ -183,6 +183,36 @@ static void check_edits(lrlex_definition *d) {
     lrlex_free(&document);
 }
 
+/* Ids by names: the rules have those of their names, and missing are the names that no rule has. */
+static void check_ids(lrlex_definition *d) {
+    static uint8_t names[NAMES][16];
+    lrlex_named_id ids[NAMES];
+    bool missing[NAMES];
+    for (size_t i = 0; i < NAMES; i++) {
+        size_t len = 0;
+        const int status = lrlex_rule_name(d, below(lrlex_rule_count(d) + 1), names[i], sizeof names[i], &len);
+        ids[i] = (lrlex_named_id){names[i], status == LRLEX_OK && len < sizeof names[i] ? len : 0, (uint32_t)(below(3) + i)};
+        if (ids[i].name_len && below(3) == 0) names[i][0] ^= 1;
+    }
+    const int status = lrlex_definition_set_rule_ids(d, ids, NAMES, missing, NAMES);
+    LAW(status == LRLEX_OK || status == LRLEX_NOT_UTF8);
+    if (status != LRLEX_OK) return;
+    int has_rule[NAMES] = {0};
+    for (size_t rule = 0; rule < lrlex_rule_count(d); rule++) {
+        uint8_t name[16];
+        size_t len = 0;
+        lrlex_rule it;
+        int given = -1;
+        LAW(lrlex_rule_at(d, rule, &it) == LRLEX_OK);
+        if (!it.has_name) continue;
+        LAW(lrlex_rule_name(d, rule, name, sizeof name, &len) == LRLEX_OK && len == it.name_len);
+        for (int i = 0; i < NAMES; i++)
+            if (len <= sizeof name && len == ids[i].name_len && memcmp(name, ids[i].name, len) == 0) has_rule[i] = 1, given = i;
+        LAW(it.has_id == (given >= 0) && (given < 0 || it.id == ids[given].id));
+    }
+    for (size_t i = 0; i < NAMES; i++) LAW(missing[i] == !has_rule[i]);
+}
+
 static void check_definition(lrlex_definition *d, const lrlex_options *how) {
     static uint8_t report[ROOM];
     lrlex_lexed lexed, cut, slow;
@@ -212,6 +242,7 @@ static void check_definition(lrlex_definition *d, const lrlex_options *how) {
         LAW(same_tokens(tokens, &lexed, others, &slow));
         lrlex_free(&plain);
     }
+    if (below(8) == 0) check_ids(d);
     if (below(2) == 0) check_edits(d);
 }
 

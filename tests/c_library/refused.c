@@ -39,7 +39,7 @@ static const char RULES[] = "%x S\n%%\n[0-9]+ 'INT'\n[a-z]+ 'ID'\n[ ] ;\n\" <+S>
 static const char FAULTY[] = "%x A A\n%%\na+b 'A'\nb 'A'\nc( 'C'\n";
 static const char TEXT[] = "ab 12 \"x y\" c", EDITED[] = "ab \" q \"x y\" c";
 
-static lrlex_definition d, shared, refused;
+static lrlex_definition d, shared, refused, alone;
 static lrlex_document document;
 
 /* Whether the document is of this text: whether its tokens are those of it. */
@@ -68,6 +68,14 @@ static int cut(void) {
     lrlex_lexed lexed;
     return lrlex_pieces(&d, bytes(TEXT), strlen(TEXT), pieces, 32, &lexed);
 }
+
+static int name_ids(void) {
+    const lrlex_named_id ids[] = {{bytes("ID"), 2, 1}, {bytes("TEXT"), 4, 2}, {bytes("NUMBER"), 6, 3}, {bytes("INT"), 3, 0}};
+    bool missing[4];
+    return lrlex_definition_set_rule_ids(&alone, ids, 4, missing, 4);
+}
+
+static int make_alone(void) { return define(&alone, RULES); }
 
 static int share(void) { return lrlex_definition_share(&d, &shared); }
 
@@ -146,6 +154,8 @@ static const struct {
     {"lrlex_lex", lex, LRLEX_OK},
     {"lrlex_pieces", cut, LRLEX_OK},
     {"lrlex_stop_report", report_stop, LRLEX_OK},
+    {"lrlex_definition_new, for ids", make_alone, LRLEX_OK},
+    {"lrlex_definition_set_rule_ids", name_ids, LRLEX_OK},
     {"lrlex_definition_share", share, LRLEX_OK},
     {"lrlex_document_new", open_document, LRLEX_OK},
     {"lrlex_document_edit", edit, LRLEX_OK},
@@ -182,7 +192,7 @@ int main(void) {
         }
     }
     CHECK(is_of(EDITED));
-    lrlex_free(&d), lrlex_free(&shared), lrlex_free(&refused), lrlex_free(&document);
+    lrlex_free(&d), lrlex_free(&alone), lrlex_free(&shared), lrlex_free(&refused), lrlex_free(&document);
     CHECK(blocks == 0 && reported > 0);
     printf("%ld requests refused, %ld reported, %ld blocks left\n", requests, reported, blocks);
     return failed;

@@ -19,6 +19,7 @@
 mod ffi;
 
 use std::cell::{Cell, UnsafeCell};
+use std::collections::{HashMap, HashSet};
 use std::error;
 use std::ffi::c_int;
 use std::fmt;
@@ -153,6 +154,8 @@ pub enum Error {
     Lex(LexError),
     /// The ends of an edit are past the end of the text, inside a character, or the wrong way round.
     DoesNotFit,
+    /// A document has the definition too, so it can't be changed.
+    Shared,
     /// Memory ran out.
     OutOfMemory,
 }
@@ -168,6 +171,7 @@ impl fmt::Display for Error {
             }
             Error::Lex(error) => error.fmt(f),
             Error::DoesNotFit => f.write_str("The edit doesn't fit the text"),
+            Error::Shared => f.write_str("A document has the definition too"),
             Error::OutOfMemory => f.write_str("Out of memory"),
         }
     }
@@ -187,6 +191,7 @@ fn checked(status: c_int) -> Result<(), Error> {
         ffi::OK => Ok(()),
         ffi::NOMEM => Err(Error::OutOfMemory),
         ffi::DOES_NOT_FIT => Err(Error::DoesNotFit),
+        ffi::SHARED => Err(Error::Shared),
         other => unreachable!("lrlex answered status {other}"),
     }
 }
@@ -303,6 +308,9 @@ fn stop(text: &str, lexed: &ffi::Lexed) -> Result<Option<LexError>, Error> {
     Ok(Some(LexError { start: lexed.end, line, column, state }))
 }
 
+/// Names that no rule has, and names of rules without an id. `None` stands for an empty set.
+pub type IdSets<'a> = (Option<HashSet<&'a str>>, Option<HashSet<String>>);
+
 /// The rules of a rule file, ready to lex texts.
 #[derive(Debug)]
 pub struct Definition {
@@ -406,6 +414,35 @@ impl Definition {
     #[must_use]
     pub fn rule_name(&self, rule: usize) -> Option<String> {
         text_by(|out, room, len| unsafe { ffi::lrlex_rule_name(self.held.get(), rule, out, room, len) }).ok()?
+    }
+
+    /// Gives each named rule the map's id for its name, or none. Unnamed rules keep theirs. Lexing stops where a rule matches that has
+    /// a name and no id.
+    ///
+    /// The first set has the map's names that no rule has, the second the names of rules that the map lacks. `None` stands for an
+    /// empty set.
+    ///
+    /// # Errors
+    ///
+    /// [`Error::Shared`] while there is a document of this definition, or [`Error::OutOfMemory`]. The definition is then as it was.
+    pub fn set_rule_ids<'a>(&mut self, ids: &HashMap<&'a str, u32>) -> Result<IdSets<'a>, Error> {
+        let given: Vec<_> = ids.iter().map(|(name, &id)| ffi::NamedId { name: name.as_ptr(), name_len: name.len(), id }).collect();
+        let mut missing = vec![false; given.len()];
+        // SAFETY: the entries are `&str`s, and there is room for as many `bool`s.
+        checked(unsafe {
+            ffi::lrlex_definition_set_rule_ids(self.held.get(), given.as_ptr(), given.len(), missing.as_mut_ptr(), missing.len())
+        })?;
+        let lacking: HashSet<_> = ids.keys().zip(missing).filter(|it| it.1).map(|it| *it.0).collect();
+        let unused: HashSet<_> = (0..self.rule_count()).filter(|&it| !self.has_id(it)).filter_map(|it| self.rule_name(it)).collect();
+        Ok(((!lacking.is_empty()).then_some(lacking), (!unused.is_empty()).then_some(unused)))
+    }
+
+    /// Whether the rule of this number has an id.
+    fn has_id(&self, rule: usize) -> bool {
+        let mut it = ffi::Rule::default();
+        // SAFETY: one rule is written.
+        let status = unsafe { ffi::lrlex_rule_at(self.held.get(), rule, &raw mut it) };
+        status == ffi::OK && it.has_id
     }
 
     /// How many start states there are, with `INITIAL`.
