@@ -213,6 +213,21 @@ int lrlex_state_at(lrlex_definition *d, size_t index, lrlex_state *out);
 /* The name of the start state at this index. LRLEX_OK; LRLEX_NONE: there are fewer; LRLEX_MISUSE. */
 int lrlex_state_name(lrlex_definition *d, size_t index, uint8_t *out, size_t cap, size_t *len);
 
+/* A name, and the id that the rules of this name are to have. */
+typedef struct lrlex_named_id {
+    const uint8_t *name;
+    size_t name_len;
+    uint32_t id;
+} lrlex_named_id;
+
+/* Gives each named rule the id that its name has in `ids`, or none: for a parser whose grammar says which id each token has. Of entries
+ * with the same name the last counts. Unnamed rules keep theirs. Lexing stops where a rule matches that has a name and no id.
+ * `missing` has, for as many entries as there is room, whether no rule has the name. Rules that are left without an id are those of
+ * lrlex_rule_at with has_name and not has_id. If the call does not return LRLEX_OK, the definition is as it was.
+ * LRLEX_OK; LRLEX_SHARED: another handle or a document is an owner of the definition too; LRLEX_NOT_UTF8: a name is not; LRLEX_MISUSE;
+ * LRLEX_NOMEM. */
+int lrlex_definition_set_rule_ids(lrlex_definition *d, const lrlex_named_id *ids, size_t count, bool *missing, size_t cap);
+
 /* ---- Lexing ---- */
 
 /* A lexeme: its place, its length, and the id of its rule. */

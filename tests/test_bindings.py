@@ -115,7 +115,7 @@ class Bindings(unittest.TestCase):
 
     def test_python_replays_cases(self):
         came = run_well([sys.executable, "-m", "support.c_replay"], cwd=f"{programs.TOP}/tests", environment=python_environment())
-        self.assertRegex(came.out, r"\A\d+ cases, 175 left out, 0 differences\n\Z")
+        self.assertRegex(came.out, r"\A\d+ cases, 110 left out, 0 differences\n\Z")
 
     def test_python_prints_tokens(self):
         self.check_tokens([sys.executable, "-m", "lrlex"], python_environment())

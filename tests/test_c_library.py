@@ -4,7 +4,7 @@ import os
 import re
 import unittest
 
-from support import c_library, programs
+from support import c_library, fuzzing, programs
 
 FIRST = """1:1 ID abc
 1:5 INT 123
@@ -31,6 +31,10 @@ a.l:5:1: Invalid regular expression: unclosed group
 rule 0: A, id 0, bytes 16 to 17
 state 0: INITIAL
 state 1: STRING, exclusive
+no rule has the name WORD
+rule 0 has no id
+1:1 ID abc
+stopped at 4 in state 0
 0+3:1 4+3:0, end 7
 0+3:1 3+3:0, end 6
 0+3:1 3+3:0, end 7, stopped
@@ -44,6 +48,16 @@ piece 6+1 of rule 2
 NEEDED = {"malloc", "realloc", "free", "memcpy", "memmove", "memset", "memcmp"}
 
 WRAPPED = "-Wl,--wrap=malloc,--wrap=realloc,--wrap=free"
+
+# Programs in C and C++, with their arguments.
+TEXT = [f"{programs.TOP}/rules/c.l", f"{programs.TOP}/examples/sorted.c"]
+SHOWN = [
+    (c_library.of_c, "tests/c_library/first.c"),
+    (c_library.of_c, "tests/c_library/misuse.c"),
+    (c_library.of_c, "bindings/c/tokens.c", *TEXT),
+    (c_library.of_cpp, "bindings/cpp/tokens.cpp", *TEXT),
+    (c_library.of_cpp, "bindings/cpp/tests/lexing.cpp"),
+]
 
 # What a user's program is, to be compiled by what pkg-config says.
 INCLUDED = "#include <lrlex.h>\nint main(void) { lrlex_definition d = {0}; lrlex_free(&d); return d.hidden != 0; }\n"
@@ -85,12 +99,23 @@ class CLibrary(unittest.TestCase):
 
     def test_no_access_is_wrong_and_no_block_lost(self):
         c_library.need("valgrind")
-        for name in ["first", "misuse"]:
-            with self.subTest(program=name):
-                path = c_library.of_c(f"tests/c_library/{name}.c")
-                words = ["valgrind", "--quiet", "--leak-check=full", "--error-exitcode=9", path]
+        for make, source, *given in SHOWN:
+            with self.subTest(program=source):
+                words = ["valgrind", "--quiet", "--leak-check=full", "--error-exitcode=9", make(source), *given]
                 came = programs.run(words, timeout=600)
                 self.assertEqual((came.status, came.err), (0, ""))
+
+    def test_the_sanitizers_find_nothing(self):
+        c_library.need_sanitizers()
+        for make, source, *given in SHOWN:
+            with self.subTest(program=source):
+                came = programs.run([make(source, *c_library.SANITIZED), *given], timeout=600)
+                self.assertEqual((came.status, came.err), (0, ""))
+
+    def test_laws_on_mutated_cases(self):
+        came = programs.run([*fuzzing.program(), "3"], timeout=600)
+        self.assertEqual((came.status, came.err), (0, ""), came.out)
+        self.assertRegex(came.out, r"\A[1-9]\d* texts: .*: nothing found\n\Z")
 
     def test_the_header_alone_is_c99_and_cpp11(self):
         for compiler, *words in [["gcc", "-std=c99", "-x", "c"], ["g++", "-std=c++11", "-x", "c++"]]:

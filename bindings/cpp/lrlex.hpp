@@ -14,7 +14,7 @@
 
 #include <cstddef>
 #include <cstdint>
-#include <initializer_list>
+#include <iterator>
 #include <memory>
 #include <new>
 #include <optional>
@@ -66,6 +66,25 @@ private:
     std::vector<Fault> faults_;
 };
 
+namespace detail {
+
+/// A buffer of tokens or pieces. It grows, and keeps nothing of what was in it then.
+template <class Row> struct Rows {
+    std::unique_ptr<Row[]> rows;
+    std::size_t room = 0;
+
+    Row *with_room(std::size_t wanted) {
+        if (!rows || room < wanted) {
+            rows.reset();
+            rows.reset(new Row[wanted]);
+            room = wanted;
+        }
+        return rows.get();
+    }
+};
+
+} // namespace detail
+
 /// A token: its text, which is part of the text that was lexed, where that begins, and the id of its rule.
 struct Token {
     std::string_view text;
@@ -80,14 +99,78 @@ struct Stop {
     std::optional<std::size_t> state;
 };
 
-/// The tokens of a text, in order, and where lexing stopped if that wasn't the text's end.
-struct Tokens : std::vector<Token> {
+/// The tokens of a text, in order, and where lexing stopped if that wasn't the text's end. They view the text, which has to outlive them.
+class Tokens {
+public:
+    /// Goes over the tokens. Each is made as it is asked for.
+    class iterator {
+    public:
+        using iterator_category = std::input_iterator_tag;
+        using value_type = Token;
+        using difference_type = std::ptrdiff_t;
+        using pointer = const Token *;
+        using reference = Token;
+        iterator(std::string_view text, const lrlex_token *at) noexcept : text_(text), at_(at) {}
+        Token operator*() const noexcept { return {std::string_view(text_.data() + at_->start, at_->len), at_->start, at_->id}; }
+        iterator &operator++() noexcept { ++at_; return *this; }
+        iterator operator++(int) noexcept { iterator before = *this; ++at_; return before; }
+        friend bool operator==(const iterator &one, const iterator &other) noexcept { return one.at_ == other.at_; }
+        friend bool operator!=(const iterator &one, const iterator &other) noexcept { return one.at_ != other.at_; }
+
+    private:
+        std::string_view text_;
+        const lrlex_token *at_;
+    };
+
+    Tokens() = default;
+
+    std::size_t size() const noexcept { return size_; }
+    bool empty() const noexcept { return size_ == 0; }
+    iterator begin() const noexcept { return {text_, rows_.rows.get()}; }
+    iterator end() const noexcept { return {text_, rows_.rows.get() + size_}; }
+    /// The token of this number, from 0, below `size()`.
+    Token operator[](std::size_t at) const noexcept { return *iterator(text_, rows_.rows.get() + at); }
+
     std::optional<Stop> stop;
+
+private:
+    friend class Definition;
+    friend class Document;
+    std::string_view text_;
+    detail::Rows<lrlex_token> rows_;
+    std::size_t size_ = 0;
 };
 
 /// The pieces of a text as the rules cut it, also those of rules without a name, and where lexing stopped.
-struct Pieces : std::vector<lrlex_piece> {
+class Pieces {
+public:
+    Pieces() = default;
+
+    std::size_t size() const noexcept { return size_; }
+    bool empty() const noexcept { return size_ == 0; }
+    const lrlex_piece *begin() const noexcept { return rows_.rows.get(); }
+    const lrlex_piece *end() const noexcept { return rows_.rows.get() + size_; }
+    /// The piece of this number, from 0, below `size()`.
+    const lrlex_piece &operator[](std::size_t at) const noexcept { return rows_.rows[at]; }
+
     std::optional<Stop> stop;
+
+private:
+    friend class Definition;
+    friend class Document;
+    detail::Rows<lrlex_piece> rows_;
+    std::size_t size_ = 0;
+};
+
+/// An id for the rules of a name.
+struct NamedId {
+    std::string_view name;
+    std::uint32_t id;
+};
+
+/// The names with an id that no rule has, and the names of rules that have no id.
+struct Unmatched {
+    std::vector<std::string> missing, unused;
 };
 
 /// The flags and limits of a rule file, as of lrlex_options. Options().on(LRLEX_CASE_INSENSITIVE).off(LRLEX_UNICODE)
@@ -131,6 +214,7 @@ inline void check(int status) {
     case LRLEX_NOMEM: throw std::bad_alloc();
     case LRLEX_NOT_UTF8: throw Error("the text isn't UTF-8", status);
     case LRLEX_DOES_NOT_FIT: throw Error("the edit doesn't fit the text", status);
+    case LRLEX_SHARED: throw Error("the definition is that of a document too", status);
     default: throw Error("lrlex status " + std::to_string(status), status);
     }
 }
@@ -153,31 +237,56 @@ template <class Call> std::string text_by(Call call) {
 template <class Handle> class Owner {
 public:
     Owner() = default;
-    Owner(Owner &&other) noexcept : handle_(std::exchange(other.handle_, Handle{})), density_(other.density_) {}
+    Owner(Owner &&other) noexcept : handle_(std::exchange(other.handle_, Handle{})) {}
     Owner &operator=(Owner &&other) noexcept {
         std::swap(handle_, other.handle_);
-        std::swap(density_, other.density_);
         return *this;
     }
     ~Owner() { lrlex_free(&handle_); }
     Handle *get() const noexcept { return &handle_; }
 
-    /// The tokens or pieces that a call writes into a buffer, of a text of this length. Where there are more than there is room for,
-    /// the call is made twice.
-    template <class Row, class Call> std::unique_ptr<Row[]> rows_by(std::size_t length, lrlex_lexed &lexed, Call call) const {
-        for (std::size_t room = (length / 1024 + 1) * density_;;) {
-            std::unique_ptr<Row[]> rows(new Row[room]);
-            check(call(rows.get(), room, &lexed));
-            if (lexed.count <= room) return rows;
-            room = lexed.count;
-            density_ = room / (length / 1024 + 1) + 1;
+private:
+    mutable Handle handle_{};
+};
+
+/// Has a call write tokens or pieces into a buffer. Where there are more than there is room for, the call is made twice.
+template <class Row, class Call> void fill(Rows<Row> &rows, std::size_t room, lrlex_lexed &lexed, Call call) {
+    for (;; room = lexed.count) {
+        Row *out = rows.with_room(room);
+        check(call(out, rows.room, &lexed));
+        if (lexed.count <= rows.room) return;
+    }
+}
+
+/// How many tokens or pieces 1,024 bytes have: the most that a text had, or 0 before the first.
+class Density {
+public:
+    /// Has a call write the tokens or pieces of a text, for which there is room at once unless the text is denser by a quarter than
+    /// each before it. `call` takes the text too. Of the first text the front is lexed to see how many there may be.
+    template <class Row, class Call> void fill(Rows<Row> &rows, std::string_view text, lrlex_lexed &lexed, Call call) {
+        std::size_t room = text.size();
+        if (room > sample && room > rows.room) {
+            if (!most_) {
+                std::size_t end = sample;
+                while (end > sample - 4 && (text[end] & 0xc0) == 0x80) end--;
+                Row none[1];
+                check(call(text.substr(0, end), none, 0, &lexed));
+                see(lexed);
+            }
+            const std::size_t likely = (room / 1024 + 1) * (most_ * 5 / 4 + 1);
+            if (likely < room) room = likely;
         }
+        detail::fill(rows, room, lexed, [&](Row *out, std::size_t cap, lrlex_lexed *how) { return call(text, out, cap, how); });
+        see(lexed);
     }
 
 private:
-    mutable Handle handle_{};
-    /// About how many tokens or pieces 1,024 bytes have: a quarter, or what the densest text had.
-    mutable std::size_t density_ = 256;
+    static constexpr std::size_t sample = 8192;
+    void see(const lrlex_lexed &lexed) {
+        const std::size_t here = lexed.count * 1024 / (lexed.end + 1) + 1;
+        if (most_ < here) most_ = here;
+    }
+    std::size_t most_ = 0;
 };
 
 /// Where lexing of the text stopped, if it did.
@@ -186,29 +295,6 @@ inline std::optional<Stop> stop(std::string_view text, const lrlex_lexed &lexed)
     lrlex_place place;
     check(lrlex_places(bytes(text), text.size(), &lexed.end, 1, &place, 1));
     return Stop{lexed.end, place.line, place.column, lexed.unmatched ? std::optional<std::size_t>(lexed.state) : std::nullopt};
-}
-
-/// The tokens that a call writes into a buffer, of a text that it has lexed.
-template <class Handle, class Call> Tokens tokens_by(const Owner<Handle> &owner, std::string_view text, Call call) {
-    lrlex_lexed lexed;
-    const auto rows = owner.template rows_by<lrlex_token>(text.size(), lexed, call);
-    Tokens tokens;
-    tokens.reserve(lexed.count);
-    for (std::size_t at = 0; at < lexed.count; at++)
-        tokens.push_back({text.substr(rows[at].start, rows[at].len), rows[at].start, rows[at].id});
-    tokens.stop = stop(text, lexed);
-    return tokens;
-}
-
-/// The pieces that a call writes into a buffer, of a text that it has cut.
-template <class Handle, class Call>
-Pieces pieces_by(const Owner<Handle> &owner, std::string_view text, std::size_t length, Call call) {
-    lrlex_lexed lexed;
-    const auto rows = owner.template rows_by<lrlex_piece>(length, lexed, call);
-    Pieces pieces;
-    pieces.assign(rows.get(), rows.get() + lexed.count);
-    pieces.stop = stop(text, lexed);
-    return pieces;
 }
 
 } // namespace detail
@@ -223,18 +309,35 @@ public:
         detail::check(status);
     }
 
-    /// The tokens of a text. They view the text, which has to outlive them.
+    /// The tokens of a text.
     Tokens lex(std::string_view text) const {
-        return detail::tokens_by(owner_, text, [&](lrlex_token *out, std::size_t room, lrlex_lexed *lexed) {
-            return lrlex_lex(owner_.get(), detail::bytes(text), text.size(), out, room, lexed);
+        Tokens tokens;
+        lex(text, tokens);
+        return tokens;
+    }
+
+    /// The tokens of a text in the place of others, whose memory they take: it is as quick as lrlex_lex where texts are many or long.
+    void lex(std::string_view text, Tokens &tokens) const {
+        lrlex_lexed lexed;
+        tokens.size_ = 0;
+        tokens_.fill(tokens.rows_, text, lexed, [&](std::string_view part, lrlex_token *out, std::size_t room, lrlex_lexed *how) {
+            return lrlex_lex(owner_.get(), detail::bytes(part), part.size(), out, room, how);
         });
+        tokens.stop = detail::stop(text, lexed);
+        tokens.text_ = text;
+        tokens.size_ = lexed.count;
     }
 
     /// The whole text as the rules cut it, up to where lexing stops.
     Pieces pieces(std::string_view text) const {
-        return detail::pieces_by(owner_, text, text.size(), [&](lrlex_piece *out, std::size_t room, lrlex_lexed *lexed) {
-            return lrlex_pieces(owner_.get(), detail::bytes(text), text.size(), out, room, lexed);
+        lrlex_lexed lexed;
+        Pieces pieces;
+        pieces_.fill(pieces.rows_, text, lexed, [&](std::string_view part, lrlex_piece *out, std::size_t room, lrlex_lexed *how) {
+            return lrlex_pieces(owner_.get(), detail::bytes(part), part.size(), out, room, how);
         });
+        pieces.stop = detail::stop(text, lexed);
+        pieces.size_ = lexed.count;
+        return pieces;
     }
 
     /// The name of the first rule that has a name and this id; empty if there is none.
@@ -261,6 +364,25 @@ public:
         });
     }
 
+    /// Gives each named rule the id of its name here, or none, as for a parser whose grammar has the ids. Lexing stops where a rule
+    /// matches that has a name and no id. Throws Error if a document has the definition too. On an exception it is as it was.
+    Unmatched set_rule_ids(const std::vector<NamedId> &ids) {
+        std::vector<lrlex_named_id> given;
+        for (const NamedId &it : ids) given.push_back({detail::bytes(it.name), it.name.size(), it.id});
+        const std::unique_ptr<bool[]> missing(new bool[ids.size() + 1]());
+        given.push_back({});
+        detail::check(lrlex_definition_set_rule_ids(owner_.get(), given.data(), ids.size(), missing.get(), ids.size()));
+        Unmatched found;
+        for (std::size_t at = 0; at < ids.size(); at++)
+            if (missing[at]) found.missing.emplace_back(ids[at].name);
+        for (std::size_t at = 0; at < rule_count(); at++) {
+            lrlex_rule rule;
+            detail::check(lrlex_rule_at(owner_.get(), at, &rule));
+            if (rule.has_name && !rule.has_id) found.unused.push_back(rule_name(at));
+        }
+        return found;
+    }
+
     /// The handle, for calls of lrlex.h.
     lrlex_definition *get() const noexcept { return owner_.get(); }
 
@@ -282,6 +404,7 @@ private:
     }
 
     detail::Owner<lrlex_definition> owner_;
+    mutable detail::Density tokens_, pieces_;
 };
 
 /// A text that is edited. An edit lexes again only what it changes. The definition may go before it.
@@ -303,17 +426,29 @@ public:
 
     /// The tokens of the text as it is now. They view the text, up to the next edit.
     Tokens lex() const {
-        return detail::tokens_by(owner_, text_, [&](lrlex_token *out, std::size_t room, lrlex_lexed *lexed) {
-            return lrlex_document_tokens(owner_.get(), 0, out, room, lexed);
+        // a document is lexed, so the first call costs nothing: it says how many there are
+        lrlex_lexed lexed;
+        Tokens tokens;
+        detail::fill(tokens.rows_, 0, lexed, [&](lrlex_token *out, std::size_t room, lrlex_lexed *how) {
+            return lrlex_document_tokens(owner_.get(), 0, out, room, how);
         });
+        tokens.stop = detail::stop(text_, lexed);
+        tokens.text_ = text_;
+        tokens.size_ = lexed.count;
+        return tokens;
     }
 
     /// The pieces that have a byte from `from` up to `to`, such as those of the lines that an editor shows. Each is whole.
     Pieces pieces(std::size_t from, std::size_t to) const {
         const std::size_t length = from < to ? (to < text_.size() ? to : text_.size()) : 0;
-        return detail::pieces_by(owner_, text_, length, [&](lrlex_piece *out, std::size_t room, lrlex_lexed *lexed) {
-            return lrlex_document_pieces_in(owner_.get(), from, to, out, room, lexed);
+        lrlex_lexed lexed;
+        Pieces pieces;
+        detail::fill(pieces.rows_, length, lexed, [&](lrlex_piece *out, std::size_t room, lrlex_lexed *how) {
+            return lrlex_document_pieces_in(owner_.get(), from, to, out, room, how);
         });
+        pieces.stop = detail::stop(text_, lexed);
+        pieces.size_ = lexed.count;
+        return pieces;
     }
 
     /// Line and column of a byte, from 1; the column counts characters.

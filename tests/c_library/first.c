@@ -79,6 +79,29 @@ static void names(void) {
     lrlex_free(&d);
 }
 
+/* Ids that are those of a grammar. */
+static void ids(void) {
+    const lrlex_named_id given[] = {{bytes("ID"), 2, 70}, {bytes("WORD"), 4, 8}, {bytes("ID"), 2, 71}};
+    const char *text = "abc 123";
+    lrlex_definition d = LRLEX_EMPTY;
+    lrlex_token tokens[8];
+    lrlex_lexed lexed;
+    bool missing[3];
+    CHECK(define(&d, WORDS) == LRLEX_OK);
+    CHECK(lrlex_definition_set_rule_ids(&d, given, 3, missing, 3) == LRLEX_OK);
+    for (size_t i = 0; i < 3; i++)
+        if (missing[i]) printf("no rule has the name %.*s\n", (int)given[i].name_len, (const char *)given[i].name);
+    for (size_t i = 0; i < lrlex_rule_count(&d); i++) {
+        lrlex_rule rule;
+        CHECK(lrlex_rule_at(&d, i, &rule) == LRLEX_OK);
+        if (rule.has_name && !rule.has_id) printf("rule %zu has no id\n", i);
+    }
+    CHECK(lrlex_lex(&d, bytes(text), strlen(text), tokens, 8, &lexed) == LRLEX_OK);
+    show(&d, text, tokens, &lexed);
+    CHECK(lexed.stopped && !lexed.unmatched && tokens[0].id == 71);
+    lrlex_free(&d);
+}
+
 static void show_document(lrlex_document *document) {
     lrlex_token tokens[16];
     lrlex_lexed lexed;
@@ -127,6 +150,7 @@ int main(void) {
     lex("");
     refuse("%x A A\n%%\na+b 'A'\nb 'A'\nc( 'C'\n");
     names();
+    ids();
     edit();
     CHECK(lrlex_version() == LRLEX_VERSION);
     return failed;

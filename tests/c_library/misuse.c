@@ -9,6 +9,8 @@ static lrlex_fault_span span;
 static lrlex_rule rule;
 static lrlex_state state;
 static lrlex_place place;
+static lrlex_named_id named;
+static bool missing[2];
 static uint8_t text[8];
 static size_t len;
 
@@ -24,6 +26,7 @@ static void none(lrlex_definition *d) {
     CHECK(lrlex_rule_at(d, 0, &rule) == LRLEX_MISUSE);
     CHECK(lrlex_rule_name(d, 0, text, sizeof text, &len) == LRLEX_MISUSE);
     CHECK(lrlex_name(d, 0, text, sizeof text, &len) == LRLEX_MISUSE);
+    CHECK(lrlex_definition_set_rule_ids(d, &named, 1, missing, 1) == LRLEX_MISUSE);
     CHECK(lrlex_state_at(d, 0, &state) == LRLEX_MISUSE);
     CHECK(lrlex_state_name(d, 0, text, sizeof text, &len) == LRLEX_MISUSE);
     CHECK(lrlex_definition_share(d, &other) == LRLEX_MISUSE);
@@ -89,9 +92,9 @@ static void handles(void) {
 
 static void texts(void) {
     static const char *const bad[] = {"\xff", "a\x80", "\xc3", "\xed\xa0\x80", "\xf4\x90\x80\x80"};
-    lrlex_definition d = LRLEX_EMPTY, other = LRLEX_EMPTY;
+    lrlex_definition d = LRLEX_EMPTY, lone = LRLEX_EMPTY, other = LRLEX_EMPTY;
     lrlex_document document = LRLEX_EMPTY;
-    CHECK(define(&d, WORDS) == LRLEX_OK);
+    CHECK(define(&d, WORDS) == LRLEX_OK && define(&lone, WORDS) == LRLEX_OK);
     CHECK(lrlex_document_new(&d, &document, bytes("ab"), 2) == LRLEX_OK);
     for (size_t i = 0; i < sizeof bad / sizeof *bad; i++) {
         const size_t size = strlen(bad[i]), at = 0;
@@ -102,6 +105,9 @@ static void texts(void) {
         CHECK(lrlex_stop_report(&d, bytes("f"), 1, bytes(bad[i]), size, text, sizeof text, &len) == LRLEX_NOT_UTF8);
         CHECK(lrlex_stop_report(&d, bytes(bad[i]), size, bytes("?"), 1, text, sizeof text, &len) == LRLEX_NOT_UTF8);
         CHECK(lrlex_places(bytes(bad[i]), size, &at, 1, &place, 1) == LRLEX_NOT_UTF8);
+        const lrlex_named_id names[] = {{bytes("ID"), 2, 7}, {bytes(bad[i]), size, 8}};
+        CHECK(lrlex_definition_set_rule_ids(&lone, names, 2, missing, 2) == LRLEX_NOT_UTF8);
+        CHECK(lrlex_rule_at(&lone, 1, &rule) == LRLEX_OK && rule.has_id && rule.id == 1);
         CHECK(lrlex_document_new(&d, &made, bytes(bad[i]), size) == LRLEX_NOT_UTF8 && !made.hidden);
         CHECK(lrlex_document_edit(&document, 0, 0, bytes(bad[i]), size) == LRLEX_NOT_UTF8);
     }
@@ -126,6 +132,7 @@ static void texts(void) {
     CHECK(lrlex_stop_report(&d, bytes("f"), 1, bytes("a"), 1, text, sizeof text, &len) == LRLEX_NONE);
     lrlex_free(&document);
     lrlex_free(&d);
+    lrlex_free(&lone);
     CHECK(!other.hidden);
 }
 
@@ -148,8 +155,34 @@ static void buffers(void) {
     lrlex_free(&d);
 }
 
+/* A definition with another owner keeps its ids. */
+static void owners(void) {
+    lrlex_definition d = LRLEX_EMPTY, other = LRLEX_EMPTY;
+    lrlex_document document = LRLEX_EMPTY;
+    named = (lrlex_named_id){bytes("ID"), 2, 7};
+    CHECK(define(&d, WORDS) == LRLEX_OK);
+    CHECK(lrlex_definition_share(&d, &other) == LRLEX_OK);
+    CHECK(lrlex_definition_set_rule_ids(&d, &named, 1, missing, 1) == LRLEX_SHARED);
+    CHECK(lrlex_definition_set_rule_ids(&other, &named, 1, missing, 1) == LRLEX_SHARED);
+    lrlex_free(&other);
+    CHECK(lrlex_document_new(&d, &document, bytes("a"), 1) == LRLEX_OK);
+    CHECK(lrlex_definition_set_rule_ids(&d, &named, 1, missing, 1) == LRLEX_SHARED);
+    CHECK(lrlex_rule_at(&d, 1, &rule) == LRLEX_OK && rule.id == 1);
+    lrlex_free(&document);
+    missing[0] = true, missing[1] = true;
+    CHECK(lrlex_definition_set_rule_ids(&d, &named, 1, missing, 2) == LRLEX_OK && !missing[0] && missing[1]);
+    CHECK(lrlex_rule_at(&d, 1, &rule) == LRLEX_OK && rule.id == 7);
+    CHECK(lrlex_rule_at(&d, 0, &rule) == LRLEX_OK && !rule.has_id && rule.has_name);
+    missing[0] = true;
+    CHECK(lrlex_definition_set_rule_ids(&d, &named, 0, missing, 2) == LRLEX_OK && missing[0]);
+    CHECK(lrlex_definition_set_rule_ids(&d, &named, 1, missing, 0) == LRLEX_OK && missing[0]);
+    CHECK(lrlex_rule_at(&d, 1, &rule) == LRLEX_OK && rule.id == 7);
+    lrlex_free(&d);
+}
+
 int main(void) {
     handles();
+    owners();
     texts();
     buffers();
     return failed;

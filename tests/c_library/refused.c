@@ -39,7 +39,7 @@ static const char RULES[] = "%x S\n%%\n[0-9]+ 'INT'\n[a-z]+ 'ID'\n[ ] ;\n\" <+S>
 static const char FAULTY[] = "%x A A\n%%\na+b 'A'\nb 'A'\nc( 'C'\n";
 static const char TEXT[] = "ab 12 \"x y\" c", EDITED[] = "ab \" q \"x y\" c";
 
-static lrlex_definition d, shared, refused;
+static lrlex_definition d, shared, refused, alone;
 static lrlex_document document;
 
 /* Whether the document is of this text: whether its tokens are those of it. */
@@ -68,6 +68,14 @@ static int cut(void) {
     lrlex_lexed lexed;
     return lrlex_pieces(&d, bytes(TEXT), strlen(TEXT), pieces, 32, &lexed);
 }
+
+static int name_ids(void) {
+    const lrlex_named_id ids[] = {{bytes("ID"), 2, 1}, {bytes("TEXT"), 4, 2}, {bytes("NUMBER"), 6, 3}, {bytes("INT"), 3, 0}};
+    bool missing[4];
+    return lrlex_definition_set_rule_ids(&alone, ids, 4, missing, 4);
+}
+
+static int make_alone(void) { return define(&alone, RULES); }
 
 static int share(void) { return lrlex_definition_share(&d, &shared); }
 
@@ -102,6 +110,38 @@ static int cut_part(void) {
     return lrlex_document_pieces_in(&document, 3, 9, pieces, 32, &lexed);
 }
 
+/* Calls that ask for no memory. */
+static int look(void) {
+    lrlex_fault fault;
+    lrlex_fault_span span;
+    lrlex_rule rule;
+    lrlex_state state;
+    lrlex_token tokens[32];
+    lrlex_lexed lexed;
+    lrlex_place place;
+    const int answers[] = {
+        lrlex_fault_at(&refused, 0, &fault),
+        lrlex_fault_span_at(&refused, 0, 0, &span),
+        lrlex_rule_at(&d, 0, &rule),
+        lrlex_rule_name(&d, 0, written, sizeof written, &len),
+        lrlex_name(&d, 0, written, sizeof written, &len),
+        lrlex_state_at(&d, 0, &state),
+        lrlex_state_name(&d, 0, written, sizeof written, &len),
+        lrlex_document_tokens(&document, 0, tokens, 32, &lexed),
+        lrlex_document_len(&document, &len),
+        lrlex_document_text(&document, 0, 1, written, sizeof written, &len),
+        lrlex_document_place(&document, 1, &place),
+        lrlex_document_position(&document, 1, &place),
+        lrlex_fault_count(&refused) == 0,
+        lrlex_rule_count(&d) == 0,
+        lrlex_state_count(&d) == 0,
+        lrlex_version() == 0,
+    };
+    for (size_t i = 0; i < sizeof answers / sizeof *answers; i++)
+        if (answers[i]) return answers[i];
+    return LRLEX_OK;
+}
+
 static const struct {
     const char *name;
     int (*call)(void);
@@ -114,12 +154,15 @@ static const struct {
     {"lrlex_lex", lex, LRLEX_OK},
     {"lrlex_pieces", cut, LRLEX_OK},
     {"lrlex_stop_report", report_stop, LRLEX_OK},
+    {"lrlex_definition_new, for ids", make_alone, LRLEX_OK},
+    {"lrlex_definition_set_rule_ids", name_ids, LRLEX_OK},
     {"lrlex_definition_share", share, LRLEX_OK},
     {"lrlex_document_new", open_document, LRLEX_OK},
     {"lrlex_document_edit", edit, LRLEX_OK},
     {"lrlex_document_pieces", cut_document, LRLEX_OK},
     {"lrlex_document_pieces_in", cut_part, LRLEX_OK},
     {"lrlex_places", find_places, LRLEX_OK},
+    {"calls that ask for no memory", look, LRLEX_OK},
 };
 
 int main(void) {
@@ -132,6 +175,7 @@ int main(void) {
             left = -1;
             if (!was_refused) {
                 CHECK(status == CALLS[k].answer);
+                CHECK((request == 0) == (CALLS[k].call == look));
                 break;
             }
             requests++, reported += status == LRLEX_NOMEM;
@@ -148,7 +192,7 @@ int main(void) {
         }
     }
     CHECK(is_of(EDITED));
-    lrlex_free(&d), lrlex_free(&shared), lrlex_free(&refused), lrlex_free(&document);
+    lrlex_free(&d), lrlex_free(&alone), lrlex_free(&shared), lrlex_free(&refused), lrlex_free(&document);
     CHECK(blocks == 0 && reported > 0);
     printf("%ld requests refused, %ld reported, %ld blocks left\n", requests, reported, blocks);
     return failed;

@@ -15,6 +15,9 @@ from support import programs
 
 WARNINGS = ["-Wall", "-Wextra", "-Wpedantic", "-Wconversion", "-Wshadow", "-Werror"]
 
+# What has a program look for accesses and steps that C leaves undefined.
+SANITIZED = ["-g", "-fsanitize=address,undefined", "-fno-sanitize-recover=undefined"]
+
 HEADERS = ["-I", f"{programs.TOP}/include", "-I", f"{programs.TOP}/bindings/cpp"]
 
 
@@ -30,6 +33,22 @@ def need(*tools):
             raise unittest.SkipTest(f"there is no {tool}")
     if not os.path.isfile(archive()):
         raise unittest.SkipTest("the C library isn't built: ./dev build lrlex_c")
+
+
+@functools.lru_cache(maxsize=None)
+def lacks_sanitizers(compiler):
+    """Whether the compiler has no libraries for the sanitizers."""
+    path = f"{programs.scratch().name}/sanitized"
+    programs.fill(programs.scratch().name, {"sanitized.c": "int main(void) { return 0; }\n"})
+    return programs.run([compiler, *SANITIZED, f"{path}.c", "-o", path]).status != 0
+
+
+def need_sanitizers():
+    """Skips the test where a compiler has no sanitizers."""
+    for compiler in ["gcc", "g++"]:
+        need(compiler)
+        if lacks_sanitizers(compiler):
+            raise unittest.SkipTest(f"{compiler} has no sanitizers here")
 
 
 @functools.lru_cache(maxsize=None)

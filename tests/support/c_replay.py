@@ -1,10 +1,10 @@
 """Replays cases of crates/lrlex_replay/stdin through the C library: python3 -m support.c_replay, in tests/.
 
 The package lrlex of bindings/python and LRLEX_LIBRARY say how the library is called. A case is compared in its faults with all spans,
-rules, start states, items, places, and the count of its pieces; then a document that becomes its input by edits is compared too.
+rules, start states, ids from names, items, places, and the count of its pieces; then a document that becomes its input by edits is compared too.
 
-Cases of definitions from parts, of ids from names, of the most rules that smaller ids allow, and of limits of 0 can't be said in C:
-they are counted as left out.
+Cases of definitions from parts, of the most rules that smaller ids allow, and of limits of 0 can't be said in C: they are counted as
+left out.
 Each difference is printed; the last line is 'N cases, K left out, D differences'. The status is 1 if there are any.
 """
 
@@ -31,7 +31,7 @@ def is_left_out(case):
     """Whether the case can't be said in C."""
     no_limit = 0 in (case["flags"].get("nest_limit"), case["flags"].get("size_limit"))
     too_many = any(it["kind"] == "TooManyRules" for it in case["expected"].get("faults", []))
-    return no_limit or "from_rules" in case or "ids" in case or case["storage"] != "u32" and too_many
+    return no_limit or "from_rules" in case or case["storage"] != "u32" and too_many
 
 
 def options_of(flags):
@@ -64,6 +64,17 @@ def faults_of(handle):
         spans = each(it.spans, lambda *to: LIB.lrlex_fault_span_at(handle, number, *to), _c.FaultSpan)
         found.append({"kind": KINDS[it.kind], "spans": [[span.start, span.end] for span in spans]})
     return found
+
+
+def set_ids(handle, ids):
+    """Gives the rules these ids by their names. Returns the names that no rule has, and the names of rules that have no id, with places."""
+    names = [name.encode() for name in ids]
+    given = (_c.NamedId * (len(names) + 1))(*[(name, len(name), it) for name, it in zip(names, ids.values())])
+    missing = (ctypes.c_bool * (len(names) + 1))()
+    _c.check(LIB.lrlex_definition_set_rule_ids(handle, given, len(names), missing, len(names)))
+    lacking = sorted(name for name, is_missing in zip(ids, missing) if is_missing)
+    unused = [[name, span] for it, name, span in rules_of(handle) if name is not None and it is None]
+    return [lacking or None, sorted(unused, key=lambda it: it[1]) or None]
 
 
 def rules_of(handle):
@@ -125,16 +136,18 @@ def document_items(handle, text):
 
 def replay(case):
     """What comes of the case, and what must come of it."""
-    handle, rules, data = _c.Handle(), case["rules"].encode(), case["input"].encode()
+    handle, text, data = _c.Handle(), case["rules"].encode(), case["input"].encode()
     wanted = case["expected"]
     try:
-        status = LIB.lrlex_definition_new(byref(handle), rules, len(rules), byref(options_of(case["flags"])))
+        status = LIB.lrlex_definition_new(byref(handle), text, len(text), byref(options_of(case["flags"])))
         if status == _c.REFUSED:
             return {"faults": faults_of(byref(handle))}, {"faults": wanted.get("faults")}
         _c.check(status)
+        named = {"set_ids": set_ids(byref(handle), case["ids"])} if "ids" in case else {}
         items = items_of(lambda *out: LIB.lrlex_lex(byref(handle), data, len(data), *out), len(data))
         pieces, _ = rows_of(lambda *out: LIB.lrlex_pieces(byref(handle), data, len(data), *out), _c.Piece, len(data))
         got = {
+            **named,
             "states": states_of(byref(handle)),
             "rules": rules_of(byref(handle)),
             "items": items,
@@ -142,8 +155,8 @@ def replay(case):
             "tiles": len(pieces),
             "edited": document_items(byref(handle), case["input"]),
         }
-        named = [[it["tok_id"], it["name"], it["name_span"]] for it in wanted.get("rules", [])]
-        return got, {**{key: wanted.get(key) for key in got}, "rules": named, "edited": wanted.get("items")}
+        rules = [[it["tok_id"], it["name"], it["name_span"]] for it in wanted.get("rules", [])]
+        return got, {**{key: wanted.get(key) for key in got}, "rules": rules, "edited": wanted.get("items")}
     finally:
         LIB.lrlex_free(byref(handle))
 

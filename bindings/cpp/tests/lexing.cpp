@@ -5,6 +5,7 @@
 #include <cstdio>
 #include <string>
 #include <utility>
+#include <vector>
 
 namespace {
 
@@ -37,10 +38,45 @@ void tokens_of_a_text() {
     EXPECT(lrlex::Definition("%%\na 'A'\n").lex(std::string(1000, 'a')).size() == 1000);
 }
 
+void a_text_that_grows_denser() {
+    const lrlex::Definition definition(WORDS);
+    std::string text(10000, ' ');
+    for (int at = 0; at < 10000; at++) text += "a1";
+    for (int time = 0; time < 2; time++) {
+        EXPECT(definition.lex(text).size() == 20000);
+        EXPECT(definition.pieces(text).size() == 30000);
+    }
+    const lrlex::Document document(definition, text);
+    lrlex::Tokens tokens = document.lex();
+    definition.lex("a", tokens);
+    EXPECT(tokens.size() == 1 && tokens[0].text == "a" && !tokens.stop);
+    definition.lex(text, tokens);
+    EXPECT(tokens.size() == 20000 && tokens[19999].text == "1" && tokens[19999].start == 29999);
+}
+
 void lexing_stops_where_no_rule_matches() {
     const lrlex::Tokens tokens = lrlex::Definition(WORDS).lex("ab\n?");
     EXPECT(tokens.size() == 1 && tokens.stop);
     EXPECT(tokens.stop->start == 2 && tokens.stop->line == 1 && tokens.stop->column == 3 && tokens.stop->state == 0U);
+}
+
+void ids_by_names() {
+    lrlex::Definition definition(WORDS);
+    const lrlex::Unmatched found = definition.set_rule_ids({{"ID", 70}, {"WORD", 8}});
+    EXPECT(found.missing == std::vector<std::string>{"WORD"} && found.unused == std::vector<std::string>{"INT"});
+    EXPECT(definition.lex("a")[0].id == 70 && definition.name(70) == "ID" && definition.name(0).empty());
+    EXPECT(definition.lex("1").stop && !definition.lex("1").stop->state);
+    {
+        const lrlex::Document document(definition, "a");
+        try {
+            definition.set_rule_ids({});
+            EXPECT(!"it was taken");
+        } catch (const lrlex::Error &error) {
+            EXPECT(error.status() == LRLEX_SHARED);
+        }
+    }
+    EXPECT(definition.set_rule_ids({{"INT", 0}, {"ID", 1}}).unused.empty());
+    EXPECT(definition.set_rule_ids({}).unused.size() == 2);
 }
 
 void a_refused_rule_text() {
@@ -112,7 +148,9 @@ void a_definition_is_moved() {
 
 int main() {
     tokens_of_a_text();
+    a_text_that_grows_denser();
     lexing_stops_where_no_rule_matches();
+    ids_by_names();
     a_refused_rule_text();
     a_text_that_is_not_utf8();
     options_change_what_matches();

@@ -12,8 +12,8 @@ A Document keeps a text through edits, and lexes again only what each changes. O
 A Definition and a Document stay on the thread that made them.
 """
 
-from ._c import Error
+from ._c import Error, SharedError
 from ._lexing import Definition, Document, Fault, LexError, Piece, Place, RulesError, Token
 
-__all__ = ["Definition", "Document", "Error", "Fault", "LexError", "Piece", "Place", "RulesError", "Token"]
+__all__ = ["Definition", "Document", "Error", "Fault", "LexError", "Piece", "Place", "RulesError", "SharedError", "Token"]
 __version__ = "0.1.0"

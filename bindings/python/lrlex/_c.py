@@ -10,7 +10,7 @@ from typing import Callable, Optional
 
 NAME = "liblrlex.so.0"
 
-OK, REFUSED, NOMEM, NOT_UTF8, MISUSE, NONE, DOES_NOT_FIT = range(7)
+OK, REFUSED, NOMEM, NOT_UTF8, MISUSE, NONE, DOES_NOT_FIT, SHARED = range(8)
 
 # The flags by the names of the rule file's settings, each with its bit.
 FLAGS = {
@@ -84,6 +84,12 @@ class Rule(Structure):
     ]
 
 
+class NamedId(Structure):
+    """A name, and the id that rules of this name are to have."""
+
+    _fields_ = [("name", c_char_p), ("name_len", c_size_t), ("id", c_uint32)]
+
+
 class State(Structure):
     """A start state."""
 
@@ -92,6 +98,10 @@ class State(Structure):
 
 class Error(Exception):
     """What this package raises, beside MemoryError for memory that has run out."""
+
+
+class SharedError(Error):
+    """A document has the definition too, so it can't be changed."""
 
 
 HANDLE, SIZE, TEXT = POINTER(Handle), c_size_t, c_char_p
@@ -110,6 +120,7 @@ FUNCTIONS = {
     "lrlex_rule_count": (SIZE, [HANDLE]),
     "lrlex_rule_at": (c_int, [HANDLE, SIZE, POINTER(Rule)]),
     "lrlex_rule_name": (c_int, [HANDLE, SIZE, *WRITTEN]),
+    "lrlex_definition_set_rule_ids": (c_int, [HANDLE, POINTER(NamedId), SIZE, POINTER(c_bool), SIZE]),
     "lrlex_name": (c_int, [HANDLE, c_uint32, *WRITTEN]),
     "lrlex_state_count": (SIZE, [HANDLE]),
     "lrlex_state_at": (c_int, [HANDLE, SIZE, POINTER(State)]),
@@ -156,6 +167,8 @@ def check(status: int) -> None:
     """Raises what a status stands for."""
     if status == NOMEM:
         raise MemoryError
+    if status == SHARED:
+        raise SharedError("a document has the definition too, so it can't be changed")
     if status != OK:
         raise Error(f"the C library answered status {status}")
 

@@ -7,7 +7,7 @@ import struct
 import threading
 import weakref
 from ctypes import byref
-from typing import Any, Callable, Iterable, Iterator, NamedTuple, Optional
+from typing import Any, Callable, Iterable, Iterator, Mapping, NamedTuple, Optional
 
 from . import _c
 from ._c import LIB, Error, check, text_by
@@ -197,6 +197,27 @@ class Definition:
         if token_id not in self._names:
             self._names[token_id] = text_by(LIB.lrlex_name, self._held.handle, token_id) or ""
         return self._names[token_id]
+
+    def set_rule_ids(self, ids: Mapping[str, int]) -> tuple[set[str], set[str]]:
+        """Gives each named rule the id of its name here, or none, as for a parser whose grammar has the ids.
+
+        Returns the names here that no rule has, and the names of rules that have no id now. Lexing stops where such a rule matches.
+        Raises SharedError while there is a document of this definition. An id is below 2 ** 32.
+        """
+        if not all(0 <= it < 1 << 32 for it in ids.values()):
+            raise OverflowError("an id isn't below 2 ** 32")
+        names = [name.encode() for name in ids]
+        given = (_c.NamedId * (len(names) + 1))(*[_c.NamedId(name, len(name), it) for name, it in zip(names, ids.values())])
+        missing = (ctypes.c_bool * (len(names) + 1))()
+        check(LIB.lrlex_definition_set_rule_ids(self._held.handle, given, len(names), missing, len(names)))
+        self._names.clear()
+        unused = {name for rule, name in enumerate(self._rule_names) if name is not None and not self._has_id(rule)}
+        return {name for name, is_missing in zip(ids, missing) if is_missing}, unused
+
+    def _has_id(self, rule: int) -> bool:
+        it = _c.Rule()
+        check(LIB.lrlex_rule_at(self._held.handle, rule, byref(it)))
+        return bool(it.has_id)
 
     def lex(self, text: str) -> Iterator[Token]:
         """The tokens of the text, in order. Where no rule matches it raises LexError, after the tokens before that place."""

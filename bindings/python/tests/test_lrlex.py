@@ -63,6 +63,25 @@ class Tokens(unittest.TestCase):
         self.assertTrue(str(raised.exception).startswith("1:4: Start state already exists, again at 1:6\n3:6: "))
         self.assertTrue(raised.exception.report("words.l").startswith("words.l:1:6: Start state already exists\n1 | %x A A\n"))
 
+    def test_ids_by_names(self):
+        definition = lrlex.Definition(WORDS)
+        self.assertEqual(definition.set_rule_ids({"ID": 70, "WORD": 8}), ({"WORD"}, {"INT"}))
+        self.assertEqual(definition.spans("é"), [(70, 0, 1)])
+        self.assertEqual((definition.name(70), definition.name(0)), ("ID", ""))
+        with self.assertRaises(lrlex.LexError) as raised:
+            definition.spans("1")
+        self.assertIsNone(raised.exception.state)
+        with self.assertRaises(OverflowError):
+            definition.set_rule_ids({"ID": 1 << 32})
+        document = lrlex.Document(definition, "a")
+        with self.assertRaises(lrlex.SharedError):
+            definition.set_rule_ids({})
+        self.assertEqual([it.id for it in document.lex()], [70])
+        del document
+        gc.collect()
+        self.assertEqual(definition.set_rule_ids({"INT": 0, "ID": 1}), (set(), set()))
+        self.assertEqual(definition.spans("a1"), [(1, 0, 1), (0, 1, 2)])
+
     def test_flags(self):
         self.assertEqual(pairs(lrlex.Definition.from_str(WORDS, case_insensitive=True).lex("ABC")), [("ID", "ABC")])
         with self.assertRaises(TypeError):

@@ -9,6 +9,7 @@ pub(crate) const REFUSED: c_int = 1;
 pub(crate) const NOMEM: c_int = 2;
 pub(crate) const NONE: c_int = 5;
 pub(crate) const DOES_NOT_FIT: c_int = 6;
+pub(crate) const SHARED: c_int = 7;
 
 /// A handle of a definition or a document. It owns what it points to, so it has no copy.
 #[repr(C)]
@@ -87,6 +88,25 @@ pub(crate) struct FaultSpan {
     pub(crate) column: usize,
 }
 
+#[repr(C)]
+#[derive(Clone, Copy, Debug, Default)]
+pub(crate) struct Rule {
+    pub(crate) name_start: usize,
+    pub(crate) name_end: usize,
+    pub(crate) name_len: usize,
+    pub(crate) id: u32,
+    pub(crate) has_id: bool,
+    pub(crate) has_name: bool,
+}
+
+#[repr(C)]
+#[derive(Clone, Copy, Debug)]
+pub(crate) struct NamedId {
+    pub(crate) name: *const u8,
+    pub(crate) name_len: usize,
+    pub(crate) id: u32,
+}
+
 unsafe extern "C" {
     pub(crate) fn lrlex_free(handle: *mut Handle);
     pub(crate) fn lrlex_definition_new(
@@ -100,6 +120,14 @@ unsafe extern "C" {
     pub(crate) fn lrlex_fault_span_at(d: *mut Handle, index: usize, span: usize, out: *mut FaultSpan) -> c_int;
     pub(crate) fn lrlex_fault_text(d: *mut Handle, index: usize, out: *mut u8, cap: usize, len: *mut usize) -> c_int;
     pub(crate) fn lrlex_rule_count(d: *mut Handle) -> usize;
+    pub(crate) fn lrlex_rule_at(d: *mut Handle, index: usize, out: *mut Rule) -> c_int;
+    pub(crate) fn lrlex_definition_set_rule_ids(
+        d: *mut Handle,
+        ids: *const NamedId,
+        count: usize,
+        missing: *mut bool,
+        cap: usize,
+    ) -> c_int;
     pub(crate) fn lrlex_rule_name(d: *mut Handle, index: usize, out: *mut u8, cap: usize, len: *mut usize) -> c_int;
     pub(crate) fn lrlex_name(d: *mut Handle, id: u32, out: *mut u8, cap: usize, len: *mut usize) -> c_int;
     pub(crate) fn lrlex_state_count(d: *mut Handle) -> usize;

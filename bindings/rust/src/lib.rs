@@ -19,13 +19,16 @@
 mod ffi;
 
 use std::cell::{Cell, UnsafeCell};
+use std::collections::{HashMap, HashSet};
 use std::error;
 use std::ffi::c_int;
 use std::fmt;
 use std::iter::FusedIterator;
+use std::mem;
 use std::ops::Range;
+use std::ptr::NonNull;
 use std::str::FromStr;
-use std::vec;
+use std::sync::{Arc, Mutex};
 
 /// The flags and limits of a rule file. `None` is the default that the rule file's format gives.
 #[derive(Clone, Debug, Default, PartialEq, Eq)]
@@ -151,6 +154,8 @@ pub enum Error {
     Lex(LexError),
     /// The ends of an edit are past the end of the text, inside a character, or the wrong way round.
     DoesNotFit,
+    /// A document has the definition too, so it can't be changed.
+    Shared,
     /// Memory ran out.
     OutOfMemory,
 }
@@ -166,6 +171,7 @@ impl fmt::Display for Error {
             }
             Error::Lex(error) => error.fmt(f),
             Error::DoesNotFit => f.write_str("The edit doesn't fit the text"),
+            Error::Shared => f.write_str("A document has the definition too"),
             Error::OutOfMemory => f.write_str("Out of memory"),
         }
     }
@@ -185,6 +191,7 @@ fn checked(status: c_int) -> Result<(), Error> {
         ffi::OK => Ok(()),
         ffi::NOMEM => Err(Error::OutOfMemory),
         ffi::DOES_NOT_FIT => Err(Error::DoesNotFit),
+        ffi::SHARED => Err(Error::Shared),
         other => unreachable!("lrlex answered status {other}"),
     }
 }
@@ -214,44 +221,73 @@ fn place(text: &str, byte: usize) -> Result<(usize, usize), Error> {
     Ok((place.line, place.column))
 }
 
+/// What a call writes into a buffer of tokens or pieces. Where there are more than there is room for, the call is made twice.
+fn filled<T>(
+    mut rows: Vec<T>,
+    mut room: usize,
+    call: impl Fn(*mut T, usize, &mut ffi::Lexed) -> c_int,
+) -> Result<(Vec<T>, ffi::Lexed), Error> {
+    let mut lexed = ffi::Lexed::default();
+    loop {
+        rows.clear();
+        rows.try_reserve_exact(room).map_err(|_| Error::OutOfMemory)?;
+        checked(call(rows.as_mut_ptr(), room, &mut lexed))?;
+        if lexed.count <= room {
+            // SAFETY: there is room for `room` rows, and the call has written the first `count` of them.
+            unsafe { rows.set_len(lexed.count) };
+            return Ok((rows, lexed));
+        }
+        room = lexed.count;
+    }
+}
+
+/// How many tokens or pieces 1,024 bytes have: the most that a text had, or 0 before the first.
+#[derive(Debug, Default)]
+struct Density(Cell<usize>);
+
+impl Density {
+    /// How much of the first text is lexed to see how many there may be.
+    const SAMPLE: usize = 8192;
+
+    fn see(&self, lexed: &ffi::Lexed) {
+        self.0.set(self.0.get().max(lexed.count.saturating_mul(1024) / (lexed.end + 1) + 1));
+    }
+
+    /// What a call writes into a buffer of tokens or pieces of the text, for which it has room at once unless the text is denser by a
+    /// quarter than each before it.
+    fn filled<T>(
+        &self,
+        rows: Vec<T>,
+        text: &str,
+        call: impl Fn(&str, *mut T, usize, &mut ffi::Lexed) -> c_int,
+    ) -> Result<(Vec<T>, ffi::Lexed), Error> {
+        let mut room = text.len();
+        if room > Self::SAMPLE {
+            if self.0.get() == 0 {
+                let end = (0..=Self::SAMPLE).rfind(|&it| text.is_char_boundary(it)).unwrap_or(0);
+                let mut lexed = ffi::Lexed::default();
+                checked(call(&text[..end], NonNull::dangling().as_ptr(), 0, &mut lexed))?;
+                self.see(&lexed);
+            }
+            room = room.min((room / 1024 + 1).saturating_mul(self.0.get() * 5 / 4 + 1));
+        }
+        let (rows, lexed) = filled(rows, room, |out, room, lexed| call(text, out, room, lexed))?;
+        self.see(&lexed);
+        Ok((rows, lexed))
+    }
+}
+
 /// A handle of the C library. It is used by one call at a time: it isn't `Sync`, and no call calls back.
 #[derive(Debug)]
-struct Held {
-    handle: UnsafeCell<ffi::Handle>,
-    /// About how many tokens or pieces 1,024 bytes have: a quarter, or what the densest text had.
-    density: Cell<usize>,
-}
+struct Held(UnsafeCell<ffi::Handle>);
 
 impl Held {
     fn empty() -> Held {
-        Held { handle: UnsafeCell::new(ffi::Handle::EMPTY), density: Cell::new(256) }
+        Held(UnsafeCell::new(ffi::Handle::EMPTY))
     }
 
     fn get(&self) -> *mut ffi::Handle {
-        self.handle.get()
-    }
-
-    /// What a call writes into a buffer of tokens or pieces, of a text of this length. Where there are more than there is room for,
-    /// the call is made twice.
-    fn filled<T>(
-        &self,
-        len: usize,
-        call: impl Fn(*mut T, usize, &mut ffi::Lexed) -> c_int,
-    ) -> Result<(Vec<T>, ffi::Lexed), Error> {
-        let mut lexed = ffi::Lexed::default();
-        let mut room = (len / 1024 + 1).saturating_mul(self.density.get());
-        loop {
-            let mut rows = Vec::new();
-            rows.try_reserve_exact(room).map_err(|_| Error::OutOfMemory)?;
-            checked(call(rows.as_mut_ptr(), room, &mut lexed))?;
-            if lexed.count <= room {
-                // SAFETY: there is room for `room` rows, and the call has written the first `count` of them.
-                unsafe { rows.set_len(lexed.count) };
-                return Ok((rows, lexed));
-            }
-            room = lexed.count;
-            self.density.set(room / (len / 1024 + 1) + 1);
-        }
+        self.0.get()
     }
 }
 
@@ -272,9 +308,38 @@ fn stop(text: &str, lexed: &ffi::Lexed) -> Result<Option<LexError>, Error> {
     Ok(Some(LexError { start: lexed.end, line, column, state }))
 }
 
+/// Names that no rule has, and names of rules without an id. `None` stands for an empty set.
+pub type IdSets<'a> = (Option<HashSet<&'a str>>, Option<HashSet<String>>);
+
 /// The rules of a rule file, ready to lex texts.
 #[derive(Debug)]
-pub struct Definition(Held);
+pub struct Definition {
+    held: Held,
+    tokens: Density,
+    pieces: Density,
+    spare: Spare,
+}
+
+/// A buffer that lexers of a definition have done with. The next lexer takes it, since new memory costs about as much as lexing.
+#[derive(Clone, Debug, Default)]
+struct Spare(Arc<Mutex<Vec<ffi::Token>>>);
+
+impl Spare {
+    /// Buffers for more tokens than this aren't kept.
+    const MOST: usize = 1 << 21;
+
+    fn take(&self) -> Vec<ffi::Token> {
+        self.0.lock().map(|mut it| mem::take(&mut *it)).unwrap_or_default()
+    }
+
+    fn put(&self, rows: Vec<ffi::Token>) {
+        if let Ok(mut it) = self.0.lock() {
+            if it.capacity() < rows.capacity() && rows.capacity() <= Self::MOST {
+                *it = rows;
+            }
+        }
+    }
+}
 
 impl FromStr for Definition {
     type Err = Error;
@@ -296,7 +361,12 @@ impl Definition {
         // SAFETY: pointer and length are a `&str`'s, and the handle is empty.
         match unsafe { ffi::lrlex_definition_new(held.get(), rules.as_ptr(), rules.len(), &raw const options) } {
             ffi::REFUSED => Err(Error::Rules(faults(&held)?)),
-            status => checked(status).map(|()| Definition(held)),
+            status => checked(status).map(|()| Definition {
+                held,
+                tokens: Density::default(),
+                pieces: Density::default(),
+                spare: Spare::default(),
+            }),
         }
     }
 
@@ -306,11 +376,11 @@ impl Definition {
     ///
     /// [`Error::OutOfMemory`]. A text that no rule matches isn't an error of this call but the last item of the lexer.
     pub fn lexer<'text>(&self, text: &'text str) -> Result<Lexer<'text>, Error> {
-        let (tokens, lexed) = self.0.filled(text.len(), |out, room, lexed| {
+        let (tokens, lexed) = self.tokens.filled(self.spare.take(), text, |text, out, room, lexed| {
             // SAFETY: pointer and length are a `&str`'s, and there is room for `room` tokens.
-            unsafe { ffi::lrlex_lex(self.0.get(), text.as_ptr(), text.len(), out, room, lexed) }
+            unsafe { ffi::lrlex_lex(self.held.get(), text.as_ptr(), text.len(), out, room, lexed) }
         })?;
-        Lexer::new(text, tokens, &lexed)
+        Lexer::new(text, tokens, &lexed, self.spare.clone())
     }
 
     /// The whole text as the rules cut it, also where a rule has no name, and where lexing stopped, if it did.
@@ -319,9 +389,9 @@ impl Definition {
     ///
     /// [`Error::OutOfMemory`].
     pub fn pieces(&self, text: &str) -> Result<(Vec<Piece>, Option<LexError>), Error> {
-        let (pieces, lexed) = self.0.filled(text.len(), |out, room, lexed| {
+        let (pieces, lexed) = self.pieces.filled(Vec::new(), text, |text, out, room, lexed| {
             // SAFETY: pointer and length are a `&str`'s, and there is room for `room` pieces.
-            unsafe { ffi::lrlex_pieces(self.0.get(), text.as_ptr(), text.len(), out, room, lexed) }
+            unsafe { ffi::lrlex_pieces(self.held.get(), text.as_ptr(), text.len(), out, room, lexed) }
         })?;
         Ok((pieces.into_iter().map(Piece::from).collect(), stop(text, &lexed)?))
     }
@@ -330,33 +400,62 @@ impl Definition {
     #[must_use]
     pub fn name_of(&self, tok_id: u32) -> Option<String> {
         // SAFETY: (here and below) there is room for `room` bytes.
-        text_by(|out, room, len| unsafe { ffi::lrlex_name(self.0.get(), tok_id, out, room, len) }).ok()?
+        text_by(|out, room, len| unsafe { ffi::lrlex_name(self.held.get(), tok_id, out, room, len) }).ok()?
     }
 
     /// How many rules there are.
     #[must_use]
     pub fn rule_count(&self) -> usize {
         // SAFETY: the handle is a definition's.
-        unsafe { ffi::lrlex_rule_count(self.0.get()) }
+        unsafe { ffi::lrlex_rule_count(self.held.get()) }
     }
 
     /// The name of the rule of this number, from 0. `None` if it has none.
     #[must_use]
     pub fn rule_name(&self, rule: usize) -> Option<String> {
-        text_by(|out, room, len| unsafe { ffi::lrlex_rule_name(self.0.get(), rule, out, room, len) }).ok()?
+        text_by(|out, room, len| unsafe { ffi::lrlex_rule_name(self.held.get(), rule, out, room, len) }).ok()?
+    }
+
+    /// Gives each named rule the map's id for its name, or none. Unnamed rules keep theirs. Lexing stops where a rule matches that has
+    /// a name and no id.
+    ///
+    /// The first set has the map's names that no rule has, the second the names of rules that the map lacks. `None` stands for an
+    /// empty set.
+    ///
+    /// # Errors
+    ///
+    /// [`Error::Shared`] while there is a document of this definition, or [`Error::OutOfMemory`]. The definition is then as it was.
+    pub fn set_rule_ids<'a>(&mut self, ids: &HashMap<&'a str, u32>) -> Result<IdSets<'a>, Error> {
+        let given: Vec<_> = ids.iter().map(|(name, &id)| ffi::NamedId { name: name.as_ptr(), name_len: name.len(), id }).collect();
+        let mut missing = vec![false; given.len()];
+        // SAFETY: the entries are `&str`s, and there is room for as many `bool`s.
+        checked(unsafe {
+            ffi::lrlex_definition_set_rule_ids(self.held.get(), given.as_ptr(), given.len(), missing.as_mut_ptr(), missing.len())
+        })?;
+        let lacking: HashSet<_> = ids.keys().zip(missing).filter(|it| it.1).map(|it| *it.0).collect();
+        let unused: HashSet<_> = (0..self.rule_count()).filter(|&it| !self.has_id(it)).filter_map(|it| self.rule_name(it)).collect();
+        Ok(((!lacking.is_empty()).then_some(lacking), (!unused.is_empty()).then_some(unused)))
+    }
+
+    /// Whether the rule of this number has an id.
+    fn has_id(&self, rule: usize) -> bool {
+        let mut it = ffi::Rule::default();
+        // SAFETY: one rule is written.
+        let status = unsafe { ffi::lrlex_rule_at(self.held.get(), rule, &raw mut it) };
+        status == ffi::OK && it.has_id
     }
 
     /// How many start states there are, with `INITIAL`.
     #[must_use]
     pub fn state_count(&self) -> usize {
         // SAFETY: the handle is a definition's.
-        unsafe { ffi::lrlex_state_count(self.0.get()) }
+        unsafe { ffi::lrlex_state_count(self.held.get()) }
     }
 
     /// The name of the start state of this number, from 0.
     #[must_use]
     pub fn state_name(&self, state: usize) -> Option<String> {
-        text_by(|out, room, len| unsafe { ffi::lrlex_state_name(self.0.get(), state, out, room, len) }).ok()?
+        text_by(|out, room, len| unsafe { ffi::lrlex_state_name(self.held.get(), state, out, room, len) }).ok()?
     }
 }
 
@@ -390,18 +489,21 @@ pub struct Lexeme<'text> {
 
 impl<'text> Lexeme<'text> {
     /// The id of its rule.
+    #[inline]
     #[must_use]
     pub fn tok_id(&self) -> u32 {
         self.tok_id
     }
 
     /// Its bytes in the text that was lexed.
+    #[inline]
     #[must_use]
     pub fn span(&self) -> Range<usize> {
         self.start..self.start + self.text.len()
     }
 
     /// Its text.
+    #[inline]
     #[must_use]
     pub fn text(&self) -> &'text str {
         self.text
@@ -427,31 +529,43 @@ impl From<ffi::Piece> for Piece {
 #[derive(Clone, Debug)]
 pub struct Lexer<'text> {
     text: &'text str,
-    tokens: vec::IntoIter<ffi::Token>,
+    tokens: Vec<ffi::Token>,
+    next: usize,
     error: Option<LexError>,
+    spare: Spare,
 }
 
 impl<'text> Lexer<'text> {
-    fn new(text: &'text str, tokens: Vec<ffi::Token>, lexed: &ffi::Lexed) -> Result<Self, Error> {
-        Ok(Lexer { text, tokens: tokens.into_iter(), error: stop(text, lexed)? })
+    fn new(text: &'text str, tokens: Vec<ffi::Token>, lexed: &ffi::Lexed, spare: Spare) -> Result<Self, Error> {
+        Ok(Lexer { text, tokens, next: 0, error: stop(text, lexed)?, spare })
+    }
+}
+
+impl Drop for Lexer<'_> {
+    fn drop(&mut self) {
+        self.spare.put(mem::take(&mut self.tokens));
     }
 }
 
 impl<'text> Iterator for Lexer<'text> {
     type Item = Result<Lexeme<'text>, LexError>;
 
+    #[inline]
     fn next(&mut self) -> Option<Self::Item> {
-        match self.tokens.next() {
+        match self.tokens.get(self.next) {
             Some(it) => {
-                let text = &self.text[it.start..it.start + it.len];
+                self.next += 1;
+                // SAFETY: the library has lexed this very text, and proves that both ends of a lexeme are character boundaries of it.
+                let text = unsafe { self.text.get_unchecked(it.start..it.start + it.len) };
                 Some(Ok(Lexeme { text, start: it.start, tok_id: it.id }))
             }
             None => self.error.take().map(Err),
         }
     }
 
+    #[inline]
     fn size_hint(&self) -> (usize, Option<usize>) {
-        let left = self.tokens.len() + usize::from(self.error.is_some());
+        let left = self.tokens.len() - self.next + usize::from(self.error.is_some());
         (left, Some(left))
     }
 }
@@ -476,7 +590,7 @@ impl Document {
     pub fn new(definition: &Definition, text: &str) -> Result<Self, Error> {
         let held = Held::empty();
         // SAFETY: pointer and length are a `&str`'s, and the new handle is empty.
-        checked(unsafe { ffi::lrlex_document_new(definition.0.get(), held.get(), text.as_ptr(), text.len()) })?;
+        checked(unsafe { ffi::lrlex_document_new(definition.held.get(), held.get(), text.as_ptr(), text.len()) })?;
         Ok(Document { held, text: text.to_owned() })
     }
 
@@ -505,11 +619,12 @@ impl Document {
     ///
     /// [`Error::OutOfMemory`].
     pub fn lexer(&self) -> Result<Lexer<'_>, Error> {
-        let (tokens, lexed) = self.held.filled(self.text.len(), |out, room, lexed| {
+        // A document is lexed, so the first call costs nothing: it says how many there are.
+        let (tokens, lexed) = filled(Vec::new(), 0, |out, room, lexed| {
             // SAFETY: there is room for `room` tokens.
             unsafe { ffi::lrlex_document_tokens(self.held.get(), 0, out, room, lexed) }
         })?;
-        Lexer::new(&self.text, tokens, &lexed)
+        Lexer::new(&self.text, tokens, &lexed, Spare::default())
     }
 
     /// The pieces that have a byte in this range, such as those of the lines that an editor shows. Each is whole, so the first may
@@ -519,7 +634,7 @@ impl Document {
     ///
     /// [`Error::OutOfMemory`].
     pub fn pieces_in(&self, range: Range<usize>) -> Result<Vec<Piece>, Error> {
-        let (pieces, _) = self.held.filled(range.len().min(self.text.len()), |out, room, lexed| {
+        let (pieces, _) = filled(Vec::new(), range.len().min(self.text.len()), |out, room, lexed| {
             // SAFETY: there is room for `room` pieces.
             unsafe { ffi::lrlex_document_pieces_in(self.held.get(), range.start, range.end, out, room, lexed) }
         })?;

@@ -1,5 +1,7 @@
 //! A first text, a refused rule text, and a document through edits.
 
+use std::collections::{HashMap, HashSet};
+
 use lrlex::{Budget, Definition, Document, Error, LexError, LexFlags, Lexeme};
 
 const WORDS: &str = "%%\n[0-9]+ 'INT'\n[a-z]+ 'ID'\n[ ] ;\n";
@@ -45,11 +47,36 @@ fn more_lexemes_than_half_of_the_bytes() {
 }
 
 #[test]
+fn a_text_that_grows_denser() {
+    let definition = words();
+    let text = " ".repeat(10_000) + &"a1".repeat(10_000);
+    for _ in 0..2 {
+        assert_eq!(definition.lexer(&text).unwrap().len(), 20_000);
+        assert_eq!(definition.pieces(&text).unwrap().0.len(), 30_000);
+    }
+    assert_eq!(Document::new(&definition, &text).unwrap().lexer().unwrap().filter(Result::is_ok).count(), 20_000);
+}
+
+#[test]
 fn lexing_stops_where_no_rule_matches() {
     let items: Vec<_> = words().lexer("ab\u{a0}").unwrap().collect();
     assert_eq!(items.len(), 2);
     assert_eq!(items[1], Err(LexError { start: 2, line: 1, column: 3, state: Some(0) }));
     assert_eq!(items[1].unwrap_err().to_string(), "1:3: no lexeme begins here");
+}
+
+#[test]
+fn ids_by_names() {
+    let mut definition = words();
+    let (lacking, unused) = definition.set_rule_ids(&HashMap::from([("ID", 70), ("WORD", 8)])).unwrap();
+    assert_eq!((lacking, unused), (Some(HashSet::from(["WORD"])), Some(HashSet::from(["INT".to_owned()]))));
+    assert_eq!(definition.lexer("a").unwrap().map(|it| it.unwrap().tok_id()).collect::<Vec<_>>(), [70]);
+    assert_eq!(definition.lexer("1").unwrap().next(), Some(Err(LexError { start: 0, line: 1, column: 1, state: None })));
+    let document = Document::new(&definition, "a").unwrap();
+    assert_eq!(definition.set_rule_ids(&HashMap::new()), Err(Error::Shared));
+    drop(document);
+    assert_eq!(definition.set_rule_ids(&HashMap::from([("ID", 1), ("INT", 0)])), Ok((None, None)));
+    assert_eq!(definition.name_of(0).as_deref(), Some("INT"));
 }
 
 #[test]

@@ -7,7 +7,7 @@ ghost use Rattle.lrlex_c.specs.Objects.{answer_in, definition_in, refusal_in};
 ghost use Rattle.lrlex_c.specs.declared.object.Object.TheVariants.{Refusal as Refused};
 ghost use Rattle.lrlex_c.specs.Settings.{flag_by, limit_by, flags_by};
 
-use crate::handle::Handle;
+use crate::handle::{Handle, with_object};
 use crate::object::{Definition, Object, Refusal};
 use crate::status::{MISUSE, NO_MEMORY, NOT_UTF8, OK, REFUSED};
 use crate::structs::Options;
@@ -180,12 +180,10 @@ pub extern "C" fn lrlex_definition_share(
     ensures failed { result ≢ pos 0 → out.new.value ≡ None }
 {
     let _before = out.take(alloc);
-    match handle.take(alloc) {
-        None => MISUSE,
-        Some(object) => {
-            let status = share_in(alloc, &object, out);
-            handle.put(object);
-            status
-        }
-    }
+    with_object!(
+        alloc,
+        handle,
+        MISUSE,
+        |object| share_in(alloc, &object, out)
+    )
 }

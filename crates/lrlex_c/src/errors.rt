@@ -1,23 +1,18 @@
-//! The errors of a refused rule text.
-ghost use Rattle.std.specs.Prelude.{◌≡◌, ◌↔◌, ⊤, length, option_map, slice_get, string_bytes, pos, None, Some, IfOk, IfSome, MatchOption};
-ghost use Rattle.std.specs.Option.{option_and_then, option_copied, option_map_or};
+//! The errors of a refused rule text, and where they are.
+ghost use Rattle.std.specs.Prelude.{◌≡◌, ◌↔◌, length, pos, None, Some};
+ghost use Rattle.std.specs.Option.{option_map_or};
 ghost use Rattle.lrlex_base.specs.Places.{AreBreaksOf};
-ghost use Rattle.lrlex_rules.specs.LexBuildError.{fault_kind, fault_spans, kind_text};
-ghost use Rattle.lrlex_report.specs.FaultTexts.{AreFaultTexts};
-ghost use Rattle.lrlex_c.specs.Buffers.{IsReport, IsWritten};
 ghost use Rattle.lrlex_c.specs.Faults.{kind_number, fault_by, span_by, fault_at, fault_span_at};
 ghost use Rattle.lrlex_c.specs.Objects.{fault_in, refusal_in};
 ghost use Rattle.lrlex_c.specs.declared.object.Object.TheVariants.{Refusal as Refused};
 
-use crate::handle::Handle;
+use crate::handle::{Handle, with_object};
 use crate::object::{Object, Refusal};
 use crate::places::place_at;
-use crate::status::{MISUSE, NO_MEMORY, NONE, NOT_UTF8, OK};
+use crate::status::{MISUSE, NONE, OK};
 use crate::structs::{Fault, FaultSpan};
-use crate::texts::write_text;
 use lrlex::{LexBuildError, LexErrorKind, NewlineCache, Span, Spanned};
-use lrlex_report::faults_text;
-use std::alloc::{AllocError, Global};
+use std::alloc::Global;
 use std::str;
 
 fn kind_of(kind: &LexErrorKind) -> u32
@@ -84,14 +79,7 @@ pub extern "C" fn lrlex_fault_count(alloc: Global, handle: &mut Handle) -> usize
     ensures kept { handle.new.value ≡ handle.old.value }
     ensures count { result ≡ option_map_or (λ r. length r.1) (refusal_in handle.old.value) 0 }
 {
-    match handle.take(alloc) {
-        None => 0,
-        Some(object) => {
-            let count = count_in(&object);
-            handle.put(object);
-            count
-        }
-    }
+    with_object!(alloc, handle, 0, |object| count_in(&object))
 }
 
 fn shown_fault(refusal: &Refusal, index: usize) -> Option<Fault>
@@ -131,14 +119,12 @@ pub extern "C" fn lrlex_fault_at(
     ensures done { result ≡ pos 0 → Some out.new ≡ fault_at (refusal_in handle.old.value) index }
     ensures none { result ≡ pos 5 → fault_at (refusal_in handle.old.value) index ≡ None }
 {
-    match handle.take(alloc) {
-        None => MISUSE,
-        Some(object) => {
-            let status = fault_in(&object, index, out);
-            handle.put(object);
-            status
-        }
-    }
+    with_object!(
+        alloc,
+        handle,
+        MISUSE,
+        |object| fault_in(&object, index, out)
+    )
 }
 
 fn shown_span(refusal: &Refusal, index: usize, span: usize) -> Option<FaultSpan>
@@ -184,111 +170,10 @@ pub extern "C" fn lrlex_fault_span_at(
     ensures none { result ≡ pos 5 → fault_span_at (refusal_in handle.old.value) index span
         ≡ None }
 {
-    match handle.take(alloc) {
-        None => MISUSE,
-        Some(object) => {
-            let status = span_in(&object, index, span, out);
-            handle.put(object);
-            status
-        }
-    }
-}
-
-/// What the error is. Its words are those of `regex` where that refuses a pattern.
-fn message_of(alloc: Global, fault: &LexBuildError) -> Result<String, AllocError>
-    ensures { IfOk result (λ s. IfSome (kind_text (fault_kind fault.now))
-        (λ t. string_bytes s ≡ t)) }
-{
-    format!(in alloc; "{fault}")
-}
-
-fn text_in(alloc: Global, object: &Object, index: usize, out: &mut [u8], len: &mut usize) -> i32
-    ensures misused { result ≡ pos 4 ↔ refusal_in (Some object.now) ≡ None }
-    ensures done { result ≡ pos 0 → IfSome (fault_in (Some object.now) index)
-        (λ e. IfSome (kind_text (fault_kind e)) (λ t. IsWritten t out.old out.new len.new)) }
-    ensures none { result ≡ pos 5 → fault_in (Some object.now) index ≡ None }
-{
-    match object {
-        Object::Refusal(refusal) => match refusal.faults.get(index) {
-            None => NONE,
-            Some(fault) => match message_of(alloc, fault) {
-                Err(_) => NO_MEMORY,
-                Ok(text) => {
-                    write_text(&text, out, len);
-                    OK
-                }
-            },
-        },
-        _ => MISUSE,
-    }
-}
-
-/// What the error at this index is, in English, without a full stop. As many bytes are written as there is room for.
-#[unsafe(no_mangle)]
-pub extern "C" fn lrlex_fault_text(
-    alloc: Global,
-    handle: &mut Handle,
-    index: usize,
-    out: &mut [u8],
-    len: &mut usize,
-) -> i32
-    ensures kept { handle.new.value ≡ handle.old.value }
-    ensures misused { result ≡ pos 4 ↔ refusal_in handle.old.value ≡ None }
-    ensures done { result ≡ pos 0 → IfSome (fault_in handle.old.value index)
-        (λ e. IfSome (kind_text (fault_kind e)) (λ t. IsWritten t out.old out.new len.new)) }
-    ensures none { result ≡ pos 5 → fault_in handle.old.value index ≡ None }
-{
-    match handle.take(alloc) {
-        None => MISUSE,
-        Some(object) => {
-            let status = text_in(alloc, &object, index, out, len);
-            handle.put(object);
-            status
-        }
-    }
-}
-
-fn report_in(alloc: Global, object: &Object, file: &[u8], out: &mut [u8], len: &mut usize) -> i32
-    ensures misused { result ≡ pos 4 ↔ refusal_in (Some object.now) ≡ None }
-    ensures done { result ≡ pos 0 → IfSome (refusal_in (Some object.now))
-        (λ r. IsReport (λ t. AreFaultTexts file.now r.0 r.1 t) out.old out.new len.new) }
-{
-    match object {
-        Object::Refusal(refusal) => match str::from_utf8(file) {
-            Err(_) => NOT_UTF8,
-            Ok(file) => match faults_text(alloc, file, &refusal.rules, &refusal.faults) {
-                Err(_) => NO_MEMORY,
-                Ok(text) => {
-                    write_text(&text, out, len);
-                    OK
-                }
-            },
-        },
-        _ => MISUSE,
-    }
-}
-
-/// The report of all errors, each with its line and carets. `file` is the file name that it shows. As many bytes are written as there
-/// is room for.
-#[unsafe(no_mangle)]
-pub extern "C" fn lrlex_fault_report(
-    alloc: Global,
-    handle: &mut Handle,
-    file: &[u8],
-    out: &mut [u8],
-    len: &mut usize,
-) -> i32
-    ensures kept { handle.new.value ≡ handle.old.value }
-    ensures misused { result ≡ pos 4 ↔ refusal_in handle.old.value ≡ None }
-    ensures done { result ≡ pos 0 → IfSome (refusal_in handle.old.value)
-        (λ r. IsReport (λ t. AreFaultTexts file.now r.0 r.1 t) out.old out.new len.new) }
-{
-    match handle.take(alloc) {
-        None => MISUSE,
-        Some(object) => {
-            let status = report_in(alloc, &object, file, out, len);
-            handle.put(object);
-            status
-        }
-    }
+    with_object!(
+        alloc,
+        handle,
+        MISUSE,
+        |object| span_in(&object, index, span, out)
+    )
 }

@@ -40,3 +40,22 @@ pub enum Object {
     Refusal(Refusal),
     Document(Edited),
 }
+
+/// The status of work on the document that an object is. The work hands the document back. An object of another kind stays as it is.
+macro_rules! with_document {
+    ($object:expr, |$it:ident| $work:expr) => {
+        match replace($object, Object::Nothing) {
+            Object::Document($it) => {
+                let (it, status) = $work;
+                *$object = Object::Document(it);
+                status
+            }
+            other => {
+                *$object = other;
+                MISUSE
+            }
+        }
+    };
+}
+
+pub(crate) use with_document;

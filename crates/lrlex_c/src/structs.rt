@@ -77,6 +77,14 @@ pub struct RuleInfo {
     pub has_name: bool,
 }
 
+/// A name, and the id that the rules of this name are to have.
+#[repr(C)]
+#[derive(Clone, Copy)]
+pub struct NamedId<'a> {
+    pub name: &'a [u8],
+    pub id: u32,
+}
+
 /// A start state: its id, where its name is in the rule text, and how long its name is.
 #[repr(C)]
 #[derive(Clone, Copy)]

@@ -4,7 +4,7 @@ use Rattle.lrlex.specs.LexRun.{end_of, end_state_of}
 use Rattle.lrlex.specs.Views.{item_of}
 use Rattle.lrlex_c.specs.Answers.{outcome}
 use Rattle.lrlex_c.proofs.Fills.{last_seen}
-use Rattle.lrlex_c.proofs.lexing.report_by.Goals as goal
+use Rattle.lrlex_c.proofs.stops.report_by.Goals as goal
 
 pub returns-in-Some : goal.returns-in-Some
 returns-in-Some c =

@@ -4,7 +4,7 @@ use Rattle.lrlex_rules.specs.RuleParts.{state_number}
 use Rattle.lrlex.specs.Views.{item_of}
 use Rattle.lrlex_c.specs.Buffers.{filled, put_token}
 use Rattle.lrlex_c.proofs.Fills.{filled-map, drop_map, lexed_as}
-use Rattle.lrlex_c.proofs.documents.tokens_by.Goals as goal
+use Rattle.lrlex_c.proofs.documents.tokens.tokens_by.Goals as goal
 
 pub returns-clause-tokens : goal.returns-clause-tokens
 returns-clause-tokens c =

@@ -7,7 +7,7 @@ use Rattle.lrlex_c.specs.Answers.{lexed_by}
 use Rattle.lrlex_c.specs.Buffers.{filled, piece_by}
 use Rattle.lrlex_c.specs.declared.structs.Piece.{Piece}
 use Rattle.lrlex_c.proofs.Fills.{lexed_as, counted_as}
-use Rattle.lrlex_c.proofs.documents.part_by.Goals as goal
+use Rattle.lrlex_c.proofs.documents.pieces.part_by.Goals as goal
 
 pub returns : goal.returns
 returns c =

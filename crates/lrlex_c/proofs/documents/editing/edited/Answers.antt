@@ -1,7 +1,7 @@
 use Rattle.std.proofs.Common.{◌∙◌, subst}
 use Rattle.lrlex_base.specs.Lexemes.{lexeme_seen}
 use Rattle.lrlex.specs.Document.{IsLexedBy}
-use Rattle.lrlex_c.proofs.documents.edited.Goals as goal
+use Rattle.lrlex_c.proofs.documents.editing.edited.Goals as goal
 
 -- the edit keeps the definition, which is the one that lexed the text
 pub invariant_of-result : goal.invariant_of-result

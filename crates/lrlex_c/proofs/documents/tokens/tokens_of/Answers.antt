@@ -5,7 +5,7 @@ use Rattle.lrlex.specs.Document.{lexed_bytes, lexed_items, lexed_boundaries}
 use Rattle.lrlex.specs.Views.{definition_of, items_by}
 use Rattle.lrlex.proofs.ItemLemmas.{known_run}
 use Rattle.lrlex_c.proofs.Fills.{same_run}
-use Rattle.lrlex_c.proofs.documents.tokens_of.Goals as goal
+use Rattle.lrlex_c.proofs.documents.tokens.tokens_of.Goals as goal
 
 pub returns-clause-tokens : goal.returns-clause-tokens
 returns-clause-tokens c =

@@ -1,0 +1,314 @@
+/* fuzz SEEDS SECONDS [SEED]: mutated rule texts, inputs and edits through the C library, with laws on what comes back.
+   SEEDS has cases: of each the lengths of a rule text and of an input, as two uint32_t, then both. The last line says how many texts there
+   were. A law that fails is printed with its case, and the status is 1. Build it with -fsanitize=address,undefined. */
+#include "lrlex.h"
+
+#include <stdio.h>
+#include <stdlib.h>
+#include <string.h>
+#include <time.h>
+
+enum { LONGEST = 6000, ROOM = 16384, NAMES = 4 };
+
+typedef struct text {
+    uint8_t bytes[ROOM];
+    size_t len;
+} text;
+
+typedef struct seed {
+    uint8_t *rules, *input;
+    uint32_t rules_len, input_len;
+} seed;
+
+static seed *seeds;
+static size_t seed_count;
+static text rules, input;
+static uint64_t state;
+static unsigned long long texts, built, refused, not_utf8, tokens_seen, edits;
+
+static const char *const BITS[] = {"%%\n", "%x a\n", "%s b c\n", "<a>", "<+a>", "<-a>", "'X'\n", ";\n", "[a-z]+", "(a|b)*", "\\p{L}", "(?i)", "\\b", "$",
+                                   "^", "{3}", "{1,40}", "\\x41", "\\u{41}", "\xc3\xa9", "\xf0\x9f\x98\x80", "\"", "'", "<*>", "//", "\r\n", "\xe2\x80\xa8",
+                                   "(?:", "[^", "&&", "\\", "|", "*?", ".", "\n", "\t"};
+
+static size_t below(size_t n) {
+    state ^= state << 13;
+    state ^= state >> 7;
+    state ^= state << 17;
+    return n ? (size_t)(state >> 11) % n : 0;
+}
+
+static void show(const char *name, const text *it) {
+    printf("%s, %zu bytes: \"", name, it->len);
+    for (size_t i = 0; i < it->len; i++) printf(it->bytes[i] >= ' ' && it->bytes[i] < 127 && it->bytes[i] != '"' && it->bytes[i] != '\\' ? "%c" : "\\x%02x", it->bytes[i]);
+    puts("\"");
+}
+
+#define LAW(condition) law((condition) != 0, #condition, __LINE__)
+
+static void law(int holds, const char *what, int line) {
+    if (holds) return;
+    printf("line %d: %s\n", line, what);
+    show("rules", &rules);
+    show("input", &input);
+    exit(1);
+}
+
+/* Puts bytes in the place of those from `at` up to `end`, if there is room. */
+static void put(text *it, size_t at, size_t end, const uint8_t *bytes, size_t len) {
+    if (it->len - (end - at) + len > LONGEST) return;
+    memmove(it->bytes + at + len, it->bytes + end, it->len - end);
+    memcpy(it->bytes + at, bytes, len);
+    it->len = it->len - (end - at) + len;
+}
+
+/* A few changes of a text: a byte, a bit of a rule text, a part of another seed, a part of its own, a part less. */
+static void mutate(text *it, size_t most) {
+    for (size_t k = 1 + below(most); k > 0; k--) {
+        const size_t at = below(it->len + 1);
+        const size_t end = at + below((it->len - at < 8 ? it->len - at : 8) + 1);
+        const seed *other = &seeds[below(seed_count)];
+        const char *bit = BITS[below(sizeof BITS / sizeof *BITS)];
+        uint8_t part[16];
+        const size_t from = below(it->len + 1), len = below((it->len - from < sizeof part ? it->len - from : sizeof part) + 1);
+        const size_t first = below(other->rules_len), rest = other->rules_len - first;
+        switch (below(6)) {
+        case 0: part[0] = (uint8_t)(below(50) ? below(128) : below(256)); put(it, at, end < at + 1 ? end : at + 1, part, 1); break;
+        case 1: put(it, at, end, part, 0); break;
+        case 2: put(it, at, at, (const uint8_t *)bit, strlen(bit)); break;
+        case 3: put(it, at, at, other->rules + first, rest < 20 ? rest : 20); break;
+        case 4: memcpy(part, it->bytes + from, len); put(it, at, at, part, len); break;
+        default: if (at < it->len && it->bytes[at] < 128) it->bytes[at] ^= (uint8_t)(1U << below(7)); break;
+        }
+    }
+}
+
+static void set(text *it, const uint8_t *bytes, size_t len) {
+    it->len = 0;
+    put(it, 0, 0, bytes, len < LONGEST ? len : LONGEST);
+}
+
+static lrlex_options options(void) {
+    lrlex_options it = LRLEX_OPTIONS;
+    if (below(3) == 0) it.set = (uint32_t)below(512), it.on = (uint32_t)below(512);
+    if (below(20) == 0) it.nest_limit = (uint32_t)below(2000);
+    if (below(20) == 0) it.size_limit = below(100000);
+    if (below(10) == 0) it.limit_tables = true, it.table_rows = below(200), it.table_work = below(200000);
+    return it;
+}
+
+static int same_tokens(const lrlex_token *one, const lrlex_lexed *a, const lrlex_token *other, const lrlex_lexed *b) {
+    if (a->count != b->count || a->end != b->end || a->state != b->state || a->stopped != b->stopped || a->unmatched != b->unmatched) return 0;
+    for (size_t i = 0; i < a->count; i++)
+        if (one[i].start != other[i].start || one[i].len != other[i].len || one[i].id != other[i].id) return 0;
+    return 1;
+}
+
+static lrlex_token tokens[ROOM], others[ROOM];
+static lrlex_piece pieces[ROOM], parts[ROOM];
+
+/* The pieces are the text from its front, and the tokens are those of rules with a name and an id. */
+static void check_pieces(lrlex_definition *d, const lrlex_lexed *lexed, const lrlex_lexed *cut) {
+    size_t at = 0, token = 0;
+    for (size_t i = 0; i < cut->count; i++) {
+        lrlex_rule rule;
+        LAW(pieces[i].start == at && pieces[i].len > 0);
+        LAW(lrlex_rule_at(d, pieces[i].rule, &rule) == LRLEX_OK);
+        at += pieces[i].len;
+        if (!rule.has_name) continue;
+        if (!rule.has_id) {
+            LAW(lexed->stopped && i + 1 == cut->count);
+            continue;
+        }
+        LAW(token < lexed->count && tokens[token].start == pieces[i].start && tokens[token].len == pieces[i].len && tokens[token].id == rule.id);
+        token++;
+    }
+    LAW(token == lexed->count && cut->end == lexed->end && cut->stopped == lexed->stopped && cut->state == lexed->state);
+    LAW(lexed->end <= input.len && (lexed->stopped || lexed->end == input.len) && (at == lexed->end || (lexed->stopped && !lexed->unmatched)));
+}
+
+/* Line and column of a place, from 1, as a reader counts them. */
+static lrlex_place place_of(size_t byte) {
+    lrlex_place it = {1, 1};
+    if (byte > input.len) byte = input.len;
+    while (byte < input.len && (input.bytes[byte] & 0xc0) == 0x80) byte--;
+    for (size_t i = 0; i < byte; i++) {
+        if (input.bytes[i] == '\n') it.line++, it.column = 1;
+        else if ((input.bytes[i] & 0xc0) != 0x80) it.column++;
+    }
+    return it;
+}
+
+static void check_document(lrlex_document *document, lrlex_definition *d) {
+    static uint8_t copy[ROOM];
+    lrlex_lexed one, other, cut, part;
+    lrlex_place place;
+    size_t len = 0, from = below(input.len + 2), to = below(input.len + 2), found = 0;
+    LAW(lrlex_document_text(document, 0, input.len, copy, ROOM, &len) == LRLEX_OK && len == input.len && memcmp(copy, input.bytes, len) == 0);
+    LAW(lrlex_document_len(document, &len) == LRLEX_OK && len == input.len);
+    LAW(lrlex_document_tokens(document, 0, others, ROOM, &other) == LRLEX_OK);
+    LAW(lrlex_lex(d, input.bytes, input.len, tokens, ROOM, &one) == LRLEX_OK);
+    LAW(same_tokens(tokens, &one, others, &other));
+    LAW(lrlex_document_pieces(document, pieces, ROOM, &cut) == LRLEX_OK);
+    check_pieces(d, &one, &cut);
+    LAW(lrlex_document_pieces_in(document, from, to, parts, ROOM, &part) == LRLEX_OK && part.end == cut.end);
+    for (size_t i = 0; i < cut.count; i++) {
+        if (pieces[i].start >= to || pieces[i].start + pieces[i].len <= from || from >= to) continue;
+        LAW(found < part.count && parts[found].start == pieces[i].start && parts[found].len == pieces[i].len && parts[found].rule == pieces[i].rule);
+        found++;
+    }
+    LAW(found == part.count);
+    LAW(lrlex_document_place(document, from, &place) == LRLEX_OK);
+    LAW(place.line == place_of(from).line && place.column == place_of(from).column);
+    LAW(lrlex_document_position(document, from, &place) == LRLEX_OK && place.line + 1 == place_of(from).line && place.column + 1 >= place_of(from).column);
+}
+
+/* A document through edits: after each it is what the whole text gives. An edit that is refused changes nothing. */
+static void check_edits(lrlex_definition *d) {
+    lrlex_document document = LRLEX_EMPTY;
+    LAW(lrlex_document_new(d, &document, input.bytes, input.len) == LRLEX_OK);
+    for (size_t k = input.len + 100 < LONGEST ? below(4) : 0; k > 0; k--) {
+        text piece;
+        const seed *other = &seeds[below(seed_count)];
+        const size_t from = below(input.len + 2), to = from + below(6), first = below(other->input_len);
+        set(&piece, other->input + first, below(other->input_len - first + 1) % 30);
+        const int status = lrlex_document_edit(&document, from, to, piece.bytes, piece.len);
+        LAW(status == LRLEX_OK || status == LRLEX_DOES_NOT_FIT || status == LRLEX_NOT_UTF8);
+        if (status == LRLEX_OK) {
+            LAW(to <= input.len);
+            put(&input, from, to, piece.bytes, piece.len);
+            edits++;
+        }
+        check_document(&document, d);
+    }
+    lrlex_free(&document);
+}
+
+/* Ids by names: the rules have those of their names, and missing are the names that no rule has. */
+static void check_ids(lrlex_definition *d) {
+    static uint8_t names[NAMES][16];
+    lrlex_named_id ids[NAMES];
+    bool missing[NAMES];
+    for (size_t i = 0; i < NAMES; i++) {
+        size_t len = 0;
+        const int status = lrlex_rule_name(d, below(lrlex_rule_count(d) + 1), names[i], sizeof names[i], &len);
+        ids[i] = (lrlex_named_id){names[i], status == LRLEX_OK && len < sizeof names[i] ? len : 0, (uint32_t)(below(3) + i)};
+        if (ids[i].name_len && below(3) == 0) names[i][0] ^= 1;
+    }
+    const int status = lrlex_definition_set_rule_ids(d, ids, NAMES, missing, NAMES);
+    LAW(status == LRLEX_OK || status == LRLEX_NOT_UTF8);
+    if (status != LRLEX_OK) return;
+    int has_rule[NAMES] = {0};
+    for (size_t rule = 0; rule < lrlex_rule_count(d); rule++) {
+        uint8_t name[16];
+        size_t len = 0;
+        lrlex_rule it;
+        int given = -1;
+        LAW(lrlex_rule_at(d, rule, &it) == LRLEX_OK);
+        if (!it.has_name) continue;
+        LAW(lrlex_rule_name(d, rule, name, sizeof name, &len) == LRLEX_OK && len == it.name_len);
+        for (int i = 0; i < NAMES; i++)
+            if (len <= sizeof name && len == ids[i].name_len && memcmp(name, ids[i].name, len) == 0) has_rule[i] = 1, given = i;
+        LAW(it.has_id == (given >= 0) && (given < 0 || it.id == ids[given].id));
+    }
+    for (size_t i = 0; i < NAMES; i++) LAW(missing[i] == !has_rule[i]);
+}
+
+static void check_definition(lrlex_definition *d, const lrlex_options *how) {
+    static uint8_t report[ROOM];
+    lrlex_lexed lexed, cut, slow;
+    lrlex_definition plain = LRLEX_EMPTY;
+    size_t len = 0, at = 0;
+    const int status = lrlex_lex(d, input.bytes, input.len, tokens, ROOM, &lexed);
+    built++;
+    if (status == LRLEX_NOT_UTF8) {
+        not_utf8++;
+        return;
+    }
+    LAW(status == LRLEX_OK);
+    for (size_t i = 0; i < lexed.count; i++) {
+        LAW(tokens[i].start >= at && tokens[i].len > 0 && tokens[i].start + tokens[i].len <= lexed.end);
+        at = tokens[i].start + tokens[i].len;
+    }
+    tokens_seen += lexed.count;
+    LAW(lrlex_pieces(d, input.bytes, input.len, pieces, ROOM, &cut) == LRLEX_OK);
+    check_pieces(d, &lexed, &cut);
+    LAW(lrlex_stop_report(d, input.bytes, 0, input.bytes, input.len, report, ROOM, &len) == (lexed.stopped ? LRLEX_OK : LRLEX_NONE));
+    if (below(4) == 0) {
+        /* without tables the answers are the same */
+        lrlex_options without = *how;
+        without.limit_tables = true, without.table_rows = without.table_work = 0;
+        LAW(lrlex_definition_new(&plain, rules.bytes, rules.len, &without) == LRLEX_OK);
+        LAW(lrlex_lex(&plain, input.bytes, input.len, others, ROOM, &slow) == LRLEX_OK);
+        LAW(same_tokens(tokens, &lexed, others, &slow));
+        lrlex_free(&plain);
+    }
+    if (below(8) == 0) check_ids(d);
+    if (below(2) == 0) check_edits(d);
+}
+
+static void check_faults(lrlex_definition *d) {
+    static uint8_t report[ROOM];
+    const size_t count = lrlex_fault_count(d);
+    size_t len = 0;
+    refused++;
+    LAW(count > 0);
+    for (size_t i = 0; i < count && i < 20; i++) {
+        lrlex_fault fault;
+        lrlex_fault_span span;
+        LAW(lrlex_fault_at(d, i, &fault) == LRLEX_OK && fault.spans > 0 && fault.kind <= LRLEX_TOO_MANY_RULES);
+        for (size_t k = 0; k < fault.spans; k++)
+            LAW(lrlex_fault_span_at(d, i, k, &span) == LRLEX_OK && span.start <= span.end && span.end <= rules.len && span.line && span.column);
+        LAW(lrlex_fault_span_at(d, i, fault.spans, &span) == LRLEX_NONE);
+        LAW(lrlex_fault_text(d, i, report, ROOM, &len) == LRLEX_OK && len > 0);
+    }
+    LAW(lrlex_fault_report(d, rules.bytes, 0, report, ROOM, &len) == LRLEX_OK && len > 0);
+}
+
+static void once(void) {
+    const seed *one = &seeds[below(seed_count)], *other = below(3) ? one : &seeds[below(seed_count)];
+    lrlex_definition d = LRLEX_EMPTY;
+    set(&rules, one->rules, one->rules_len);
+    set(&input, other->input, other->input_len);
+    if (below(2)) mutate(&rules, 3);
+    if (below(4)) mutate(&input, 6);
+    const lrlex_options how = options();
+    texts++;
+    switch (lrlex_definition_new(&d, rules.bytes, rules.len, &how)) {
+    case LRLEX_OK: check_definition(&d, &how); break;
+    case LRLEX_REFUSED: check_faults(&d); break;
+    case LRLEX_NOT_UTF8: not_utf8++; LAW(d.hidden == NULL); break;
+    default: law(0, "a status of a definition", __LINE__);
+    }
+    lrlex_free(&d);
+    LAW(d.hidden == NULL);
+}
+
+static uint8_t *part_of(FILE *file, size_t len) {
+    uint8_t *bytes = malloc(len + 1);
+    if (!bytes || fread(bytes, 1, len, file) != len) exit(2);
+    return bytes;
+}
+
+int main(int count, char **words) {
+    uint32_t lengths[2];
+    if (count < 3) return 2;
+    FILE *file = fopen(words[1], "rb");
+    if (!file) return 2;
+    while (fread(lengths, sizeof lengths, 1, file) == 1) {
+        seed *more = realloc(seeds, (seed_count + 1) * sizeof *seeds);
+        if (!more) return 2;
+        seeds = more;
+        seed *it = &seeds[seed_count++];
+        it->rules_len = lengths[0], it->input_len = lengths[1];
+        it->rules = part_of(file, lengths[0]), it->input = part_of(file, lengths[1]);
+    }
+    fclose(file);
+    if (seed_count == 0) return 2;
+    state = (count > 3 ? strtoull(words[3], NULL, 10) : 1) * UINT64_C(0x9E3779B97F4A7C15) + 1;
+    const time_t end = time(NULL) + (time_t)strtol(words[2], NULL, 10);
+    while (time(NULL) < end) once();
+    for (size_t i = 0; i < seed_count; i++) free(seeds[i].rules), free(seeds[i].input);
+    free(seeds);
+    printf("%llu texts: %llu definitions, %llu refused, %llu not UTF-8, %llu tokens, %llu edits: nothing found\n", texts, built, refused, not_utf8, tokens_seen, edits);
+    return 0;
+}
