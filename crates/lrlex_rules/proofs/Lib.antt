@@ -1,5 +1,8 @@
 mod Examples
 pub mod Angles
+pub mod AllOf
+pub mod AllPlaced
+pub mod AsRead
 pub mod LexBuildResultLemmas
 pub mod Blanks
 pub mod LexParserLemmas
@@ -18,6 +21,7 @@ pub mod Marks
 pub mod MatcherLemmas
 pub mod DuplicateLemmas
 pub mod PatternLemmas
+pub mod Parts
 pub mod Placed
 pub mod PlacedFaults
 pub mod Places
@@ -28,6 +32,10 @@ pub mod RuleRuns
 pub mod Runs
 pub mod Sections
 pub mod Steady
+pub mod SurveyLemmas
+pub mod SurveyRuns
 pub mod Tells
 pub mod Trims
+pub mod Verdicts
 pub mod Whole
+pub mod WholeSections

@@ -59,7 +59,7 @@ only_first : {X : Type 0} (P : X → Type 0) (p : X → Bool) (o : Option X) →
 only_first P p None h = tt
 only_first P p (Some x) h = h.0
 
-all_flat_map : {X Y : Type 0} (P : X → Type 0) (Q : Y → Type 0) (f : X → List Y) → ((x : X) → P x → All Q (f x)) → (xs : List X) → All P xs → All Q (flat_map f xs)
+pub all_flat_map : {X Y : Type 0} (P : X → Type 0) (Q : Y → Type 0) (f : X → List Y) → ((x : X) → P x → All Q (f x)) → (xs : List X) → All P xs → All Q (flat_map f xs)
 all_flat_map P Q f h [] a = All-nil Q
 all_flat_map P Q f h (x ∷ xs) a = All-append Q (f x) (flat_map f xs) (h x (All-head P x xs a)) (all_flat_map P Q f h xs (All-tail P x xs a))
 
@@ -75,7 +75,7 @@ abbrev pub DeclaredFits : List ℕ → Declared → Type 0
 DeclaredFits text (Name exclusive name) = IsPiece text name
 DeclaredFits text (Wrong f) = FaultFits text f
 
-abbrev EventFits : List ℕ → Event → Type 0
+abbrev pub EventFits : List ℕ → Event → Type 0
 EventFits text (NewState s) = SpanFits text s.name_span
 EventFits text (NewRule r) = SpanFits text r.name_span
 EventFits text (Duplicate subject original found) = SpanFits text original × SpanFits text found
@@ -83,7 +83,7 @@ EventFits text (Verbatim s) = SpanFits text s
 EventFits text (Refused at pattern) = IsCharBoundary text at
 EventFits text (Fatal f) = FaultFits text f
 
-fits_at : (text : List ℕ) (kind : FaultKind) (o : ℕ) → IsCharBoundary text o → FaultFits text (fault_at kind o)
+pub fits_at : (text : List ℕ) (kind : FaultKind) (o : ℕ) → IsCharBoundary text o → FaultFits text (fault_at kind o)
 fits_at text kind o b = record { some = omega arith; fit = All-cons (SpanFits text) (at_place o) [] (b, b) (All-nil (SpanFits text)) }
 
 piece_span : (text : List ℕ) (x : Piece) → IsPiece text x → SpanFits text (span_of x)
@@ -102,7 +102,7 @@ names_declared text line (Some exclusive) parameters p q =
     either (All (DeclaredFits text)) (is_empty parameters.text) (Wrong (fault_at UnknownDeclaration line.at) ∷ []) (map (declared_name exclusive) (cut is_white_space parameters)) (unknown text line p)
     (All-map (DeclaredFits text) (declared_name exclusive) (cut is_white_space parameters) (All-weaker (IsPiece text) (λ x. DeclaredFits text (declared_name exclusive x)) (name_declared text exclusive) (cut is_white_space parameters) (cut_pieces is_white_space text parameters q)))
 
-line_declared : (text : List ℕ) (line : Piece) → IsPiece text line → All (DeclaredFits text) (declared_by line)
+pub line_declared : (text : List ℕ) (line : Piece) → IsPiece text line → All (DeclaredFits text) (declared_by line)
 line_declared text line p =
     let word = first_word line.text in
     let rest = piece (line.at + length word) (drop (length word) line.text) in
@@ -155,7 +155,7 @@ state_new : (text : List ℕ) (states : List StartState) (exclusive : Bool) (nam
 state_new text states exclusive name None p h = piece_span text name p
 state_new text states exclusive name (Some original) p h = (h, piece_span text name p)
 
-state_fits : (text : List ℕ) (earlier : List Event) (d : Declared) → All (EventFits text) earlier → DeclaredFits text d → EventFits text (state_event earlier d)
+pub state_fits : (text : List ℕ) (earlier : List Event) (d : Declared) → All (EventFits text) earlier → DeclaredFits text d → EventFits text (state_event earlier d)
 state_fits text earlier (Wrong f) a h = h
 state_fits text earlier (Name exclusive name) a h =
     let states = states_of earlier in
@@ -340,7 +340,7 @@ module _ (text : List ℕ) (s : Settings) (o : ℕ) (b : IsCharBoundary text o) 
   split_event_fits earlier (Err f) a h = h
   split_event_fits earlier (Ok parts) a h = parts_event_fits earlier parts (rule_with_name (rules_of earlier) parts.label.name) h (named_fits text (rules_of earlier) parts.label.name (rules_fit text earlier a))
 
-line_fits : (text : List ℕ) (s : Settings) (earlier : List Event) (line : Piece) → All (EventFits text) earlier → IsPiece text line → EventFits text (line_event s earlier line)
+pub line_fits : (text : List ℕ) (s : Settings) (earlier : List Event) (line : Piece) → All (EventFits text) earlier → IsPiece text line → EventFits text (line_event s earlier line)
 line_fits text s earlier line a p =
     let r = split (states_of earlier) line in
     either (EventFits text) (is_verbatim line) (Verbatim (span_of line)) (split_event s earlier line.at r) (piece_span text line p)
@@ -428,7 +428,7 @@ event_fault text earlier (Verbatim s) later h a = one_fault text (fault Verbatim
 event_fault text earlier (Refused at pattern) later h a = one_fault text (fault_at RegexError at) (fits_at text RegexError at h)
 event_fault text earlier (Fatal f) later h a = one_fault text f h
 
-faults_fit : (text : List ℕ) (earlier events : List Event) → All (EventFits text) events → All (FaultFits text) (faults_after earlier events)
+pub faults_fit : (text : List ℕ) (earlier events : List Event) → All (EventFits text) events → All (FaultFits text) (faults_after earlier events)
 faults_fit text earlier [] a = All-nil (FaultFits text)
 faults_fit text earlier (e ∷ later) a =
     All-append (FaultFits text) (fault_of earlier e later) (faults_after (earlier ++ e ∷ []) later) (event_fault text earlier e later (All-head (EventFits text) e later a) (All-tail (EventFits text) e later a))
@@ -456,7 +456,7 @@ fault_placed text e h =
     let size = length-map e.spans.items as_span in
     record { some = omega arith; fit = spans_fit text e.spans.items h.fit }
 
-faults_placed : (text : List ℕ) (es : List LexBuildError) → All (FaultFits text) (map as_fault es) → All (IsPlaced text) es
+pub faults_placed : (text : List ℕ) (es : List LexBuildError) → All (FaultFits text) (map as_fault es) → All (IsPlaced text) es
 faults_placed text [] a = All-nil (IsPlaced text)
 faults_placed text (e ∷ es) a = All-cons (IsPlaced text) e es (fault_placed text e (All-head (FaultFits text) (as_fault e) (map as_fault es) a)) (faults_placed text es (All-tail (FaultFits text) (as_fault e) (map as_fault es) a))
 

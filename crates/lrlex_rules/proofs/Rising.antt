@@ -14,11 +14,11 @@ use Rattle.lrlex_rules.specs.Declaration.{section_lines, is_skipped, ends_sectio
 use Rattle.lrlex_rules.specs.LexParser.{as_piece, AreApart, laid_out}
 use Rattle.lrlex_rules.proofs.Extends.{map_at}
 
-abbrev Rise : ℕ → List Piece → Type 0
+abbrev pub Rise : ℕ → List Piece → Type 0
 Rise a [] = Unit {0}
 Rise a (x ∷ xs) = (a ≤ x.at) × Rise (x.at + 1) xs
 
-rise_weak : (a b : ℕ) (xs : List Piece) → b ≤ a → Rise a xs → Rise b xs
+pub rise_weak : (a b : ℕ) (xs : List Piece) → b ≤ a → Rise a xs → Rise b xs
 rise_weak a b [] h r = tt
 rise_weak a b (x ∷ xs) h r = let low = r.0 in (omega arith, r.1)
 
@@ -81,7 +81,7 @@ pub as_written : (xs : List Piece) → map (laid_out margins.Kept) xs ≡ xs
 as_written [] = refl
 as_written (x ∷ xs) = ap (λ (ys : List Piece). x ∷ ys) (as_written xs)
 
-section_rise : (comments : Bool) (x : Piece) → Rise x.at (section_lines comments (map (laid_out margins.Kept) (cut_lines x)))
+pub section_rise : (comments : Bool) (x : Piece) → Rise x.at (section_lines comments (map (laid_out margins.Kept) (cut_lines x)))
 section_rise comments x =
     let all : Rise x.at (map (laid_out margins.Kept) (cut_lines x)) = subst (λ (ys : List Piece). Rise x.at ys) (sym (as_written (cut_lines x))) (from_cut x.at (cut_lines x) (cut_rise is_line_sep x.at (chars x.text))) in
     filter_rise (λ (line : Piece). not (is_skipped comments line.text)) x.at _ (take_rise x.at (prefix_len (λ (line : Piece). not (ends_section line.text)) (map (laid_out margins.Kept) (cut_lines x))) (map (laid_out margins.Kept) (cut_lines x)) all)

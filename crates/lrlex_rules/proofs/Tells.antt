@@ -85,7 +85,7 @@ tells_pattern posix states o head =
     tells_if o (not (begins_with (codes "<") head)) (Ok plain) (if list_any is_greater head then ok_or listed (fault_at UnknownStartState o) else Err (fault_at InvalidStartState o)) (tells_ok o plain)
     (tells_if o (list_any is_greater head) (ok_or listed (fault_at UnknownStartState o)) (Err (fault_at InvalidStartState o)) (tells_ok_or o listed (fault_at UnknownStartState o) refl) (tells_err o (fault_at InvalidStartState o) refl))
 
-abbrev TellsEvent : ℕ → Event → Type 0
+abbrev pub TellsEvent : ℕ → Event → Type 0
 TellsEvent o (Fatal f) = IsAt o (refused_in (f ∷ []))
 TellsEvent o (NewState _) = Unit {0}
 TellsEvent o (NewRule _) = Unit {0}
@@ -116,7 +116,7 @@ from_split : (s : Settings) (events : List Event) (o : ℕ) (r : Result LinePart
 from_split s events o (Ok parts) h = from_parts s events o parts (rule_with_name (rules_of events) parts.label.name)
 from_split s events o (Err f) h = h.told
 
-from_line : (s : Settings) (events : List Event) (line : Piece) → TellsEvent line.at (line_event s events line)
+pub from_line : (s : Settings) (events : List Event) (line : Piece) → TellsEvent line.at (line_event s events line)
 from_line s events line = from_if line.at (is_verbatim line) (Verbatim (span_of line)) (split_event s events line.at (split (states_of events) line)) tt (from_split s events line.at (split (states_of events) line) (tells_split line.at (states_of events) line))
 
 by_event : (o : ℕ) (events : List Event) (e : Event) → is_refused events ≡ false → TellsEvent o e → IsAt o (refused_in (faults_after [] (events ++ e ∷ [])))

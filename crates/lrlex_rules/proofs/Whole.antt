@@ -44,7 +44,7 @@ section_place text mark behind section eb es m =
     let place : length text - length section ≡ o + n = omega arith in
     (ap (λ (k : ℕ). piece k section) place ∙ ap (piece (o + n)) is, is ∙ ap (λ (k : ℕ). drop k text) (sym place))
 
-comments_are : (flags : LexFlags) (f : LexFlags) → resolved f ≡ flags → allows_comments f ≡ unwrap_or flags.allow_wholeline_comments false
+pub comments_are : (flags : LexFlags) (f : LexFlags) → resolved f ≡ flags → allows_comments f ≡ unwrap_or flags.allow_wholeline_comments false
 comments_are flags f h = ap (λ (g : LexFlags). unwrap_or g.allow_wholeline_comments false) h
 
 module _ (flags : LexFlags) (greatest : ℕ) (text section : List ℕ) (at : ℕ) (mark : Line) (ls : List Line) (end : Option Line) (comments : Bool)
@@ -80,7 +80,7 @@ module _ (flags : LexFlags) (greatest : ℕ) (text section : List ℕ) (at : ℕ
     rules_routines h s suits events = sym (rules_end s suits events ∙ rw h refl)
 
 -- ---- declarations
-stripped : (xs : List Piece) → map (laid_out margins.Trimmed) xs ≡ map trim xs
+pub stripped : (xs : List Piece) → map (laid_out margins.Trimmed) xs ≡ map trim xs
 stripped [] = refl
 stripped (x ∷ xs) = ap (λ (ys : List Piece). trim x ∷ ys) (stripped xs)
 

@@ -1,5 +1,5 @@
 -- What parsing a rule text returns: a definition or faults.
-use Rattle.std.specs.Prelude.{◌≡◌, ◌≢◌, ℕ, if◌then◌else◌, Option, Some, None, List, [], ◌∷◌, map, Result, Ok, Err, Vec}
+use Rattle.std.specs.Prelude.{◌≡◌, ◌≢◌, ℕ, Bool, false, ◌++◌, if◌then◌else◌, Option, Some, None, List, [], ◌∷◌, map, Result, Ok, Err, Vec}
 use Rattle.std.specs.List.{filter_map}
 use Rattle.std.specs.declared.alloc.Global.{Global}
 use Rattle.regex.specs.Patterns.{Config}
@@ -15,8 +15,9 @@ use Rattle.lrlex_rules.specs.declared.faults.LexErrorKind.TheVariants.{RegexErro
 use Rattle.lrlex_rules.specs.Definition.{Definition}
 use Rattle.lrlex_rules.specs.Flags.{config_of}
 use Rattle.lrlex_rules.specs.WrappedPattern.{wrapped}
-use Rattle.lrlex_rules.specs.Event.{Fault, fault, refused_patterns}
+use Rattle.lrlex_rules.specs.Event.{Fault, fault, is_refused, refused_patterns}
 use Rattle.lrlex_rules.specs.Outcome.{Settings, events_of, outcome}
+use Rattle.lrlex_rules.specs.AllFaults.{all_events, all_faults}
 use Rattle.lrlex_rules.specs.LexErrorKind.{as_kind, is_regex_error}
 
 -- what is seen of a result's value, or of its error
@@ -85,3 +86,22 @@ AreByRegex flags greatest text v =
 abbrev pub AreOwnRefusals : {D : Type 0} → LexFlags → ℕ → List ℕ → Result D (Vec LexBuildError Global) → Type 0
 AreOwnRefusals flags greatest text (Ok d) = Unit {0}
 AreOwnRefusals flags greatest text (Err v) = AreByRegex flags greatest text v
+
+-- these are all faults of the rule text, where `refuses` says of which lines `regex` refused the pattern; each `RegexError` is why
+pub record AreAllFaults (flags : LexFlags) (greatest : ℕ) (text : List ℕ) (v : Vec LexBuildError Global) : Type 0 where
+  pub refuses : ℕ → Bool
+  pub exact : as_faults v ≡ all_faults flags greatest refuses text
+  pub refusals : AreRefusals (config_of flags) (refused_patterns (all_events flags greatest refuses text)) (regex_errors v.items)
+
+-- the faults that an outcome tells; none where it is a definition
+abbrev pub faults_of : Result Definition (List Fault) → List Fault
+faults_of (Ok d) = []
+faults_of (Err faults) = faults
+
+-- These faults begin with all that the reading tells of the text, where `regex` refuses the same pattern. Where none of those is fatal, there are no more.
+pub record BeginAsRead (flags : LexFlags) (greatest : ℕ) (text : List ℕ) (faults : List Fault) : Type 0 where
+  pub read : List Fault
+  pub more : List Fault
+  pub is_read : faults_of (outcome (settings flags greatest (refused_in read)) text) ≡ read
+  pub begins : read ++ more ≡ faults
+  pub same : is_refused (events_of (settings flags greatest (refused_in read)) text) ≡ false → more ≡ []

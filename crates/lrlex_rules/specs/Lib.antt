@@ -8,6 +8,7 @@ pub mod Declaration
 pub mod RuleLine
 pub mod Escape
 pub mod Outcome
+pub mod AllFaults
 pub mod DefinitionLaws
 -- what a rule's pattern matches
 pub use Rattle.lrlex_matching.specs.Matching
@@ -22,3 +23,4 @@ pub mod LexBuildResult
 pub mod Names
 pub mod Duplicates
 pub mod LexParser
+pub mod Survey

@@ -82,13 +82,13 @@ pub fn parse_rule_file<StorageT: Numbered>(
 pub(crate) struct LexParser<'t, StorageT> {
     states: States<'t>,
     rules: Rules<'t, StorageT>,
-    faults: Faults,
-    is_refused: bool,
+    pub(crate) faults: Faults,
+    pub(crate) is_refused: bool,
 }
 
 impl<'t, StorageT: Numbered> LexParser<'t, StorageT> {
     /// A parser that has the state with which each rule file begins.
-    fn new(alloc: Global) -> Result<LexParser<'t, StorageT>, AllocError>
+    pub(crate) fn new(alloc: Global) -> Result<LexParser<'t, StorageT>, AllocError>
         ensures { IfOk result (λ b. (flags : LexFlags) →
             Represents StorageT.number flags b (NewState initial ∷ [])) }
     {
@@ -136,7 +136,11 @@ impl<'t, StorageT: Numbered> LexParser<'t, StorageT> {
     }
 
     /// Parses a declaration: `%s` or `%x`, and the names of start states.
-    fn parse_declaration(&mut self, alloc: Global, line: Line<'t>) -> Result<(), AllocError>
+    pub(crate) fn parse_declaration(
+        &mut self,
+        alloc: Global,
+        line: Line<'t>,
+    ) -> Result<(), AllocError>
         requires fits { line_end line < 2 ^ 64 }
         requires calm { self.old.is_refused ≡ false }
         ensures { OnOk result (Reads StorageT.number self.old self.new
@@ -263,7 +267,7 @@ impl<'t, StorageT: Numbered> LexParser<'t, StorageT> {
     }
 
     /// Parses a line of the rules section.
-    fn parse_line(
+    pub(crate) fn parse_line(
         &mut self,
         alloc: Global,
         line: Line<'t>,
@@ -363,7 +367,12 @@ impl<'t, StorageT: Numbered> LexParser<'t, StorageT> {
     }
 
     /// Ends the parse with a fault that is neither `regex`'s nor that of duplicates.
-    fn refuse(&mut self, alloc: Global, kind: LexErrorKind, at: usize) -> Result<(), AllocError>
+    pub(crate) fn refuse(
+        &mut self,
+        alloc: Global,
+        kind: LexErrorKind,
+        at: usize,
+    ) -> Result<(), AllocError>
         requires calm { self.old.is_refused ≡ false }
         requires own { is_regex_error (as_kind kind) ≡ false }
         requires lone { tells_duplicates (as_kind kind) ≡ false }
