@@ -129,7 +129,15 @@ FAULTS = [
     {"kind": "RegexError", "spans": [[27, 27]]},
 ]
 
-# The report of these faults.
+# What follows it, with the faults of that.
+REST = "c 'Y'\n) 'Z'\n"
+
+REST_FAULTS = [
+    {"kind": "DuplicateName", "spans": [[18, 19], [39, 40]]},
+    {"kind": "RegexError", "spans": [[42, 42]]},
+]
+
+# The report of the first faults.
 REPORT = (
     "1:4: Start state already exists, again at 2:4\n4:4: Rule name already exists, again at 5:4\n6:1: Invalid regular expression\n"
 )
@@ -197,6 +205,10 @@ CALLS = [
         [OLD.run(10, 8)],
     ),
     Call("new_with_options of faults", {"rules": FAULTY}, [], [], [("faults", FAULTS)]),
+    Call(
+        "all_faults", NONE, [["all_faults", {"rules": FAULTY + REST, "flags": {}, "storage": "u32"}]],
+        [[("faults", FAULTS + REST_FAULTS)]],
+    ),
     Call("new_with_budget", {**TEXT, "budget": [0, 0]}, [DEFINITION], [definition(7)]),
     Call("with_budget", {**TEXT, "budget": [0, 0], "again": [7_000, 1_000_000]}, [DEFINITION], [definition(1)]),
     Call("Rule::new, StartState::new, from_rules", PARTS, [DEFINITION, LEX_OLD], [definition(1), OLD.run(10, 8)]),

@@ -7,6 +7,7 @@ mod building;
 mod callers;
 mod documents;
 mod engines;
+mod faults;
 mod items;
 mod lexers;
 mod lookups;

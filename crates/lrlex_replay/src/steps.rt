@@ -3,6 +3,7 @@ use crate::building::{Definition, build_within};
 use crate::callers::{keep_run, replace};
 use crate::documents::{cut_document, show};
 use crate::engines::{display_faults, drive, serve};
+use crate::faults::tell_all_faults;
 use crate::lexers::ask_lexer;
 use crate::lookups::{find, set_ids};
 use crate::reports::report;
@@ -97,6 +98,7 @@ fn make(
         }
         Step::Reports(asked) => report(told, asked),
         Step::Drives(asked, writer) => drive(told, asked, writer),
+        Step::TellsFaults(case) => tell_all_faults(told, case),
         Step::Serves(stdin, writers) => serve(rt, told, stdin, writers),
         Step::DisplaysFaults => Ok(display_faults(told)?),
     }

@@ -94,6 +94,8 @@ pub enum Step<'v> {
     Drives(Engine<'v>, &'v Value),
     /// Serves both texts of standard input, by writers for lines and for faults.
     Serves(&'v str, (&'v Value, &'v Value)),
+    /// Tells all faults of the rule text of a case.
+    TellsFaults(&'v Value),
     /// Displays each fault of the engine, of the words and of the texts.
     DisplaysFaults,
 }
@@ -239,6 +241,7 @@ pub fn step_of(value: &Value) -> Result<Step<'_>, Trouble> {
     let name = step.first().and_then(Value::as_str).unwrap_or("");
     match step {
         [_] => of_none(name),
+        [_, case] if name == "all_faults" => Ok(Step::TellsFaults(case)),
         [_, text] => of_text(name, text_of(text)?),
         [_, first, second] => of_two(name, first, second),
         [_, text, second, third] => of_three(name, text_of(text)?, second, third),

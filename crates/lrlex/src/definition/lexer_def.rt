@@ -1,12 +1,13 @@
 ghost use Rattle.std.specs.Prelude.{◌≡◌, IfOk};
-ghost use Rattle.lrlex_rules.specs.LexBuildResult.{IsAnswer, AreOwnRefusals};
+ghost use Rattle.lrlex_rules.specs.LexBuildResult.{IsAnswer, AreOwnRefusals, AreAllFaults, BeginAsRead, as_faults};
 
 use crate::definition::lookups::{first_named, first_with_id};
 use crate::definition::non_streaming::LRNonStreamingLexerDef;
 use crate::definition::rule_table::{RuleTable, usual_budget};
 use lrlex_base::{Id, LexerTypes, Span};
 use lrlex_rules::{
-    DEFAULT_LEX_FLAGS, LexBuildResult, LexFlags, Rule, StartState, UNSPECIFIED_LEX_FLAGS,
+    DEFAULT_LEX_FLAGS, LexBuildError, LexBuildResult, LexFlags, Rule, StartState,
+    UNSPECIFIED_LEX_FLAGS, all_faults,
 };
 use lrlex_table::Budget;
 use std::alloc::{AllocError, Global};
@@ -232,6 +233,23 @@ impl<L: LexerTypes> LRNonStreamingLexerDef<L> {
             (λ d. is_state (definition_of L.StorageT.number d) 0 ≡ true)) }
     {
         LRNonStreamingLexerDef::new_with_budget(alloc, text, flags, usual_budget())
+    }
+
+    /// All faults of a rule text with these flags, in order. Empty where `new_with_options` gives a definition.
+    ///
+    /// `new_with_options` stops at the first fault that is neither a duplicate nor verbatim code, as the original does. Here such
+    /// a fault ends its line alone, and the next line is read after it. The first faults are those of `new_with_options`.
+    pub fn all_faults(
+        alloc: Global,
+        text: &str,
+        flags: LexFlags,
+    ) -> Result<Vec<LexBuildError>, AllocError>
+        ensures exact { IfOk result (AreAllFaults flags L.StorageT.greatest text.now) }
+        ensures begins { IfOk result (λ faults.
+            BeginAsRead flags L.StorageT.greatest text.now (as_faults faults)) }
+        ensures placed { IfOk result (λ faults. All (IsPlaced text.now) faults.items) }
+    {
+        all_faults::<L::StorageT>(alloc, text, flags)
     }
 
     /// Reads a rule text with these flags, as `new_with_options` does, and makes tables that cost no more than the budget.
