@@ -5,8 +5,8 @@ ghost use Rattle.lrlex_table.specs.Table.{IsTableOf};
 ghost use Rattle.lrlex_table.specs.Tables.{IsPartOf, AreTablesOf};
 ghost use Rattle.lrlex_table.specs.Never.{NeverWins, NoneOfWins, WinsAt, IsStruck, AreStruck, AreTablesOn, NeverWinsIn, WinsNowhereIn};
 
-use crate::table::Table;
 use crate::merged_tables::{Part, Tables};
+use crate::table::Table;
 use std::alloc::{AllocError, Global};
 
 impl Table {
