@@ -24,6 +24,8 @@ FILES = {
     "' <+TEXT>;\n<TEXT>' <-TEXT>;\n<TEXT>[^']+ 'INSIDE'\n[a-z]+ 'ID'\n[ \\n]+ ;\n",
     "bad.l": "%%\na 'A'\nb 'A'\n( 'B'\n",
     "other.l": "%s k k\n%%\n",
+    "three.l": "%%\n( 'A'\n) 'B'\n[a-z] C\n",
+    "never.l": "%%\n[a-z]+ 'ID'\nif 'IF'\n[0-9] 'INT'\n",
     "comments.l": "// c\n%%\na 'A'\n",
     "empty": "",
     "latin": b"ab\n\xe9t\xe9",
@@ -95,6 +97,25 @@ ROWS = [
     ("check bad.l none other.l", "", Outcome(BAD + OTHER, MISSING, 2)),
     ("check -", "a", Outcome("stdin:1:1: Unknown declaration\n1 | a\n  | ^\n", "", 1)),
     ("check empty", "", Outcome("empty:1:1: File ends prematurely\n1 | \n  | ^\n", "", 1)),
+    (
+        "check three.l",
+        "",
+        Outcome(
+            "three.l:2:1: Invalid regular expression: unclosed group\n2 | ( 'A'\n  | ^\n"
+            "three.l:3:1: Invalid regular expression: unopened group\n3 | ) 'B'\n  | ^\n"
+            "three.l:4:7: Invalid rule name\n4 | [a-z] C\n  |       ^\n",
+            "",
+            1,
+        ),
+    ),
+    (
+        "check never.l",
+        "",
+        Outcome(
+            "never.l:3:5: Warning: this rule never wins, since other rules match all that it matches\n"
+            "3 | if 'IF'\n  |     ^^\n"
+        ),
+    ),
     ("check latin folder", "", Outcome("", LATIN + FOLDER, 2)),
     ("check comments.l", "", Outcome("comments.l:1:1: Unknown declaration\n1 | // c\n  | ^\n", "", 1)),
     ("check --allow-wholeline-comments true comments.l", "", Outcome()),
