@@ -1,0 +1,6 @@
+-- A message as bytes.
+use Rattle.std.specs.Prelude.{ℕ, List, ◌++◌, length, codes, decimal}
+
+-- a head that says how many bytes the body has, an empty line, and the body
+abbrev pub framed : List ℕ → List ℕ
+framed body = codes "Content-Length: " ++ (decimal (length body) ++ (codes "\r\n\r\n" ++ body))

@@ -1,0 +1,3 @@
+pub mod Changes
+pub mod Framing
+pub mod Offsets

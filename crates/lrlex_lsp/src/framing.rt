@@ -1,0 +1,134 @@
+//! Messages as bytes: a head of lines, one of them `Content-Length: N`, an empty line, and N bytes.
+ghost use Rattle.std.specs.Prelude.{◌≡◌, ◌++◌, IfOk, IfSome, codes, decimal, length, string_bytes};
+ghost use Rattle.std.specs.Io.KnownBytes.{Appends, Consumes};
+ghost use Rattle.lrlex_lsp.specs.Framing.{framed};
+
+use std::alloc::{AllocError, Global};
+use std::io::{Read, Write};
+use std::{io, str};
+
+/// The longest body that is taken, in bytes.
+const MOST: usize = 268_435_456;
+
+/// The longest head that is taken, in bytes.
+const MOST_HEAD: u32 = 8192;
+
+/// What was read.
+#[derive(Drop)]
+pub enum Frame {
+    /// The body of a message.
+    Body(Vec<u8>),
+    /// A body of more than 256 MB was passed over.
+    TooLong,
+    /// A head has no length, so nothing after it can be read.
+    Headless,
+    /// The input ends.
+    End,
+}
+
+/// The number after `Content-Length:`, if the line has one.
+fn length_in(line: &str) -> Option<usize> {
+    let (name, value) = line.split_once(':')?;
+    if !name.trim().eq_ignore_ascii_case("content-length") {
+        return None;
+    }
+    value.trim().parse::<usize>().ok()
+}
+
+/// The length that a head tells.
+fn length_of(head: &[u8]) -> Option<usize> {
+    let text = str::from_utf8(head).ok()?;
+    for line in text.lines() {
+        if let Some(length) = length_in(line) {
+            return Some(length);
+        }
+    }
+    None
+}
+
+/// Reads up to the empty line. None where the input ends first, or the head is too long.
+fn read_head<R: Read>(alloc: Global, reader: &mut R) -> io::Result<Option<Vec<u8>>> {
+    let mut head = Vec::new(alloc);
+    let mut byte = [0u8; 1];
+    for _ in 0..MOST_HEAD {
+        if reader.read(&mut byte)? == 0 {
+            return Ok(None);
+        }
+        head.push(byte[0])?;
+        if head.as_slice().ends_with(b"\r\n\r\n") {
+            return Ok(Some(head));
+        }
+    }
+    Ok(None)
+}
+
+/// Reads a body of this length. None where the input ends first.
+fn read_body<R: Read>(alloc: Global, reader: &mut R, length: usize) -> io::Result<Option<Vec<u8>>> {
+    let mut body = Vec::new(alloc);
+    let mut part = [0u8; 16384];
+    while body.len() < length {
+        let most = (length - body.len()).min(part.len());
+        let count = reader.read(&mut part[..most])?;
+        if count == 0 {
+            return Ok(None);
+        }
+        body.extend_from_slice(&part[..count])?;
+    }
+    Ok(Some(body))
+}
+
+/// Passes over a body of this length. Whether the input has it.
+fn skip_body<R: Read>(reader: &mut R, length: usize) -> io::Result<bool> {
+    let mut part = [0u8; 16384];
+    let mut left = length;
+    while left > 0 {
+        let most = left.min(part.len());
+        let count = reader.read(&mut part[..most])?;
+        if count == 0 {
+            return Ok(false);
+        }
+        left -= count;
+    }
+    Ok(true)
+}
+
+/// Reads a message.
+pub fn read_frame<R: Read>(alloc: Global, reader: &mut R) -> io::Result<Frame> {
+    let Some(head) = read_head(alloc, reader)? else {
+        return Ok(Frame::End);
+    };
+    match length_of(head.as_slice()) {
+        None => Ok(Frame::Headless),
+        Some(length) if length > MOST => {
+            if skip_body(reader, length)? {
+                Ok(Frame::TooLong)
+            } else {
+                Ok(Frame::End)
+            }
+        }
+        Some(length) => match read_body(alloc, reader, length)? {
+            Some(body) => Ok(Frame::Body(body)),
+            None => Ok(Frame::End),
+        },
+    }
+}
+
+/// The text of a message with this body.
+fn framed(alloc: Global, body: &str) -> Result<String, AllocError>
+    ensures { IfOk result (λ s. string_bytes s ≡ framed body.now) }
+{
+    let length = body.len();
+    let mut text = format!(in alloc; "Content-Length: {length}\r\n\r\n")?;
+    text.push_str(body)?;
+    Ok(text)
+}
+
+/// Writes a message: a head that says how many bytes its body has, and the body.
+pub fn write_frame<W: Write>(alloc: Global, writer: &mut W, body: &str) -> io::Result<()>
+    ensures { IfOk result (λ _. Appends (W.contents writer.old) (W.contents writer.new)
+        (framed body.now)) }
+{
+    let text = framed(alloc, body)?;
+    writer.write_all(text.as_bytes())?;
+    writer.flush()
+}

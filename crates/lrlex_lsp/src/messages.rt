@@ -1,0 +1,157 @@
+//! Messages of JSON-RPC: what one asks, and the text of an answer.
+use crate::json::Json;
+use serde_json::Value;
+use std::alloc::{AllocError, Global};
+
+/// Why a request is refused: the code of an error, as the protocol has it, and what it means here.
+#[derive(Clone, Copy)]
+pub(crate) struct Fault {
+    code: &'static str,
+    message: &'static str,
+}
+
+/// `ParseError`.
+pub(crate) const NO_JSON: Fault = Fault {
+    code: "-32700",
+    message: "The message isn't JSON",
+};
+
+/// `InvalidRequest`.
+pub(crate) const NO_REQUEST: Fault = Fault {
+    code: "-32600",
+    message: "The message isn't a request that can be made now",
+};
+
+/// `InvalidRequest`.
+pub(crate) const TOO_LONG: Fault = Fault {
+    code: "-32600",
+    message: "The message is too long",
+};
+
+/// `MethodNotFound`.
+pub(crate) const NO_METHOD: Fault = Fault {
+    code: "-32601",
+    message: "There is no such method",
+};
+
+/// `InvalidParams`.
+pub(crate) const BAD_PARAMS: Fault = Fault {
+    code: "-32602",
+    message: "The parameters name no open document, or no place",
+};
+
+/// `ServerNotInitialized`.
+pub(crate) const NOT_INITIALIZED: Fault = Fault {
+    code: "-32002",
+    message: "The server isn't initialized",
+};
+
+/// What a message asks.
+#[derive(Clone, Copy)]
+pub(crate) enum Call<'v> {
+    /// The answer names this id.
+    Request(&'v Value, &'v str),
+    Notification(&'v str),
+    /// An answer to what the server asked.
+    Answer,
+    Malformed,
+}
+
+/// What a message asks.
+pub(crate) fn call_of(message: &Value) -> Call<'_> {
+    let method = message.get("method").and_then(Value::as_str);
+    match (message.get("id"), method) {
+        (Some(id), Some(method)) => Call::Request(id, method),
+        (None, Some(method)) => Call::Notification(method),
+        (Some(_), None) if message.get("result").is_some() || message.get("error").is_some() => {
+            Call::Answer
+        }
+        _ => Call::Malformed,
+    }
+}
+
+/// Begins an answer.
+fn begin(alloc: Global, id: Option<&Value>) -> Json {
+    let mut json = Json::new(alloc);
+    json.open("{");
+    json.member("jsonrpc");
+    json.put("\"2.0\"");
+    json.member("id");
+    match id {
+        Some(id) => json.value(id),
+        None => json.put("null"),
+    }
+    json
+}
+
+/// An answer up to its result, which is to follow, and then a bracket.
+pub(crate) fn begin_result(alloc: Global, id: &Value) -> Json {
+    let mut json = begin(alloc, Some(id));
+    json.member("result");
+    json
+}
+
+/// An answer whose result is this text.
+pub(crate) fn answer(alloc: Global, id: &Value, outcome: &str) -> Result<String, AllocError> {
+    let mut json = begin_result(alloc, id);
+    json.put(outcome);
+    json.close("}");
+    json.done()
+}
+
+/// An answer that refuses a request.
+pub(crate) fn refusal(
+    alloc: Global,
+    id: Option<&Value>,
+    fault: Fault,
+) -> Result<String, AllocError> {
+    let mut json = begin(alloc, id);
+    json.member("error");
+    json.open("{");
+    json.member("code");
+    json.put(fault.code);
+    json.member("message");
+    json.text(fault.message);
+    json.close("}");
+    json.close("}");
+    json.done()
+}
+
+/// A notification up to its parameters, which are to follow, and then a bracket.
+pub(crate) fn begin_notification(alloc: Global, method: &str) -> Json {
+    let mut json = Json::new(alloc);
+    json.open("{");
+    json.member("jsonrpc");
+    json.put("\"2.0\"");
+    json.member("method");
+    json.text(method);
+    json.member("params");
+    json
+}
+
+/// A message for the client's log, as a warning.
+pub(crate) fn warning(alloc: Global, message: &str) -> Result<String, AllocError> {
+    let mut json = begin_notification(alloc, "window/logMessage");
+    json.open("{");
+    json.member("type");
+    json.put("2");
+    json.member("message");
+    json.text(message);
+    json.close("}");
+    json.close("}");
+    json.done()
+}
+
+/// A request of the server's own, without parameters.
+pub(crate) fn request(alloc: Global, id: usize, method: &str) -> Result<String, AllocError> {
+    let mut json = Json::new(alloc);
+    json.open("{");
+    json.member("jsonrpc");
+    json.put("\"2.0\"");
+    json.member("id");
+    json.number(id);
+    json.member("method");
+    json.text(method);
+    json.close("}");
+    json.done()
+}

@@ -1,0 +1,63 @@
+//! What the parameters of a message say.
+use serde_json::Value;
+
+/// The text at this pointer.
+pub(crate) fn text_at<'v>(message: &'v Value, pointer: &str) -> Option<&'v str> {
+    message.pointer(pointer)?.as_str()
+}
+
+/// The URI of the document that a message is about.
+pub(crate) fn uri_of(message: &Value) -> Option<&str> {
+    text_at(message, "/params/textDocument/uri")
+}
+
+/// The version of the document that a message names.
+pub(crate) fn version_of(message: &Value) -> Option<usize> {
+    match message.pointer("/params/textDocument/version")?.as_u64() {
+        Some(version) => Some(version as usize),
+        None => None,
+    }
+}
+
+/// The number that is this member.
+fn number_in(value: &Value, member: &str) -> Option<usize> {
+    match value.get(member)?.as_u64() {
+        Some(number) => Some(number as usize),
+        None => None,
+    }
+}
+
+/// Line and column of a position, both from 0.
+fn place_of(position: &Value) -> Option<(usize, usize)> {
+    Some((
+        number_in(position, "line")?,
+        number_in(position, "character")?,
+    ))
+}
+
+/// Both places of a range.
+pub(crate) fn range_of(range: &Value) -> Option<((usize, usize), (usize, usize))> {
+    Some((place_of(range.get("start")?)?, place_of(range.get("end")?)?))
+}
+
+/// Whether a document is a rule file: its name ends in `.l`, or its language is `lex` or `lrlex`.
+pub(crate) fn is_rule_file(uri: &str, language: Option<&str>) -> bool {
+    uri.ends_with(".l") || language == Some("lex") || language == Some("lrlex")
+}
+
+/// Whether the client offers to count columns in bytes.
+pub(crate) fn offers_utf8(message: &Value) -> bool {
+    let offered = message.pointer("/params/capabilities/general/positionEncodings");
+    match offered.and_then(Value::as_array) {
+        Some(names) => names.iter().any(|name| name.as_str() == Some("utf-8")),
+        None => false,
+    }
+}
+
+/// Whether the client can ask for all tokens again.
+pub(crate) fn can_refresh(message: &Value) -> bool {
+    message
+        .pointer("/params/capabilities/workspace/semanticTokens/refreshSupport")
+        .and_then(Value::as_bool)
+        == Some(true)
+}

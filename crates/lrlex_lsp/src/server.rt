@@ -1,0 +1,222 @@
+//! What is answered to each message.
+use crate::capabilities::initialized;
+use crate::messages::{
+    BAD_PARAMS, Call, Fault, NO_JSON, NO_METHOD, NO_REQUEST, NOT_INITIALIZED, answer, call_of,
+    refusal, warning,
+};
+use crate::params::{can_refresh, is_rule_file, offers_utf8, range_of, text_at, uri_of, version_of};
+use crate::positions::Encoding;
+use crate::started::{Given, Next, Phase, State};
+use crate::texts::Texts;
+use serde_json::Value;
+use std::alloc::{AllocError, Global};
+
+/// What comes of a message.
+#[derive(Drop)]
+pub struct Handled {
+    /// The body of the answer to a request. A notification has none.
+    pub answer: Option<String>,
+    pub next: Next,
+}
+
+/// The answers to messages, over languages that don't change.
+#[derive(Drop)]
+pub struct Server<'d> {
+    alloc: Global,
+    phase: Phase,
+    can_refresh: bool,
+    texts: Texts<'d>,
+}
+
+impl<'d> Server<'d> {
+    /// A server that goes on from a state. What is told of the texts that are open is added to `told`, as bodies of messages.
+    pub fn new(
+        alloc: Global,
+        given: Given<'d>,
+        state: State,
+        told: &mut Vec<String>,
+    ) -> Result<Server<'d>, AllocError> {
+        let State {
+            phase,
+            encoding,
+            can_refresh,
+            asked,
+            kept,
+        } = state;
+        let mut texts = Texts::new(alloc, given, encoding, asked);
+        texts.reopen(kept, can_refresh, told)?;
+        Ok(Server {
+            alloc,
+            phase,
+            can_refresh,
+            texts,
+        })
+    }
+
+    /// What a server over other languages goes on from.
+    pub fn close(self) -> Result<State, AllocError> {
+        let Server {
+            alloc: _,
+            phase,
+            can_refresh,
+            texts,
+        } = self;
+        let encoding = texts.encoding;
+        let asked = texts.asked;
+        let kept = texts.close()?;
+        Ok(State {
+            phase,
+            encoding,
+            can_refresh,
+            asked,
+            kept,
+        })
+    }
+
+    fn did_open(&mut self, message: &Value, told: &mut Vec<String>) -> Result<Next, AllocError> {
+        let text = text_at(message, "/params/textDocument/text");
+        let (Some(uri), Some(text)) = (uri_of(message), text) else {
+            return Ok(Next::GoOn);
+        };
+        let language = text_at(message, "/params/textDocument/languageId");
+        let is_rules = is_rule_file(uri, language);
+        self.texts.open(uri, is_rules, text, version_of(message))?;
+        self.texts.tell_changed(uri, told)
+    }
+
+    fn did_change(&mut self, message: &Value, told: &mut Vec<String>) -> Result<Next, AllocError> {
+        let changes = message.pointer("/params/contentChanges");
+        let (Some(uri), Some(changes)) = (uri_of(message), changes.and_then(Value::as_array))
+        else {
+            return Ok(Next::GoOn);
+        };
+        if !self.texts.change(uri, changes, version_of(message))? {
+            told.push(warning(
+                self.alloc,
+                "A change doesn't fit the document, which is as it was before it",
+            )?)?;
+        }
+        self.texts.tell_changed(uri, told)
+    }
+
+    /// Takes a notification.
+    fn notified(
+        &mut self,
+        method: &str,
+        message: &Value,
+        told: &mut Vec<String>,
+    ) -> Result<Next, AllocError> {
+        match (self.phase, method) {
+            (phase, "exit") => Ok(Next::End(phase == Phase::ShutDown)),
+            (Phase::Serving, "textDocument/didOpen") => self.did_open(message, told),
+            (Phase::Serving, "textDocument/didChange") => self.did_change(message, told),
+            (Phase::Serving, "textDocument/didClose") => {
+                if let Some(uri) = uri_of(message) {
+                    self.texts.forget(uri, told)?;
+                }
+                Ok(Next::GoOn)
+            }
+            _ => Ok(Next::GoOn),
+        }
+    }
+
+    fn initialize(&mut self, id: &Value, message: &Value) -> Result<String, AllocError> {
+        if offers_utf8(message) {
+            self.texts.encoding = Encoding::Utf8;
+        }
+        self.can_refresh = can_refresh(message);
+        self.phase = Phase::Serving;
+        initialized(self.alloc, id, self.texts.encoding)
+    }
+
+    /// The answer to a request for tokens.
+    fn tokens(&mut self, id: &Value, method: &str, message: &Value) -> Result<String, AllocError> {
+        let encoding = self.texts.encoding;
+        let uri = uri_of(message).unwrap_or("");
+        let Some(opened) = self.texts.open.get_mut(uri) else {
+            return refusal(self.alloc, Some(id), BAD_PARAMS);
+        };
+        if method == "textDocument/semanticTokens/full" {
+            return opened.answer_full(self.alloc, encoding, id);
+        }
+        if method == "textDocument/semanticTokens/full/delta" {
+            let since = text_at(message, "/params/previousResultId").unwrap_or("");
+            return opened.answer_delta(self.alloc, encoding, id, since);
+        }
+        match message.pointer("/params/range").and_then(range_of) {
+            Some(range) => opened.answer_range(self.alloc, encoding, id, range),
+            None => refusal(self.alloc, Some(id), BAD_PARAMS),
+        }
+    }
+
+    /// The answer to a request.
+    fn requested(
+        &mut self,
+        id: &Value,
+        method: &str,
+        message: &Value,
+    ) -> Result<String, AllocError> {
+        match (self.phase, method) {
+            (Phase::Begun, "initialize") => self.initialize(id, message),
+            (Phase::Begun, _) => self.refused(id, NOT_INITIALIZED),
+            (Phase::ShutDown, _) | (_, "initialize") => self.refused(id, NO_REQUEST),
+            (_, "shutdown") => {
+                self.phase = Phase::ShutDown;
+                answer(self.alloc, id, "null")
+            }
+            (
+                _,
+                "textDocument/semanticTokens/full"
+                | "textDocument/semanticTokens/full/delta"
+                | "textDocument/semanticTokens/range",
+            ) => self.tokens(id, method, message),
+            _ => self.refused(id, NO_METHOD),
+        }
+    }
+
+    fn refused(&self, id: &Value, fault: Fault) -> Result<String, AllocError> {
+        refusal(self.alloc, Some(id), fault)
+    }
+
+    /// Takes a message.
+    fn take(&mut self, message: &Value, told: &mut Vec<String>) -> Result<Handled, AllocError> {
+        match call_of(message) {
+            Call::Request(id, method) => Ok(answered(self.requested(id, method, message)?)),
+            Call::Notification(method) => Ok(Handled {
+                answer: None,
+                next: self.notified(method, message, told)?,
+            }),
+            Call::Answer => Ok(Handled {
+                answer: None,
+                next: Next::GoOn,
+            }),
+            Call::Malformed => Ok(answered(refusal(
+                self.alloc,
+                message.get("id"),
+                NO_REQUEST,
+            )?)),
+        }
+    }
+
+    /// Takes the body of a message, and gives the body of its answer. The bodies of notifications and of requests of the server's
+    /// own are added to `told`.
+    pub fn handle(
+        &mut self,
+        body: &[u8],
+        told: &mut Vec<String>,
+    ) -> Result<Handled, AllocError> {
+        match Value::from_slice(self.alloc, body) {
+            Ok(message) => self.take(&message, told),
+            Err(fault) if fault.is_memory() => Err(AllocError),
+            Err(_) => Ok(answered(refusal(self.alloc, None, NO_JSON)?)),
+        }
+    }
+}
+
+/// What comes of a message that is only answered.
+pub(crate) fn answered(body: String) -> Handled {
+    Handled {
+        answer: Some(body),
+        next: Next::GoOn,
+    }
+}

@@ -1,0 +1,68 @@
+//! What a server is begun with, and what outlives it where the given rules change.
+use crate::languages::Language;
+use crate::positions::Encoding;
+use lrlex::LexFlags;
+use std::alloc::Global;
+
+/// What the server does after a message.
+#[derive(Drop)]
+pub enum Next {
+    GoOn,
+    /// It ends. Whether the client had shut it down.
+    End(bool),
+    /// The given rules are this text now: `close`, and a new server over its language.
+    Rules(String),
+}
+
+/// How far client and server are.
+#[derive(Clone, Copy, PartialEq, Eq)]
+pub(crate) enum Phase {
+    Begun,
+    Serving,
+    ShutDown,
+}
+
+/// The languages of a server.
+#[derive(Clone, Copy)]
+pub struct Given<'d> {
+    /// The language of rule files.
+    pub own: &'d Language,
+    /// The language of all other texts, if there is one.
+    pub language: Option<&'d Language>,
+    /// The URI of that language's rule file, or an empty text.
+    pub uri: &'d str,
+    /// The flags that rule files are read with.
+    pub flags: LexFlags,
+}
+
+/// A text between two servers.
+#[derive(Drop)]
+pub(crate) struct Kept {
+    pub(crate) uri: String,
+    pub(crate) is_rules: bool,
+    pub(crate) text: String,
+    pub(crate) version: Option<usize>,
+}
+
+/// What outlives a server: how far the client is, and the texts that are open.
+#[derive(Drop)]
+pub struct State {
+    pub(crate) phase: Phase,
+    pub(crate) encoding: Encoding,
+    pub(crate) can_refresh: bool,
+    pub(crate) asked: usize,
+    pub(crate) kept: Vec<Kept>,
+}
+
+impl State {
+    /// That before the first message.
+    pub fn new(alloc: Global) -> State {
+        State {
+            phase: Phase::Begun,
+            encoding: Encoding::Utf16,
+            can_refresh: false,
+            asked: 0,
+            kept: Vec::new(alloc),
+        }
+    }
+}

@@ -1,0 +1,157 @@
+//! The documents that are open.
+use crate::diagnostics::{nothing_of, told_of};
+use crate::edits::make_change;
+use crate::messages::request;
+use crate::opened::{Opened, Role};
+use crate::positions::Encoding;
+use crate::started::{Given, Kept, Next};
+use crate::uris::is_same_file;
+use serde_json::Value;
+use std::alloc::{AllocError, Global};
+use std::collections::BTreeMap;
+
+/// The documents that are open, by their URIs.
+#[derive(Drop)]
+pub(crate) struct Texts<'d> {
+    alloc: Global,
+    given: Given<'d>,
+    pub(crate) encoding: Encoding,
+    /// How many requests of its own the server has made.
+    pub(crate) asked: usize,
+    pub(crate) open: BTreeMap<String, Opened<'d>>,
+}
+
+impl<'d> Texts<'d> {
+    /// No documents yet.
+    pub(crate) fn new(
+        alloc: Global,
+        given: Given<'d>,
+        encoding: Encoding,
+        asked: usize,
+    ) -> Texts<'d> {
+        Texts {
+            alloc,
+            given,
+            encoding,
+            asked,
+            open: BTreeMap::new(alloc),
+        }
+    }
+
+    /// Opens what was open before, and tells what is wrong with each document.
+    pub(crate) fn reopen(
+        &mut self,
+        kept: Vec<Kept>,
+        can_refresh: bool,
+        told: &mut Vec<String>,
+    ) -> Result<(), AllocError> {
+        for text in &kept {
+            self.open(&text.uri, text.is_rules, &text.text, text.version)?;
+            self.tell(&text.uri, told)?;
+        }
+        if can_refresh && !kept.is_empty() {
+            self.asked = self.asked.saturating_add(1);
+            let body = request(self.alloc, self.asked, "workspace/semanticTokens/refresh")?;
+            told.push(body)?;
+        }
+        Ok(())
+    }
+
+    /// The documents, without what they are lexed by.
+    pub(crate) fn close(self) -> Result<Vec<Kept>, AllocError> {
+        let mut all = Vec::new(self.alloc);
+        for (uri, opened) in self.open.iter() {
+            let kept = Kept {
+                uri: uri.clone()?,
+                is_rules: opened.role == Role::Rules,
+                text: String::from_str(self.alloc, opened.document.text())?,
+                version: opened.version,
+            };
+            all.push(kept)?;
+        }
+        Ok(all)
+    }
+
+    /// Opens a document.
+    pub(crate) fn open(
+        &mut self,
+        uri: &str,
+        is_rules: bool,
+        text: &str,
+        version: Option<usize>,
+    ) -> Result<(), AllocError> {
+        let is_given = is_same_file(self.alloc, uri, self.given.uri)?;
+        let (role, language) = match self.given.language {
+            _ if is_rules || is_given => (Role::Rules, self.given.own),
+            Some(given) => (Role::Text, given),
+            None => (Role::Unlexed, self.given.own),
+        };
+        let opened = Opened::new(self.alloc, role, language, text, version)?;
+        self.open
+            .insert(String::from_str(self.alloc, uri)?, opened)?;
+        Ok(())
+    }
+
+    /// Makes changes of a document, one after the other, and says whether all fit. One that doesn't fit changes nothing.
+    pub(crate) fn change(
+        &mut self,
+        uri: &str,
+        changes: &[Value],
+        version: Option<usize>,
+    ) -> Result<bool, AllocError> {
+        let Some(opened) = self.open.get_mut(uri) else {
+            return Ok(true);
+        };
+        let mut all_fit = true;
+        for change in changes {
+            let fits = make_change(self.alloc, &mut opened.document, self.encoding, change)?;
+            all_fit = all_fit && fits;
+        }
+        opened.version = version;
+        Ok(all_fit)
+    }
+
+    /// Closes a document, and tells that nothing is wrong with it any more.
+    pub(crate) fn forget(&mut self, uri: &str, told: &mut Vec<String>) -> Result<(), AllocError> {
+        if self.open.remove(uri).is_some() {
+            told.push(nothing_of(self.alloc, uri)?)?;
+        }
+        Ok(())
+    }
+
+    /// Tells what is wrong with a document. Whether it is open and nothing is.
+    fn tell(&self, uri: &str, told: &mut Vec<String>) -> Result<bool, AllocError> {
+        let Some(opened) = self.open.get(uri) else {
+            return Ok(false);
+        };
+        let (body, has_faults) =
+            told_of(self.alloc, uri, opened, self.encoding, self.given.flags)?;
+        told.push(body)?;
+        Ok(!has_faults)
+    }
+
+    /// The text of a document, if it is the file of the given rules.
+    fn given_text(&self, uri: &str) -> Result<Option<String>, AllocError> {
+        match self.open.get(uri) {
+            Some(opened) if is_same_file(self.alloc, uri, self.given.uri)? => {
+                Ok(Some(String::from_str(self.alloc, opened.document.text())?))
+            }
+            _ => Ok(None),
+        }
+    }
+
+    /// Tells what is wrong with a document, and whether it gives the given rules anew.
+    pub(crate) fn tell_changed(
+        &self,
+        uri: &str,
+        told: &mut Vec<String>,
+    ) -> Result<Next, AllocError> {
+        if !self.tell(uri, told)? {
+            return Ok(Next::GoOn);
+        }
+        match self.given_text(uri)? {
+            Some(text) => Ok(Next::Rules(text)),
+            None => Ok(Next::GoOn),
+        }
+    }
+}
