@@ -42,17 +42,17 @@ LINES = (
 
 STOP = "stop:1:4: unexpected character '@'\n1 | ab @\n  |    ^\n"
 BAD = (
-    "bad.l:4:1: Invalid regular expression: unclosed group\n4 | ( 'B'\n  | ^\n"
     "bad.l:3:4: Rule name already exists\n3 | b 'A'\n  |    ^\n"
     "bad.l:2:4: first here\n2 | a 'A'\n  |    ^\n"
+    "bad.l:4:1: Invalid regular expression: unclosed group\n4 | ( 'B'\n  | ^\n"
 )
 OTHER = (
     "other.l:1:6: Start state already exists\n1 | %s k k\n  |      ^\n"
     "other.l:1:4: first here\n1 | %s k k\n  |    ^\n"
 )
 LATIN = "latin:2:1: not UTF-8, byte 0xE9 at offset 3\n2 | \n  | ^\n"
-MISSING = "rolgumzai: none: No such file or directory\n"
-FOLDER = "rolgumzai: folder: Is a directory\n"
+MISSING = "rolgumzai: none: No such file or directory (os error 2)\n"
+FOLDER = "rolgumzai: folder: Is a directory (os error 21)\n"
 
 # Words, standard input, and what comes of them.
 ROWS = [
@@ -130,8 +130,8 @@ ROWS = [
         "explain states.l open 11",
         "",
         Outcome(
-            "open:1:11: ; of states.l:6 wins with 3 bytes: no other rule matches\n"
-            "1 | a /* b /* c */\n  |           ^^^\n"
+            "open:1:10: ; of states.l:6 wins with 3 bytes: no other rule matches\n"
+            "1 | a /* b /* c */\n  |          ^^^\n"
             "stack, from the bottom: INITIAL COMMENT (2 times)\n"
             "bytes  active rules\n"
             "    0  states.l:4: <COMMENT>/\\* <+COMMENT>;\n"
@@ -276,6 +276,13 @@ class Rolgumzai(unittest.TestCase):
         for program in programs.by_each_compiler(PROGRAM):
             self.assertEqual(self.run_in_folder(program, ["--version"]), Outcome(f"rolgumzai {newest}\n"))
 
+    def test_the_script_at_the_top(self):
+        if not os.path.exists(f"{programs.TOP}/crates/{PROGRAM}/out/{PROGRAM}"):
+            self.skipTest("it would build the program")
+        words = [f"{programs.TOP}/{PROGRAM}", "tokens", "tokens.l", "input"]
+        programs.run(words, cwd=self.folder, timeout=None)
+        self.assertEqual(programs.run(words, cwd=self.folder), Outcome(LINES))
+
     def test_a_reader_that_has_gone(self):
         programs.fill(self.folder, {"long": "if ifs 12\n" * 100_000, "many.l": "%%\n" + "a 'A'\n" * 2_000})
         rows = ["tokens tokens.l long", "tokens --json tokens.l long", "highlight tokens.l long", "check many.l"]
@@ -312,7 +319,7 @@ class Rolgumzai(unittest.TestCase):
                     ended = subprocess.run(
                         [program, *words.split()], stdout=full, stderr=subprocess.PIPE, cwd=self.folder, check=False
                     )
-                self.assertEqual((ended.stderr, ended.returncode), (b"rolgumzai: No space left on device\n", 2))
+                self.assertEqual((ended.stderr, ended.returncode), (b"rolgumzai: No space left on device (os error 28)\n", 2))
 
 
 class Replayed(unittest.TestCase):

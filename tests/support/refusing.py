@@ -34,7 +34,7 @@ COMMANDS = [
     ("tokens --help", 0),
     ("tokens --octal false examples/tokens.l examples/tokens.txt", 0),
     ("tokens --json examples/tokens.l examples/tokens.txt", 0),
-    ("tokens rules/conf.l tests/cli/stop.in", 1),
+    ("tokens examples/tokens.l examples/sorted.c", 1),
     ("tokens examples/faults.l examples/tokens.txt", 1),
     ("check examples/faults.l none examples/tokens.l", 2),
     ("highlight --map ID=class examples/tokens.l examples/tokens.txt", 0),

@@ -37,7 +37,11 @@ fn check<'a>(alloc: Global) -> Result<Command<'a>, AllocError> {
         .after_help(
             "Each fault is shown with its place, its line and carets. The status is 1 where a file has one.",
         )
-        .arg(path(alloc, "rules", "RULES", "The rule files").action(ArgAction::Append).num_args(1..))?;
+        .arg(
+            path(alloc, "rules", "RULES", "The rule files")
+                .action(ArgAction::Append)
+                .num_args(1..),
+        )?;
     with_flags(alloc, command)
 }
 
@@ -59,7 +63,9 @@ fn map<'a>(alloc: Global) -> Arg<'a> {
     Arg::new(alloc, "map")
         .long("map")
         .value_name("NAME=TOKENTYPE")
-        .help("Shows the tokens of rule NAME as this token type of the Language Server Protocol, or as plain text where none is given")
+        .help(
+            "Shows the tokens of rule NAME as this token type of the Language Server Protocol, or as plain text where none is given",
+        )
         .action(ArgAction::Append)
 }
 
@@ -67,16 +73,23 @@ fn map<'a>(alloc: Global) -> Arg<'a> {
 fn highlight<'a>(alloc: Global) -> Result<Command<'a>, AllocError> {
     let command = Command::new(alloc, "highlight")
         .about("Shows a text in colours, by the pieces into which the rules cut it")
-        .after_help("What no --map names is guessed by the rule's name and by the text, as a rule IF that matches if is a keyword.")
-        .arg(switch(alloc, "html", "Writes a page of HTML, and no text for a terminal"))?
+        .after_help(
+            "What no --map names is guessed by the rule's name and by the text, as a rule IF that matches if is a keyword.",
+        )
+        .arg(switch(
+            alloc,
+            "html",
+            "Writes a page of HTML, and no text for a terminal",
+        ))?
         .arg(map(alloc))?;
     with_files(alloc, command, "The text to show")
 }
 
 /// What says why a token is what it is.
 fn explain<'a>(alloc: Global) -> Result<Command<'a>, AllocError> {
-    let offset = path(alloc, "offset", "OFFSET", "A byte of the text, from 0")
-        .value_parser(value_parser!(usize));
+    let offset = path(alloc, "offset", "OFFSET", "A byte of the text, from 0").value_parser(
+        value_parser!(usize),
+    );
     let command = Command::new(alloc, "explain")
         .about("Says which rule wins at a byte of a text, and why")
         .after_help(
@@ -100,7 +113,11 @@ fn lsp<'a>(alloc: Global) -> Result<Command<'a>, AllocError> {
         )
         .arg(rules)?
         .arg(map(alloc))?
-        .arg(switch(alloc, "stdio", "Has no effect: clients give it to servers of this kind"))?;
+        .arg(switch(
+            alloc,
+            "stdio",
+            "Has no effect: clients give it to servers of this kind",
+        ))?;
     with_flags(alloc, command)
 }
 

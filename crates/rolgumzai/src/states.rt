@@ -4,7 +4,9 @@ use lrlex::{LexerDef, StartState};
 
 /// The start state with this id.
 pub fn state_by_id(definition: &Definition, id: usize) -> Option<&StartState> {
-    definition.iter_start_states().find(|state| state.id() == id)
+    definition
+        .iter_start_states()
+        .find(|state| state.id() == id)
 }
 
 /// The name of the start state with this id.

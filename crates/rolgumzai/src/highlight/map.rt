@@ -24,7 +24,10 @@ impl Map {
 
 /// Whether a rule has this name.
 fn has_rule(definition: &Definition, name: &str) -> bool {
-    definition.rules().iter().any(|rule| rule.name() == Some(name))
+    definition
+        .rules()
+        .iter()
+        .any(|rule| rule.name() == Some(name))
 }
 
 /// Why a word is refused, if it is.
