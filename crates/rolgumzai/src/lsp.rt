@@ -1,5 +1,5 @@
 //! `rolgumzai lsp [--rules FILE] [--map NAME=TOKENTYPE]..`: a language server over standard input and output.
-use crate::files::{Definition, name_of, text_at};
+use crate::files::{Definition, text_at};
 use crate::flags::flags_of;
 use crate::output::{FAULTY, UNABLE};
 use clap::ArgMatches;
@@ -40,7 +40,7 @@ fn rules_at(
     let Some(text) = text_at(rt, path)? else {
         return Ok(None);
     };
-    tell_faults(rt, name_of(path), &text, flags)?;
+    tell_faults(rt, path, &text, flags)?;
     Ok(Some((absolute(rt, path)?, text)))
 }
 
@@ -79,6 +79,12 @@ fn serve_client(rt: &HostRuntime, options: Options) -> io::Result<u8> {
     Ok(if is_clean { 0 } else { FAULTY })
 }
 
+/// Reports that standard input is the client's.
+fn refuse_input(rt: &HostRuntime) -> io::Result<u8> {
+    eprintln!(rt; "rolgumzai: lsp: the rules can't come from standard input, which is the client's")?;
+    Ok(UNABLE)
+}
+
 /// Serves with the rules that the words name, if they do. Gives the status.
 fn serve_with(
     rt: &HostRuntime,
@@ -87,6 +93,7 @@ fn serve_with(
 ) -> io::Result<u8> {
     let flags = flags_of(words);
     let rules = match words.get_str("rules") {
+        Some("-") => return refuse_input(rt),
         Some(path) => match rules_at(rt, path, flags)? {
             Some(rules) => Some(rules),
             None => return Ok(UNABLE),
