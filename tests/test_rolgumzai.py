@@ -57,6 +57,8 @@ LATIN = "latin:2:1: not UTF-8, byte 0xE9 at offset 3\n2 | \n  | ^\n"
 MISSING = "rolgumzai: none: No such file or directory (os error 2)\n"
 FOLDER = "rolgumzai: folder: Is a directory (os error 21)\n"
 
+NO_TYPE = "rolgumzai: --map {}: NAME=TOKENTYPE is wanted, with a type of the Language Server Protocol\n"
+
 # Words, standard input, and what comes of them.
 ROWS = [
     ("tokens tokens.l input", "", Outcome(LINES)),
@@ -185,6 +187,13 @@ ROWS = [
         ),
     ),
     ("explain tokens.l input 99", "", Outcome("", "rolgumzai: input: there is no byte 99, the text has 18\n", 2)),
+    ("lsp --rules none", "", Outcome("", MISSING, 2)),
+    ("lsp --rules -", FILES["tokens.l"], Outcome("", "rolgumzai: lsp: the rules can't come from standard input, which is the client's\n", 2)),
+    ("lsp --rules latin", "", Outcome("", LATIN, 2)),
+    ("lsp --map ID", "", Outcome("", NO_TYPE.format("ID"), 2)),
+    ("lsp --map A=class --map ID=Class", "", Outcome("", NO_TYPE.format("ID=Class"), 2)),
+    ("lsp", "", Outcome("", "", 1)),
+    ("lsp --rules bad.l --map ID=class --octal true --stdio", "", Outcome("", BAD, 1)),
     ("explain bad.l input 0", "", Outcome("", BAD, 1)),
     ("explain tokens.l none 0", "", Outcome("", MISSING, 2)),
 ]
@@ -211,7 +220,7 @@ REFUSED = [
     ("explain tokens.l input 18446744073709551616", "18446744073709551616"),
 ]
 
-COMMANDS = ["check", "tokens", "highlight", "explain"]
+COMMANDS = ["check", "tokens", "highlight", "explain", "lsp"]
 FLAGS = [
     "dot-matches-new-line", "multi-line", "octal", "posix-escapes", "allow-wholeline-comments", "case-insensitive", "swap-greed",
     "ignore-whitespace", "unicode", "size-limit", "dfa-size-limit", "nest-limit",
@@ -324,6 +333,19 @@ class Rolgumzai(unittest.TestCase):
                     self.assertTrue(child.stdout.readline())
                     child.stdout.close()
                     self.assertEqual((child.stderr.read(), child.wait()), (b"", 0))
+
+    def test_a_session_of_a_client(self):
+        wanted = [{"method": "initialize", "id": 1, "params": {}}, {"method": "initialized", "params": {}}]
+        wanted += [{"method": "shutdown", "id": 2}, {"method": "exit"}]
+        bodies = [json.dumps({"jsonrpc": "2.0", **it}) for it in wanted]
+        given = "".join(f"Content-Length: {len(it)}\r\n\r\n{it}" for it in bodies)
+        for program, words in self.each(["lsp", "lsp --rules tokens.l --map ID=variable --stdio"]):
+            with self.subTest(words=words, program=program):
+                out, err, status = self.run_in_folder(program, words.split(), given)
+                self.assertEqual((err, status), ("", 0))
+                answers = [json.loads(it) for it in re.split(r"Content-Length: \d+\r\n\r\n", out)[1:]]
+                self.assertEqual([it["id"] for it in answers], [1, 2])
+                self.assertIn("capabilities", answers[0]["result"])
 
     def test_hostile_inputs(self):
         deep = "/*" * 200_000

@@ -58,15 +58,19 @@ fn tokens<'a>(alloc: Global) -> Result<Command<'a>, AllocError> {
     with_files(alloc, command, "The text to lex")
 }
 
-/// What colours a text.
-fn highlight<'a>(alloc: Global) -> Result<Command<'a>, AllocError> {
-    let map = Arg::new(alloc, "map")
+/// What the pieces of a rule are shown as.
+fn map<'a>(alloc: Global) -> Arg<'a> {
+    Arg::new(alloc, "map")
         .long("map")
         .value_name("NAME=TOKENTYPE")
         .help(
             "Shows the tokens of rule NAME as this token type of the Language Server Protocol, or as plain text where none is given",
         )
-        .action(ArgAction::Append);
+        .action(ArgAction::Append)
+}
+
+/// What colours a text.
+fn highlight<'a>(alloc: Global) -> Result<Command<'a>, AllocError> {
     let command = Command::new(alloc, "highlight")
         .about("Shows a text in colours, by the pieces into which the rules cut it")
         .after_help(
@@ -77,7 +81,7 @@ fn highlight<'a>(alloc: Global) -> Result<Command<'a>, AllocError> {
             "html",
             "Writes a page of HTML, and no text for a terminal",
         ))?
-        .arg(map)?;
+        .arg(map(alloc))?;
     with_files(alloc, command, "The text to show")
 }
 
@@ -95,6 +99,28 @@ fn explain<'a>(alloc: Global) -> Result<Command<'a>, AllocError> {
     with_files(alloc, command, "The text to lex")?.arg(offset)
 }
 
+/// What serves an editor.
+fn lsp<'a>(alloc: Global) -> Result<Command<'a>, AllocError> {
+    let rules = Arg::new(alloc, "rules")
+        .long("rules")
+        .value_name("FILE")
+        .help("The rule file that all texts but rule files are lexed by");
+    let command = Command::new(alloc, "lsp")
+        .about("Serves an editor by the Language Server Protocol, over standard input and output")
+        .after_help(
+            "It shows the faults of rule files while they are typed. With --rules it also colours other texts, and shows where \
+            lexing them stops. The status is 1 where the client goes without shutting it down.",
+        )
+        .arg(rules)?
+        .arg(map(alloc))?
+        .arg(switch(
+            alloc,
+            "stdio",
+            "Has no effect: clients give it to servers of this kind",
+        ))?;
+    with_flags(alloc, command)
+}
+
 /// The command, which takes the name of a command and then its words.
 pub fn command<'a>(alloc: Global) -> Result<Command<'a>, AllocError> {
     Command::new(alloc, "rolgumzai")
@@ -109,5 +135,6 @@ pub fn command<'a>(alloc: Global) -> Result<Command<'a>, AllocError> {
         .subcommand(check(alloc)?)?
         .subcommand(tokens(alloc)?)?
         .subcommand(highlight(alloc)?)?
-        .subcommand(explain(alloc)?)
+        .subcommand(explain(alloc)?)?
+        .subcommand(lsp(alloc)?)
 }

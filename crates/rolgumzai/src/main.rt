@@ -12,6 +12,7 @@ mod files;
 mod findings;
 mod flags;
 mod highlight;
+mod lsp;
 mod output;
 mod states;
 mod tokens;
@@ -30,6 +31,7 @@ fn serve(rt: &HostRuntime, words: &ArgMatches<'_>) -> io::Result<u8> {
         Some(("check", words)) => check::serve(rt, words),
         Some(("explain", words)) => explain::serve(rt, words),
         Some(("highlight", words)) => highlight::serve(rt, words),
+        Some(("lsp", words)) => lsp::serve(rt, words),
         Some(("tokens", words)) => tokens::serve(rt, words),
         // Not met: the command takes no words without one of these.
         _ => Ok(UNABLE),
