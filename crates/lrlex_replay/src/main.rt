@@ -10,6 +10,7 @@ mod engines;
 mod items;
 mod lexers;
 mod lookups;
+mod positions;
 mod replay;
 mod reports;
 mod runs;
