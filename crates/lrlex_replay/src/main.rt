@@ -11,6 +11,7 @@ mod faults;
 mod items;
 mod lexers;
 mod lookups;
+mod positions;
 mod replay;
 mod reports;
 mod runs;

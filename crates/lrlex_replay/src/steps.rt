@@ -6,6 +6,7 @@ use crate::engines::{display_faults, drive, serve};
 use crate::faults::tell_all_faults;
 use crate::lexers::ask_lexer;
 use crate::lookups::{find, set_ids};
+use crate::positions::ask_positions;
 use crate::reports::report;
 use crate::runs::{cut_run, lex, tell_end};
 use crate::scanners::scan;
@@ -79,6 +80,9 @@ fn ask(told: &mut Told, definition: &Definition<u32>, asked: Asked<'_>) -> Resul
         Asked::End(text) => Ok(tell_end(told, definition, text)?),
         Asked::Scan(text) => Ok(scan(told, definition, text)?),
         Asked::After(text, edits) => keep_run(told, definition, text, edits),
+        Asked::Positions(text, edits, asked) => {
+            ask_positions(told, definition, text, edits, asked)
+        }
     }
 }
 

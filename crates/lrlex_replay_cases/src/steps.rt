@@ -32,6 +32,8 @@ pub enum Asked<'v> {
     End(&'v str),
     /// The tiles of a text, one after the other.
     Scan(&'v str),
+    /// Positions of bytes, and bytes of positions, in a text after edits.
+    Positions(&'v str, &'v [Value], &'v [Value]),
     /// The items of a run's lexer after edits, each of which has the text that it makes.
     After(&'v str, &'v [Value]),
 }
@@ -212,6 +214,10 @@ fn of_three<'v>(
         "stop_text" => {
             let (place, state) = (count_of(second)?, count_of(third)?);
             Ok(Step::Reports(Report::AtStop(text, place, state)))
+        }
+        "positions" => {
+            let (edits, asked) = (list_of(second)?, list_of(third)?);
+            Ok(Step::Asks(Asked::Positions(text, edits, asked)))
         }
         "edit" => Ok(Step::Edits(text, edit_of(second)?, text_of(third)?)),
         "place_text" => {

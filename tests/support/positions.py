@@ -1,0 +1,54 @@
+"""Positions of the Language Server Protocol, counted by hand. A text is its bytes; lines and columns count from 0."""
+
+from support.places import is_place
+
+UNITS = {"utf-8": ("utf-8", 1), "utf-16": ("utf-16-le", 2)}
+
+ENCODINGS = ["utf-8", "utf-16"]
+
+
+def width(part, encoding):
+    """How many columns these bytes take."""
+    name, size = UNITS[encoding]
+    return len(part.decode().encode(name)) // size
+
+
+def lines_of(data):
+    """Where each line begins, and where it ends without its newline."""
+    spans, start = [], 0
+    for line in data.split(b"\n"):
+        spans.append((start, start + len(line)))
+        start += len(line) + 1
+    return spans
+
+
+def nearest(data, byte):
+    """The nearest place: not past the end, nor inside a character."""
+    byte = min(byte, len(data))
+    while not is_place(data, byte):
+        byte -= 1
+    return byte
+
+
+def position(data, byte, encoding):
+    """Line and column of the nearest place at or before this byte."""
+    byte = nearest(data, byte)
+    line, start = [(n, start) for n, (start, _) in enumerate(lines_of(data)) if start <= byte][-1]
+    return [line, width(data[start:byte], encoding)]
+
+
+def offset(data, line, column, encoding):
+    """The byte of a line and column."""
+    lines = lines_of(data)
+    if line >= len(lines):
+        return len(data)
+    start, end = lines[line]
+    places = [at for at in range(start, end + 1) if is_place(data, at)]
+    return [at for at in places if width(data[start:at], encoding) <= column][-1]
+
+
+def answered(data, asked):
+    """What must be answered: for a byte its positions, and for a pair of line and column its bytes."""
+    if isinstance(asked, int):
+        return [position(data, asked, encoding) for encoding in ENCODINGS]
+    return [offset(data, *asked, encoding) for encoding in ENCODINGS]
