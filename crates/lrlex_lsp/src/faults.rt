@@ -1,8 +1,6 @@
 //! What is wrong, in one line, and where.
 use crate::languages::{Definition, Types};
-use lrlex::{
-    Document, LRLexError, LexBuildError, LexError, LexErrorKind, LexerDef, Span, Spanned,
-};
+use lrlex::{Document, LRLexError, LexBuildError, LexError, LexErrorKind, LexerDef, Span, Spanned};
 use std::alloc::{AllocError, Global};
 use std::fmt::Write;
 

@@ -103,7 +103,10 @@ fn pairs(alloc: Global, words: &str) -> Result<Vec<(String, String)>, AllocError
     let mut map = Vec::new(alloc);
     for word in words.split(' ') {
         if let Some((name, kind)) = word.split_once('=') {
-            map.push((String::from_str(alloc, name)?, String::from_str(alloc, kind)?))?;
+            map.push((
+                String::from_str(alloc, name)?,
+                String::from_str(alloc, kind)?,
+            ))?;
         }
     }
     Ok(map)

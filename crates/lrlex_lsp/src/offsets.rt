@@ -15,7 +15,10 @@ fn is_up_to(one: (usize, usize), other: (usize, usize)) -> bool
 /// The byte at this position, line and column, as the Language Server Protocol counts them: the last place between two
 /// characters whose own position isn't behind it. So past a line's end it is the line's end, past the text's end the text's,
 /// and between the two code units of a character the place before that.
-pub(crate) fn offset(document: &Document<'_, DefaultLexerTypes<u32>>, position: (usize, usize)) -> usize
+pub(crate) fn offset(
+    document: &Document<'_, DefaultLexerTypes<u32>>,
+    position: (usize, usize),
+) -> usize
     ensures last { IsLastUpTo document.now.text position result }
     ensures inverse { (at : ℕ) → IsCharBoundary document.now.text at
         → utf16_position document.now.text at ≡ position → result ≡ at }

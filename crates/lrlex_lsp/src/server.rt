@@ -10,7 +10,9 @@ use crate::messages::{
     BAD_PARAMS, Call, Fault, NO_JSON, NO_METHOD, NO_REQUEST, NOT_INITIALIZED, answer, call_of,
     refusal, warning,
 };
-use crate::params::{can_refresh, is_rule_file, offers_utf8, range_of, text_at, uri_of, version_of};
+use crate::params::{
+    can_refresh, is_rule_file, offers_utf8, range_of, text_at, uri_of, version_of,
+};
 use crate::positions::Encoding;
 use crate::started::{Given, Next, Phase, State};
 use crate::texts::Texts;
@@ -92,8 +94,7 @@ impl<'d> Server<'d> {
 
     fn did_change(&mut self, message: &Value, told: &mut Vec<String>) -> Result<Next, AllocError> {
         let changes = message.pointer("/params/contentChanges");
-        let (Some(uri), Some(changes)) = (uri_of(message), changes.and_then(Value::as_array))
-        else {
+        let (Some(uri), Some(changes)) = (uri_of(message), changes.and_then(Value::as_array)) else {
             return Ok(Next::GoOn);
         };
         if !self.texts.change(uri, changes, version_of(message))? {
@@ -193,21 +194,13 @@ impl<'d> Server<'d> {
             Call::Request(id, method) => Ok(answered(self.requested(id, method, message)?)),
             Call::Notification(method) => Ok(unanswered(self.notified(method, message, told)?)),
             Call::Answer => Ok(unanswered(Next::GoOn)),
-            Call::Malformed => Ok(answered(refusal(
-                self.alloc,
-                message.get("id"),
-                NO_REQUEST,
-            )?)),
+            Call::Malformed => Ok(answered(refusal(self.alloc, message.get("id"), NO_REQUEST)?)),
         }
     }
 
     /// Takes the body of a message, and gives the body of its answer. The bodies of notifications and of requests of the server's
     /// own are added to `told`.
-    pub fn handle(
-        &mut self,
-        body: &[u8],
-        told: &mut Vec<String>,
-    ) -> Result<Handled, AllocError>
+    pub fn handle(&mut self, body: &[u8], told: &mut Vec<String>) -> Result<Handled, AllocError>
         ensures request { IfOk result (λ handled. (message : Data) → read body.now ≡ Some message
             → IsRequest message → IsSome handled.answer) }
         ensures notification { IfOk result (λ handled. (message : Data) → IsUtf8 body.now

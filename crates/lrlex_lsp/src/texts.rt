@@ -124,8 +124,7 @@ impl<'d> Texts<'d> {
         let Some(opened) = self.open.get(uri) else {
             return Ok(false);
         };
-        let (body, has_faults) =
-            told_of(self.alloc, uri, opened, self.encoding, self.given.flags)?;
+        let (body, has_faults) = told_of(self.alloc, uri, opened, self.encoding, self.given.flags)?;
         told.push(body)?;
         Ok(!has_faults)
     }

@@ -5,7 +5,8 @@ use lrlex_report::{faults_text, place_text};
 use std::alloc::{AllocError, Global};
 
 /// What is said of a rule that wins no text.
-const NEVER_WINS: &str = "Warning: this rule never wins, since other rules match all that it matches";
+const NEVER_WINS: &str =
+    "Warning: this rule never wins, since other rules match all that it matches";
 
 /// What is wrong with a rule text, as people read it.
 #[derive(Drop)]

@@ -32,11 +32,7 @@ fn tell_faults(rt: &HostRuntime, path: &str, text: &str, flags: LexFlags) -> io:
 }
 
 /// The given rule file and its text. None where it can't be read, which is reported.
-fn rules_at(
-    rt: &HostRuntime,
-    path: &str,
-    flags: LexFlags,
-) -> io::Result<Option<(String, String)>> {
+fn rules_at(rt: &HostRuntime, path: &str, flags: LexFlags) -> io::Result<Option<(String, String)>> {
     let Some(text) = text_at(rt, path)? else {
         return Ok(None);
     };
@@ -81,7 +77,9 @@ fn serve_client(rt: &HostRuntime, options: Options) -> io::Result<u8> {
 
 /// Reports that standard input is the client's.
 fn refuse_input(rt: &HostRuntime) -> io::Result<u8> {
-    eprintln!(rt; "rolgumzai: lsp: the rules can't come from standard input, which is the client's")?;
+    eprintln!(rt;
+        "rolgumzai: lsp: the rules can't come from standard input, which is the client's"
+    )?;
     Ok(UNABLE)
 }
 
@@ -108,7 +106,9 @@ pub fn serve(rt: &HostRuntime, words: &ArgMatches<'_>) -> io::Result<u8> {
     match map_of(rt.alloc(), words.get_strs("map").unwrap_or(&[]))? {
         Ok(map) => serve_with(rt, words, map),
         Err(word) => {
-            eprintln!(rt; "rolgumzai: --map {word}: NAME=TOKENTYPE is wanted, with a type of the Language Server Protocol")?;
+            eprintln!(rt;
+                "rolgumzai: --map {word}: NAME=TOKENTYPE is wanted, with a type of the Language Server Protocol"
+            )?;
             Ok(UNABLE)
         }
     }
