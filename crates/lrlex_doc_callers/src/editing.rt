@@ -27,6 +27,23 @@ pub fn typed(
     Ok(document.place(at.saturating_add(keys.len())))
 }
 
+/// The name and text of each token that came by a change.
+fn tokens_that_came<'d, 't>(
+    alloc: Global,
+    document: &'t Document<'d, DefaultLexerTypes<u32>>,
+    change: Change,
+) -> Result<Vec<(&'d str, &'t str)>, AllocError> {
+    let mut came = Vec::new(alloc);
+    let items = document.items().iter();
+    for item in items.skip(change.first).take(change.inserted) {
+        if let Ok(lexeme) = item {
+            let name = document.definition().name_of(lexeme.tok_id());
+            came.push((name.unwrap_or(""), document.text_of(lexeme.span())))?;
+        }
+    }
+    Ok(came)
+}
+
 /// Makes an edit. Which tokens that changed, and the name and text of each that came.
 pub fn retyped<'d, 't>(
     alloc: Global,
@@ -37,15 +54,7 @@ pub fn retyped<'d, 't>(
 ) -> Result<(Change, Vec<(&'d str, &'t str)>), EditError> {
     document.edit(alloc, from, to, put)?;
     let change = document.changed().items;
-    let mut came = Vec::new(alloc);
-    let items = document.items().iter();
-    for item in items.skip(change.first).take(change.inserted) {
-        if let Ok(lexeme) = item {
-            let name = document.definition().name_of(lexeme.tok_id());
-            came.push((name.unwrap_or(""), document.text_of(lexeme.span())))?;
-        }
-    }
-    Ok((change, came))
+    Ok((change, tokens_that_came(alloc, document, change)?))
 }
 
 /// What a window shows of a document: each piece with a byte in `from..to`, and its rule's name, or "".
