@@ -1,5 +1,5 @@
 -- A message as bytes.
-use Rattle.std.specs.Prelude.{ℕ, List, ◌++◌, length, codes, decimal}
+use Rattle.std.specs.Prelude.{List, ℕ, ◌++◌, length, codes, decimal}
 
 -- a head that says how many bytes the body has, an empty line, and the body
 abbrev pub framed : List ℕ → List ℕ

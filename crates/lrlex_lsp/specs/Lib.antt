@@ -1,3 +1,6 @@
 pub mod Changes
+pub mod Edits
 pub mod Framing
+pub mod Messages
 pub mod Offsets
+pub mod Tokens

@@ -3,9 +3,11 @@ ghost use Rattle.std.specs.Prelude.{◌≡◌, ◌↔◌, IfOk, OnErr, IsTrue};
 ghost use Rattle.lrlex_base.specs.Edits.{edited};
 ghost use Rattle.lrlex_base.specs.Spans.{span};
 ghost use Rattle.lrlex.specs.Nearest.{FitsAt};
+ghost use Rattle.serde_json.specs.View.{view};
+ghost use Rattle.lrlex_lsp.specs.Edits.{WasChanged};
 
 use crate::languages::Types;
-use crate::params::{range_of, text_at};
+use crate::params::range_of;
 use crate::positions::{Encoding, offset_at};
 use lrlex::{Document, EditError};
 use serde_json::Value;
@@ -57,8 +59,13 @@ pub(crate) fn make_change(
     document: &mut Document<'_, Types>,
     encoding: Encoding,
     change: &Value,
-) -> Result<bool, AllocError> {
-    let Some(text) = text_at(change, "/text") else {
+) -> Result<bool, AllocError>
+    ensures made { IfOk result (λ fits. IsTrue fits
+        → WasChanged document.old.text document.new.text (view change.now)) }
+    ensures unfit { IfOk result (λ fits. ¬ (IsTrue fits) → document.new ≡ document.old) }
+    ensures refused { OnErr result (document.new ≡ document.old) }
+{
+    let Some(text) = change.get("text").and_then(Value::as_str) else {
         return Ok(false);
     };
     match bytes_of(document, encoding, change) {

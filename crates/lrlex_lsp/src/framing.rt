@@ -1,5 +1,5 @@
 //! Messages as bytes: a head of lines, one of them `Content-Length: N`, an empty line, and N bytes.
-ghost use Rattle.std.specs.Prelude.{◌≡◌, ◌++◌, IfOk, IfSome, codes, decimal, length, string_bytes};
+ghost use Rattle.std.specs.Prelude.{◌≡◌, IfOk, IfSome, length, string_bytes};
 ghost use Rattle.std.specs.Io.KnownBytes.{Appends, Consumes};
 ghost use Rattle.lrlex_lsp.specs.Framing.{framed};
 
@@ -29,10 +29,11 @@ pub enum Frame {
 /// The number after `Content-Length:`, if the line has one.
 fn length_in(line: &str) -> Option<usize> {
     let (name, value) = line.split_once(':')?;
-    if !name.trim().eq_ignore_ascii_case("content-length") {
-        return None;
+    if name.trim().eq_ignore_ascii_case("content-length") {
+        value.trim().parse::<usize>().ok()
+    } else {
+        None
     }
-    value.trim().parse::<usize>().ok()
 }
 
 /// The length that a head tells.
@@ -47,10 +48,13 @@ fn length_of(head: &[u8]) -> Option<usize> {
 }
 
 /// Reads up to the empty line. None where the input ends first, or the head is too long.
-fn read_head<R: Read>(alloc: Global, reader: &mut R) -> io::Result<Option<Vec<u8>>> {
+fn read_head<R: Read>(alloc: Global, reader: &mut R) -> io::Result<Option<Vec<u8>>>
+    ensures { IfOk result (λ read. IfSome read (λ head.
+        Consumes (R.remaining reader.old) (R.remaining reader.new) head.items)) }
+{
     let mut head = Vec::new(alloc);
     let mut byte = [0u8; 1];
-    for _ in 0..MOST_HEAD {
+    'head: for _ in 0..MOST_HEAD {
         if reader.read(&mut byte)? == 0 {
             return Ok(None);
         }
@@ -63,11 +67,14 @@ fn read_head<R: Read>(alloc: Global, reader: &mut R) -> io::Result<Option<Vec<u8
 }
 
 /// Reads a body of this length. None where the input ends first.
-fn read_body<R: Read>(alloc: Global, reader: &mut R, length: usize) -> io::Result<Option<Vec<u8>>> {
+fn read_body<R: Read>(alloc: Global, reader: &mut R, size: usize) -> io::Result<Option<Vec<u8>>>
+    ensures { IfOk result (λ read. IfSome read (λ body. (length body.items ≡ size)
+        × Consumes (R.remaining reader.old) (R.remaining reader.new) body.items)) }
+{
     let mut body = Vec::new(alloc);
     let mut part = [0u8; 16384];
-    while body.len() < length {
-        let most = (length - body.len()).min(part.len());
+    'body: while body.len() < size {
+        let most = (size - body.len()).min(part.len());
         let count = reader.read(&mut part[..most])?;
         if count == 0 {
             return Ok(None);
@@ -78,9 +85,9 @@ fn read_body<R: Read>(alloc: Global, reader: &mut R, length: usize) -> io::Resul
 }
 
 /// Passes over a body of this length. Whether the input has it.
-fn skip_body<R: Read>(reader: &mut R, length: usize) -> io::Result<bool> {
+fn skip_body<R: Read>(reader: &mut R, size: usize) -> io::Result<bool> {
     let mut part = [0u8; 16384];
-    let mut left = length;
+    let mut left = size;
     while left > 0 {
         let most = left.min(part.len());
         let count = reader.read(&mut part[..most])?;
@@ -99,14 +106,14 @@ pub fn read_frame<R: Read>(alloc: Global, reader: &mut R) -> io::Result<Frame> {
     };
     match length_of(head.as_slice()) {
         None => Ok(Frame::Headless),
-        Some(length) if length > MOST => {
-            if skip_body(reader, length)? {
+        Some(size) if size > MOST => {
+            if skip_body(reader, size)? {
                 Ok(Frame::TooLong)
             } else {
                 Ok(Frame::End)
             }
         }
-        Some(length) => match read_body(alloc, reader, length)? {
+        Some(size) => match read_body(alloc, reader, size)? {
             Some(body) => Ok(Frame::Body(body)),
             None => Ok(Frame::End),
         },

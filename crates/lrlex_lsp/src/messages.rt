@@ -1,4 +1,7 @@
 //! Messages of JSON-RPC: what one asks, and the text of an answer.
+ghost use Rattle.serde_json.specs.View.{view};
+ghost use Rattle.lrlex_lsp.specs.Messages.{IsCallOf};
+
 use crate::json::Json;
 use serde_json::Value;
 use std::alloc::{AllocError, Global};
@@ -58,7 +61,9 @@ pub(crate) enum Call<'v> {
 }
 
 /// What a message asks.
-pub(crate) fn call_of(message: &Value) -> Call<'_> {
+pub(crate) fn call_of(message: &Value) -> Call<'_>
+    ensures { IsCallOf result (view message.now) }
+{
     let method = message.get("method").and_then(Value::as_str);
     match (message.get("id"), method) {
         (Some(id), Some(method)) => Call::Request(id, method),

@@ -53,7 +53,7 @@ fn utf8_offset(document: &Document<'_, Types>, place: (usize, usize)) -> usize
 /// The byte at this line and column, both from 0. It stands between two characters, whatever the numbers are.
 pub fn offset_at(document: &Document<'_, Types>, encoding: Encoding, place: (usize, usize)) -> usize
     ensures boundary { IsCharBoundary document.now.text result }
-    ensures utf16 { encoding ≡ Utf16 → IsLastUpTo document.now.text place result }
+    ensures last { encoding ≡ Utf16 → IsLastUpTo document.now.text place result }
 {
     match encoding {
         Encoding::Utf8 => utf8_offset(document, place),

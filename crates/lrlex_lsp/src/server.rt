@@ -1,4 +1,10 @@
 //! What is answered to each message.
+ghost use Rattle.std.specs.Prelude.{◌≡◌, IfOk, IsSome, IsNone, IsUtf8, Some};
+ghost use Rattle.serde_json.specs.Data.{Data};
+ghost use Rattle.serde_json.specs.Read.{read};
+ghost use Rattle.serde_json.specs.View.{view};
+ghost use Rattle.lrlex_lsp.specs.Messages.{IsNotification, IsRequest};
+
 use crate::capabilities::initialized;
 use crate::messages::{
     BAD_PARAMS, Call, Fault, NO_JSON, NO_METHOD, NO_REQUEST, NOT_INITIALIZED, answer, call_of,
@@ -179,17 +185,14 @@ impl<'d> Server<'d> {
     }
 
     /// Takes a message.
-    fn take(&mut self, message: &Value, told: &mut Vec<String>) -> Result<Handled, AllocError> {
+    fn take(&mut self, message: &Value, told: &mut Vec<String>) -> Result<Handled, AllocError>
+        ensures request { IfOk result (λ handled. IsRequest (view message.now) → IsSome handled.answer) }
+        ensures notification { IfOk result (λ handled. IsNotification (view message.now) → IsNone handled.answer) }
+    {
         match call_of(message) {
             Call::Request(id, method) => Ok(answered(self.requested(id, method, message)?)),
-            Call::Notification(method) => Ok(Handled {
-                answer: None,
-                next: self.notified(method, message, told)?,
-            }),
-            Call::Answer => Ok(Handled {
-                answer: None,
-                next: Next::GoOn,
-            }),
+            Call::Notification(method) => Ok(unanswered(self.notified(method, message, told)?)),
+            Call::Answer => Ok(unanswered(Next::GoOn)),
             Call::Malformed => Ok(answered(refusal(
                 self.alloc,
                 message.get("id"),
@@ -204,7 +207,12 @@ impl<'d> Server<'d> {
         &mut self,
         body: &[u8],
         told: &mut Vec<String>,
-    ) -> Result<Handled, AllocError> {
+    ) -> Result<Handled, AllocError>
+        ensures request { IfOk result (λ handled. (message : Data) → read body.now ≡ Some message
+            → IsRequest message → IsSome handled.answer) }
+        ensures notification { IfOk result (λ handled. (message : Data) → IsUtf8 body.now
+            → read body.now ≡ Some message → IsNotification message → IsNone handled.answer) }
+    {
         match Value::from_slice(self.alloc, body) {
             Ok(message) => self.take(&message, told),
             Err(fault) if fault.is_memory() => Err(AllocError),
@@ -213,8 +221,17 @@ impl<'d> Server<'d> {
     }
 }
 
+/// What comes of a message that isn't answered.
+pub(crate) fn unanswered(next: Next) -> Handled
+    ensures { IsNone result.answer }
+{
+    Handled { answer: None, next }
+}
+
 /// What comes of a message that is only answered.
-pub(crate) fn answered(body: String) -> Handled {
+pub(crate) fn answered(body: String) -> Handled
+    ensures { IsSome result.answer }
+{
     Handled {
         answer: Some(body),
         next: Next::GoOn,

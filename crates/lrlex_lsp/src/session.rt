@@ -2,7 +2,7 @@
 use crate::framing::{Frame, read_frame, write_frame};
 use crate::languages::{Language, LanguageFault};
 use crate::messages::{NO_JSON, TOO_LONG, refusal};
-use crate::server::{Handled, Server, answered};
+use crate::server::{Handled, Server, answered, unanswered};
 use crate::started::{Given, Next, State};
 use crate::uris::file_uri;
 use lrlex::LexFlags;
@@ -45,10 +45,7 @@ fn take(
             answer: Some(refusal(alloc, None, NO_JSON)?),
             next: Next::End(false),
         }),
-        Frame::End => Ok(Handled {
-            answer: None,
-            next: Next::End(false),
-        }),
+        Frame::End => Ok(unanswered(Next::End(false))),
     }
 }
 

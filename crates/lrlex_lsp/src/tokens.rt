@@ -1,40 +1,54 @@
 //! Semantic tokens: what the pieces of a text are shown as, five numbers a token, each placed by the one before it.
+ghost use Rattle.std.specs.Prelude.{◌≡◌, OnOk};
+ghost use Rattle.lrlex_lsp.specs.Offsets.{IsUpTo};
+ghost use Rattle.lrlex_lsp.specs.Tokens.{IsNextToken, reached, short};
+
 use crate::languages::{Language, Types};
 use crate::positions::{Encoding, position_at, width};
 use lrlex::{Document, Piece};
 use std::alloc::{AllocError, Global};
 
+/// How far a token is from the one before: lines down, and columns right, in the same line from that token's beginning and else
+/// from the line's.
+fn from_last(last: (usize, usize), place: (usize, usize)) -> (usize, usize)
+    ensures { IsUpTo last place → reached last result ≡ place }
+{
+    if last.0 < place.0 {
+        (place.0 - last.0, place.1)
+    } else {
+        (0, place.1.saturating_sub(last.1))
+    }
+}
+
+/// A number of 32 bits, or the greatest.
+fn short(number: usize) -> u32
+    ensures { result ≡ short number }
+{
+    u32::try_from(number).unwrap_or(u32::MAX)
+}
+
 /// The tokens of pieces in a row, and where the last of these ends.
 #[derive(Drop)]
 struct Tokens {
     encoding: Encoding,
-    data: Vec<u32>,
-    /// Where the next piece begins.
-    line: usize,
-    column: usize,
-    /// Where the last token begins.
-    last_line: usize,
-    last_column: usize,
-}
-
-/// A number of 32 bits, or the greatest.
-fn short(number: usize) -> u32 {
-    u32::try_from(number).unwrap_or(u32::MAX)
+    numbers: Vec<u32>,
+    /// Line and column where the next piece begins.
+    place: (usize, usize),
+    /// Line and column where the last token begins.
+    last: (usize, usize),
 }
 
 impl Tokens {
     /// Adds a token at the place, which isn't before the last one.
-    fn push(&mut self, length: usize, kind: u32) -> Result<(), AllocError> {
-        let down = self.line.saturating_sub(self.last_line);
-        let right = if down > 0 {
-            self.column
-        } else {
-            self.column.saturating_sub(self.last_column)
-        };
+    fn push(&mut self, length: usize, kind: u32) -> Result<(), AllocError>
+        ensures next { OnOk result (IsNextToken self.old.last self.old.place length kind
+            self.old.numbers.items self.new.numbers.items) }
+        ensures last { OnOk result (self.new.last ≡ self.old.place) }
+    {
+        let (down, right) = from_last(self.last, self.place);
         let token = [short(down), short(right), short(length), kind, 0];
-        self.data.extend_from_slice(&token)?;
-        self.last_line = self.line;
-        self.last_column = self.column;
+        self.numbers.extend_from_slice(&token)?;
+        self.last = self.place;
         Ok(())
     }
 
@@ -46,7 +60,8 @@ impl Tokens {
                 self.push(length, kind)?;
             }
         }
-        self.column = self.column.saturating_add(width(self.encoding, part));
+        let (line, column) = self.place;
+        self.place = (line, column.saturating_add(width(self.encoding, part)));
         Ok(())
     }
 
@@ -55,8 +70,7 @@ impl Tokens {
         let mut is_first = true;
         for part in text.split('\n') {
             if !is_first {
-                self.line = self.line.saturating_add(1);
-                self.column = 0;
+                self.place = (self.place.0.saturating_add(1), 0);
             }
             is_first = false;
             self.push_part(part, kind)?;
@@ -77,19 +91,16 @@ fn tokens_of(
         Some(piece) => piece.span.start(),
         None => 0,
     };
-    let (line, column) = position_at(document, encoding, begin);
     let mut tokens = Tokens {
         encoding,
-        data: Vec::new(alloc),
-        line,
-        column,
-        last_line: 0,
-        last_column: 0,
+        numbers: Vec::new(alloc),
+        place: position_at(document, encoding, begin),
+        last: (0, 0),
     };
     for piece in pieces {
         tokens.push_piece(piece.text, language.kind_of(piece))?;
     }
-    Ok(tokens.data)
+    Ok(tokens.numbers)
 }
 
 /// The tokens of the whole document.

@@ -1,0 +1,1 @@
+"""The language server, from outside: a client that speaks the protocol, and what it tries."""

@@ -1,0 +1,51 @@
+-- neovim's own client, headless, on the file FILE with the server SERVER (a command line). STEPS are commands of neovim with a bar
+-- between two. It prints the diagnostics after each step, the text, how many tokens there are, and whether the server ended.
+local words = vim.split(os.getenv("SERVER"), "%s+")
+vim.cmd("edit " .. os.getenv("FILE"))
+local buffer = vim.api.nvim_get_current_buf()
+local function say(text) io.stdout:write(text .. "\n") end
+
+local function show(title)
+  say("== " .. title)
+  local all = vim.diagnostic.get(buffer)
+  table.sort(all, function(a, b) return a.lnum < b.lnum end)
+  for _, d in ipairs(all) do
+    say(string.format("%d:%d-%d:%d %s", d.lnum + 1, d.col + 1, d.end_lnum + 1, d.end_col + 1, d.message))
+  end
+  if #all == 0 then say("no diagnostics") end
+end
+
+local changed = 0
+vim.api.nvim_create_autocmd("DiagnosticChanged", { callback = function() changed = changed + 1 end })
+local function settle()
+  local seen = changed
+  vim.wait(2000, function() return changed > seen end, 10)
+  vim.wait(50)
+end
+
+local id = vim.lsp.start_client({ name = "rolgumzai", cmd = words, root_dir = vim.fn.getcwd() })
+vim.lsp.buf_attach_client(buffer, id)
+vim.wait(5000, function()
+  local client = vim.lsp.get_client_by_id(id)
+  return client and client.initialized
+end, 10)
+local client = vim.lsp.get_client_by_id(id)
+say("encoding " .. client.offset_encoding)
+settle()
+show("opened")
+for step in (os.getenv("STEPS") or ""):gmatch("[^|]+") do
+  vim.cmd("silent " .. step)
+  settle()
+  show("after :" .. step)
+end
+say("== text")
+say(table.concat(vim.api.nvim_buf_get_lines(buffer, 0, -1, true), "\n"))
+local document = { textDocument = vim.lsp.util.make_text_document_params(buffer) }
+local answers = vim.lsp.buf_request_sync(buffer, "textDocument/semanticTokens/full", document, 2000)
+for _, answer in pairs(answers or {}) do
+  say("== tokens " .. (answer.result and #answer.result.data / 5 or vim.inspect(answer.err)))
+end
+client.stop()
+vim.wait(2000, function() return client.is_stopped() end, 10)
+say("stopped " .. tostring(client.is_stopped()))
+vim.cmd("qa!")

@@ -1,0 +1,329 @@
+"""The language server, from outside: what a client is told and answered."""
+
+import os
+import tempfile
+import unittest
+
+from language_server import dialogues, mutated, refused
+from language_server.client import REFRESH, Client, applied, decoded, ranged, rules_file, spot
+from support import programs
+
+URI, TEXT = "file:///texts/rules.l", "file:///texts/a.txt"
+
+RULES = """%%
+let 'LET'
+[a-z]+ 'NAME'
+[0-9]+ 'NUMBER'
+"[^"]*" 'STRING'
+[=+;] 'SIGN'
+#[^\\n]* ;
+[ \\n]+ ;
+"""
+
+FAULTS = "%s here here\n%%\n[a-z]+ 'ID'\n[a-z] 'ID'\n 'indented'\n( 'OPEN'\n"
+
+# How much the gate tries. The long runs are `python3 -m language_server.dialogues` and LRLEX_LONG=1.
+IS_LONG = bool(os.environ.get("LRLEX_LONG"))
+MESSAGES = 20_000
+EDITS = 10_000 if IS_LONG else 1_000
+EVERY = 1 if IS_LONG else 16
+
+
+class Session(unittest.TestCase):
+    """Tests of one client each."""
+
+    def client(self, *words):
+        """A client of a server with these words."""
+        client = Client(*words)
+        self.addCleanup(client.__exit__)
+        return client
+
+    def code(self, answer):
+        """The code of an error."""
+        return answer["error"]["code"]
+
+
+class Protocol(Session):
+    """The order of a session, and messages that can't be answered."""
+
+    def test_capabilities(self):
+        client = self.client()
+        capabilities = client.begin()
+        self.assertEqual("utf-16", capabilities["positionEncoding"])
+        self.assertEqual({"openClose": True, "change": 2}, capabilities["textDocumentSync"])
+        self.assertEqual("keyword", client.types[15])
+        self.assertEqual(0, client.end())
+
+    def test_utf8_where_offered(self):
+        client = self.client()
+        capabilities = client.begin({"general": {"positionEncodings": ["utf-8", "utf-16"]}})
+        self.assertEqual("utf-8", capabilities["positionEncoding"])
+        client.open(URI, "%%\n[é😀]x 'A'\n[a 'B'\n")
+        client.change(URI, ranged((1, 7), (1, 8), "y"))
+        self.assertEqual(1, len(client.change(URI, ranged((1, 7), (1, 8), "]"))["diagnostics"]))
+        self.assertEqual(0, client.end())
+
+    def test_before_initialize(self):
+        client = self.client()
+        self.assertEqual(-32002, self.code(client.ask("textDocument/hover", {})))
+        client.notify("textDocument/didOpen", {"textDocument": {"uri": URI, "version": 1, "text": "x"}})
+        client.begin()
+        self.assertEqual([], client.notes)
+        self.assertEqual(-32601, self.code(client.ask("textDocument/hover", {})))
+        self.assertEqual(-32600, self.code(client.ask("initialize", {})))
+        self.assertEqual(0, client.end())
+
+    def test_after_shutdown(self):
+        client = self.client()
+        client.begin()
+        self.assertIsNone(client.ask("shutdown")["result"])
+        self.assertEqual(-32600, self.code(client.ask("textDocument/hover", {})))
+        client.notify("textDocument/didOpen", {"textDocument": {"uri": URI, "version": 1, "text": "x"}})
+        self.assertEqual(-32600, self.code(client.ask("shutdown")))
+        client.notify("exit")
+        self.assertEqual(0, client.process.wait(10))
+        self.assertIsNone(client.read())
+
+    def test_malformed_messages(self):
+        client = self.client()
+        rows = [(b"{nonsense", -32700), (b"\xff\xfe", -32700), (b"", -32700), (b"[]", -32600), (b"5", -32600), (b"{}", -32600)]
+        for body, code in rows:
+            with self.subTest(body=body):
+                client.write(body)
+                answer = client.read()
+                self.assertEqual((code, None), (self.code(answer), answer["id"]))
+        client.write({"jsonrpc": "2.0", "id": 7})
+        answer = client.read()
+        self.assertEqual((-32600, 7), (self.code(answer), answer["id"]))
+        client.begin()
+        client.write({"jsonrpc": "2.0", "id": 'a"b', "method": "x"})
+        answer = client.read()
+        self.assertEqual((-32601, 'a"b'), (self.code(answer), answer["id"]))
+        about = {"textDocument": {"uri": "file:///none"}}
+        self.assertEqual(-32602, self.code(client.ask("textDocument/semanticTokens/full", about)))
+        self.assertEqual(0, client.end())
+
+    def test_no_answer_to_notifications_and_answers(self):
+        client = self.client()
+        client.begin()
+        client.notify("no/such/method", {})
+        client.notify("textDocument/didChange", 5)
+        client.write({"jsonrpc": "2.0", "id": 1, "result": None})
+        client.write({"jsonrpc": "2.0", "id": 2, "error": {"code": 1, "message": ""}})
+        self.assertEqual(-32601, self.code(client.ask("x")))
+        self.assertEqual([], client.notes)
+        self.assertEqual(0, client.end())
+
+    def test_too_long_and_headless(self):
+        client = self.client()
+        size = 268_435_457
+        client.send(b"Content-Length: %d\r\n\r\n" % size)
+        block = b" " * (1 << 20)
+        for _ in range(size >> 20):
+            client.send(block)
+        client.send(b" " * (size & ((1 << 20) - 1)))
+        self.assertEqual(-32600, self.code(client.read()))
+        client.begin()
+        client.send(b"X-Other: 3\r\n\r\n")
+        self.assertEqual(-32700, self.code(client.read()))
+        self.assertEqual(1, client.process.wait(10))
+
+    def test_heads(self):
+        body = b'{"jsonrpc":"2.0","id":1,"method":"x"}'
+        for head in ["content-length:%d", "Content-Type: a\r\nContent-Length:   %d", "Content-Length: %d\r\nX: y", "Content-Length: 0%d"]:
+            with self.subTest(head=head):
+                client = self.client()
+                client.send(head.encode() % len(body) + b"\r\n\r\n" + body)
+                self.assertEqual(-32002, self.code(client.read()))
+        client = self.client()
+        client.send(b"Content-Length: -1\r\n\r\n")
+        self.assertEqual(-32700, self.code(client.read()))
+        self.assertEqual(1, client.process.wait(10))
+
+    def test_ends_without_shutdown(self):
+        client = self.client()
+        client.begin()
+        client.notify("exit")
+        self.assertEqual(1, client.process.wait(10))
+        client = self.client()
+        client.begin()
+        client.process.stdin.close()
+        self.assertEqual(1, client.process.wait(10))
+
+
+class RuleFiles(Session):
+    """Diagnostics and tokens of rule files."""
+
+    def test_faults_while_typing(self):
+        client = self.client()
+        client.begin()
+        told = client.open(URI, FAULTS, "lex")
+        self.assertEqual((URI, 1), (told["uri"], told["version"]))
+        wanted = [
+            (0, 8, "Start state already exists"), (3, 7, "Rule name already exists"), (4, 0, "Verbatim code not supported"),
+            (5, 0, "Invalid regular expression: unclosed group"),
+        ]
+        self.assertEqual(wanted, [(spot(it)[0], spot(it)[1], spot(it)[4]) for it in told["diagnostics"]])
+        first = told["diagnostics"][1]["relatedInformation"][0]
+        self.assertEqual("first here", first["message"])
+        self.assertEqual({"line": 2, "character": 8}, first["location"]["range"]["start"])
+        self.assertEqual(3, len(client.change(URI, ranged((0, 8), (0, 12), "there"))["diagnostics"]))
+        self.assertEqual(2, len(client.change(URI, ranged((3, 7), (3, 9), "X"))["diagnostics"]))
+        # several changes in one notification, each on the text that the one before makes
+        changes = [ranged((4, 0), (4, 1), "a"), ranged((4, 1), (4, 1), " "), ranged((5, 1), (5, 1), ")")]
+        told = client.change(URI, *changes)
+        self.assertEqual((4, []), (told["version"], told["diagnostics"]))
+        self.assertEqual(["File ends prematurely"], [spot(it)[4] for it in client.change(URI, "")["diagnostics"]])
+        self.assertEqual([], client.close(URI)["diagnostics"])
+        self.assertEqual(0, client.end())
+
+    def test_columns_in_utf16(self):
+        client = self.client()
+        client.begin()
+        found = client.open(URI, "%%\n😀é 'A'\n😀 'A'\n")["diagnostics"]
+        self.assertEqual([(2, 4, 2, 5)], [spot(it)[:4] for it in found])
+        first = found[0]["relatedInformation"][0]["location"]["range"]["start"]
+        self.assertEqual({"line": 1, "character": 5}, first)
+        self.assertEqual([], client.change(URI, ranged((2, 4), (2, 5), "B"))["diagnostics"])
+        self.assertEqual(0, client.end())
+
+    def test_positions_past_the_ends(self):
+        client = self.client("--rules", rules_file("%%\n[^\\n]+ 'LINE'\n\\n ;\n"))
+        client.begin()
+        rows = [
+            ("😀b\nc", (0, 1), "x😀b\nc"), ("ab\nc", (0, 99), "abx\nc"), ("ab\nc", (9, 0), "ab\ncx"), ("ab\n", (1, 5), "ab\nx"),
+            ("ab\r\nc", (1, 0), "ab\r\nxc"),
+        ]
+        for text, place, wanted in rows:
+            with self.subTest(text=text, place=place):
+                client.open(TEXT, text)
+                client.change(TEXT, ranged(place, place, "x"))
+                other = "file:///texts/b.txt"
+                client.open(other, wanted)
+                self.assertEqual(client.tokens(other)["data"], client.tokens(TEXT)["data"])
+        self.assertEqual(0, client.end())
+
+    def test_changes_that_do_not_fit(self):
+        client = self.client()
+        client.begin()
+        client.open(URI, "%%\na 'A'\n")
+        kept = client.tokens(URI)["data"]
+        changes = [
+            ranged((1, 3), (1, 1), "( "), {"range": {}, "text": "( "}, {"range": 5, "text": "( "}, {"text": 5},
+            ranged((-1, 0), (1, 1), "("), ranged((0, 0.5), (1, 1), "("),
+        ]
+        for change in changes:
+            with self.subTest(change=change):
+                told = client.change(URI, change)
+                self.assertEqual([], told["diagnostics"])
+                self.assertEqual(kept, client.tokens(URI)["data"])
+                self.assertEqual(2, client.told("window/logMessage")["type"])
+        # one that fits after one that doesn't
+        told = client.change(URI, ranged((1, 3), (1, 1), "x"), ranged((1, 0), (1, 1), "("))
+        self.assertEqual(1, len(told["diagnostics"]))
+        self.assertEqual(0, client.end())
+
+    def test_tokens_of_rule_files(self):
+        client = self.client()
+        client.begin()
+        self.assertEqual([], client.open(URI, "%x one\n%%\n<one>[a-z]+ <-one>'ID'\n[ ] ;\n")["diagnostics"])
+        wanted = [
+            (0, 0, 2, "keyword"), (0, 3, 3, "enumMember"), (1, 0, 2, "keyword"), (2, 0, 5, "enumMember"), (2, 5, 7, "regexp"),
+            (2, 12, 6, "enumMember"), (2, 18, 4, "type"), (3, 0, 4, "regexp"), (3, 4, 1, "operator"),
+        ]
+        self.assertEqual(wanted, decoded(client.tokens(URI)["data"], client.types))
+        self.assertEqual(0, client.end())
+
+    def test_flags(self):
+        for words, wanted in [([], 0), (["--octal", "false"], 1)]:
+            with self.subTest(words=words):
+                client = self.client(*words)
+                client.begin()
+                self.assertEqual(wanted, len(client.open(URI, "%%\n\\101 'A'\n")["diagnostics"]))
+
+
+class Texts(Session):
+    """Texts that given rules lex."""
+
+    def test_tokens(self):
+        client = self.client("--rules", rules_file(RULES), "--map", "NAME=property", "--map", "SIGN=")
+        client.begin()
+        self.assertEqual([], client.open(TEXT, 'let a = 12;\n# note\nlet b = "x\ny";\n')["diagnostics"])
+        before = client.tokens(TEXT)
+        wanted = [
+            (0, 0, 3, "keyword"), (0, 4, 1, "property"), (0, 8, 2, "number"), (1, 0, 6, "comment"), (2, 0, 3, "keyword"),
+            (2, 4, 1, "property"), (2, 8, 2, "string"), (3, 0, 2, "string"),
+        ]
+        self.assertEqual(wanted, decoded(before["data"], client.types))
+        part = client.tokens_in(TEXT, (2, 0), (2, 9))
+        self.assertEqual(wanted[4:], decoded(part["data"], client.types))
+        client.change(TEXT, ranged((0, 4), (0, 5), "long"))
+        edits = client.tokens_since(TEXT, before)["edits"]
+        self.assertEqual(1, len(edits))
+        after = client.tokens(TEXT)
+        self.assertEqual(after["data"], applied(before["data"], edits))
+        self.assertEqual((0, 4, 4, "property"), decoded(after["data"], client.types)[1])
+        self.assertEqual(after["data"], client.tokens_since(TEXT, before)["data"])
+        self.assertEqual([], client.tokens_since(TEXT, {**client.tokens(TEXT)})["edits"])
+        self.assertEqual(0, client.end())
+
+    def test_where_lexing_stops(self):
+        client = self.client("--rules", rules_file(RULES))
+        client.begin()
+        found = client.open(TEXT, "let a?\n")["diagnostics"]
+        self.assertEqual([(0, 5, 0, 6, "unexpected character '?'")], [spot(it) for it in found])
+        self.assertEqual([], client.change(TEXT, ranged((0, 5), (0, 6), ""))["diagnostics"])
+        self.assertEqual(0, client.end())
+
+    def test_rules_change_while_open(self):
+        # a path with characters that clients escape, and as some escape them
+        path = rules_file(RULES, "a b#é.l")
+        client = self.client("--rules", path)
+        client.begin({"workspace": {"semanticTokens": {"refreshSupport": True}}})
+        self.assertEqual(1, len(client.open(TEXT, "let a!")["diagnostics"]))
+        folder = os.path.dirname(path)
+        rules = f"file://{folder}/a%20b%23%c3%A9%2El"
+        self.assertEqual(rules, client.open(rules, RULES, "lex")["uri"])
+        told = {it["uri"]: len(it["diagnostics"]) for it in (client.told(), client.told())}
+        self.assertEqual({rules: 0, TEXT: 1}, told)
+        client.change(rules, ranged((5, 1), (5, 1), "!"))
+        told = {it["uri"]: len(it["diagnostics"]) for it in (client.told(), client.told())}
+        self.assertEqual({rules: 0, TEXT: 0}, told)
+        # with a fault the rules before stay
+        self.assertEqual(1, len(client.change(rules, ranged((5, 0), (5, 1), "("))["diagnostics"]))
+        kinds = [it[3] for it in decoded(client.tokens(TEXT)["data"], client.types)]
+        self.assertEqual(["keyword", "variable", "operator"], kinds)
+        self.assertIn(REFRESH, [it.get("method") for it in client.notes])
+        self.assertEqual(0, client.end())
+
+    def test_no_rules(self):
+        client = self.client()
+        client.begin()
+        self.assertEqual([], client.open(TEXT, "let a?")["diagnostics"])
+        self.assertEqual([], client.tokens(TEXT)["data"])
+        self.assertEqual(0, client.end())
+
+
+class Long(Session):
+    """What chance tries."""
+
+    def test_mutated_messages(self):
+        client = self.client()
+        client.begin()
+        came, wrong = mutated.run(client, MESSAGES, 1)
+        self.assertEqual([], wrong[:5])
+        self.assertLess(1000, min(came[it] for it in (-32600, -32601, -32700, "result")), came)
+        self.assertEqual(0, client.end())
+
+    def test_random_dialogues(self):
+        self.client()
+        done, differences = dialogues.run(EDITS, 1)
+        self.assertLessEqual(EDITS, done)
+        self.assertEqual([], differences[:3])
+
+    def test_refused_memory(self):
+        rules = rules_file(RULES)
+        with tempfile.TemporaryDirectory() as folder:
+            counts = refused.Refusals(rules, programs.preloaded("refuse_memory"), folder).all(EVERY)
+        self.assertEqual(0, counts["wrong"], counts)
+        self.assertLess(50, counts["told"], counts)
