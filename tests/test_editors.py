@@ -1,6 +1,7 @@
 """Real editors with the language server, skipped where they aren't installed: neovim and Emacs' lsp-mode, both headless."""
 
 import glob
+import json
 import os
 import shlex
 import shutil
@@ -35,6 +36,16 @@ def sections(out):
     return found
 
 
+def settings_below(heading):
+    """The settings that docs/editors.md has below this line, with the paths of this repository."""
+    with open(f"{programs.TOP}/docs/editors.md", encoding="utf-8") as file:
+        text = file.read().split(f"\n{heading}\n", 1)[1].split("```", 2)[1]
+    words = " ".join(json.dumps(word) for word in server())
+    joined = ", ".join(json.dumps(word) for word in server())
+    text = text.split("\n", 1)[1].replace('"/PATH/rolgumzai", "lsp"', joined).replace('"/PATH/rolgumzai" "lsp"', words)
+    return text.replace("/PATH", programs.TOP)
+
+
 class Editors(unittest.TestCase):
     """A session of each editor."""
 
@@ -61,6 +72,16 @@ class Editors(unittest.TestCase):
             with self.subTest(step=step):
                 self.assertEqual(wanted, found[f"after :{step}"], out)
         self.assertIn("stopped true", out)
+
+    def test_settings_of_neovim(self):
+        if not shutil.which("nvim"):
+            self.skipTest("neovim isn't installed")
+        init = f"{programs.scratch().name}/init.lua"
+        with open(init, "w", encoding="utf-8") as file:
+            file.write(settings_below("In 0.7:"))
+        look = "lua vim.wait(9000, function() return #vim.diagnostic.get(0) > 0 end, 10) print(#vim.diagnostic.get(0))"
+        words = ["nvim", "--headless", "-u", init, "-i", "NONE", "-n", "faults.l", "-c", look, "-c", "qa!"]
+        self.assertEqual("4", self.run_editor(words, "examples/faults.l").strip())
 
     def test_lsp_mode(self):
         if not shutil.which("emacs") or not glob.glob(LSP_MODE):
