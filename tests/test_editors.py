@@ -16,6 +16,11 @@ SCRIPTS = f"{programs.TOP}/tests/language_server"
 
 LSP_MODE = "/usr/share/emacs/site-lisp/elpa-src/lsp-mode-*"
 
+FAULTS = [
+    "1:9-1:13 Start state already exists", "4:8-4:10 Rule name already exists", "5:1-5:12 Verbatim code not supported",
+    "6:1-6:2 Invalid regular expression: unclosed group",
+]
+
 # Edits as one types them, and what is wrong after each: the places in bytes, as neovim counts them.
 STEPS = [
     ("1s/here here/here there/", ["4:8-4:10 Rule name already exists", "5:1-5:12 Verbatim code not supported",
@@ -23,7 +28,8 @@ STEPS = [
     ("4s/ID/I2/", ["5:1-5:12 Verbatim code not supported", "6:1-6:2 Invalid regular expression: unclosed group"]),
     ("6s/(/😀()/", ["5:1-5:12 Verbatim code not supported"]),
     ("5d", ["no diagnostics"]),
-    ("undo", ["5:1-5:12 Verbatim code not supported"]),
+    # what a script does is one step to neovim
+    ("undo", FAULTS),
 ]
 
 
@@ -67,7 +73,7 @@ class Editors(unittest.TestCase):
         words = ["nvim", "--headless", "-u", "NONE", "-i", "NONE", "-n", "-c", f"luafile {SCRIPTS}/nvim.lua"]
         out = self.run_editor(words, "examples/faults.l", SERVER=shlex.join(server()), STEPS=steps)
         found = sections(out)
-        self.assertEqual(4, len(found["opened"]), out)
+        self.assertEqual(FAULTS, found["opened"], out)
         for step, wanted in STEPS:
             with self.subTest(step=step):
                 self.assertEqual(wanted, found[f"after :{step}"], out)

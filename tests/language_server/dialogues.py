@@ -130,11 +130,8 @@ class Dialogue:
         """Types new rules into the rule file, which is opened for it and closed after."""
         self.rules = "%%\n" + "".join(self.chance.sample(RULES, self.chance.randrange(2, 9)))
         uri = f"file://{self.path}"
-        told = self.client.open(uri, self.good, "lex")
-        told = self.client.change(uri, self.rules)
-        while told and told["uri"] != uri:
-            told = self.client.told()
-        if not told["diagnostics"]:
+        self.client.open(uri, self.good, "lex")
+        if not self.client.change(uri, self.rules)["diagnostics"]:
             self.good = self.rules
         self.client.close(uri)
         self.tokens.clear()
