@@ -1,6 +1,7 @@
 """Real editors with the language server, skipped where they aren't installed: neovim and Emacs' lsp-mode, both headless."""
 
 import glob
+import json
 import os
 import shlex
 import shutil
@@ -15,6 +16,11 @@ SCRIPTS = f"{programs.TOP}/tests/language_server"
 
 LSP_MODE = "/usr/share/emacs/site-lisp/elpa-src/lsp-mode-*"
 
+FAULTS = [
+    "1:9-1:13 Start state already exists", "4:8-4:10 Rule name already exists", "5:1-5:12 Verbatim code not supported",
+    "6:1-6:2 Invalid regular expression: unclosed group",
+]
+
 # Edits as one types them, and what is wrong after each: the places in bytes, as neovim counts them.
 STEPS = [
     ("1s/here here/here there/", ["4:8-4:10 Rule name already exists", "5:1-5:12 Verbatim code not supported",
@@ -22,7 +28,8 @@ STEPS = [
     ("4s/ID/I2/", ["5:1-5:12 Verbatim code not supported", "6:1-6:2 Invalid regular expression: unclosed group"]),
     ("6s/(/😀()/", ["5:1-5:12 Verbatim code not supported"]),
     ("5d", ["no diagnostics"]),
-    ("undo", ["5:1-5:12 Verbatim code not supported"]),
+    # what a script does is one step to neovim
+    ("undo", FAULTS),
 ]
 
 
@@ -33,6 +40,16 @@ def sections(out):
         heading, *lines = part.splitlines()
         found[heading] = lines
     return found
+
+
+def settings_below(heading):
+    """The settings that docs/editors.md has below this line, with the paths of this repository."""
+    with open(f"{programs.TOP}/docs/editors.md", encoding="utf-8") as file:
+        text = file.read().split(f"\n{heading}\n", 1)[1].split("```", 2)[1]
+    words = " ".join(json.dumps(word) for word in server())
+    joined = ", ".join(json.dumps(word) for word in server())
+    text = text.split("\n", 1)[1].replace('"/PATH/rolgumzai", "lsp"', joined).replace('"/PATH/rolgumzai" "lsp"', words)
+    return text.replace("/PATH", programs.TOP)
 
 
 class Editors(unittest.TestCase):
@@ -56,11 +73,21 @@ class Editors(unittest.TestCase):
         words = ["nvim", "--headless", "-u", "NONE", "-i", "NONE", "-n", "-c", f"luafile {SCRIPTS}/nvim.lua"]
         out = self.run_editor(words, "examples/faults.l", SERVER=shlex.join(server()), STEPS=steps)
         found = sections(out)
-        self.assertEqual(4, len(found["opened"]), out)
+        self.assertEqual(FAULTS, found["opened"], out)
         for step, wanted in STEPS:
             with self.subTest(step=step):
                 self.assertEqual(wanted, found[f"after :{step}"], out)
         self.assertIn("stopped true", out)
+
+    def test_settings_of_neovim(self):
+        if not shutil.which("nvim"):
+            self.skipTest("neovim isn't installed")
+        init = f"{programs.scratch().name}/init.lua"
+        with open(init, "w", encoding="utf-8") as file:
+            file.write(settings_below("In 0.7:"))
+        look = "lua vim.wait(9000, function() return #vim.diagnostic.get(0) > 0 end, 10) print(#vim.diagnostic.get(0))"
+        words = ["nvim", "--headless", "-u", init, "-i", "NONE", "-n", "faults.l", "-c", look, "-c", "qa!"]
+        self.assertEqual("4", self.run_editor(words, "examples/faults.l").strip())
 
     def test_lsp_mode(self):
         if not shutil.which("emacs") or not glob.glob(LSP_MODE):

@@ -131,11 +131,21 @@ class Client:
             self.notes.append(body)
 
     def told(self, method=DIAGNOSTICS):
-        """The parameters of the next notification of this method."""
+        """The parameters of the next notification of this method. Those of other methods stay in `notes`."""
+        others = []
         while True:
             note = self.notes.pop(0) if self.notes else self.read()
             if note is None or note.get("method") == method:
+                self.notes = others + self.notes
                 return note and note.get("params")
+            others.append(note)
+
+    def told_of(self, uri, version=None):
+        """What is told of this version of a document. What was told before is passed over."""
+        told = self.told()
+        while told is not None and (told["uri"], told.get("version")) != (uri, version):
+            told = self.told()
+        return told
 
     def begin(self, capabilities=None):
         """Initializes the server, and gives what it can do."""
@@ -150,7 +160,7 @@ class Client:
         self.version += 1
         document = {"uri": uri, "languageId": language, "version": self.version, "text": text}
         self.notify("textDocument/didOpen", {"textDocument": document})
-        return self.told()
+        return self.told_of(uri, self.version)
 
     def change(self, uri, *changes):
         """Changes a document and gives what is told of it. A change is a whole text, or what `ranged` makes."""
@@ -158,12 +168,12 @@ class Client:
         edits = [{"text": change} if isinstance(change, str) else change for change in changes]
         document = {"uri": uri, "version": self.version}
         self.notify("textDocument/didChange", {"textDocument": document, "contentChanges": edits})
-        return self.told()
+        return self.told_of(uri, self.version)
 
     def close(self, uri):
         """Closes a document and gives what is told of it."""
         self.notify("textDocument/didClose", {"textDocument": {"uri": uri}})
-        return self.told()
+        return self.told_of(uri)
 
     def tokens(self, uri):
         """The answer with all tokens of a document."""

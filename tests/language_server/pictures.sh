@@ -12,13 +12,13 @@ display=$!
 trap 'kill $display; rm -rf "$home"' EXIT
 sleep 2
 
-# picture NAME COLUMNSxROWS WORDS..: the screen once the words have run for a while in a terminal
+# picture NAME COLUMNSxROWS SECONDS WORDS..: the screen once the words have run for so long in a terminal
 picture() {
-    name=$1 size=$2
-    shift 2
+    name=$1 size=$2 seconds=$3
+    shift 3
     xterm -geometry "$size" -fa 'DejaVu Sans Mono' -fs 10 -bg white -fg black -b 2 +sb -e "$@" >/dev/null 2>&1 &
     terminal=$!
-    sleep 9
+    sleep "$seconds"
     import -window root -trim +repage -colors 32 -define png:compression-level=9 "$top/docs/$name.png"
     kill $terminal 2>/dev/null || true
     sleep 1
@@ -31,7 +31,7 @@ local id = vim.lsp.start_client({ name = "rolgumzai", cmd = { "$server", "lsp" }
 vim.lsp.buf_attach_client(0, id)
 END
 cp examples/faults.l "$home/faults.l"
-picture editor-faults 84x9 nvim -u NONE -i NONE -n -c "luafile $home/faults.lua" "$home/faults.l"
+picture editor-faults 84x8 9 nvim -u NONE -i NONE -n -c "luafile $home/faults.lua" "$home/faults.l"
 
 cat >"$home/tokens.el" <<END
 (setq load-path (append (file-expand-wildcards "/usr/share/emacs/site-lisp/elpa-src/*") load-path)
@@ -51,4 +51,4 @@ cat >"$home/tokens.el" <<END
 (lsp)
 END
 cp examples/sorted.c "$home/sorted.c"
-picture editor-tokens 84x24 emacs -nw -Q -l "$home/tokens.el"
+picture editor-tokens 84x24 25 emacs -nw -Q -l "$home/tokens.el"
