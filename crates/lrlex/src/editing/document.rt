@@ -444,8 +444,7 @@ impl<'lexer, L: LexerTypes<LexErrorT = LRLexError>> Document<'lexer, L> {
     }
 
     /// Line and column of the place before this byte as the Language Server Protocol counts them: both from 0, the column in
-    /// code units of UTF-16; but a line ends by U+000A alone, and not by a lone U+000D. Inside a character it is the place
-    /// before that, and past the text's end the end.
+    /// code units of UTF-16. Inside a character it is the place before that, and past the text's end the end.
     pub fn position(&self, byte: usize) -> (usize, usize)
         ensures fits { IsCharBoundary self.now.text byte
             → result ≡ utf16_position self.now.text byte }
