@@ -16,7 +16,7 @@ sleep 2
 picture() {
     name=$1 size=$2 seconds=$3
     shift 3
-    xterm -geometry "$size" -fa 'DejaVu Sans Mono' -fs 10 -bg white -fg black -b 2 +sb -e "$@" >/dev/null 2>&1 &
+    xterm -tn xterm-256color -geometry "$size" -fa 'DejaVu Sans Mono' -fs 10 -bg white -fg black -b 2 +sb -e "$@" >/dev/null 2>&1 &
     terminal=$!
     sleep "$seconds"
     import -window root -trim +repage -colors 32 -define png:compression-level=9 "$top/docs/$name.png"
@@ -37,18 +37,23 @@ cat >"$home/tokens.el" <<END
 (setq load-path (append (file-expand-wildcards "/usr/share/emacs/site-lisp/elpa-src/*") load-path)
       lsp-keymap-prefix nil lsp-auto-guess-root t lsp-enable-file-watchers nil lsp-semantic-tokens-enable t
       lsp-modeline-code-actions-enable nil lsp-headerline-breadcrumb-enable nil lsp-diagnostics-provider :none
-      lsp-lens-enable nil lsp-session-file "$home/session" inhibit-startup-screen t)
+      lsp-lens-enable nil lsp-modeline-workspace-status-enable nil lsp-modeline-diagnostics-enable nil
+      lsp-session-file "$home/session" inhibit-startup-screen t)
 (menu-bar-mode -1)
+(setq frame-background-mode 'light)
+(mapc #'frame-set-background-mode (frame-list))
 (require 'lsp-mode)
 (require 'lsp-semantic-tokens)
-(add-to-list 'lsp-language-id-configuration '(text-mode . "text"))
+(define-derived-mode shown-mode prog-mode "C by rules/c.l" (setq font-lock-defaults '(nil)))
+(add-to-list 'lsp-language-id-configuration '(shown-mode . "c"))
 (lsp-register-client
  (make-lsp-client :new-connection (lsp-stdio-connection '("$server" "lsp" "--rules" "$top/rules/c.l"))
                   :activation-fn (lambda (&rest _) t) :priority 10 :server-id 'rolgumzai))
 (lsp-workspace-folders-add "$home")
 (find-file "$home/sorted.c")
-(text-mode)
+(shown-mode)
 (lsp)
+(run-with-timer 8 nil (lambda () (message nil)))
 END
 cp examples/sorted.c "$home/sorted.c"
 picture editor-tokens 84x24 25 emacs -nw -Q -l "$home/tokens.el"
