@@ -9,7 +9,8 @@ use Rattle.std.proofs.lemmas.List.Sums.{sum_by-append}
 use Rattle.std.proofs.lemmas.Str.{chars-append, encodes-chars, IsUtf8-between}
 use Rattle.lrlex_base.specs.Places.{is_newline, newlines_from, starts_after}
 use Rattle.lrlex_base.proofs.NewlineLemmas.{line_begin, line_front, line_begin_fits, begun_within}
-use Rattle.lrlex.specs.Utf16.{is_wide, units, utf16_position}
+use Rattle.lrlex.specs.Utf16.{utf16_position}
+use Rattle.lrlex.specs.Words.{is_wide, units}
 use Rattle.lrlex_lsp.specs.Offsets.{IsUpTo, IsLastUpTo}
 
 -- a longer front of a text
