@@ -97,7 +97,11 @@ ROWS = [
     ("check bad.l", "", Outcome(BAD, "", 1)),
     ("check tokens.l bad.l other.l", "", Outcome(BAD + OTHER, "", 1)),
     ("check bad.l none other.l", "", Outcome(BAD + OTHER, MISSING, 2)),
-    ("check -", "a", Outcome("stdin:1:1: Unknown declaration\n1 | a\n  | ^\n", "", 1)),
+    (
+        "check -",
+        "a",
+        Outcome("stdin:1:1: Unknown declaration\n1 | a\n  | ^\nstdin:1:2: File ends prematurely\n1 | a\n  |  ^\n", "", 1),
+    ),
     ("check empty", "", Outcome("empty:1:1: File ends prematurely\n1 | \n  | ^\n", "", 1)),
     (
         "check three.l",
@@ -412,13 +416,16 @@ class Replayed(unittest.TestCase):
             self.assertIn(f".txt:{line}:{column}: ", err)
 
     def check_faults(self, program, case, words):
-        """A place of each fault is shown, by each command alike."""
+        """A place of each fault is shown, and the others begin as `check` does."""
         out, err, status = self.run_in_folder(program, "check", *words[:-1])
         self.assertEqual((err, status), ("", 1))
         for fault in case["expected"]["faults"]:
             line, column = place_of(case["rules"], fault["spans"][-1][0])
             self.assertRegex(out, rf"(?m)^\d+\.l:{line}:{column}: ")
-        self.assertEqual(self.run_in_folder(program, "tokens", *words), Outcome("", out, 1))
+        # `check` goes on below a fault at which reading ends
+        came = self.run_in_folder(program, "tokens", *words)
+        self.assertEqual((came.out, came.status), ("", 1))
+        self.assertTrue(came.err and out.startswith(came.err), (came.err, out))
 
     def check_winners(self, program, case, words):
         """The rule of each of the first lexemes wins at its last byte."""
