@@ -1,4 +1,4 @@
-"""The callers that the pages CALLING.md show (crates/lrlex_doc_callers), against worked answers."""
+"""The callers that pages show or name (crates/lrlex_doc_callers), against worked answers."""
 
 import unittest
 
@@ -43,7 +43,7 @@ def last(step, key, rules=WORDS):
 
 
 class DocCallers(replay.TestCase):
-    """What the shown callers give."""
+    """What the callers give."""
 
     def test_names_and_texts_of_lexemes(self):
         for rules, text, wanted in LEXEMES:
