@@ -14,6 +14,7 @@ By rt, as ./dev edits tries those of both files: rt must-fail checks the whole c
 import concurrent.futures
 import os
 import re
+import shutil
 import sys
 
 import crates
@@ -169,6 +170,9 @@ def main(names=(), is_of_gate=False):
     listed = crates.read()
     if unknown := [it for it in names if it not in listed]:
         print(f"edits: crates.txt has no {unknown[0]}", file=sys.stderr)
+        return 1
+    if not shutil.which("rt"):
+        print("edits: it takes the Rattle kit: rt isn't on PATH", file=sys.stderr)
         return 1
     if not is_of_gate:
         came = [by_rt(it, listed) for it in crates.with_below(listed, listed) if not names or it in names]

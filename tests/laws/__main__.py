@@ -18,7 +18,7 @@ CASES, SEED, FIRST, EDITS = 250, 1, 0, 10
 def main(words):
     """Tries what the words ask for."""
     if not programs.is_built(PROGRAM):
-        print(f"laws: skipped, rt run hasn't built crates/{PROGRAM} yet")
+        print(f"laws: skipped, {PROGRAM} isn't built: ./dev build {PROGRAM}")
         return 2
     try:
         numbers = [int(word) for word in words]
