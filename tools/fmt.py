@@ -5,6 +5,8 @@ rt fmt knows the crate of the current folder alone. With --check, a copy is laid
 
 import concurrent.futures
 import re
+import shutil
+import sys
 
 import crates
 import processes
@@ -36,6 +38,9 @@ def changes(names, is_checked):
 
 def main(is_checked=False):
     """Does it for all crates. The status is 1 where a check finds a file, or rt can't read one."""
+    if not shutil.which("rt"):
+        print("fmt: it takes the Rattle kit: rt isn't on PATH", file=sys.stderr)
+        return 1
     files, faults = changes(crates.read(), is_checked)
     for it in files:
         print(f"fmt: {it} {'is not in the layout' if is_checked else 'is laid out anew'}")
