@@ -3,6 +3,7 @@ use Rattle.std.proofs.Common.{◌≡◌, ℕ, zero, suc, ◌+◌, ◌<◌, ◌�
 use Rattle.std.proofs.Props.{props}
 use Rattle.std.proofs.Math.Logic.{∥∥₁_elim}
 use Rattle.std.specs.List.{list_any, concat, AllPairs, AllAdjacentBelow}
+use Rattle.std.proofs.Math.Seq.{take-add}
 use Rattle.std.proofs.lemmas.Bool.{cond_both, cases_Bool}
 use Rattle.std.proofs.lemmas.List.{drop-drop, length-drop, take-append-drop}
 use Rattle.std.proofs.lemmas.List.Elements.{All-nil, All-cons, All-append, All-push, All-weaker}
@@ -18,7 +19,7 @@ use Rattle.lrlex.specs.Active.{is_active, is_state, taken_by, taken_by_any, no_r
 use Rattle.lrlex.specs.Tiling.{Tile, Item, Item-set, Lexeme, Error, Wins, IsWinner, top, End, Done, NoMatch, NoId, NoTarget, IsEnd, stack_past, IsTiling, lexeme_of, tile_items, end_items, items}
 use Rattle.lrlex_boundaries.specs.Boundaries.{Boundary}
 use Rattle.lrlex.specs.Reach.{IsLexed, IsRun}
-use Rattle.lrlex.specs.ItemLaws.{is_error, HasItsLength, FitsText, HasNamedRule, EndsBefore, GoesOn, last_end, tile_texts, total_len, IsUnnamed, IsUnnamedBetween, IsUnnamedBefore, AreItemsOf, CoverText, HaveLaws}
+use Rattle.lrlex.specs.ItemLaws.{is_error, HasItsLength, FitsText, HasNamedRule, EndsBefore, GoesOn, last_end, tile_texts, total_len, StopsAt, IsUnnamed, IsUnnamedBetween, IsUnnamedBefore, AreItemsOf, CoverText, HaveLaws}
 use Rattle.lrlex.proofs.KnownLemmas.{known}
 use Rattle.lrlex.proofs.TilingLemmas.{Wins-le}
 
@@ -205,16 +206,39 @@ tiles_total d text stack [] h = sym (ap length h)
 tiles_total d text stack (t ∷ ts) h =
     omega (arith, sum_by-cons (λ (t : Tile). t.len) t ts, tiles_total d (drop t.len text) (stack_past d stack t) ts h.1, length-drop t.len text, Wins-le d (top stack) text t.rule t.len h.0.wins)
 
+tiles_up_to : (text : List ℕ) (ts : List Tile) → concat (tile_texts text ts) ≡ take (total_len ts) text
+tiles_up_to text [] = refl
+tiles_up_to text (t ∷ ts) =
+    ap (λ (xs : List ℕ). take t.len text ++ xs) (tiles_up_to (drop t.len text) ts) ∙ sym (take-add t.len (total_len ts) text)
+    ∙ ap (λ n. take n text) (sym (sum_by-cons (λ (t : Tile). t.len) t ts))
+
+-- ---- an error stands where the tiles end
+
+one_stop : (place at : ℕ) (state : Option ℕ) → at ≡ place → All (StopsAt place) (Error at at state ∷ [])
+one_stop place at state is = All-cons (StopsAt place) (Error at at state) [] is (All-nil (StopsAt place))
+
+lexeme_stop : (place : ℕ) (o : Option ℕ) (at len : ℕ) (rest : List Item) → All (StopsAt place) rest → All (StopsAt place) (lexeme_of o at len ++ rest)
+lexeme_stop place None at len rest all = all
+lexeme_stop place (Some id) at len rest all = All-cons (StopsAt place) (Lexeme id at len false) rest tt all
+
+items_stop : (d : Definition) (place end : ℕ) (ts : List Tile) (e : End) → place + total_len ts ≡ end → All (StopsAt end) (items d place ts e)
+items_stop d place end [] Done is = All-nil (StopsAt end)
+items_stop d place end [] (NoMatch q) is = one_stop end place (Some q) (omega (arith, is))
+items_stop d place end [] NoId is = one_stop end place None (omega (arith, is))
+items_stop d place end [] (NoTarget t) is = lexeme_stop end (lexeme_id (rule_at d t.rule)) place t.len _ (one_stop end place None (omega (arith, is)))
+items_stop d place end (t ∷ ts) e is =
+    lexeme_stop end (lexeme_id (rule_at d t.rule)) place t.len _ (items_stop d (place + t.len) end ts e (omega (arith, is, sum_by-cons (λ (t : Tile). t.len) t ts)))
+
 -- ---- what lies before, between and behind lexemes
 
 abbrev HasNoName : Definition → Tile → Type 0
 HasNoName d t = IsNone (rule_at d t.rule).name
 
--- up to each lexeme, from the end of the one before, there are unnamed tiles; and so up to the end of all tiles
+-- up to each lexeme, from the end of the one before, there are unnamed tiles; and so up to an error, or to the end of all tiles
 abbrev HasGaps : Definition → List Tile → ℕ → List Item → Type 0
 HasGaps d cut p [] = IsUnnamed d cut p (total_len cut)
 HasGaps d cut p (Lexeme id start len faulty ∷ xs) = IsUnnamed d cut p start × HasGaps d cut (start + len) xs
-HasGaps d cut p (Error start end state ∷ xs) = xs ≡ []
+HasGaps d cut p (Error start end state ∷ xs) = (p ≤ start → IsUnnamed d cut p start) × (xs ≡ [])
 
 -- the tiles up to a place, the last of them unnamed from p on
 record IsUpTo (d : Definition) (cut ts : List Tile) (p place : ℕ) : Type 0 where
@@ -252,16 +276,16 @@ module _ (d : Definition) (cut : List Tile) where
     unnamed = All-nil (HasNoName d);
   }
 
-  end_gaps : (e : End) (p place : ℕ) → IsUpTo d cut [] p place → HasGaps d cut p (end_items d place e)
-  end_gaps Done p place u =
+  end_gaps : (text stack : List ℕ) (e : End) (p place : ℕ) → IsEnd d text stack e → IsUpTo d cut [] p place → HasGaps d cut p (end_items d place e)
+  end_gaps text stack Done p place h u =
       subst (IsUnnamed d cut p) (omega (arith, u.begins, u.ends, ap total_len u.joined, total u.before u.between [])) (gap [] p place u)
-  end_gaps (NoMatch q) p place u = refl
-  end_gaps NoId p place u = refl
-  end_gaps (NoTarget t) p place u = target_gaps (lexeme_id (rule_at d t.rule))
+  end_gaps text stack (NoMatch q) p place h u = (λ le. gap [] p place u, refl)
+  end_gaps text stack NoId p place h u = (λ le. gap [] p place u, refl)
+  end_gaps text stack (NoTarget t) p place h u = target_gaps (lexeme_id (rule_at d t.rule))
     where
       target_gaps : (o : Option ℕ) → HasGaps d cut p (lexeme_of o place t.len ++ Error place place None ∷ [])
-      target_gaps None = refl
-      target_gaps (Some id) = (gap [] p place u, refl)
+      target_gaps None = (λ le. gap [] p place u, refl)
+      target_gaps (Some id) = (gap [] p place u, (λ le. absurd (omega (arith, le, h.0.some)), refl))
 
   onto_gaps : (o : Option ℕ) (t : Tile) (ts : List Tile) (rest : List Item) (p place : ℕ) → lexeme_id (rule_at d t.rule) ≡ o → lacks_id (rule_at d t.rule) ≡ false → IsUpTo d cut (t ∷ ts) p place →
       ((q : ℕ) → IsUpTo d cut ts q (place + t.len) → HasGaps d cut q rest) → HasGaps d cut p (lexeme_of o place t.len ++ rest)
@@ -269,7 +293,7 @@ module _ (d : Definition) (cut : List Tile) where
   onto_gaps (Some id) t ts rest p place is has u more = (gap (t ∷ ts) p place u, more (place + t.len) (past_lexeme t ts p place u))
 
   items_gaps : (text stack : List ℕ) (ts : List Tile) (e : End) (p place : ℕ) → IsTiling d text stack ts e → IsUpTo d cut ts p place → HasGaps d cut p (items d place ts e)
-  items_gaps text stack [] e p place h u = end_gaps e p place u
+  items_gaps text stack [] e p place h u = end_gaps text stack e p place h u
   items_gaps text stack (t ∷ ts) e p place h u =
       onto_gaps (lexeme_id (rule_at d t.rule)) t ts (items d (place + t.len) ts e) p place refl h.0.has_id u
       (λ q v. items_gaps (drop t.len text) (stack_past d stack t) ts e q (place + t.len) h.1 v)
@@ -277,14 +301,14 @@ module _ (d : Definition) (cut : List Tile) where
   gaps_first : (xs : List Item) → HasGaps d cut 0 xs → IfSome (slice_get xs 0) (IsUnnamedBefore d cut)
   gaps_first [] h = tt
   gaps_first (Lexeme id start len faulty ∷ xs) h = h.0
-  gaps_first (Error start end state ∷ xs) h = tt
+  gaps_first (Error start end state ∷ xs) h = h.0 (omega arith)
 
   gaps_next : (p k : ℕ) (xs : List Item) (x : Item) → HasGaps d cut p xs → suc k < length xs → IsUnnamedBetween d cut (get_or xs k x) (get_or xs (suc k) x)
   gaps_next p k [] x h lt = absurd (omega (arith, lt))
-  gaps_next p k (Error start end state ∷ xs) x h lt = absurd (omega (arith, lt, ap length h))
+  gaps_next p k (Error start end state ∷ xs) x h lt = absurd (omega (arith, lt, ap length h.1))
   gaps_next p k (Lexeme id start len faulty ∷ []) x h lt = absurd (omega (arith, lt))
   gaps_next p zero (Lexeme id start len faulty ∷ Lexeme next_id next next_len next_faulty ∷ xs) x h lt = h.1.0
-  gaps_next p zero (Lexeme id start len faulty ∷ Error a b c ∷ xs) x h lt = tt
+  gaps_next p zero (Lexeme id start len faulty ∷ Error a b c ∷ xs) x h lt = h.1.0
   gaps_next p (suc k) (Lexeme id start len faulty ∷ y ∷ xs) x h lt = gaps_next (start + len) k (y ∷ xs) x h.1 (omega (arith, lt))
 
   gaps_last : (p : ℕ) (xs : List Item) → HasGaps d cut p xs → list_any is_error xs ≡ false → IsUnnamed d cut (last_end p xs) (total_len cut)
@@ -385,6 +409,8 @@ module _ (d : Definition) (text : List ℕ) (found : List Item) (bounds : List B
     before = unnamed_before d text found bounds h;
     between = unnamed_between d text found bounds h;
     behind = λ none. unnamed_behind d text found bounds h none;
+    up_to = tiles_up_to text h.cut;
+    stop = subst (All (StopsAt (total_len h.cut))) (sym h.items_are) (items_stop d 0 (total_len h.cut) h.cut h.end (omega arith));
     joined = λ none. joined_tiles d text found bounds h none;
     sum = λ none. sum_of_tiles d text found bounds h none;
   }

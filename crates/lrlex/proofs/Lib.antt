@@ -37,6 +37,7 @@ pub mod GoingLemmas
 pub mod SearchLemmas
 pub mod RestLemmas
 pub mod PieceLemmas
+mod PieceLawLemmas
 pub mod DocumentLemmas
 pub mod ListLemmas
 pub mod NotedLemmas

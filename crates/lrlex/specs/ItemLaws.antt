@@ -60,15 +60,22 @@ pub record IsUnnamed (d : Definition) (cut : List Tile) (from to : ℕ) : Type 0
   pub ends : to ≡ from + total_len between
   pub unnamed : All (λ (t : Tile). IsNone (rule_at d t.rule).name) between
 
--- so it is between a lexeme and the next
+-- so it is between a lexeme and the next, and between a lexeme and an error behind it. Where a rule's target is no state, the
+-- lexeme of that rule begins at the error, and so doesn't end before it.
 abbrev pub IsUnnamedBetween : Definition → List Tile → Item → Item → Type 0
 IsUnnamedBetween d cut (Lexeme id start len faulty) (Lexeme next_id next next_len next_faulty) = IsUnnamed d cut (start + len) next
+IsUnnamedBetween d cut (Lexeme id start len faulty) (Error at end state) = start + len ≤ at → IsUnnamed d cut (start + len) at
 IsUnnamedBetween d cut _ _ = Unit {0}
 
--- and before the first lexeme
+-- and before the first of them
 abbrev pub IsUnnamedBefore : Definition → List Tile → Item → Type 0
 IsUnnamedBefore d cut (Lexeme id start len faulty) = IsUnnamed d cut 0 start
-IsUnnamedBefore d cut (Error start end state) = Unit {0}
+IsUnnamedBefore d cut (Error at end state) = IsUnnamed d cut 0 at
+
+-- an error stands there
+abbrev pub StopsAt : ℕ → Item → Type 0
+StopsAt place (Lexeme id start len faulty) = Unit {0}
+StopsAt place (Error at end state) = at ≡ place
 
 -- What holds of the items of each run. A lexeme takes bytes of the text, on character boundaries, and has the id of a named
 -- rule; lexemes stand in order and apart. At most one item is an error: it is the last, and its span is empty.
@@ -79,13 +86,15 @@ pub record AreItemsOf (d : Definition) (text : List ℕ) (found : List Item) : T
   pub in_order : AllPairs EndsBefore found
   pub error_last : AllPairs GoesOn found
 
--- What holds of items with the tiles that gave them: what lies before the first lexeme, and between a lexeme and the next,
--- is text of unnamed rules' tiles. Without an error the tiles joined are the text, and what lies behind the last lexeme
--- is text of such tiles too.
+-- What holds of items with the tiles that gave them: what lies before the first item, and between a lexeme and the next item,
+-- is text of unnamed rules' tiles. The tiles joined are the text up to their end, and an error stands there. Without an error
+-- they are the whole text, and what lies behind the last lexeme is text of such tiles too.
 pub record CoverText (d : Definition) (text : List ℕ) (found : List Item) (cut : List Tile) : Type 0 where
   pub before : IfSome (slice_get found 0) (IsUnnamedBefore d cut)
   pub between : AllAdjacentBelow (IsUnnamedBetween d cut) found (length found)
   pub behind : list_any is_error found ≡ false → IsUnnamed d cut (last_end 0 found) (length text)
+  pub up_to : concat (tile_texts text cut) ≡ take (total_len cut) text
+  pub stop : All (StopsAt (total_len cut)) found
   pub joined : list_any is_error found ≡ false → concat (tile_texts text cut) ≡ text
   pub sum : list_any is_error found ≡ false → total_len cut ≡ length text
 

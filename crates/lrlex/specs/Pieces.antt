@@ -1,11 +1,13 @@
 -- The whole text as it was cut, with what each piece is called.
-use Rattle.std.specs.Prelude.{◌≡◌, ◌↔◌, ℕ, ◌+◌, ◌-◌, ◌<◌, ◌≤◌, false, List, [], length, option_map, Some, slice_get, slice_range}
-use Rattle.lrlex_base.specs.Spans.{span, as_span}
+use Rattle.std.specs.Prelude.{◌≡◌, ◌↔◌, ℕ, ◌+◌, ◌-◌, ◌<◌, ◌≤◌, false, List, [], ◌∷◌, ◌++◌, length, map, take, option_map, Some, slice_get, slice_range}
+use Rattle.std.specs.List.{concat}
+use Rattle.lrlex_base.specs.Spans.{span, as_span, span_start, span_end}
 use Rattle.lrlex_rules.specs.Definition.{Definition}
-use Rattle.lrlex.specs.Active.{is_state, rule_at}
+use Rattle.lrlex.specs.Active.{is_state, rule_at, lexeme_id}
 use Rattle.lrlex_boundaries.specs.Boundaries.{Boundary, boundary_at}
+use Rattle.lrlex.specs.LexRun.{end_of}
 use Rattle.lrlex.specs.Reach.{IsLexed}
-use Rattle.lrlex.specs.Tiling.{Item, Tile}
+use Rattle.lrlex.specs.Tiling.{Item, Tile, end_items, lexeme_of}
 use Rattle.lrlex.specs.declared.reading.pieces.Piece.{Piece}
 
 -- the piece is this tile, which begins at the place
@@ -43,3 +45,18 @@ pub record ArePiecesIn (d : Definition) (text : List ℕ) (bounds : List Boundar
   pub tiles : AreTilesOfRun d text bounds first ps
   pub exactly : (k : ℕ) → k + 1 < length bounds →
       HasByteIn from to (boundary_at bounds k).place (boundary_at bounds (k + 1)).place ↔ ((first ≤ k) × (k < first + length ps))
+
+-- the bytes of pieces, one behind the other
+abbrev pub joined : List Piece → List ℕ
+joined ps = concat (map (λ (p : Piece). p.text.now) ps)
+
+-- a lexeme for each piece of a named rule that has an id
+abbrev pub lexemes_of : Definition → List Piece → List Item
+lexemes_of d [] = []
+lexemes_of d (p ∷ ps) = lexeme_of (lexeme_id (rule_at d p.rule)) (span_start p.span) (span_end p.span - span_start p.span) ++ lexemes_of d ps
+
+-- Joined, the pieces of a run are its text up to the place where lexing ended, and its lexemes are theirs. Behind these it has
+-- only what that end gives: nothing at the text's end, else its error, before which a rule whose target is no state gives its lexeme.
+pub record ArePiecesOfRun (d : Definition) (text : List ℕ) (found : List Item) (bounds : List Boundary) (h : IsLexed d text found bounds) (ps : List Piece) : Type 0 where
+  pub text_is : joined ps ≡ take (end_of bounds) text
+  pub items_are : found ≡ lexemes_of d ps ++ end_items d (end_of bounds) h.end

@@ -13,6 +13,7 @@ ghost use Rattle.lrlex_rules.specs.RuleParts.{state_number};
 ghost use Rattle.lrlex.specs.Reach.{IsRun};
 ghost use Rattle.lrlex.specs.Changes.{all_new};
 ghost use Rattle.lrlex.specs.Relex.{WasChanged, WasRelexed};
+ghost use Rattle.lrlex.specs.Searches.{asks, asks_by};
 ghost use Rattle.lrlex.specs.Utf16.{utf16_position};
 ghost use Rattle.lrlex_positions.specs.Positions.{position_of, IsLastUpTo};
 ghost use Rattle.lrlex.specs.Views.{definition_by, definition_of, items_by};
@@ -118,6 +119,9 @@ fn lexed_text<S: Numbered, X: Lexeme<S>>(
         (items_by S.number X.seen t.lexed.items.items) t.lexed.boundaries) }
     ensures looks { IfOk result (λ t. LooksAhead (definition_by S.number table.now) text.now
         t.lexed.boundaries t.lexed.ahead.items) }
+    ensures exact { IfOk result (λ t. t.lexed.asked ≡ asks_by table.now text.now
+        t.lexed.boundaries) }
+    ensures lexed { IfOk result (λ t. t.lexed.recut ≡ length t.lexed.boundaries - 1) }
     ensures changed { IfOk result (λ t. t.lexed.changed ≡ all_new (length t.lexed.items.items)
         (length t.lexed.boundaries - 1)) }
 {
@@ -264,6 +268,8 @@ impl<'lexer, L: LexerTypes<LexErrorT = LRLexError>> Document<'lexer, L> {
             text.now) }
         ensures definition { IfOk result (λ d. d.definition ≡ definition.now) }
         ensures text { IfOk result (λ d. d.text ≡ text.now) }
+        ensures exact { IfOk result (λ d. d.asked ≡ asks definition.now text.now d.boundaries) }
+        ensures lexed { IfOk result (λ d. d.recut ≡ length d.boundaries - 1) }
         ensures changed { IfOk result (λ d. d.changed ≡ all_new (length d.items)
             (length d.boundaries - 1)) }
     {
@@ -321,6 +327,19 @@ impl<'lexer, L: LexerTypes<LexErrorT = LRLexError>> Document<'lexer, L> {
         ensures kept { OnErr result (self.new ≡ self.old) }
     {
         edit_bytes(alloc, &self.definition.table, &mut self.held, from, to, put)
+    }
+
+    /// Does nothing: its contract says what each document is, for whoever is lent one (`LexRun::laws`).
+    pub fn laws(&self)
+        ensures run { IsRunOf L.StorageT.number L.LexemeT.seen self.now.definition self.now.text
+            self.now }
+        ensures items { HasItemLaws L.StorageT.number L.LexemeT.seen self.now.definition
+            self.now.text self.now }
+        ensures looks { LooksAhead (definition_of L.StorageT.number self.now.definition)
+            self.now.text self.now.boundaries self.now.ahead }
+    {
+        // the invariant is known where a field is read
+        let _ = &self.held;
     }
 
     /// The text as it is now.

@@ -64,6 +64,20 @@ impl<'lexer, 'input, L: LexerTypes<LexErrorT = LRLexError>> Model for LexRun<'le
 }
 
 impl<'lexer, 'input, L: LexerTypes<LexErrorT = LRLexError>> LexRun<'lexer, 'input, L> {
+    /// Does nothing: its contract says what each run is, for whoever is lent one. It is what lexing its text by its definition
+    /// gives, its items have the laws of the items of each run, and its boundaries tell how far the tiles before them looked.
+    pub fn laws(&self)
+        ensures run { IsRunOf L.StorageT.number L.LexemeT.seen self.now.definition self.now.text
+            self.now }
+        ensures items { HasItemLaws L.StorageT.number L.LexemeT.seen self.now.definition
+            self.now.text self.now }
+        ensures looks { LooksAhead (definition_of L.StorageT.number self.now.definition)
+            self.now.text self.now.boundaries self.now.ahead }
+    {
+        // the invariant is known where a field is read
+        let _ = &self.lexed;
+    }
+
     /// The lexemes, and an error at the end where lexing stopped early.
     pub fn items(&self) -> &[Result<L::LexemeT, LRLexError>]
         ensures { result.now ≡ self.now.items }

@@ -1,8 +1,11 @@
 //! The whole text as it was cut.
-ghost use Rattle.std.specs.Prelude.{ℕ, ◌≡◌, ◌+◌, ◌<◌, ◌≤◌, true, List, IfOk, IsCharBoundary, drop, length, vec_len};
+ghost use Rattle.std.specs.Prelude.{ℕ, ◌≡◌, ◌+◌, ◌<◌, ◌≤◌, true, List, IfOk, IsCharBoundary, drop, length, slice_range, vec_len};
 ghost use Rattle.lrlex.specs.Active.{is_state};
 ghost use Rattle.lrlex.specs.Searcher.{AreOf, IsSearcherOf};
-ghost use Rattle.lrlex.specs.Pieces.{IsPiece, AreTilesOfRun, ArePieces, ArePiecesIn};
+ghost use Rattle.lrlex_boundaries.specs.Boundaries.{Boundary, boundary_at};
+ghost use Rattle.lrlex_rules.specs.Definition.{Definition};
+ghost use Rattle.lrlex.specs.Pieces.{IsPiece, AreTilesOfRun, ArePieces, ArePiecesIn, ArePiecesOfRun, joined};
+ghost use Rattle.lrlex.specs.declared.reading.pieces.Piece.{Piece as ThePiece};
 ghost use Rattle.lrlex.specs.Reach.{IsLexed, IsRun};
 ghost use Rattle.lrlex.specs.Tiling.{Item, Wins};
 ghost use Rattle.lrlex.specs.Views.{definition_by, definition_of};
@@ -194,3 +197,17 @@ impl<'lexer, 'input, L: LexerTypes<LexErrorT = LRLexError>> LexRun<'lexer, 'inpu
         )
     }
 }
+
+/// What the pieces of a run say of it. Joined, they are its text up to the place where lexing ended, and those of a part are the
+/// text between two boundaries. The run's lexemes are those of the named pieces, in order. Behind these it has an error where
+/// lexing stopped early, and nothing else.
+pub fn piece_laws()
+    ensures all { (d : Definition) (text : List ℕ) (found : List Item) (bounds : List Boundary)
+        (h : IsLexed d text found bounds) (pieces : List ThePiece)
+        → ArePieces d text bounds pieces → ArePiecesOfRun d text found bounds h pieces }
+    ensures part { (d : Definition) (text : List ℕ) (found : List Item) (bounds : List Boundary)
+        (first : ℕ) (pieces : List ThePiece) → IsRun d text found bounds
+        → AreTilesOfRun d text bounds first pieces → joined pieces
+        ≡ slice_range text (boundary_at bounds first).place
+        (boundary_at bounds (first + length pieces)).place }
+{}
