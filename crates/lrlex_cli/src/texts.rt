@@ -1,5 +1,6 @@
 //! The texts that the program reads.
 ghost use Rattle.std.specs.Prelude.{◌≡◌, IfOk};
+ghost use Rattle.std.specs.String.{string_bytes};
 ghost use Rattle.lrlex_cli.specs.declared.texts.TextFault.TheVariants.{Memory};
 ghost use Rattle.lrlex_cli.specs.Texts.{GaveAll, IsSplit};
 
@@ -74,8 +75,11 @@ fn read_bytes<R: Read>(alloc: Global, reader: &mut R) -> Result<Vec<u8>, TextFau
     Err(TextFault::Unreadable)
 }
 
-/// Reads all of a reader as text. After an error nothing is tried again.
-pub fn read_text<R: Read>(alloc: Global, reader: &mut R) -> Result<String, TextFault> {
+/// Reads all of a reader as text: its bytes as they are, carriage returns too. After an error nothing is tried again.
+pub fn read_text<R: Read>(alloc: Global, reader: &mut R) -> Result<String, TextFault>
+    ensures { IfOk result (λ text. GaveAll (R.remaining reader.old) (R.remaining reader.new)
+        (string_bytes text)) }
+{
     String::from_utf8(read_bytes(alloc, reader)?).map_err(|_| TextFault::NotText)
 }
 
