@@ -284,8 +284,8 @@ enum {
     LRLEX_SCAN_DONE = 1,      /* the text ends */
     LRLEX_SCAN_NO_MATCH = 2,  /* no rule matches in the start state `state` */
     LRLEX_SCAN_NO_ID = 3,     /* the rule `rule` matches, which has a name and no id */
-    LRLEX_SCAN_NO_TARGET = 4, /* the rule `rule` matches, and enters no start state of the definition */
-    LRLEX_SCAN_NO_STATE = 5   /* the definition has no start state of id 0. No rule text gives a definition of this or of the last kind */
+    LRLEX_SCAN_NO_TARGET = 4, /* the rule `rule` matches, and enters no start state; no rule text has such a rule */
+    LRLEX_SCAN_NO_STATE = 5   /* there is no start state of id 0; each rule text gives one */
 };
 
 /* How a scanner went on. */

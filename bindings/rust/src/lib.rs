@@ -428,14 +428,22 @@ impl Definition {
     /// [`Error::Shared`] while there is a document or a scanner of this definition, or [`Error::OutOfMemory`]. The definition is then as
     /// it was.
     pub fn set_rule_ids<'a>(&mut self, ids: &HashMap<&'a str, u32>) -> Result<IdSets<'a>, Error> {
-        let given: Vec<_> = ids.iter().map(|(name, &id)| ffi::NamedId { name: name.as_ptr(), name_len: name.len(), id }).collect();
+        let given: Vec<_> =
+            ids.iter().map(|(name, &id)| ffi::NamedId { name: name.as_ptr(), name_len: name.len(), id }).collect();
         let mut missing = vec![false; given.len()];
         // SAFETY: the entries are `&str`s, and there is room for as many `bool`s.
         checked(unsafe {
-            ffi::lrlex_definition_set_rule_ids(self.held.get(), given.as_ptr(), given.len(), missing.as_mut_ptr(), missing.len())
+            ffi::lrlex_definition_set_rule_ids(
+                self.held.get(),
+                given.as_ptr(),
+                given.len(),
+                missing.as_mut_ptr(),
+                missing.len(),
+            )
         })?;
         let lacking: HashSet<_> = ids.keys().zip(missing).filter(|it| it.1).map(|it| *it.0).collect();
-        let unused: HashSet<_> = (0..self.rule_count()).filter(|&it| !self.has_id(it)).filter_map(|it| self.rule_name(it)).collect();
+        let unused: HashSet<_> =
+            (0..self.rule_count()).filter(|&it| !self.has_id(it)).filter_map(|it| self.rule_name(it)).collect();
         Ok(((!lacking.is_empty()).then_some(lacking), (!unused.is_empty()).then_some(unused)))
     }
 
@@ -687,7 +695,8 @@ impl Document {
     pub fn offset_at(&self, position: (usize, usize), encoding: PositionEncoding) -> usize {
         let (mut byte, (line, column)) = (0, position);
         // SAFETY: one number is written.
-        let status = unsafe { ffi::lrlex_document_offset_at(self.held.get(), line, column, encoding as u32, &raw mut byte) };
+        let status =
+            unsafe { ffi::lrlex_document_offset_at(self.held.get(), line, column, encoding as u32, &raw mut byte) };
         debug_assert_eq!(status, ffi::OK);
         byte
     }
@@ -767,7 +776,9 @@ impl Scanner<'_> {
         self.tiles.clear();
         self.tiles.try_reserve_exact(Self::ROOM).map_err(|_| Error::OutOfMemory)?;
         // SAFETY: there is room for `ROOM` tiles.
-        checked(unsafe { ffi::lrlex_scanner_next(self.held.get(), self.tiles.as_mut_ptr(), Self::ROOM, &raw mut scanned) })?;
+        checked(unsafe {
+            ffi::lrlex_scanner_next(self.held.get(), self.tiles.as_mut_ptr(), Self::ROOM, &raw mut scanned)
+        })?;
         // SAFETY: the call has written the first `count` of them.
         unsafe { self.tiles.set_len(scanned.count) };
         if scanned.count > 0 {

@@ -71,7 +71,10 @@ fn ids_by_names() {
     let (lacking, unused) = definition.set_rule_ids(&HashMap::from([("ID", 70), ("WORD", 8)])).unwrap();
     assert_eq!((lacking, unused), (Some(HashSet::from(["WORD"])), Some(HashSet::from(["INT".to_owned()]))));
     assert_eq!(definition.lexer("a").unwrap().map(|it| it.unwrap().tok_id()).collect::<Vec<_>>(), [70]);
-    assert_eq!(definition.lexer("1").unwrap().next(), Some(Err(LexError { start: 0, line: 1, column: 1, state: None })));
+    assert_eq!(
+        definition.lexer("1").unwrap().next(),
+        Some(Err(LexError { start: 0, line: 1, column: 1, state: None }))
+    );
     let document = Document::new(&definition, "a").unwrap();
     assert_eq!(definition.set_rule_ids(&HashMap::new()), Err(Error::Shared));
     drop(document);
@@ -168,7 +171,10 @@ fn a_scanner_gives_tiles() {
     let mut scanner = definition.scanner("ab 1?").unwrap();
     drop(definition);
     let tiles: Vec<_> = scanner.by_ref().take(3).map(Result::unwrap).collect();
-    assert_eq!(tiles.iter().map(|it| (it.rule(), it.tok_id(), it.text())).collect::<Vec<_>>(), [(1, Some(1), "ab"), (2, None, " "), (0, Some(0), "1")]);
+    assert_eq!(
+        tiles.iter().map(|it| (it.rule(), it.tok_id(), it.text())).collect::<Vec<_>>(),
+        [(1, Some(1), "ab"), (2, None, " "), (0, Some(0), "1")]
+    );
     assert_eq!(tiles[2].span(), 3..4);
     let stop = LexError { start: 4, line: 1, column: 5, state: Some(0) };
     assert_eq!((scanner.next(), scanner.next(), scanner.next()), (Some(Err(Error::Lex(stop))), None, None));
@@ -179,7 +185,8 @@ fn a_scanner_gives_tiles() {
 fn a_scanner_gives_what_a_lexer_gives() {
     let definition = words();
     let text = "ab 12 ".repeat(10_000);
-    let scanned = definition.scanner(&text).unwrap().map(Result::unwrap).filter_map(|it| Some((it.tok_id()?, it.span())));
+    let scanned =
+        definition.scanner(&text).unwrap().map(Result::unwrap).filter_map(|it| Some((it.tok_id()?, it.span())));
     let lexed = definition.lexer(&text).unwrap().map(|it| it.map(|it| (it.tok_id(), it.span())).unwrap());
     assert!(scanned.eq(lexed));
 }
