@@ -1,7 +1,7 @@
 /* lrlex.h - lexers from rule files (.l), for C and C++.
  *
  * A definition is read from a rule text. It cuts texts into lexemes: at each place the rule with the longest match wins, and on a tie
- * the earliest rule. A document is a text that is edited and kept lexed.
+ * the earliest rule. A document is a text that is edited and kept lexed. A scanner cuts a text a few lexemes at a time.
  *
  *     lrlex_definition d = LRLEX_EMPTY;
  *     lrlex_options options = LRLEX_OPTIONS;
@@ -13,16 +13,16 @@
  *     }
  *     lrlex_free(&d);
  *
- * Handles. lrlex_definition and lrlex_document are structs of one pointer, which the caller holds and passes by address. LRLEX_EMPTY, or
- * all bytes zero, is an empty handle. A handle owns what it points to, until lrlex_free. It may be moved (as by memcpy or
+ * Handles. lrlex_definition, lrlex_document and lrlex_scanner are structs of one pointer, which the caller holds and passes by address.
+ * LRLEX_EMPTY, or all bytes zero, is an empty handle. A handle owns what it points to, until lrlex_free. It may be moved (as by memcpy or
  * realloc), and then the old bytes must not be used. It must not be copied: use lrlex_definition_share. Calls that fill a handle first
  * free what it has.
  *
  * Misuse. A call on an empty handle, or on a handle of another kind, returns LRLEX_MISUSE (a count is then 0) and changes nothing else.
  * A handle that is freed is empty, so it can be freed again.
  *
- * Texts. A text is a pointer and a length in bytes, in UTF-8, without a 0 at its end. It is read during the call and not kept. Offsets
- * count bytes from 0. `char` and `uint8_t` have the same bytes: cast the pointer.
+ * Texts. A text is a pointer and a length in bytes, in UTF-8, without a 0 at its end. It is read during the call and may be freed after
+ * it: a document and a scanner have a copy. Offsets count bytes from 0. `char` and `uint8_t` have the same bytes: cast the pointer.
  *
  * Buffers. A call that writes into a buffer of `cap` elements writes as many as there is room for and reports how many there are. So call
  * it with room that is likely enough, or with `cap` 0, and once more with the number that it reports. If a call does not return LRLEX_OK,
@@ -72,7 +72,7 @@ typedef enum lrlex_status {
     LRLEX_NOMEM = 2,        /* out of memory */
     LRLEX_NOT_UTF8 = 3,     /* a text is not UTF-8 */
     LRLEX_MISUSE = 4,       /* the handle is empty, or of another kind */
-    LRLEX_NONE = 5,         /* there is nothing at this index, or nothing to report */
+    LRLEX_NONE = 5,         /* there is nothing at this index or of this number, or nothing to report */
     LRLEX_DOES_NOT_FIT = 6, /* offsets past the text's end, inside a character, or in the wrong order */
     LRLEX_SHARED = 7        /* the definition has other owners, so it cannot be changed */
 } lrlex_status;
@@ -85,10 +85,13 @@ typedef struct lrlex_definition { void *hidden; } lrlex_definition;
 /* A text that is edited and kept lexed. */
 typedef struct lrlex_document { void *hidden; } lrlex_document;
 
+/* A text that is lexed a few lexemes at a time, as a parser asks for them. */
+typedef struct lrlex_scanner { void *hidden; } lrlex_scanner;
+
 #define LRLEX_EMPTY { NULL }
 
-/* Frees what a handle has: the argument is a pointer to an lrlex_definition or to an lrlex_document. The handle is empty then. An empty
- * one stays empty. Cannot fail. */
+/* Frees what a handle has: the argument is a pointer to an lrlex_definition, an lrlex_document or an lrlex_scanner. The handle is empty
+ * then. An empty one stays empty. Cannot fail. */
 void lrlex_free(void *handle);
 
 /* ---- Definitions ---- */
@@ -224,8 +227,8 @@ typedef struct lrlex_named_id {
  * with the same name the last counts. Unnamed rules keep theirs. Lexing stops where a rule matches that has a name and no id.
  * `missing` has, for as many entries as there is room, whether no rule has the name. Rules that are left without an id are those of
  * lrlex_rule_at with has_name and not has_id. If the call does not return LRLEX_OK, the definition is as it was.
- * LRLEX_OK; LRLEX_SHARED: another handle or a document is an owner of the definition too; LRLEX_NOT_UTF8: a name is not; LRLEX_MISUSE;
- * LRLEX_NOMEM. */
+ * LRLEX_OK; LRLEX_SHARED: another handle is an owner of the definition too, one that it is shared with, or that of a document or a
+ * scanner; LRLEX_NOT_UTF8: a name is not; LRLEX_MISUSE; LRLEX_NOMEM. */
 int lrlex_definition_set_rule_ids(lrlex_definition *d, const lrlex_named_id *ids, size_t count, bool *missing, size_t cap);
 
 /* ---- Lexing ---- */
@@ -264,6 +267,46 @@ int lrlex_pieces(lrlex_definition *d, const uint8_t *text, size_t text_len, lrle
  * LRLEX_OK; LRLEX_NONE: lexing does not stop; LRLEX_NOT_UTF8: one of the texts is not UTF-8; LRLEX_MISUSE; LRLEX_NOMEM. */
 int lrlex_stop_report(lrlex_definition *d, const uint8_t *file, size_t file_len, const uint8_t *text, size_t text_len, uint8_t *out,
                       size_t cap, size_t *len);
+
+/* ---- Scanners ---- */
+
+/* A tile: a piece of a text as it is cut, with the id of its lexeme. */
+typedef struct lrlex_tile {
+    size_t start, len;
+    size_t rule;  /* the index of its rule, as for lrlex_rule_at */
+    uint32_t id;  /* if has_id */
+    bool has_id;  /* a rule without a name gives no lexeme */
+} lrlex_tile;
+
+/* Why a scanner gives no more tiles. */
+enum {
+    LRLEX_SCAN_MORE = 0,      /* it may give more */
+    LRLEX_SCAN_DONE = 1,      /* the text ends */
+    LRLEX_SCAN_NO_MATCH = 2,  /* no rule matches in the start state `state` */
+    LRLEX_SCAN_NO_ID = 3,     /* the rule `rule` matches, which has a name and no id */
+    LRLEX_SCAN_NO_TARGET = 4, /* the rule `rule` matches, and enters no start state; no rule text has such a rule */
+    LRLEX_SCAN_NO_STATE = 5   /* there is no start state of id 0; each rule text gives one */
+};
+
+/* How a scanner went on. */
+typedef struct lrlex_scanned {
+    size_t count; /* how many tiles were written */
+    size_t place; /* the place behind them */
+    size_t state; /* of LRLEX_SCAN_NO_MATCH; else 0 */
+    size_t rule;  /* of LRLEX_SCAN_NO_ID and LRLEX_SCAN_NO_TARGET; else 0 */
+    uint32_t end; /* one of LRLEX_SCAN_ */
+} lrlex_scanned;
+
+/* Makes a scanner of this text, at its front. It has a copy of the text, and keeps nothing of the tiles that it gives. It is an owner of
+ * the definition, so `d` can be freed before it. What `out` has is freed first.
+ * LRLEX_OK; LRLEX_NOT_UTF8, LRLEX_MISUSE, LRLEX_NOMEM: `out` is empty. */
+int lrlex_scanner_new(lrlex_definition *d, lrlex_scanner *out, const uint8_t *text, size_t text_len);
+
+/* Writes the tiles that come next, and moves behind them. If `end` is LRLEX_SCAN_MORE, `cap` tiles are written. Else those up to an end
+ * are, and each further call gives none and says the same again. Give it room for some hundred tiles: each call costs about as much as
+ * a few of them, and looks ahead anew. If the call does not return LRLEX_OK, the scanner is where it was.
+ * LRLEX_OK; LRLEX_MISUSE; LRLEX_NOMEM. */
+int lrlex_scanner_next(lrlex_scanner *scanner, lrlex_tile *tiles, size_t cap, lrlex_scanned *out);
 
 /* ---- Lines and columns ---- */
 
@@ -312,6 +355,20 @@ int lrlex_document_place(lrlex_document *d, size_t byte, lrlex_place *out);
 /* The same place as the Language Server Protocol counts it: line and column from 0, the column in code units of UTF-16.
  * LRLEX_OK; LRLEX_MISUSE. */
 int lrlex_document_position(lrlex_document *d, size_t byte, lrlex_place *out);
+
+/* What the columns of a position count. */
+enum {
+    LRLEX_UTF8 = 0, /* bytes */
+    LRLEX_UTF16 = 1 /* code units of UTF-16 */
+};
+
+/* The same place, its column counted as `encoding` says. LRLEX_OK; LRLEX_NONE: there is no such encoding; LRLEX_MISUSE. */
+int lrlex_document_position_in(lrlex_document *d, size_t byte, uint32_t encoding, lrlex_place *out);
+
+/* The byte of a line and column, both from 0, the column counted as `encoding` says: the inverse of lrlex_document_position_in. Past a
+ * line's end it is the line's end, past the last line the text's end, and inside a character the place before that.
+ * LRLEX_OK; LRLEX_NONE: there is no such encoding; LRLEX_MISUSE. */
+int lrlex_document_offset_at(lrlex_document *d, size_t line, size_t column, uint32_t encoding, size_t *byte);
 
 #ifdef __cplusplus
 }

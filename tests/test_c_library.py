@@ -42,6 +42,15 @@ abc123 ?, to 1:9, 0:8
 3 pieces
 piece 3+3 of rule 0
 piece 6+1 of rule 2
+0+2 of rule 1, id 1
+2+1 of rule 2
+3+1 of rule 0, id 0
+4+1 of rule 2
+5+1 of rule 1, id 1
+at 6, end 1 in state 0
+at 0, end 1 in state 0
+0+2 of rule 1, id 1
+at 2, end 2 in state 0
 """
 
 # What a program that links the archive has to give it, of the C library.
@@ -86,7 +95,7 @@ class CLibrary(unittest.TestCase):
         """A program ends well, and writes this."""
         self.assertEqual(programs.run(words, environment=environment), programs.Outcome(out))
 
-    def test_a_first_text_a_refused_rule_text_and_edits(self):
+    def test_a_first_text_a_refused_rule_text_edits_and_a_scanner(self):
         self.check_run([c_library.of_c("tests/c_library/first.c")], FIRST)
 
     def test_misuse_is_answered_by_a_status(self):

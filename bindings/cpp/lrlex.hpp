@@ -5,8 +5,8 @@
 ///         std::cout << definition.name(token.id) << ' ' << token.text << '\n';
 ///
 /// A rule text with faults throws RulesError, memory that runs out std::bad_alloc. Texts are UTF-8; one that isn't throws
-/// Error. Spans are in bytes. A Definition and a Document stay on the thread that made them, and calls on one object come one
-/// at a time, also those that are const.
+/// Error. Spans are in bytes. A Definition, a Document and a Scanner stay on the thread that made them, and calls on one object come
+/// one at a time, also those that are const.
 #ifndef LRLEX_HPP
 #define LRLEX_HPP
 
@@ -162,6 +162,14 @@ private:
     std::size_t size_ = 0;
 };
 
+/// A tile: a piece of a text with its text, where that begins, the number of its rule, from 0, and the id of its token. A rule without
+/// a name gives no token.
+struct Tile {
+    std::string_view text;
+    std::size_t start, rule;
+    std::optional<std::uint32_t> id;
+};
+
 /// An id for the rules of a name.
 struct NamedId {
     std::string_view name;
@@ -214,7 +222,7 @@ inline void check(int status) {
     case LRLEX_NOMEM: throw std::bad_alloc();
     case LRLEX_NOT_UTF8: throw Error("the text isn't UTF-8", status);
     case LRLEX_DOES_NOT_FIT: throw Error("the edit doesn't fit the text", status);
-    case LRLEX_SHARED: throw Error("the definition is that of a document too", status);
+    case LRLEX_SHARED: throw Error("the definition is that of a document or a scanner too", status);
     default: throw Error("lrlex status " + std::to_string(status), status);
     }
 }
@@ -365,7 +373,8 @@ public:
     }
 
     /// Gives each named rule the id of its name here, or none, as for a parser whose grammar has the ids. Lexing stops where a rule
-    /// matches that has a name and no id. Throws Error if a document has the definition too. On an exception it is as it was.
+    /// matches that has a name and no id. Throws Error if a document or a scanner has the definition too. On an exception it is as it
+    /// was.
     Unmatched set_rule_ids(const std::vector<NamedId> &ids) {
         std::vector<lrlex_named_id> given;
         for (const NamedId &it : ids) given.push_back({detail::bytes(it.name), it.name.size(), it.id});
@@ -458,11 +467,19 @@ public:
         return place;
     }
 
-    /// The same place as the Language Server Protocol counts it: from 0, in code units of UTF-16.
-    lrlex_place position(std::size_t byte) const {
+    /// The same place as the Language Server Protocol counts it: from 0, in code units of UTF-16, or in bytes with LRLEX_UTF8.
+    lrlex_place position(std::size_t byte, std::uint32_t encoding = LRLEX_UTF16) const {
         lrlex_place place;
-        detail::check(lrlex_document_position(owner_.get(), byte, &place));
+        detail::check(lrlex_document_position_in(owner_.get(), byte, encoding, &place));
         return place;
+    }
+
+    /// The byte of such a position. Past a line's end it is the line's end, past the last line the text's end, and inside a character
+    /// the place before that.
+    std::size_t offset_at(lrlex_place position, std::uint32_t encoding = LRLEX_UTF16) const {
+        std::size_t byte;
+        detail::check(lrlex_document_offset_at(owner_.get(), position.line, position.column, encoding, &byte));
+        return byte;
     }
 
     /// The handle, for calls of lrlex.h.
@@ -471,6 +488,78 @@ public:
 private:
     std::string text_;
     detail::Owner<lrlex_document> owner_;
+};
+
+/// A text whose tiles are pulled, for a parser that asks for one token after the other. The definition may go before it.
+///
+///     lrlex::Scanner scanner(definition, text);
+///     while (std::optional<lrlex::Tile> tile = scanner.next())
+///         if (tile->id) use(*tile);
+///     if (scanner.stop()) report(*scanner.stop());
+class Scanner {
+public:
+    /// Goes over the tiles that are left.
+    class iterator {
+    public:
+        using iterator_category = std::input_iterator_tag;
+        using value_type = Tile;
+        using difference_type = std::ptrdiff_t;
+        using pointer = const Tile *;
+        using reference = const Tile &;
+        iterator() = default;
+        explicit iterator(Scanner &scanner) : scanner_(&scanner), tile_(scanner.next()) {}
+        const Tile &operator*() const noexcept { return *tile_; }
+        const Tile *operator->() const noexcept { return &*tile_; }
+        iterator &operator++() { tile_ = scanner_->next(); return *this; }
+        void operator++(int) { ++*this; }
+        friend bool operator==(const iterator &one, const iterator &other) noexcept { return !one.tile_ && !other.tile_; }
+        friend bool operator!=(const iterator &one, const iterator &other) noexcept { return !(one == other); }
+
+    private:
+        Scanner *scanner_ = nullptr;
+        std::optional<Tile> tile_;
+    };
+
+    /// A scanner at the front of a text, which the tiles view: it has to outlive them.
+    Scanner(const Definition &definition, std::string_view text) : text_(text), tiles_(new lrlex_tile[room]) {
+        detail::check(lrlex_scanner_new(definition.get(), owner_.get(), detail::bytes(text), text.size()));
+    }
+
+    /// The next tile, or nothing at the text's end and where lexing stops. On an exception it is where it was.
+    std::optional<Tile> next() {
+        if (at_ == scanned_.count || !tiles_) {
+            lrlex_scanned scanned;
+            detail::check(lrlex_scanner_next(owner_.get(), tiles_.get(), room, &scanned));
+            scanned_ = scanned;
+            at_ = 0;
+            if (scanned.count == 0) return std::nullopt;
+        }
+        const lrlex_tile &it = tiles_[at_++];
+        return Tile{std::string_view(text_.data() + it.start, it.len), it.start, it.rule, it.has_id ? std::optional<std::uint32_t>(it.id) : std::nullopt};
+    }
+
+    iterator begin() { return iterator(*this); }
+    iterator end() noexcept { return {}; }
+
+    /// Where lexing stopped, once `next()` gave nothing. It has no value at the text's end.
+    std::optional<Stop> stop() const {
+        if (at_ != scanned_.count || scanned_.end == LRLEX_SCAN_MORE || scanned_.end == LRLEX_SCAN_DONE) return std::nullopt;
+        lrlex_place place;
+        detail::check(lrlex_places(detail::bytes(text_), text_.size(), &scanned_.place, 1, &place, 1));
+        const bool unmatched = scanned_.end == LRLEX_SCAN_NO_MATCH;
+        return Stop{scanned_.place, place.line, place.column, unmatched ? std::optional<std::size_t>(scanned_.state) : std::nullopt};
+    }
+
+    /// The handle, for calls of lrlex.h. It stands behind the tiles that are kept for the next calls of `next()`.
+    lrlex_scanner *get() const noexcept { return owner_.get(); }
+
+private:
+    static constexpr std::size_t room = 512;
+    std::string_view text_;
+    std::unique_ptr<lrlex_tile[]> tiles_;
+    std::size_t at_ = 0;
+    lrlex_scanned scanned_{};
+    detail::Owner<lrlex_scanner> owner_;
 };
 
 } // namespace lrlex

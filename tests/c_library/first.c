@@ -1,4 +1,4 @@
-/* A first text, a text that stops, a refused rule text, and a document through edits, as a user of the header writes them. */
+/* A first text, a text that stops, a refused rule text, a document through edits, and a scanner, as a user of the header writes them. */
 #include "check.h"
 
 #include <stdlib.h>
@@ -121,6 +121,7 @@ static void show_parts(lrlex_document *document) {
     CHECK(lrlex_document_text(document, 0, len, text, sizeof text, &written) == LRLEX_OK && written == len);
     CHECK(lrlex_document_place(document, len, &place) == LRLEX_OK);
     CHECK(lrlex_document_position(document, len, &position) == LRLEX_OK);
+    CHECK(lrlex_document_offset_at(document, position.line, position.column, LRLEX_UTF16, &written) == LRLEX_OK && written == len);
     printf("%.*s, to %zu:%zu, %zu:%zu\n", (int)len, (const char *)text, place.line, place.column, position.line, position.column);
     CHECK(lrlex_document_pieces(document, pieces, 16, &lexed) == LRLEX_OK);
     printf("%zu pieces\n", lexed.count);
@@ -144,6 +145,28 @@ static void edit(void) {
     CHECK(document.hidden == NULL);
 }
 
+/* The tiles of a text, two at a time. */
+static void scan(const char *text) {
+    lrlex_definition d = LRLEX_EMPTY;
+    lrlex_scanner scanner = LRLEX_EMPTY;
+    lrlex_tile tiles[2];
+    lrlex_scanned scanned;
+    CHECK(define(&d, WORDS) == LRLEX_OK);
+    CHECK(lrlex_scanner_new(&d, &scanner, bytes(text), strlen(text)) == LRLEX_OK);
+    lrlex_free(&d); /* the scanner keeps what it needs */
+    do {
+        CHECK(lrlex_scanner_next(&scanner, tiles, 2, &scanned) == LRLEX_OK);
+        for (size_t i = 0; i < scanned.count; i++) {
+            printf("%zu+%zu of rule %zu", tiles[i].start, tiles[i].len, tiles[i].rule);
+            if (tiles[i].has_id) printf(", id %u", (unsigned)tiles[i].id);
+            puts("");
+        }
+    } while (scanned.end == LRLEX_SCAN_MORE);
+    printf("at %zu, end %u in state %zu\n", scanned.place, (unsigned)scanned.end, scanned.state);
+    lrlex_free(&scanner);
+    CHECK(scanner.hidden == NULL);
+}
+
 int main(void) {
     lex("abc 123");
     lex("ab ?");
@@ -152,6 +175,9 @@ int main(void) {
     names();
     ids();
     edit();
+    scan("ab 1 c");
+    scan("");
+    scan("ab?");
     CHECK(lrlex_version() == LRLEX_VERSION);
     return failed;
 }

@@ -1,4 +1,5 @@
-/* fuzz SEEDS SECONDS [SEED]: mutated rule texts, inputs and edits through the C library, with laws on what comes back.
+/* fuzz SEEDS SECONDS [SEED]: mutated rule texts, inputs and edits through the C library, with laws on what comes back: of definitions,
+   ids by names, lexing, scanners, and documents with their places and offsets.
    SEEDS has cases: of each the lengths of a rule text and of an input, as two uint32_t, then both. The last line says how many texts there
    were. A law that fails is printed with its case, and the status is 1. Build it with -fsanitize=address,undefined. */
 #include "lrlex.h"
@@ -24,7 +25,7 @@ static seed *seeds;
 static size_t seed_count;
 static text rules, input;
 static uint64_t state;
-static unsigned long long texts, built, refused, not_utf8, tokens_seen, edits;
+static unsigned long long texts, built, refused, not_utf8, tokens_seen, edits, scans, offsets;
 
 static const char *const BITS[] = {"%%\n", "%x a\n", "%s b c\n", "<a>", "<+a>", "<-a>", "'X'\n", ";\n", "[a-z]+", "(a|b)*", "\\p{L}", "(?i)", "\\b", "$",
                                    "^", "{3}", "{1,40}", "\\x41", "\\u{41}", "\xc3\xa9", "\xf0\x9f\x98\x80", "\"", "'", "<*>", "//", "\r\n", "\xe2\x80\xa8",
@@ -126,6 +127,33 @@ static void check_pieces(lrlex_definition *d, const lrlex_lexed *lexed, const lr
     LAW(lexed->end <= input.len && (lexed->stopped || lexed->end == input.len) && (at == lexed->end || (lexed->stopped && !lexed->unmatched)));
 }
 
+/* The tiles of a scanner, asked for a few at a time, are the pieces. It ends where and why lexing does. */
+static void check_scanner(lrlex_definition *d, const lrlex_lexed *lexed, const lrlex_lexed *cut) {
+    lrlex_scanner scanner = LRLEX_EMPTY;
+    lrlex_tile tiles[40];
+    lrlex_scanned scanned;
+    size_t found = 0;
+    LAW(lrlex_scanner_new(d, &scanner, input.bytes, input.len) == LRLEX_OK);
+    do {
+        const size_t cap = below(4) ? below(6) : below(41);
+        LAW(lrlex_scanner_next(&scanner, tiles, cap, &scanned) == LRLEX_OK);
+        LAW(scanned.count <= cap && (scanned.end == LRLEX_SCAN_MORE) == (scanned.count == cap));
+        for (size_t i = 0; i < scanned.count; i++, found++) {
+            lrlex_rule rule;
+            LAW(found < cut->count && tiles[i].start == pieces[found].start && tiles[i].len == pieces[found].len && tiles[i].rule == pieces[found].rule);
+            LAW(lrlex_rule_at(d, tiles[i].rule, &rule) == LRLEX_OK);
+            LAW(tiles[i].has_id == (rule.has_name && rule.has_id) && (!tiles[i].has_id || tiles[i].id == rule.id));
+        }
+    } while (scanned.end == LRLEX_SCAN_MORE);
+    LAW(found + (scanned.end == LRLEX_SCAN_NO_ID) == cut->count && scanned.place == lexed->end);
+    LAW((scanned.end == LRLEX_SCAN_DONE) == !lexed->stopped && (scanned.end == LRLEX_SCAN_NO_MATCH) == lexed->unmatched);
+    LAW(scanned.end != LRLEX_SCAN_NO_MATCH || scanned.state == lexed->state);
+    LAW(scanned.end != LRLEX_SCAN_NO_ID || scanned.rule == pieces[found].rule);
+    LAW(scanned.end <= LRLEX_SCAN_NO_ID);
+    lrlex_free(&scanner);
+    scans++;
+}
+
 /* Line and column of a place, from 1, as a reader counts them. */
 static lrlex_place place_of(size_t byte) {
     lrlex_place it = {1, 1};
@@ -136,6 +164,39 @@ static lrlex_place place_of(size_t byte) {
         else if ((input.bytes[i] & 0xc0) != 0x80) it.column++;
     }
     return it;
+}
+
+/* How many columns the character takes that begins here. */
+static size_t width_of(uint8_t first, uint32_t encoding) {
+    if (encoding == LRLEX_UTF16) return first < 0xf0 ? 1 : 2;
+    return first < 0x80 ? 1 : first < 0xe0 ? 2 : first < 0xf0 ? 3 : 4;
+}
+
+/* The last place between two characters whose line and column, from 0, aren't behind these. */
+static size_t offset_of(size_t line, size_t column, uint32_t encoding) {
+    size_t at_line = 0, at_column = 0, found = 0;
+    for (size_t at = 0; at <= input.len; at++) {
+        if (at < input.len && (input.bytes[at] & 0xc0) == 0x80) continue;
+        if (at_line < line || (at_line == line && at_column <= column)) found = at;
+        if (at < input.len && input.bytes[at] == '\n') at_line++, at_column = 0;
+        else if (at < input.len) at_column += width_of(input.bytes[at], encoding);
+    }
+    return found;
+}
+
+/* The byte of any position is the last up to it, and a position leads back to its byte. */
+static void check_offsets(lrlex_document *document, size_t from) {
+    const uint32_t encoding = (uint32_t)below(2);
+    const size_t line = below(5), column = below(10) ? below(40) : SIZE_MAX;
+    size_t byte = 0;
+    lrlex_place place;
+    LAW(lrlex_document_offset_at(document, line, column, encoding, &byte) == LRLEX_OK && byte == offset_of(line, column, encoding));
+    LAW(lrlex_document_position_in(document, from, encoding, &place) == LRLEX_OK);
+    LAW(lrlex_document_offset_at(document, place.line, place.column, encoding, &byte) == LRLEX_OK);
+    if (from > input.len) from = input.len;
+    while (from < input.len && (input.bytes[from] & 0xc0) == 0x80) from--;
+    LAW(byte == from);
+    offsets++;
 }
 
 static void check_document(lrlex_document *document, lrlex_definition *d) {
@@ -160,6 +221,7 @@ static void check_document(lrlex_document *document, lrlex_definition *d) {
     LAW(lrlex_document_place(document, from, &place) == LRLEX_OK);
     LAW(place.line == place_of(from).line && place.column == place_of(from).column);
     LAW(lrlex_document_position(document, from, &place) == LRLEX_OK && place.line + 1 == place_of(from).line && place.column + 1 >= place_of(from).column);
+    check_offsets(document, from);
 }
 
 /* A document through edits: after each it is what the whole text gives. An edit that is refused changes nothing. */
@@ -242,7 +304,14 @@ static void check_definition(lrlex_definition *d, const lrlex_options *how) {
         LAW(same_tokens(tokens, &lexed, others, &slow));
         lrlex_free(&plain);
     }
-    if (below(8) == 0) check_ids(d);
+    if (below(2) == 0) check_scanner(d, &lexed, &cut);
+    if (below(8) == 0) {
+        check_ids(d);
+        LAW(lrlex_lex(d, input.bytes, input.len, tokens, ROOM, &lexed) == LRLEX_OK);
+        LAW(lrlex_pieces(d, input.bytes, input.len, pieces, ROOM, &cut) == LRLEX_OK);
+        check_pieces(d, &lexed, &cut);
+        check_scanner(d, &lexed, &cut);
+    }
     if (below(2) == 0) check_edits(d);
 }
 
@@ -309,6 +378,7 @@ int main(int count, char **words) {
     while (time(NULL) < end) once();
     for (size_t i = 0; i < seed_count; i++) free(seeds[i].rules), free(seeds[i].input);
     free(seeds);
-    printf("%llu texts: %llu definitions, %llu refused, %llu not UTF-8, %llu tokens, %llu edits: nothing found\n", texts, built, refused, not_utf8, tokens_seen, edits);
+    printf("%llu texts: %llu definitions, %llu refused, %llu not UTF-8, %llu tokens, %llu edits, %llu scans, %llu offsets: nothing found\n", texts, built, refused,
+           not_utf8, tokens_seen, edits, scans, offsets);
     return 0;
 }

@@ -10,6 +10,8 @@ static lrlex_rule rule;
 static lrlex_state state;
 static lrlex_place place;
 static lrlex_named_id named;
+static lrlex_tile tiles[8];
+static lrlex_scanned scanned;
 static bool missing[2];
 static uint8_t text[8];
 static size_t len;
@@ -18,6 +20,7 @@ static size_t len;
 static void none(lrlex_definition *d) {
     void *before = d->hidden;
     lrlex_document document = LRLEX_EMPTY;
+    lrlex_scanner scanner = LRLEX_EMPTY;
     lrlex_definition other = LRLEX_EMPTY;
     CHECK(lrlex_lex(d, bytes("a"), 1, tokens, 8, &lexed) == LRLEX_MISUSE);
     CHECK(lrlex_pieces(d, bytes("a"), 1, pieces, 8, &lexed) == LRLEX_MISUSE);
@@ -31,7 +34,8 @@ static void none(lrlex_definition *d) {
     CHECK(lrlex_state_name(d, 0, text, sizeof text, &len) == LRLEX_MISUSE);
     CHECK(lrlex_definition_share(d, &other) == LRLEX_MISUSE);
     CHECK(lrlex_document_new(d, &document, bytes("a"), 1) == LRLEX_MISUSE);
-    CHECK(d->hidden == before && document.hidden == NULL && other.hidden == NULL);
+    CHECK(lrlex_scanner_new(d, &scanner, bytes("a"), 1) == LRLEX_MISUSE);
+    CHECK(d->hidden == before && document.hidden == NULL && scanner.hidden == NULL && other.hidden == NULL);
 }
 
 /* Calls on a handle that holds no faults. */
@@ -54,26 +58,48 @@ static void no_document(lrlex_document *document) {
     CHECK(lrlex_document_pieces_in(document, 0, 1, pieces, 8, &lexed) == LRLEX_MISUSE);
     CHECK(lrlex_document_place(document, 0, &place) == LRLEX_MISUSE);
     CHECK(lrlex_document_position(document, 0, &place) == LRLEX_MISUSE);
+    CHECK(lrlex_document_position_in(document, 0, LRLEX_UTF8, &place) == LRLEX_MISUSE);
+    CHECK(lrlex_document_position_in(document, 0, 2, &place) == LRLEX_MISUSE);
+    CHECK(lrlex_document_offset_at(document, 0, 0, LRLEX_UTF16, &len) == LRLEX_MISUSE);
+    CHECK(lrlex_document_offset_at(document, 0, 0, 2, &len) == LRLEX_MISUSE);
     CHECK(document->hidden == before);
+}
+
+/* Calls on a scanner's handle that holds no scanner. */
+static void no_scanner(lrlex_scanner *scanner) {
+    void *before = scanner->hidden;
+    CHECK(lrlex_scanner_next(scanner, tiles, 8, &scanned) == LRLEX_MISUSE);
+    CHECK(lrlex_scanner_next(scanner, tiles, 0, &scanned) == LRLEX_MISUSE);
+    CHECK(scanner->hidden == before);
 }
 
 static void handles(void) {
     lrlex_definition d = LRLEX_EMPTY, refused = LRLEX_EMPTY;
     lrlex_document document = LRLEX_EMPTY;
+    lrlex_scanner scanner = LRLEX_EMPTY;
     none(&d);
     no_faults(&d);
     no_document(&document);
+    no_scanner(&scanner);
     lrlex_free(&d);
     lrlex_free(&document);
+    lrlex_free(&scanner);
     CHECK(define(&d, WORDS) == LRLEX_OK);
     CHECK(define(&refused, "%%\n( 'A'\n") == LRLEX_REFUSED);
     CHECK(lrlex_document_new(&d, &document, bytes("ab"), 2) == LRLEX_OK);
+    CHECK(lrlex_scanner_new(&d, &scanner, bytes("ab"), 2) == LRLEX_OK);
     none(&refused);
     none((lrlex_definition *)&document);
+    none((lrlex_definition *)&scanner);
     no_faults(&d);
     no_faults((lrlex_definition *)&document);
+    no_faults((lrlex_definition *)&scanner);
     no_document((lrlex_document *)&d);
     no_document((lrlex_document *)&refused);
+    no_document((lrlex_document *)&scanner);
+    no_scanner((lrlex_scanner *)&d);
+    no_scanner((lrlex_scanner *)&refused);
+    no_scanner((lrlex_scanner *)&document);
     CHECK(lrlex_fault_count(&refused) == 1);
     CHECK(lrlex_fault_at(&refused, 1, &fault) == LRLEX_NONE);
     CHECK(lrlex_fault_span_at(&refused, 0, 1, &span) == LRLEX_NONE);
@@ -86,8 +112,11 @@ static void handles(void) {
     none(&d);
     lrlex_free(&document);
     lrlex_free(&document);
+    lrlex_free(&scanner);
+    lrlex_free(&scanner);
+    no_scanner(&scanner);
     lrlex_free(&refused);
-    CHECK(!d.hidden && !document.hidden && !refused.hidden);
+    CHECK(!d.hidden && !document.hidden && !scanner.hidden && !refused.hidden);
 }
 
 static void texts(void) {
@@ -99,6 +128,7 @@ static void texts(void) {
     for (size_t i = 0; i < sizeof bad / sizeof *bad; i++) {
         const size_t size = strlen(bad[i]), at = 0;
         lrlex_document made = LRLEX_EMPTY;
+        lrlex_scanner scanner = LRLEX_EMPTY;
         CHECK(define(&other, bad[i]) == LRLEX_NOT_UTF8);
         CHECK(lrlex_lex(&d, bytes(bad[i]), size, tokens, 8, &lexed) == LRLEX_NOT_UTF8);
         CHECK(lrlex_pieces(&d, bytes(bad[i]), size, pieces, 8, &lexed) == LRLEX_NOT_UTF8);
@@ -109,6 +139,7 @@ static void texts(void) {
         CHECK(lrlex_definition_set_rule_ids(&lone, names, 2, missing, 2) == LRLEX_NOT_UTF8);
         CHECK(lrlex_rule_at(&lone, 1, &rule) == LRLEX_OK && rule.has_id && rule.id == 1);
         CHECK(lrlex_document_new(&d, &made, bytes(bad[i]), size) == LRLEX_NOT_UTF8 && !made.hidden);
+        CHECK(lrlex_scanner_new(&d, &scanner, bytes(bad[i]), size) == LRLEX_NOT_UTF8 && !scanner.hidden);
         CHECK(lrlex_document_edit(&document, 0, 0, bytes(bad[i]), size) == LRLEX_NOT_UTF8);
     }
     CHECK(lrlex_lex(&d, bytes(""), 0, tokens, 8, &lexed) == LRLEX_OK && lexed.count == 0 && lexed.end == 0);
@@ -129,6 +160,9 @@ static void texts(void) {
     CHECK(lrlex_document_place(&document, 3, &place) == LRLEX_OK && place.line == 1 && place.column == 3);
     CHECK(lrlex_document_place(&document, SIZE_MAX, &place) == LRLEX_OK && place.line == 1 && place.column == 4);
     CHECK(lrlex_document_position(&document, SIZE_MAX, &place) == LRLEX_OK && place.line == 0 && place.column == 3);
+    CHECK(lrlex_document_position_in(&document, SIZE_MAX, LRLEX_UTF8, &place) == LRLEX_OK && place.line == 0 && place.column == 4);
+    CHECK(lrlex_document_position_in(&document, 0, 2, &place) == LRLEX_NONE);
+    CHECK(lrlex_document_position_in(&document, 0, UINT32_MAX, &place) == LRLEX_NONE);
     CHECK(lrlex_stop_report(&d, bytes("f"), 1, bytes("a"), 1, text, sizeof text, &len) == LRLEX_NONE);
     lrlex_free(&document);
     lrlex_free(&d);
@@ -152,6 +186,90 @@ static void buffers(void) {
     /* a handle that holds something is used again */
     CHECK(define(&d, "%%\na 'A'\n") == LRLEX_OK);
     CHECK(lrlex_rule_count(&d) == 1);
+    lrlex_free(&d);
+}
+
+/* The byte of any line and column. */
+static void offsets(void) {
+    /* a, a character of four bytes and of two code units of UTF-16, b; one of two bytes, c */
+    static const char lines[] = "a\xf0\x9f\x98\x80" "b\n\xc3\xa9" "c";
+    static const struct {
+        const char *text;
+        size_t line, column;
+        uint32_t encoding;
+        size_t byte;
+    } rows[] = {
+        {lines, 0, 0, LRLEX_UTF16, 0}, {lines, 0, 1, LRLEX_UTF16, 1}, {lines, 0, 3, LRLEX_UTF16, 5}, {lines, 0, 5, LRLEX_UTF8, 5},
+        /* between a pair of surrogates, and inside a character */
+        {lines, 0, 2, LRLEX_UTF16, 1}, {lines, 0, 2, LRLEX_UTF8, 1}, {lines, 0, 4, LRLEX_UTF8, 1}, {lines, 1, 1, LRLEX_UTF8, 7},
+        /* at and past a line's end */
+        {lines, 0, 4, LRLEX_UTF16, 6}, {lines, 0, 5, LRLEX_UTF16, 6}, {lines, 0, SIZE_MAX, LRLEX_UTF16, 6}, {lines, 0, 7, LRLEX_UTF8, 6},
+        /* in the last line, past its end, and past the last line */
+        {lines, 1, 0, LRLEX_UTF16, 7}, {lines, 1, 1, LRLEX_UTF16, 9}, {lines, 1, 2, LRLEX_UTF16, 10}, {lines, 1, 99, LRLEX_UTF8, 10},
+        {lines, 2, 0, LRLEX_UTF16, 10}, {lines, SIZE_MAX, SIZE_MAX, LRLEX_UTF8, 10},
+        /* empty texts and lines */
+        {"", 0, 0, LRLEX_UTF16, 0}, {"", 0, 5, LRLEX_UTF8, 0}, {"", 5, 0, LRLEX_UTF16, 0}, {"\n", 0, 9, LRLEX_UTF16, 0}, {"\n", 1, 9, LRLEX_UTF8, 1},
+        {"\n\n", 1, 0, LRLEX_UTF16, 1},
+    };
+    lrlex_definition d = LRLEX_EMPTY;
+    CHECK(define(&d, WORDS) == LRLEX_OK);
+    for (size_t i = 0; i < sizeof rows / sizeof *rows; i++) {
+        lrlex_document document = LRLEX_EMPTY;
+        size_t byte = 99;
+        CHECK(lrlex_document_new(&d, &document, bytes(rows[i].text), strlen(rows[i].text)) == LRLEX_OK);
+        CHECK(lrlex_document_offset_at(&document, rows[i].line, rows[i].column, rows[i].encoding, &byte) == LRLEX_OK);
+        if (byte != rows[i].byte) printf("row %zu: %zu\n", i, byte);
+        CHECK(byte == rows[i].byte);
+        CHECK(lrlex_document_offset_at(&document, 0, 0, 2, &byte) == LRLEX_NONE);
+        CHECK(lrlex_document_offset_at(&document, 0, 0, UINT32_MAX, &byte) == LRLEX_NONE);
+        /* each place is the inverse of its position */
+        for (size_t at = 0; at <= strlen(rows[i].text); at++) {
+            if (((uint8_t)rows[i].text[at] & 0xc0) == 0x80) continue;
+            for (uint32_t encoding = LRLEX_UTF8; encoding <= LRLEX_UTF16; encoding++) {
+                CHECK(lrlex_document_position_in(&document, at, encoding, &place) == LRLEX_OK);
+                CHECK(lrlex_document_offset_at(&document, place.line, place.column, encoding, &byte) == LRLEX_OK && byte == at);
+            }
+        }
+        lrlex_free(&document);
+    }
+    lrlex_free(&d);
+}
+
+/* A scanner is asked with any room, also past its end. */
+static void scanners(void) {
+    lrlex_definition d = LRLEX_EMPTY;
+    lrlex_scanner scanner = LRLEX_EMPTY;
+    uint8_t lent[] = "ab 1?";
+    CHECK(define(&d, WORDS) == LRLEX_OK);
+    CHECK(lrlex_scanner_new(&d, &scanner, lent, 5) == LRLEX_OK);
+    memset(lent, '!', sizeof lent); /* it has a copy */
+    named = (lrlex_named_id){bytes("ID"), 2, 7};
+    CHECK(lrlex_definition_set_rule_ids(&d, &named, 1, missing, 1) == LRLEX_SHARED);
+    lrlex_free(&d);
+    tiles[0].start = 77;
+    CHECK(lrlex_scanner_next(&scanner, tiles, 0, &scanned) == LRLEX_OK && tiles[0].start == 77);
+    CHECK(scanned.count == 0 && scanned.place == 0 && scanned.end == LRLEX_SCAN_MORE);
+    tiles[1].start = 77;
+    CHECK(lrlex_scanner_next(&scanner, tiles, 1, &scanned) == LRLEX_OK && tiles[1].start == 77);
+    CHECK(scanned.count == 1 && scanned.place == 2 && scanned.end == LRLEX_SCAN_MORE && tiles[0].start == 0 && tiles[0].len == 2 && tiles[0].has_id && tiles[0].id == 1);
+    CHECK(lrlex_scanner_next(&scanner, tiles, 2, &scanned) == LRLEX_OK);
+    CHECK(scanned.count == 2 && scanned.place == 4 && scanned.end == LRLEX_SCAN_MORE && !tiles[0].has_id && tiles[0].rule == 2 && tiles[1].start == 3 && tiles[1].rule == 0);
+    for (int again = 0; again < 2; again++) {
+        CHECK(lrlex_scanner_next(&scanner, tiles, 8, &scanned) == LRLEX_OK);
+        CHECK(scanned.count == 0 && scanned.place == 4 && scanned.end == LRLEX_SCAN_NO_MATCH && scanned.state == 0 && scanned.rule == 0);
+    }
+    /* a handle that holds something is used again */
+    CHECK(define(&d, "%x S\n%%\n\" <S>;\n<S>a 'A'\n") == LRLEX_OK);
+    CHECK(lrlex_scanner_new(&d, &scanner, bytes("\"?"), 2) == LRLEX_OK);
+    CHECK(lrlex_scanner_next(&scanner, tiles, 8, &scanned) == LRLEX_OK && scanned.count == 1 && scanned.end == LRLEX_SCAN_NO_MATCH && scanned.state == 1);
+    lrlex_free(&scanner);
+    CHECK(lrlex_definition_set_rule_ids(&d, &named, 0, missing, 0) == LRLEX_OK);
+    CHECK(lrlex_scanner_new(&d, &scanner, bytes("\"a"), 2) == LRLEX_OK);
+    CHECK(lrlex_scanner_next(&scanner, tiles, 8, &scanned) == LRLEX_OK && scanned.count == 1 && scanned.end == LRLEX_SCAN_NO_ID && scanned.rule == 1 && scanned.place == 1);
+    lrlex_free(&scanner);
+    CHECK(lrlex_scanner_new(&d, &scanner, bytes(""), 0) == LRLEX_OK);
+    CHECK(lrlex_scanner_next(&scanner, tiles, 8, &scanned) == LRLEX_OK && scanned.count == 0 && scanned.end == LRLEX_SCAN_DONE && scanned.place == 0);
+    lrlex_free(&scanner);
     lrlex_free(&d);
 }
 
@@ -185,5 +303,7 @@ int main(void) {
     owners();
     texts();
     buffers();
+    offsets();
+    scanners();
     return failed;
 }

@@ -41,6 +41,9 @@ static const char TEXT[] = "ab 12 \"x y\" c", EDITED[] = "ab \" q \"x y\" c";
 
 static lrlex_definition d, shared, refused, alone;
 static lrlex_document document;
+static lrlex_scanner scanner;
+/* Where the scanner stands, and where its text ends. */
+static size_t scanned_to, scan_end;
 
 /* Whether the document is of this text: whether its tokens are those of it. */
 static int is_of(const char *text) {
@@ -82,6 +85,26 @@ static int share(void) { return lrlex_definition_share(&d, &shared); }
 static int open_document(void) { return lrlex_document_new(&d, &document, bytes(TEXT), strlen(TEXT)); }
 
 static int edit(void) { return lrlex_document_edit(&document, 3, 5, bytes("\" q"), 3); }
+
+static int open_scanner(void) {
+    scanned_to = 0, scan_end = strlen(TEXT);
+    return lrlex_scanner_new(&d, &scanner, bytes(TEXT), scan_end);
+}
+
+/* Three tiles from where it stands: they follow those before, so that the scanner is where it was if a call failed. */
+static int scan(void) {
+    lrlex_tile tiles[3];
+    lrlex_scanned scanned;
+    const int status = lrlex_scanner_next(&scanner, tiles, 3, &scanned);
+    if (status) return status;
+    CHECK(scanned.count == (scanned_to < scan_end ? 3 : 0) && (scanned.end == LRLEX_SCAN_MORE) == (scanned.count == 3));
+    for (size_t i = 0; i < scanned.count; i++) {
+        CHECK(tiles[i].start == scanned_to && tiles[i].len > 0);
+        scanned_to += tiles[i].len;
+    }
+    CHECK(scanned.place == scanned_to);
+    return LRLEX_OK;
+}
 
 static int find_places(void) {
     static const size_t at[] = {0, 4};
@@ -132,6 +155,8 @@ static int look(void) {
         lrlex_document_text(&document, 0, 1, written, sizeof written, &len),
         lrlex_document_place(&document, 1, &place),
         lrlex_document_position(&document, 1, &place),
+        lrlex_document_position_in(&document, 1, LRLEX_UTF8, &place),
+        lrlex_document_offset_at(&document, 0, 1, LRLEX_UTF16, &len),
         lrlex_fault_count(&refused) == 0,
         lrlex_rule_count(&d) == 0,
         lrlex_state_count(&d) == 0,
@@ -161,6 +186,9 @@ static const struct {
     {"lrlex_document_edit", edit, LRLEX_OK},
     {"lrlex_document_pieces", cut_document, LRLEX_OK},
     {"lrlex_document_pieces_in", cut_part, LRLEX_OK},
+    {"lrlex_scanner_new", open_scanner, LRLEX_OK},
+    {"lrlex_scanner_next", scan, LRLEX_OK},
+    {"lrlex_scanner_next, further on", scan, LRLEX_OK},
     {"lrlex_places", find_places, LRLEX_OK},
     {"calls that ask for no memory", look, LRLEX_OK},
 };
@@ -192,7 +220,7 @@ int main(void) {
         }
     }
     CHECK(is_of(EDITED));
-    lrlex_free(&d), lrlex_free(&alone), lrlex_free(&shared), lrlex_free(&refused), lrlex_free(&document);
+    lrlex_free(&d), lrlex_free(&alone), lrlex_free(&shared), lrlex_free(&refused), lrlex_free(&document), lrlex_free(&scanner);
     CHECK(blocks == 0 && reported > 0);
     printf("%ld requests refused, %ld reported, %ld blocks left\n", requests, reported, blocks);
     return failed;

@@ -1,4 +1,4 @@
-// A first text, a refused rule text, and a document through edits.
+// A first text, a refused rule text, a document through edits, and a scanner.
 
 #include "lrlex.hpp"
 
@@ -137,6 +137,62 @@ void a_document_through_edits() {
     EXPECT(document.pieces(4, 7).size() == 2 && document.pieces(0, SIZE_MAX).size() == 4 && document.pieces(3, 1).empty());
 }
 
+void bytes_of_positions() {
+    const lrlex::Definition definition(WORDS);
+    const lrlex::Document document(definition, "a\xf0\x9f\x98\x80" "b\n\xc3\xa9" "c");
+    EXPECT(document.position(5).column == 3 && document.position(5, LRLEX_UTF8).column == 5);
+    EXPECT(document.offset_at({0, 3}) == 5 && document.offset_at({0, 5}, LRLEX_UTF8) == 5);
+    EXPECT(document.offset_at({0, 2}) == 1 && document.offset_at({0, 3}, LRLEX_UTF8) == 1);
+    EXPECT(document.offset_at({0, 99}) == 6 && document.offset_at({1, 99}) == 10 && document.offset_at({2, 0}) == 10);
+    EXPECT(lrlex::Document(definition, "").offset_at({0, 0}) == 0);
+    try {
+        document.offset_at({0, 0}, 2);
+        EXPECT(!"it was taken");
+    } catch (const lrlex::Error &error) {
+        EXPECT(error.status() == LRLEX_NONE);
+    }
+}
+
+void a_scanner_gives_tiles() {
+    std::string text = "ab 1?";
+    lrlex::Scanner scanner = lrlex::Scanner(lrlex::Definition(WORDS), text);
+    std::string found;
+    for (const lrlex::Tile &tile : scanner)
+        found += std::string(tile.text) + ':' + std::to_string(tile.rule) + (tile.id ? "+ " : "- ");
+    EXPECT(found == "ab:1+  :2- 1:0+ ");
+    EXPECT(!scanner.next() && scanner.stop() && scanner.stop()->start == 4 && scanner.stop()->column == 5 && scanner.stop()->state == 0U);
+    lrlex::Definition definition(WORDS);
+    {
+        lrlex::Scanner other(definition, "a");
+        try {
+            definition.set_rule_ids({});
+            EXPECT(!"it was taken");
+        } catch (const lrlex::Error &error) {
+            EXPECT(error.status() == LRLEX_SHARED);
+        }
+        EXPECT(other.next()->start == 0 && !other.stop() && !other.next() && !other.stop());
+    }
+    definition.set_rule_ids({});
+    lrlex::Scanner none(definition, "a");
+    EXPECT(!none.next() && none.stop() && !none.stop()->state);
+    EXPECT(!lrlex::Scanner(definition, "").next());
+}
+
+void a_scanner_gives_what_lexing_gives() {
+    const lrlex::Definition definition(WORDS);
+    std::string text;
+    for (int i = 0; i < 5000; i++) text += "ab 12 ";
+    const lrlex::Tokens tokens = definition.lex(text);
+    lrlex::Scanner scanner(definition, text);
+    std::size_t at = 0;
+    while (std::optional<lrlex::Tile> tile = scanner.next()) {
+        if (!tile->id) continue;
+        EXPECT(at < tokens.size() && tokens[at].id == tile->id && tokens[at].start == tile->start && tokens[at].text == tile->text);
+        at++;
+    }
+    EXPECT(at == tokens.size() && at == 10000);
+}
+
 void a_definition_is_moved() {
     lrlex::Definition one(WORDS), other = std::move(one);
     EXPECT(other.lex("a").size() == 1);
@@ -156,6 +212,9 @@ int main() {
     options_change_what_matches();
     pieces_are_the_whole_text();
     a_document_through_edits();
+    bytes_of_positions();
+    a_scanner_gives_tiles();
+    a_scanner_gives_what_lexing_gives();
     a_definition_is_moved();
     return failed;
 }

@@ -7,13 +7,16 @@
         print(token.name, token.text)
 
 A rule text with faults raises RulesError; a text that no rule matches raises LexError, after the tokens before that place.
-A Document keeps a text through edits, and lexes again only what each changes. Offsets are indices of the `str`.
+A Document keeps a text through edits, and lexes again only what each changes. A Scanner gives the tiles of a text as they are asked
+for. Offsets are indices of the `str`.
 
-A Definition and a Document stay on the thread that made them.
+A Definition, a Document and a Scanner stay on the thread that made them.
 """
 
 from ._c import Error, SharedError
-from ._lexing import Definition, Document, Fault, LexError, Piece, Place, RulesError, Token
+from ._lexing import Definition, Document, Fault, LexError, Piece, Place, RulesError, Scanner, Tile, Token
 
-__all__ = ["Definition", "Document", "Error", "Fault", "LexError", "Piece", "Place", "RulesError", "SharedError", "Token"]
+__all__ = [
+    "Definition", "Document", "Error", "Fault", "LexError", "Piece", "Place", "RulesError", "Scanner", "SharedError", "Tile", "Token"
+]
 __version__ = "0.1.0"

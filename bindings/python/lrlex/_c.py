@@ -12,6 +12,11 @@ NAME = "liblrlex.so.0"
 
 OK, REFUSED, NOMEM, NOT_UTF8, MISUSE, NONE, DOES_NOT_FIT, SHARED = range(8)
 
+SCAN_MORE, SCAN_DONE, SCAN_NO_MATCH, SCAN_NO_ID, SCAN_NO_TARGET, SCAN_NO_STATE = range(6)
+
+# What the columns of a position count, by the names that the Language Server Protocol gives them.
+ENCODINGS = {"utf-8": 0, "utf-16": 1}
+
 # The flags by the names of the rule file's settings, each with its bit.
 FLAGS = {
     "dot_matches_new_line": 1,
@@ -27,7 +32,7 @@ FLAGS = {
 
 
 class Handle(Structure):
-    """A definition's or a document's. It owns what it points to."""
+    """A definition's, a document's or a scanner's. It owns what it points to."""
 
     _fields_ = [("hidden", c_void_p)]
 
@@ -50,6 +55,18 @@ class Piece(Structure):
     """A piece of the text, and the number of its rule."""
 
     _fields_ = [("start", c_size_t), ("len", c_size_t), ("rule", c_size_t)]
+
+
+class Tile(Structure):
+    """A tile of a scanner: bytes from `start`, the number of its rule, and the id of its token, if it has one."""
+
+    _fields_ = [(name, c_size_t) for name in ("start", "len", "rule")] + [("id", c_uint32), ("has_id", c_bool)]
+
+
+class Scanned(Structure):
+    """How a scanner went on."""
+
+    _fields_ = [(name, c_size_t) for name in ("count", "place", "state", "rule")] + [("end", c_uint32)]
 
 
 class Place(Structure):
@@ -101,7 +118,7 @@ class Error(Exception):
 
 
 class SharedError(Error):
-    """A document has the definition too, so it can't be changed."""
+    """A document or a scanner has the definition too, so it can't be changed."""
 
 
 HANDLE, SIZE, TEXT = POINTER(Handle), c_size_t, c_char_p
@@ -135,6 +152,10 @@ FUNCTIONS = {
     "lrlex_document_pieces_in": (c_int, [HANDLE, SIZE, SIZE, POINTER(Piece), SIZE, LEXED]),
     "lrlex_document_place": (c_int, [HANDLE, SIZE, POINTER(Place)]),
     "lrlex_document_position": (c_int, [HANDLE, SIZE, POINTER(Place)]),
+    "lrlex_document_position_in": (c_int, [HANDLE, SIZE, c_uint32, POINTER(Place)]),
+    "lrlex_document_offset_at": (c_int, [HANDLE, SIZE, SIZE, c_uint32, POINTER(SIZE)]),
+    "lrlex_scanner_new": (c_int, [HANDLE, HANDLE, TEXT, SIZE]),
+    "lrlex_scanner_next": (c_int, [HANDLE, POINTER(Tile), SIZE, POINTER(Scanned)]),
 }
 
 
@@ -168,7 +189,7 @@ def check(status: int) -> None:
     if status == NOMEM:
         raise MemoryError
     if status == SHARED:
-        raise SharedError("a document has the definition too, so it can't be changed")
+        raise SharedError("a document or a scanner has the definition too, so it can't be changed")
     if status != OK:
         raise Error(f"the C library answered status {status}")
 

@@ -1,4 +1,4 @@
-"""Definitions, tokens and documents over the C library."""
+"""Definitions, tokens, documents and scanners over the C library."""
 
 from __future__ import annotations
 
@@ -15,6 +15,8 @@ from ._c import LIB, Error, check, text_by
 # A token and a piece of the C library as `struct` reads them: start, length, and id or rule.
 _TOKEN = struct.Struct(f"@NNI{ctypes.sizeof(_c.Token) - 2 * ctypes.sizeof(ctypes.c_size_t) - 4}x")
 _PIECE = struct.Struct("@NNN")
+# A tile: start, length, rule, id, and whether it has one.
+_TILE = struct.Struct(f"@NNNI?{ctypes.sizeof(_c.Tile) - 3 * ctypes.sizeof(ctypes.c_size_t) - 5}x")
 
 # Number, start and end of a token or a piece.
 _Span = tuple[int, int, int]
@@ -84,6 +86,17 @@ class Piece(NamedTuple):
     rule: int
 
 
+class Tile(NamedTuple):
+    """A piece of a text as a Scanner gives it. `name` and `id` are None if its rule has no name and so gives no token."""
+
+    name: Optional[str]
+    text: str
+    start: int
+    end: int
+    rule: int
+    id: Optional[int]
+
+
 class _Text:
     """A text as Python has it, and as the C library has it, with the offsets of one in the other."""
 
@@ -113,12 +126,13 @@ class _Text:
 
     def error(self, lexed: _c.Lexed) -> Optional[LexError]:
         """Where and why lexing stopped, if it did."""
-        if not lexed.stopped:
-            return None
+        return self.error_at(lexed.end, lexed.state if lexed.unmatched else None) if lexed.stopped else None
+
+    def error_at(self, byte: int, state: Optional[int]) -> LexError:
+        """That lexing stopped at this byte."""
         place = _c.Place()
-        check(LIB.lrlex_places(self.data, len(self.data), byref(ctypes.c_size_t(lexed.end)), 1, byref(place), 1))
-        state = lexed.state if lexed.unmatched else None
-        return LexError(self.index(lexed.end), lexed.end, place.line, place.column, state)
+        check(LIB.lrlex_places(self.data, len(self.data), byref(ctypes.c_size_t(byte)), 1, byref(place), 1))
+        return LexError(self.index(byte), byte, place.line, place.column, state)
 
 
 class _Held:
@@ -237,6 +251,10 @@ class Definition:
         rows, lexed = _rows(lambda *out: LIB.lrlex_pieces(self._held.handle, data, len(data), *out), _c.Piece, _PIECE, len(data))
         return self._pieces(held, rows), held.error(lexed)
 
+    def scanner(self, text: str) -> Scanner:
+        """The tiles of the text, one after the other, as they are asked for."""
+        return Scanner(self, text)
+
     def stop_report(self, text: str, file: str) -> Optional[str]:
         """Where lexing stops, for people: the file's name with line and column, the message, the line itself, and a caret.
 
@@ -331,8 +349,74 @@ class Document:
         check(LIB.lrlex_document_place(self._held.handle, self._text.byte(index), byref(place)))
         return place.line, place.column
 
-    def position(self, index: int) -> tuple[int, int]:
-        """The same place as the Language Server Protocol counts it: both from 0, the column in code units of UTF-16."""
+    def position(self, index: int, encoding: str = "utf-16") -> tuple[int, int]:
+        """The same place as the Language Server Protocol counts it: both from 0, the column in code units of UTF-16.
+
+        `encoding` may be "utf-8" too: then the column counts bytes.
+        """
         place = _c.Place()
-        check(LIB.lrlex_document_position(self._held.handle, self._text.byte(index), byref(place)))
+        check(LIB.lrlex_document_position_in(self._held.handle, self._text.byte(index), _encoding(encoding), byref(place)))
         return place.line, place.column
+
+    def offset_at(self, line: int, column: int, encoding: str = "utf-16") -> int:
+        """The index of such a position, the inverse of `position`.
+
+        Past a line's end it is the line's end, past the last line the text's end, and inside a character the place before that.
+        """
+        if line < 0 or column < 0:
+            raise ValueError(f"{line}:{column} is no position")
+        byte, most = ctypes.c_size_t(), ctypes.c_size_t(-1).value
+        words = [min(line, most), min(column, most), _encoding(encoding)]
+        check(LIB.lrlex_document_offset_at(self._held.handle, *words, byref(byte)))
+        return self._text.index(byte.value)
+
+
+def _encoding(name: str) -> int:
+    """The number of an encoding."""
+    if name not in _c.ENCODINGS:
+        raise ValueError(f"there is no encoding {name!r}: it is one of {', '.join(_c.ENCODINGS)}")
+    return _c.ENCODINGS[name]
+
+
+class Scanner:
+    """The tiles of a text, one after the other: an iterator. It keeps none of them, and stays on the thread that made it.
+
+    Where lexing stops before the text's end it raises LexError, after the tiles before that place.
+    """
+
+    _ROOM = 512
+
+    def __init__(self, definition: Definition, text: str) -> None:
+        """Stands at the front of the text."""
+        self.definition, self._held, self._text = definition, _Held("Scanner"), _Text(text)
+        data = self._text.data
+        # pylint: disable-next=protected-access
+        check(LIB.lrlex_scanner_new(definition._held.handle, self._held.handle, data, len(data)))
+        self._buffer, self._scanned = (_c.Tile * self._ROOM)(), _c.Scanned()
+        self._tiles: Iterator[Tile] = iter(())
+        self._index = 0
+
+    def __iter__(self) -> Scanner:
+        return self
+
+    def __next__(self) -> Tile:
+        for tile in self._tiles:
+            return tile
+        check(LIB.lrlex_scanner_next(self._held.handle, self._buffer, self._ROOM, byref(self._scanned)))
+        rows = _TILE.iter_unpack(memoryview(self._buffer).cast("B")[: self._scanned.count * _TILE.size])
+        self._tiles = self._of(list(rows))
+        for tile in self._tiles:
+            return tile
+        if self._scanned.end in (_c.SCAN_MORE, _c.SCAN_DONE):
+            raise StopIteration
+        state = self._scanned.state if self._scanned.end == _c.SCAN_NO_MATCH else None
+        raise self._text.error_at(self._scanned.place, state)
+
+    def _of(self, rows: Iterable[tuple[int, int, int, int, bool]]) -> Iterator[Tile]:
+        text, data = self._text.text, self._text.data
+        for start, length, rule, token_id, has_id in rows:
+            end = self._index + (length if self._text.is_ascii else len(data[start:start + length].decode()))
+            # pylint: disable-next=protected-access
+            name = self.definition._rule_names[rule]
+            yield Tile(name, text[self._index:end], self._index, end, rule, token_id if has_id else None)
+            self._index = end

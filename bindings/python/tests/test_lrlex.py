@@ -141,10 +141,62 @@ class Documents(unittest.TestCase):
         self.assertEqual([it.text for it in document.pieces()], ["éb", " ", "1", "😀"])
         self.assertEqual((document.place(5), document.position(5)), ((1, 6), (0, 6)))
 
+    def test_indices_of_positions(self):
+        document = lrlex.Document(lrlex.Definition(WORDS), "a😀b\né1")
+        self.assertEqual((document.position(2), document.position(2, "utf-8")), ((0, 3), (0, 5)))
+        rows = [
+            ((0, 3), 2), ((0, 5, "utf-8"), 2),
+            # between a pair of surrogates, and inside a character
+            ((0, 2), 1), ((0, 3, "utf-8"), 1),
+            # past a line's end, and past the last line
+            ((0, 99), 3), ((1, 1 << 70), 6), ((2, 0, "utf-8"), 6),
+        ]
+        for position, index in rows:
+            with self.subTest(position=position):
+                self.assertEqual(document.offset_at(*position), index)
+        self.assertEqual(lrlex.Document(document.definition, "").offset_at(0, 0), 0)
+        for position in [(0, 0, "utf-32"), (-1, 0)]:
+            with self.subTest(position=position), self.assertRaises(ValueError):
+                document.offset_at(*position)
+
     def test_the_definition_may_go_first(self):
         document = lrlex.Document(lrlex.Definition(WORDS), "a b")
         gc.collect()
         self.assertEqual(len(list(document.lex())), 2)
+
+
+class Scanners(unittest.TestCase):
+    """Texts whose tiles are pulled."""
+
+    def test_tiles_and_where_lexing_stops(self):
+        scanner = lrlex.Definition(WORDS).scanner("é  1?")
+        gc.collect()
+        self.assertEqual([next(scanner) for _ in range(3)], [("ID", "é", 0, 1, 1, 1), (None, "  ", 1, 3, 2, None), ("INT", "1", 3, 4, 0, 0)])
+        for _ in range(2):
+            with self.assertRaises(lrlex.LexError) as raised:
+                next(scanner)
+            stop = raised.exception
+            self.assertEqual((stop.start, stop.byte, stop.line, stop.column, stop.state), (4, 5, 1, 5, 0))
+        self.assertEqual(list(lrlex.Scanner(lrlex.Definition(WORDS), "")), [])
+
+    def test_what_a_scanner_gives_is_what_lexing_gives(self):
+        definition = lrlex.Definition(WORDS)
+        for text in ["ab 12 " * 5000, "é 😀1 " * 2000]:
+            tiles = list(definition.scanner(text))
+            self.assertEqual([(it.id, it.start, it.end) for it in tiles if it.id is not None], definition.spans(text))
+            self.assertEqual("".join(it.text for it in tiles), text)
+
+    def test_a_scanner_is_an_owner(self):
+        definition = lrlex.Definition(WORDS)
+        scanner = definition.scanner("a")
+        with self.assertRaises(lrlex.SharedError):
+            definition.set_rule_ids({})
+        del scanner
+        gc.collect()
+        definition.set_rule_ids({})
+        with self.assertRaises(lrlex.LexError) as raised:
+            next(definition.scanner("a"))
+        self.assertIsNone(raised.exception.state)
 
 
 class Program(unittest.TestCase):

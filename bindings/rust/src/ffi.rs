@@ -11,7 +11,11 @@ pub(crate) const NONE: c_int = 5;
 pub(crate) const DOES_NOT_FIT: c_int = 6;
 pub(crate) const SHARED: c_int = 7;
 
-/// A handle of a definition or a document. It owns what it points to, so it has no copy.
+pub(crate) const SCAN_MORE: u32 = 0;
+pub(crate) const SCAN_DONE: u32 = 1;
+pub(crate) const SCAN_NO_MATCH: u32 = 2;
+
+/// A handle of a definition, a document or a scanner. It owns what it points to, so it has no copy.
 #[repr(C)]
 pub(crate) struct Handle {
     hidden: *mut c_void,
@@ -49,6 +53,26 @@ pub(crate) struct Piece {
     pub(crate) start: usize,
     pub(crate) len: usize,
     pub(crate) rule: usize,
+}
+
+#[repr(C)]
+#[derive(Clone, Copy, Debug, Default)]
+pub(crate) struct Tile {
+    pub(crate) start: usize,
+    pub(crate) len: usize,
+    pub(crate) rule: usize,
+    pub(crate) id: u32,
+    pub(crate) has_id: bool,
+}
+
+#[repr(C)]
+#[derive(Clone, Copy, Debug, Default)]
+pub(crate) struct Scanned {
+    pub(crate) count: usize,
+    pub(crate) place: usize,
+    pub(crate) state: usize,
+    pub(crate) rule: usize,
+    pub(crate) end: u32,
 }
 
 #[repr(C)]
@@ -174,5 +198,14 @@ unsafe extern "C" {
         out: *mut Lexed,
     ) -> c_int;
     pub(crate) fn lrlex_document_place(d: *mut Handle, byte: usize, out: *mut Place) -> c_int;
-    pub(crate) fn lrlex_document_position(d: *mut Handle, byte: usize, out: *mut Place) -> c_int;
+    pub(crate) fn lrlex_document_position_in(d: *mut Handle, byte: usize, encoding: u32, out: *mut Place) -> c_int;
+    pub(crate) fn lrlex_document_offset_at(
+        d: *mut Handle,
+        line: usize,
+        column: usize,
+        encoding: u32,
+        byte: *mut usize,
+    ) -> c_int;
+    pub(crate) fn lrlex_scanner_new(d: *mut Handle, out: *mut Handle, text: *const u8, text_len: usize) -> c_int;
+    pub(crate) fn lrlex_scanner_next(scanner: *mut Handle, tiles: *mut Tile, cap: usize, out: *mut Scanned) -> c_int;
 }

@@ -12,9 +12,10 @@
 //! ```
 //!
 //! A [`Definition`] holds the rules of a rule file, a [`Lexer`] gives the lexemes of a text, and a [`Document`] is a text that is
-//! edited. The longest match wins; on a tie, the earliest rule. Spans are in bytes.
+//! edited. A [`Scanner`] gives the tiles of a text one after the other. The longest match wins; on a tie, the earliest rule. Spans are
+//! in bytes.
 //!
-//! A definition and a document stay on the thread that made them: they are neither `Send` nor `Sync`.
+//! A definition, a document and a scanner stay on the thread that made them: they are neither `Send` nor `Sync`.
 
 mod ffi;
 
@@ -154,7 +155,7 @@ pub enum Error {
     Lex(LexError),
     /// The ends of an edit are past the end of the text, inside a character, or the wrong way round.
     DoesNotFit,
-    /// A document has the definition too, so it can't be changed.
+    /// A document or a scanner has the definition too, so it can't be changed.
     Shared,
     /// Memory ran out.
     OutOfMemory,
@@ -171,7 +172,7 @@ impl fmt::Display for Error {
             }
             Error::Lex(error) => error.fmt(f),
             Error::DoesNotFit => f.write_str("The edit doesn't fit the text"),
-            Error::Shared => f.write_str("A document has the definition too"),
+            Error::Shared => f.write_str("A document or a scanner has the definition too"),
             Error::OutOfMemory => f.write_str("Out of memory"),
         }
     }
@@ -424,17 +425,38 @@ impl Definition {
     ///
     /// # Errors
     ///
-    /// [`Error::Shared`] while there is a document of this definition, or [`Error::OutOfMemory`]. The definition is then as it was.
+    /// [`Error::Shared`] while there is a document or a scanner of this definition, or [`Error::OutOfMemory`]. The definition is then as
+    /// it was.
     pub fn set_rule_ids<'a>(&mut self, ids: &HashMap<&'a str, u32>) -> Result<IdSets<'a>, Error> {
-        let given: Vec<_> = ids.iter().map(|(name, &id)| ffi::NamedId { name: name.as_ptr(), name_len: name.len(), id }).collect();
+        let given: Vec<_> =
+            ids.iter().map(|(name, &id)| ffi::NamedId { name: name.as_ptr(), name_len: name.len(), id }).collect();
         let mut missing = vec![false; given.len()];
         // SAFETY: the entries are `&str`s, and there is room for as many `bool`s.
         checked(unsafe {
-            ffi::lrlex_definition_set_rule_ids(self.held.get(), given.as_ptr(), given.len(), missing.as_mut_ptr(), missing.len())
+            ffi::lrlex_definition_set_rule_ids(
+                self.held.get(),
+                given.as_ptr(),
+                given.len(),
+                missing.as_mut_ptr(),
+                missing.len(),
+            )
         })?;
         let lacking: HashSet<_> = ids.keys().zip(missing).filter(|it| it.1).map(|it| *it.0).collect();
-        let unused: HashSet<_> = (0..self.rule_count()).filter(|&it| !self.has_id(it)).filter_map(|it| self.rule_name(it)).collect();
+        let unused: HashSet<_> =
+            (0..self.rule_count()).filter(|&it| !self.has_id(it)).filter_map(|it| self.rule_name(it)).collect();
         Ok(((!lacking.is_empty()).then_some(lacking), (!unused.is_empty()).then_some(unused)))
+    }
+
+    /// The tiles of a text, one after the other, from its front.
+    ///
+    /// # Errors
+    ///
+    /// [`Error::OutOfMemory`].
+    pub fn scanner<'text>(&self, text: &'text str) -> Result<Scanner<'text>, Error> {
+        let held = Held::empty();
+        // SAFETY: pointer and length are a `&str`'s, and the new handle is empty.
+        checked(unsafe { ffi::lrlex_scanner_new(self.held.get(), held.get(), text.as_ptr(), text.len()) })?;
+        Ok(Scanner { held, text, tiles: Vec::new(), next: 0, is_over: false })
     }
 
     /// Whether the rule of this number has an id.
@@ -654,10 +676,143 @@ impl Document {
     /// The place of a byte as the Language Server Protocol counts it: line and column from 0, in code units of UTF-16.
     #[must_use]
     pub fn position(&self, byte: usize) -> (usize, usize) {
+        self.position_in(byte, PositionEncoding::Utf16)
+    }
+
+    /// Line and column of a byte, from 0, the column counted as the encoding says.
+    #[must_use]
+    pub fn position_in(&self, byte: usize, encoding: PositionEncoding) -> (usize, usize) {
         let mut place = ffi::Place::default();
         // SAFETY: one place is written.
-        let status = unsafe { ffi::lrlex_document_position(self.held.get(), byte, &raw mut place) };
+        let status = unsafe { ffi::lrlex_document_position_in(self.held.get(), byte, encoding as u32, &raw mut place) };
         debug_assert_eq!(status, ffi::OK);
         (place.line, place.column)
     }
+
+    /// The byte of a line and column, from 0, the column counted as the encoding says. Past a line's end it is the line's end, past the
+    /// last line the text's end, and inside a character the place before that.
+    #[must_use]
+    pub fn offset_at(&self, position: (usize, usize), encoding: PositionEncoding) -> usize {
+        let (mut byte, (line, column)) = (0, position);
+        // SAFETY: one number is written.
+        let status =
+            unsafe { ffi::lrlex_document_offset_at(self.held.get(), line, column, encoding as u32, &raw mut byte) };
+        debug_assert_eq!(status, ffi::OK);
+        byte
+    }
 }
+
+/// What the columns of a position count.
+#[derive(Clone, Copy, Debug, PartialEq, Eq, Hash)]
+pub enum PositionEncoding {
+    /// Bytes.
+    Utf8 = 0,
+    /// Code units of UTF-16.
+    Utf16 = 1,
+}
+
+/// A piece of a text as a [`Scanner`] gives it.
+#[derive(Clone, Copy, Debug, PartialEq, Eq, Hash)]
+pub struct Tile<'text> {
+    text: &'text str,
+    start: usize,
+    rule: usize,
+    tok_id: Option<u32>,
+}
+
+impl<'text> Tile<'text> {
+    /// The id of its lexeme. A rule without a name gives none.
+    #[inline]
+    #[must_use]
+    pub fn tok_id(&self) -> Option<u32> {
+        self.tok_id
+    }
+
+    /// The number of its rule, from 0.
+    #[inline]
+    #[must_use]
+    pub fn rule(&self) -> usize {
+        self.rule
+    }
+
+    /// Its bytes in the text that is scanned.
+    #[inline]
+    #[must_use]
+    pub fn span(&self) -> Range<usize> {
+        self.start..self.start + self.text.len()
+    }
+
+    /// Its text.
+    #[inline]
+    #[must_use]
+    pub fn text(&self) -> &'text str {
+        self.text
+    }
+}
+
+/// The tiles of a text, one after the other, for a parser that asks for them: also those of rules without a name. The definition may be
+/// dropped before it.
+///
+/// If lexing stops before the text's end, the last item is that error. An item can also be [`Error::OutOfMemory`]: the scanner is then
+/// where it was, and the next item is tried again.
+#[derive(Debug)]
+pub struct Scanner<'text> {
+    held: Held,
+    text: &'text str,
+    tiles: Vec<ffi::Tile>,
+    next: usize,
+    is_over: bool,
+}
+
+impl Scanner<'_> {
+    /// How many tiles are asked for at a time.
+    const ROOM: usize = 512;
+
+    /// Asks for more tiles. The error is where lexing stops, or that memory ran out.
+    #[cold]
+    fn fill(&mut self) -> Result<(), Error> {
+        let mut scanned = ffi::Scanned::default();
+        self.next = 0;
+        self.tiles.clear();
+        self.tiles.try_reserve_exact(Self::ROOM).map_err(|_| Error::OutOfMemory)?;
+        // SAFETY: there is room for `ROOM` tiles.
+        checked(unsafe {
+            ffi::lrlex_scanner_next(self.held.get(), self.tiles.as_mut_ptr(), Self::ROOM, &raw mut scanned)
+        })?;
+        // SAFETY: the call has written the first `count` of them.
+        unsafe { self.tiles.set_len(scanned.count) };
+        if scanned.count > 0 {
+            return Ok(());
+        }
+        self.is_over = scanned.end != ffi::SCAN_MORE;
+        if matches!(scanned.end, ffi::SCAN_MORE | ffi::SCAN_DONE) {
+            return Ok(());
+        }
+        let (line, column) = place(self.text, scanned.place).inspect_err(|_| self.is_over = false)?;
+        let state = (scanned.end == ffi::SCAN_NO_MATCH).then_some(scanned.state);
+        Err(Error::Lex(LexError { start: scanned.place, line, column, state }))
+    }
+}
+
+impl<'text> Iterator for Scanner<'text> {
+    type Item = Result<Tile<'text>, Error>;
+
+    #[inline]
+    fn next(&mut self) -> Option<Self::Item> {
+        if self.next == self.tiles.len() {
+            if self.is_over {
+                return None;
+            }
+            if let Err(error) = self.fill() {
+                return Some(Err(error));
+            }
+        }
+        let it = self.tiles.get(self.next)?;
+        self.next += 1;
+        // SAFETY: the library scans a copy of this very text, and proves that both ends of a tile are character boundaries of it.
+        let text = unsafe { self.text.get_unchecked(it.start..it.start + it.len) };
+        Some(Ok(Tile { text, start: it.start, rule: it.rule, tok_id: it.has_id.then_some(it.id) }))
+    }
+}
+
+impl FusedIterator for Scanner<'_> {}

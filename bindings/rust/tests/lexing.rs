@@ -1,8 +1,8 @@
-//! A first text, a refused rule text, and a document through edits.
+//! A first text, a refused rule text, a document through edits, and a scanner.
 
 use std::collections::{HashMap, HashSet};
 
-use lrlex::{Budget, Definition, Document, Error, LexError, LexFlags, Lexeme};
+use lrlex::{Budget, Definition, Document, Error, LexError, LexFlags, Lexeme, PositionEncoding};
 
 const WORDS: &str = "%%\n[0-9]+ 'INT'\n[a-z]+ 'ID'\n[ ] ;\n";
 
@@ -71,7 +71,10 @@ fn ids_by_names() {
     let (lacking, unused) = definition.set_rule_ids(&HashMap::from([("ID", 70), ("WORD", 8)])).unwrap();
     assert_eq!((lacking, unused), (Some(HashSet::from(["WORD"])), Some(HashSet::from(["INT".to_owned()]))));
     assert_eq!(definition.lexer("a").unwrap().map(|it| it.unwrap().tok_id()).collect::<Vec<_>>(), [70]);
-    assert_eq!(definition.lexer("1").unwrap().next(), Some(Err(LexError { start: 0, line: 1, column: 1, state: None })));
+    assert_eq!(
+        definition.lexer("1").unwrap().next(),
+        Some(Err(LexError { start: 0, line: 1, column: 1, state: None }))
+    );
     let document = Document::new(&definition, "a").unwrap();
     assert_eq!(definition.set_rule_ids(&HashMap::new()), Err(Error::Shared));
     drop(document);
@@ -139,4 +142,62 @@ fn a_document_through_edits() {
     assert_eq!(document.text(), "abc123 x");
     drop(definition);
     assert_eq!(document.lexer().unwrap().count(), 3);
+}
+
+#[test]
+fn bytes_of_positions() {
+    use PositionEncoding::{Utf8, Utf16};
+    let document = Document::new(&words(), "a\u{1f600}b\n\u{e9}c").unwrap();
+    assert_eq!((document.position_in(5, Utf8), document.position_in(5, Utf16)), ((0, 5), (0, 3)));
+    for (position, encoding, byte) in [
+        ((0, 3), Utf16, 5),
+        ((0, 5), Utf8, 5),
+        // between a pair of surrogates, and inside a character
+        ((0, 2), Utf16, 1),
+        ((0, 3), Utf8, 1),
+        // past a line's end, and past the last line
+        ((0, 99), Utf16, 6),
+        ((1, usize::MAX), Utf8, 10),
+        ((2, 0), Utf16, 10),
+    ] {
+        assert_eq!(document.offset_at(position, encoding), byte, "{position:?} {encoding:?}");
+    }
+    assert_eq!(Document::new(&words(), "").unwrap().offset_at((0, 0), Utf16), 0);
+}
+
+#[test]
+fn a_scanner_gives_tiles() {
+    let definition = words();
+    let mut scanner = definition.scanner("ab 1?").unwrap();
+    drop(definition);
+    let tiles: Vec<_> = scanner.by_ref().take(3).map(Result::unwrap).collect();
+    assert_eq!(
+        tiles.iter().map(|it| (it.rule(), it.tok_id(), it.text())).collect::<Vec<_>>(),
+        [(1, Some(1), "ab"), (2, None, " "), (0, Some(0), "1")]
+    );
+    assert_eq!(tiles[2].span(), 3..4);
+    let stop = LexError { start: 4, line: 1, column: 5, state: Some(0) };
+    assert_eq!((scanner.next(), scanner.next(), scanner.next()), (Some(Err(Error::Lex(stop))), None, None));
+    assert_eq!(words().scanner("").unwrap().next(), None);
+}
+
+#[test]
+fn a_scanner_gives_what_a_lexer_gives() {
+    let definition = words();
+    let text = "ab 12 ".repeat(10_000);
+    let scanned =
+        definition.scanner(&text).unwrap().map(Result::unwrap).filter_map(|it| Some((it.tok_id()?, it.span())));
+    let lexed = definition.lexer(&text).unwrap().map(|it| it.map(|it| (it.tok_id(), it.span())).unwrap());
+    assert!(scanned.eq(lexed));
+}
+
+#[test]
+fn a_scanner_is_an_owner() {
+    let mut definition = words();
+    let scanner = definition.scanner("a").unwrap();
+    assert_eq!(definition.set_rule_ids(&HashMap::new()), Err(Error::Shared));
+    drop(scanner);
+    assert!(definition.set_rule_ids(&HashMap::new()).is_ok());
+    let stop = LexError { start: 0, line: 1, column: 1, state: None };
+    assert_eq!(definition.scanner("a").unwrap().next(), Some(Err(Error::Lex(stop))));
 }

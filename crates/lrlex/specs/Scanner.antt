@@ -9,7 +9,8 @@ use Rattle.lrlex.specs.Searcher.{AreOf, IsSearcherOf}
 use Rattle.lrlex.specs.Tiling.{Tile, End, Done, NoMatch, NoTarget, IsEnd, IsTaken, IsTiling, IsWinner, stack_after, top}
 use Rattle.lrlex.specs.Views.{definition_by}
 use Rattle.lrlex.specs.declared.definition.rule_table.RuleTable.{RuleTable}
-use Rattle.lrlex.specs.declared.lexing.scanner.Cursor.{Cursor}
+use Rattle.lrlex.specs.declared.lexing.cursor.Cursor.{Cursor}
+use Rattle.lrlex.specs.declared.lexing.cursor.ScanPlace.{ScanPlace}
 use Rattle.lrlex.specs.declared.lexing.scanner.ScannedTile.{ScannedTile}
 use Rattle.lrlex.specs.declared.lexing.scanner.ScanEnd.{ScanEnd}
 use Rattle.lrlex.specs.declared.lexing.scanner.ScanEnd.TheVariants.{NoId, NoState}
@@ -70,15 +71,18 @@ after_step s (Over e) = s
 abbrev pub scanned_by : Definition → List ℕ → Cursor → Scanned
 scanned_by d text c = record { definition = d; text = text; place = c.place; stack = plain c.stack.items }
 
--- Its place is between characters, its stack is one of the definition's states, and what finds winners is of the definition
--- and the text.
+-- a scanner can stand here: between characters, with a stack of the definition's states, as entries
+pub record IsStand (d : Definition) (text : List ℕ) (place : ℕ) (stack : List (ℕ × ℕ)) : Type 0 where
+  pub boundary : IsCharBoundary text place
+  pub entries : AreEntries stack
+  pub states : All (λ q. is_state d q ≡ true) (plain stack)
+  pub some : 0 < length (plain stack)
+  pub room : length (plain stack) + length text < 2 ^ 64 + place
+
+-- It stands where it can, and what finds winners is of the definition and the text.
 pub record IsCursorOf {S : Type 0} (number : S → ℕ) (table : RuleTable S) (text : List ℕ) (c : Cursor) : Type 0 where
-  pub boundary : IsCharBoundary text c.place
-  pub entries : AreEntries c.stack.items
-  pub states : All (λ q. is_state (definition_by number table) q ≡ true) (plain c.stack.items)
-  pub some : 0 < length (plain c.stack.items)
+  pub stands : IsStand (definition_by number table) text c.place c.stack.items
   pub initial : is_state (definition_by number table) 0 ≡ true
-  pub room : length (plain c.stack.items) + length text < 2 ^ 64 + c.place
   pub rules : AreOf number table c.rules.state c.rules
   pub searcher : IsSearcherOf table text c.searcher
 
@@ -90,6 +94,15 @@ scanned d text None = record { definition = d; text = text; place = 0; stack = [
 abbrev pub IsScannerOf : {S : Type 0} → (S → ℕ) → RuleTable S → List ℕ → Option Cursor → Type 0
 IsScannerOf number table text (Some c) = IsCursorOf number table text c
 IsScannerOf number table text None = is_state (definition_by number table) 0 ≡ false
+
+-- a scanner of the definition and the text stands there: without a state 0 at the front, with no stack
+pub record IsPlaceOf (d : Definition) (text : List ℕ) (p : ScanPlace) : Type 0 where
+  pub stands : is_state d 0 ≡ true → IsStand d text p.place p.stack.items
+  pub stateless : is_state d 0 ≡ false → (p.place ≡ 0) × (p.stack.items ≡ [])
+
+-- a scanner that stands there
+abbrev pub standing : Definition → List ℕ → ScanPlace → Scanned
+standing d text p = record { definition = d; text = text; place = p.place; stack = plain p.stack.items }
 
 -- place and stack are what they were
 pub record StayedAt (old new : Cursor) : Type 0 where

@@ -14,6 +14,7 @@ pub use crate::editing::changes::{Change, Changed};
 pub use crate::editing::document::{Document, EditError, LexedText};
 pub use crate::editing::restart::{ahead_laws, decided_laws, resume_laws};
 pub use crate::errors::LRLexError;
+pub use crate::lexing::cursor::ScanPlace;
 pub use crate::lexing::laws::{item_laws, run_laws, scan_laws, tiling_laws, utf16_laws};
 pub use crate::lexing::run::LexRun;
 pub use crate::lexing::scanner::{ScanEnd, ScannedTile, Scanner, Step};

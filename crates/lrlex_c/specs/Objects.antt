@@ -10,9 +10,10 @@ use Rattle.lrlex_rules.specs.Definition.{Definition}
 use Rattle.lrlex_rules.specs.declared.faults.LexBuildError.{LexBuildError}
 use Rattle.lrlex_rules.specs.declared.states.StartState as start
 use Rattle.lrlex.specs.Document.{lexed_bytes}
+use Rattle.lrlex.specs.Scanner.{Scanned, standing}
 use Rattle.lrlex.specs.Views.{definition_of, definition_states}
 use Rattle.lrlex_c.specs.declared.object.Object.{Object}
-use Rattle.lrlex_c.specs.declared.object.Object.TheVariants.{Nothing, Definition as Defined, Refusal, Document}
+use Rattle.lrlex_c.specs.declared.object.Object.TheVariants.{Nothing, Definition as Defined, Refusal, Document, Scanner}
 
 -- what the definition says, if there is one
 abbrev pub definition_in : Option Object → Option Definition
@@ -21,6 +22,7 @@ definition_in (Some Nothing) = None
 definition_in (Some (Defined d)) = Some (definition_of (λ n. n) (arc_value d))
 definition_in (Some (Refusal r)) = None
 definition_in (Some (Document e)) = None
+definition_in (Some (Scanner s)) = None
 
 -- the start states of the definition, if there is one
 abbrev pub states_in : Option Object → Option (List start.StartState)
@@ -29,6 +31,7 @@ states_in (Some Nothing) = None
 states_in (Some (Defined d)) = Some (definition_states (arc_value d))
 states_in (Some (Refusal r)) = None
 states_in (Some (Document e)) = None
+states_in (Some (Scanner s)) = None
 
 -- a refused rule text and its errors, if there is one
 abbrev pub refusal_in : Option Object → Option (List ℕ × List LexBuildError)
@@ -37,6 +40,7 @@ refusal_in (Some Nothing) = None
 refusal_in (Some (Defined d)) = None
 refusal_in (Some (Refusal r)) = Some (string_bytes r.rules, r.faults.items)
 refusal_in (Some (Document e)) = None
+refusal_in (Some (Scanner s)) = None
 
 -- the error at an index
 abbrev pub fault_in : Option Object → ℕ → Option LexBuildError
@@ -49,6 +53,7 @@ answer_in (Some Nothing) = None
 answer_in (Some (Defined d)) = Some (Ok (definition_of (λ n. n) (arc_value d)))
 answer_in (Some (Refusal r)) = Some (Err r.faults)
 answer_in (Some (Document e)) = None
+answer_in (Some (Scanner s)) = None
 
 -- the document, if there is one: what its definition says, and its text
 abbrev pub document_in : Option Object → Option (Definition × List ℕ)
@@ -57,3 +62,13 @@ document_in (Some Nothing) = None
 document_in (Some (Defined d)) = None
 document_in (Some (Refusal r)) = None
 document_in (Some (Document e)) = Some (definition_of (λ n. n) (arc_value e.definition), lexed_bytes e.text)
+document_in (Some (Scanner s)) = None
+
+-- the scanner, if there is one: what its definition says, its text, and where it stands
+abbrev pub scanner_in : Option Object → Option Scanned
+scanner_in None = None
+scanner_in (Some Nothing) = None
+scanner_in (Some (Defined d)) = None
+scanner_in (Some (Refusal r)) = None
+scanner_in (Some (Document e)) = None
+scanner_in (Some (Scanner s)) = Some (standing (definition_of (λ n. n) (arc_value s.definition)) (string_bytes s.text) s.at)

@@ -4,10 +4,12 @@ ghost use Rattle.std.specs.Arc.{arc_value};
 ghost use Rattle.lrlex_base.specs.Lexemes.{lexeme_seen};
 ghost use Rattle.lrlex_base.specs.Places.{AreBreaksOf};
 ghost use Rattle.lrlex.specs.Document.{IsLexedBy};
+ghost use Rattle.lrlex.specs.Scanner.{IsPlaceOf};
+ghost use Rattle.lrlex.specs.Views.{definition_of};
 
 use lrlex::{
     DefaultLexeme, DefaultLexerTypes, LRNonStreamingLexerDef, LexBuildError, LexedText,
-    NewlineCache,
+    NewlineCache, ScanPlace,
 };
 use std::alloc::Global;
 use std::sync::Arc;
@@ -32,6 +34,15 @@ pub(crate) struct Edited {
     ghost lexed: { IsLexedBy (λ n. n) lexeme_seen (arc_value definition).table text },
 }
 
+/// A text that is scanned by a definition, that definition, of which it is an owner, and the place up to which that has come.
+#[derive(Drop)]
+pub(crate) struct Scanning {
+    pub(crate) definition: Arc<Definition, Global>,
+    pub(crate) text: String,
+    pub(crate) at: ScanPlace,
+    ghost stands: { IsPlaceOf (definition_of (λ n. n) (arc_value definition)) (string_bytes text) at },
+}
+
 /// What a handle can hold.
 #[derive(Drop)]
 pub enum Object {
@@ -39,6 +50,7 @@ pub enum Object {
     Definition(Arc<Definition, Global>),
     Refusal(Refusal),
     Document(Edited),
+    Scanner(Scanning),
 }
 
 /// The status of work on the document that an object is. The work hands the document back. An object of another kind stays as it is.

@@ -11,7 +11,7 @@ use crate::handle::{Handle, with_object};
 use crate::object::Object;
 use crate::status::{MISUSE, NONE, OK};
 use crate::structs::RuleInfo;
-use crate::texts::write_text;
+use crate::texts::write_name;
 use lrlex::{LexerDef, Rule};
 use std::alloc::Global;
 
@@ -41,13 +41,7 @@ fn name_in(object: &Object, id: u32, out: &mut [u8], len: &mut usize) -> i32
         (λ d. name_of d.rules id ≡ None) }
 {
     match object {
-        Object::Definition(definition) => match definition.name_of(id) {
-            None => NONE,
-            Some(name) => {
-                write_text(name, out, len);
-                OK
-            }
-        },
+        Object::Definition(definition) => write_name(definition.name_of(id), out, len),
         _ => MISUSE,
     }
 }
@@ -141,13 +135,7 @@ fn rule_name_in(object: &Object, index: usize, out: &mut [u8], len: &mut usize) 
     match object {
         Object::Definition(definition) => match definition.rules().get(index) {
             None => NONE,
-            Some(rule) => match rule.name() {
-                None => NONE,
-                Some(name) => {
-                    write_text(name, out, len);
-                    OK
-                }
-            },
+            Some(rule) => write_name(rule.name(), out, len),
         },
         _ => MISUSE,
     }

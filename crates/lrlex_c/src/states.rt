@@ -1,24 +1,32 @@
 //! The start states of a definition, and their names.
-ghost use Rattle.std.specs.Prelude.{◌≡◌, ◌↔◌, length, option_map, slice_get, pos, None, Some, IfSome};
+ghost use Rattle.std.specs.Prelude.{◌≡◌, ◌↔◌, length, map, option_map, slice_get, pos, None, Some, IfSome};
 ghost use Rattle.std.specs.Option.{option_map_or};
+ghost use Rattle.lrlex.specs.Views.{definition_of};
 ghost use Rattle.lrlex_c.specs.Buffers.{IsWritten};
 ghost use Rattle.lrlex_c.specs.Infos.{state_info};
 ghost use Rattle.lrlex_c.specs.Objects.{definition_in};
 ghost use Rattle.lrlex_rules.specs.RuleParts.{as_state};
 
 use crate::handle::{Handle, with_object};
-use crate::object::Object;
+use crate::object::{Definition, Object};
 use crate::status::{MISUSE, NONE, OK};
 use crate::structs::StateInfo;
 use crate::texts::write_text;
 use lrlex::{LexerDef, StartState};
 use std::alloc::Global;
 
+/// The start states of the definition.
+fn states_of(definition: &Definition) -> &[StartState]
+    ensures { map as_state result.now ≡ (definition_of (λ n. n) definition.now).states }
+{
+    definition.iter_start_states().as_slice()
+}
+
 fn states_in(object: &Object) -> usize
     ensures { result ≡ option_map_or (λ d. length d.states) (definition_in (Some object.now)) 0 }
 {
     match object {
-        Object::Definition(definition) => definition.iter_start_states().as_slice().len(),
+        Object::Definition(definition) => states_of(definition).len(),
         _ => 0,
     }
 }
@@ -54,11 +62,7 @@ fn state_in(object: &Object, index: usize, out: &mut StateInfo) -> i32
         (λ d. slice_get d.states index ≡ None) }
 {
     match object {
-        Object::Definition(definition) => match definition
-            .iter_start_states()
-            .as_slice()
-            .get(index)
-        {
+        Object::Definition(definition) => match states_of(definition).get(index) {
             None => NONE,
             Some(state) => {
                 *out = state_info_of(state);
@@ -101,11 +105,7 @@ fn state_name_in(object: &Object, index: usize, out: &mut [u8], len: &mut usize)
         (λ d. slice_get d.states index ≡ None) }
 {
     match object {
-        Object::Definition(definition) => match definition
-            .iter_start_states()
-            .as_slice()
-            .get(index)
-        {
+        Object::Definition(definition) => match states_of(definition).get(index) {
             None => NONE,
             Some(state) => {
                 write_text(state.name(), out, len);

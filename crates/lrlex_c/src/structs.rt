@@ -18,6 +18,34 @@ pub struct Piece {
     pub rule: usize,
 }
 
+/// A tile that a scanner gives: where it starts and how long it is, in bytes, the index of its rule, and the id of its lexeme, if it
+/// gives one.
+#[repr(C)]
+#[derive(Clone, Copy)]
+pub struct Tile {
+    pub start: usize,
+    pub len: usize,
+    pub rule: usize,
+    pub id: u32,
+    pub has_id: bool,
+}
+
+/// How a scanner went on.
+#[repr(C)]
+#[derive(Clone, Copy)]
+pub struct Scanned {
+    /// How many tiles were written.
+    pub count: usize,
+    /// The offset behind them.
+    pub place: usize,
+    /// The start state in which no rule matches there, or 0.
+    pub state: usize,
+    /// The index of the rule that ends all, or 0.
+    pub rule: usize,
+    /// Why no more tiles come, or 0 where there was room for no more.
+    pub end: u32,
+}
+
 /// How lexing went.
 #[repr(C)]
 #[derive(Clone, Copy)]

@@ -1,9 +1,10 @@
 //! Texts and items in a caller's buffer.
-ghost use Rattle.std.specs.Prelude.{◌≡◌, ◌-◌, ◌<◌, length};
+ghost use Rattle.std.specs.Prelude.{◌≡◌, ◌-◌, ◌<◌, length, pos, MatchOption};
 ghost use Rattle.lrlex_base.specs.Lexemes.{lexeme_seen};
 ghost use Rattle.lrlex.specs.Views.{item_of};
 ghost use Rattle.lrlex_c.specs.Buffers.{filled, put_token, token_by, piece_by, copied, IsWritten};
 
+use crate::status::{NONE, OK};
 use crate::structs::{Piece, Token};
 use lrlex::{DefaultLexeme, LRLexError, Lexeme};
 
@@ -30,6 +31,20 @@ pub(crate) fn write_text(text: &str, out: &mut [u8], len: &mut usize)
     ensures { IsWritten text.now out.old out.new len.new }
 {
     write_bytes(text.as_bytes(), out, len);
+}
+
+/// Copies as much of the name as there is room for, and says how long it is, if there is one.
+pub(crate) fn write_name(name: Option<&str>, out: &mut [u8], len: &mut usize) -> i32
+    ensures { MatchOption name (result ≡ pos 5)
+        (λ t. (result ≡ pos 0) × IsWritten t.now out.old out.new len.new) }
+{
+    match name {
+        None => NONE,
+        Some(name) => {
+            write_text(name, out, len);
+            OK
+        }
+    }
 }
 
 fn token_of(lexeme: DefaultLexeme<u32>) -> Token

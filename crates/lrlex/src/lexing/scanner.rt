@@ -1,15 +1,14 @@
 //! A lexer that is pulled: one tile at a time, and no list is kept.
-ghost use Rattle.std.specs.Prelude.{◌≡◌, true, OnErr, IfOk};
-ghost use Rattle.lrlex.specs.Active.{is_state};
-ghost use Rattle.lrlex.specs.Scanner.{IsCursorOf, IsStep, StayedAt, after_step, at_front, scanned_by};
+ghost use Rattle.std.specs.Prelude.{◌≡◌, OnErr, IfOk};
+ghost use Rattle.lrlex.specs.Scanner.{IsCursorOf, IsPlaceOf, IsStep, StayedAt, after_step, at_front, scanned_by, standing};
 ghost use Rattle.lrlex.specs.Views.{definition_by, definition_of};
 
 use crate::definition::active::{lacks_id, lexeme_id};
 use crate::definition::non_streaming::LRNonStreamingLexerDef;
-use crate::definition::rule_table::{RuleTable, StateRules};
+use crate::definition::rule_table::RuleTable;
 use crate::errors::LRLexError;
+use crate::lexing::cursor::{Cursor, ScanPlace, cursor_at, cursor_of};
 use crate::lexing::stack::{step, top_of};
-use crate::lexing::winner::Searcher;
 use lrlex_base::{LexerTypes, Numbered, Span};
 use lrlex_rules::StartStateId;
 use std::alloc::{AllocError, Global};
@@ -46,37 +45,6 @@ pub enum Step<S> {
     Tile(ScannedTile<S>),
     /// No more tiles, and why. The scanner stays where it is, and says the same again.
     End(ScanEnd<S>),
-}
-
-/// Where a scanner stands, the rules of the start state that it was in last, and what finds winners.
-#[derive(Drop)]
-struct Cursor<'d, 't> {
-    place: usize,
-    stack: Vec<(usize, usize)>,
-    rules: StateRules<'d>,
-    searcher: Searcher<'d, 't>,
-}
-
-/// A cursor at the front of the text.
-fn cursor_of<'d, 't, S: Numbered>(
-    alloc: Global,
-    table: &'d RuleTable<S>,
-    text: &'t str,
-) -> Result<Cursor<'d, 't>, AllocError>
-    requires { is_state (definition_by S.number table.now) 0 ≡ true }
-    ensures cursor { IfOk result (IsCursorOf S.number table.now text.now) }
-    ensures front { IfOk result (λ c. scanned_by (definition_by S.number table.now) text.now c
-        ≡ at_front (definition_by S.number table.now) text.now) }
-{
-    let mut stack = Vec::new(alloc);
-    stack.push((1, 0))?;
-    let searcher = Searcher::new(alloc, table, text)?;
-    Ok(Cursor {
-        place: 0,
-        stack,
-        rules: table.rules_in(0),
-        searcher,
-    })
 }
 
 /// Takes the next step. After refused memory the cursor stands where it stood.
@@ -175,6 +143,21 @@ impl<'lexer, 'input, S: Numbered> Scanner<'lexer, 'input, S> {
             None => 0,
         }
     }
+
+    /// Where it stands, for `scanner_at`.
+    pub fn into_place(self, alloc: Global) -> ScanPlace
+        ensures place { IsPlaceOf self.entry.definition self.entry.text result }
+        ensures same { self.entry ≡ standing self.entry.definition self.entry.text result }
+    {
+        let Scanner { cursor, .. } = self;
+        match cursor {
+            Some(Cursor { place, stack, .. }) => ScanPlace { place, stack },
+            None => ScanPlace {
+                place: 0,
+                stack: Vec::new(alloc),
+            },
+        }
+    }
 }
 
 impl<L: LexerTypes<LexErrorT = LRLexError>> LRNonStreamingLexerDef<L> {
@@ -189,6 +172,31 @@ impl<L: LexerTypes<LexErrorT = LRLexError>> LRNonStreamingLexerDef<L> {
         let table = &self.table;
         let cursor = if table.is_state(0) {
             Some(cursor_of(alloc, table, text)?)
+        } else {
+            None
+        };
+        Ok(Scanner {
+            table,
+            text,
+            cursor,
+        })
+    }
+
+    /// A scanner that stands where another one of this definition and this text stood. What it learned of where looking ahead leads
+    /// nowhere is found anew.
+    pub fn scanner_at<'lexer, 'input>(
+        &'lexer self,
+        alloc: Global,
+        text: &'input str,
+        at: &ScanPlace,
+    ) -> Result<Scanner<'lexer, 'input, L::StorageT>, AllocError>
+        requires { IsPlaceOf (definition_of L.StorageT.number self.now) text.now at.now }
+        ensures { IfOk result (λ s. s
+            ≡ standing (definition_of L.StorageT.number self.now) text.now at.now) }
+    {
+        let table = &self.table;
+        let cursor = if table.is_state(0) {
+            Some(cursor_at(alloc, table, text, at)?)
         } else {
             None
         };

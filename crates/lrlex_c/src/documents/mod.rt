@@ -3,6 +3,7 @@ use lrlex::DefaultLexerTypes;
 
 pub(crate) mod editing;
 pub(crate) mod making;
+pub(crate) mod offsets;
 pub(crate) mod pieces;
 pub(crate) mod places;
 pub(crate) mod text;

@@ -14,24 +14,16 @@ use Rattle.lrlex.proofs.lexing.scanner.next_step.Goals as goal
 
 pub returns-then-lacks_id-clause-cursor : goal.returns-then-lacks_id-clause-cursor
 returns-then-lacks_id-clause-cursor g c = record {
-  boundary = c.requires.boundary;
-  entries = c.requires.entries;
-  states = c.requires.states;
-  some = c.requires.some;
+  stands = c.requires.stands;
   initial = c.requires.initial;
-  room = c.requires.room;
   rules = subst (λ q. AreOf g.S.Numbered.number c.args.table.now q c.rules_at-rules.result) (sym c.rules_at-rules.ensures.state) c.rules_at-rules.ensures.rules;
   searcher = c.in_ok-scan.ensures.searcher c.args.text.now c.requires.searcher;
 }
 
 pub returns-then-lacks_target-clause-cursor : goal.returns-then-lacks_target-clause-cursor
 returns-then-lacks_target-clause-cursor g c = record {
-  boundary = c.requires.boundary;
-  entries = c.requires.entries;
-  states = c.requires.states;
-  some = c.requires.some;
+  stands = c.requires.stands;
   initial = c.requires.initial;
-  room = c.requires.room;
   rules = subst (λ q. AreOf g.S.Numbered.number c.args.table.now q c.rules_at-rules.result) (sym c.rules_at-rules.ensures.state) c.rules_at-rules.ensures.rules;
   searcher = c.in_ok-scan.ensures.searcher c.args.text.now c.requires.searcher;
 }
@@ -41,12 +33,14 @@ returns-in_err-step-clause-cursor g c =
     let d = definition_by g.S.Numbered.number c.args.table.now in
     let same : c.step.new.entries.items ≡ c.args.cursor.now.stack.items = c.in_err-step.ensures.same in
     record {
-      boundary = c.requires.boundary;
-      entries = subst AreEntries (sym same) c.requires.entries;
-      states = subst (λ xs. AreStates d (plain xs)) (sym same) c.requires.states;
-      some = omega (arith, c.requires.some, ap (λ xs. length (plain xs)) same);
+      stands = record {
+        boundary = c.requires.stands.boundary;
+        entries = subst AreEntries (sym same) c.requires.stands.entries;
+        states = subst (λ xs. AreStates d (plain xs)) (sym same) c.requires.stands.states;
+        some = omega (arith, c.requires.stands.some, ap (λ xs. length (plain xs)) same);
+        room = omega (arith, c.requires.stands.room, ap (λ xs. length (plain xs)) same);
+      };
       initial = c.requires.initial;
-      room = omega (arith, c.requires.room, ap (λ xs. length (plain xs)) same);
       rules = subst (λ q. AreOf g.S.Numbered.number c.args.table.now q c.rules_at-rules.result) (sym c.rules_at-rules.ensures.state) c.rules_at-rules.ensures.rules;
       searcher = c.in_ok-scan.ensures.searcher c.args.text.now c.requires.searcher;
     }
@@ -127,15 +121,17 @@ returns-clause-cursor g c =
     let has_target : lacks_target d (rule_at d t.rule) ≡ false = ap (lacks_target d) rule_is ∙ sym c.if-lacks_target.ensures in
     let moved : plain c.step.new.entries.items ≡ stack_after stack (rule_at d t.rule).target =
     c.in_ok-step.ensures.moved ∙ ap (stack_after stack) c.target_state.ensures ∙ sym (ap (λ (x : Rule). stack_after stack x.target) rule_is) in
-    let sound : IsSound d stack (stack_after stack (rule_at d t.rule).target) = sound_after d stack (rule_at d t.rule).target c.requires.initial c.requires.states c.requires.some has_target in
+    let sound : IsSound d stack (stack_after stack (rule_at d t.rule).target) = sound_after d stack (rule_at d t.rule).target c.requires.initial c.requires.stands.states c.requires.stands.some has_target in
     record {
-      boundary =
-          IsCharBoundary-from_rest text place t.len c.requires.boundary.0 (subst (λ rest. IsCharBoundary rest t.len) c.range_from.ensures.value (rw c.in-Some.is at c.in_ok-scan.ensures.tile).0);
-      entries = c.in_ok-step.ensures.entries;
-      states = subst (AreStates d) (sym moved) sound.states;
-      some = omega (arith, sound.some, ap length moved);
+      stands = record {
+        boundary =
+            IsCharBoundary-from_rest text place t.len c.requires.stands.boundary.0 (subst (λ rest. IsCharBoundary rest t.len) c.range_from.ensures.value (rw c.in-Some.is at c.in_ok-scan.ensures.tile).0);
+        entries = c.in_ok-step.ensures.entries;
+        states = subst (AreStates d) (sym moved) sound.states;
+        some = omega (arith, sound.some, ap length moved);
+        room = omega (arith, sound.deep, ap length moved, c.requires.stands.room, wins.some);
+      };
       initial = c.requires.initial;
-      room = omega (arith, sound.deep, ap length moved, c.requires.room, wins.some);
       rules = subst (λ q. AreOf g.S.Numbered.number c.args.table.now q c.rules_at-rules.result) (sym c.rules_at-rules.ensures.state) c.rules_at-rules.ensures.rules;
       searcher = c.in_ok-scan.ensures.searcher text c.requires.searcher;
     }

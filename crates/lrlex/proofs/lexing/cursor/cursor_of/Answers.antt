@@ -5,7 +5,7 @@ use Rattle.lrlex.specs.Searcher.{AreOf}
 use Rattle.lrlex.specs.Views.{definition_by}
 use Rattle.lrlex.proofs.EntryLemmas.{entries-one}
 use Rattle.lrlex.proofs.ReachLemmas.{AreStates, one_state}
-use Rattle.lrlex.proofs.lexing.scanner.cursor_of.Goals as goal
+use Rattle.lrlex.proofs.lexing.cursor.cursor_of.Goals as goal
 
 pub returns-clause-cursor : goal.returns-clause-cursor
 returns-clause-cursor g c =
@@ -13,12 +13,14 @@ returns-clause-cursor g c =
     let is : c.push.new.self.items ≡ (1, 0) ∷ [] = c.in_ok-push.ensures.items ∙ ap (λ xs. xs ++ (1, 0) ∷ []) c.new-stack.ensures.items in
     let one : length (plain c.push.new.self.items) ≡ 1 = ap (λ xs. length (plain xs)) is in
     record {
-      boundary = IsCharBoundary-start c.args.text.now c.utf8.text;
-      entries = subst AreEntries (sym is) (entries-one 0);
-      states = subst (λ xs. AreStates d (plain xs)) (sym is) (one_state d 0 c.requires);
-      some = omega (arith, one);
+      stands = record {
+        boundary = IsCharBoundary-start c.args.text.now c.utf8.text;
+        entries = subst AreEntries (sym is) (entries-one 0);
+        states = subst (λ xs. AreStates d (plain xs)) (sym is) (one_state d 0 c.requires);
+        some = omega (arith, one);
+        room = omega (arith, one);
+      };
       initial = c.requires;
-      room = omega (arith, one);
       rules = subst (λ q. AreOf g.S.Numbered.number c.args.table.now q c.rules_in.result) (sym c.rules_in.ensures.state) c.rules_in.ensures.rules;
       searcher = c.in_ok-searcher.ensures;
     }

@@ -1,0 +1,74 @@
+//! Where a scanner stands.
+ghost use Rattle.std.specs.Prelude.{◌≡◌, true, IfOk};
+ghost use Rattle.lrlex.specs.Active.{is_state};
+ghost use Rattle.lrlex.specs.Scanner.{IsCursorOf, IsStand, at_front, scanned_by, standing};
+ghost use Rattle.lrlex.specs.Views.{definition_by};
+
+use crate::definition::rule_table::{RuleTable, StateRules};
+use crate::lexing::winner::Searcher;
+use lrlex_base::Numbered;
+use lrlex_boundaries::room::copied;
+use std::alloc::{AllocError, Global};
+
+/// Where a scanner stands, the rules of the start state that it was in last, and what finds winners.
+#[derive(Drop)]
+pub(crate) struct Cursor<'d, 't> {
+    pub(crate) place: usize,
+    pub(crate) stack: Vec<(usize, usize)>,
+    pub(crate) rules: StateRules<'d>,
+    pub(crate) searcher: Searcher<'d, 't>,
+}
+
+/// Where a scanner stands, apart from its definition and its text: its place, in bytes, and its stack of start states. It holds
+/// neither the definition nor the text, so that a scanner can stop and go on later.
+#[derive(Drop)]
+pub struct ScanPlace {
+    pub(crate) place: usize,
+    pub(crate) stack: Vec<(usize, usize)>,
+}
+
+/// A cursor at the front of the text.
+pub(crate) fn cursor_of<'d, 't, S: Numbered>(
+    alloc: Global,
+    table: &'d RuleTable<S>,
+    text: &'t str,
+) -> Result<Cursor<'d, 't>, AllocError>
+    requires { is_state (definition_by S.number table.now) 0 ≡ true }
+    ensures cursor { IfOk result (IsCursorOf S.number table.now text.now) }
+    ensures front { IfOk result (λ c. scanned_by (definition_by S.number table.now) text.now c
+        ≡ at_front (definition_by S.number table.now) text.now) }
+{
+    let mut stack = Vec::new(alloc);
+    stack.push((1, 0))?;
+    let searcher = Searcher::new(alloc, table, text)?;
+    Ok(Cursor {
+        place: 0,
+        stack,
+        rules: table.rules_in(0),
+        searcher,
+    })
+}
+
+/// A cursor where another one stood in the same text.
+pub(crate) fn cursor_at<'d, 't, S: Numbered>(
+    alloc: Global,
+    table: &'d RuleTable<S>,
+    text: &'t str,
+    at: &ScanPlace,
+) -> Result<Cursor<'d, 't>, AllocError>
+    requires initial { is_state (definition_by S.number table.now) 0 ≡ true }
+    requires stands { IsStand (definition_by S.number table.now) text.now at.now.place
+        at.now.stack.items }
+    ensures cursor { IfOk result (IsCursorOf S.number table.now text.now) }
+    ensures place { IfOk result (λ c. scanned_by (definition_by S.number table.now) text.now c
+        ≡ standing (definition_by S.number table.now) text.now at.now) }
+{
+    let stack = copied(alloc, &at.stack)?;
+    let searcher = Searcher::new(alloc, table, text)?;
+    Ok(Cursor {
+        place: at.place,
+        stack,
+        rules: table.rules_in(0),
+        searcher,
+    })
+}
