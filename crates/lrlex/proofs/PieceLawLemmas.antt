@@ -44,7 +44,7 @@ module _ (d : Definition) (text : List ℕ) where
   from_each place (t ∷ ts) (p ∷ ps) many each = (
     subst (λ n. IsPiece d text n t p) (omega arith) (each 0 t p refl refl),
     from_each (place + t.len) ts ps (omega (arith, many))
-    (λ k u q at here. subst (λ n. IsPiece d text n u q) (omega (arith, sum_by-cons (λ (t : Tile). t.len) t (take k ts))) (each (suc k) u q at here)),
+        (λ k u q at here. subst (λ n. IsPiece d text n u q) (omega (arith, sum_by-cons (λ (t : Tile). t.len) t (take k ts))) (each (suc k) u q at here)),
   )
 
   lexemes_from : (place : ℕ) (ts : List Tile) (ps : List Piece) (e : End) → AreFrom place ts ps → items d place ts e ≡ lexemes_of d ps ++ end_items d (place + total_len ts) e
