@@ -1,2 +1,3 @@
 pub mod StepLemmas
 pub mod WordLemmas
+mod WindowLemmas

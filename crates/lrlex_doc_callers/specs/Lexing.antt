@@ -1,11 +1,12 @@
 -- What callers say of a text that is lexed.
-use Rattle.std.specs.Prelude.{◌≡◌, ℕ, ◌+◌, List, [], ◌∷◌, Option, Some, None, slice_range, unwrap_or}
+use Rattle.std.specs.Prelude.{◌≡◌, ◌↔◌, ℕ, ◌+◌, ◌<◌, ◌≤◌, List, [], ◌∷◌, Option, Some, None, length, map, slice_range, unwrap_or}
 use Rattle.std.specs.Borrow.{Bor}
-use Rattle.std.specs.List.{filter_map}
+use Rattle.std.specs.List.{concat, filter_map}
 use Rattle.lrlex.specs.Words.{Definition, Rule, Edit, Fits, as_span, edited}
 use Rattle.lrlex.specs.Ids.{name_of}
 use Rattle.lrlex.specs.Tiling.{Item, Lexeme, Error}
-use Rattle.lrlex.specs.Boundaries.{Boundary}
+use Rattle.lrlex.specs.Boundaries.{Boundary, boundary_at}
+use Rattle.lrlex.specs.Pieces.{HasByteIn}
 use Rattle.lrlex.specs.Reach.{IsRun}
 
 -- a lexeme's name and its text; an error has none

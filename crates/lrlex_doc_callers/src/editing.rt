@@ -1,5 +1,10 @@
 //! For a highlighter and an editor, at the usual types.
-use lrlex::{Change, DefaultLexerTypes, Document, EditError, LRNonStreamingLexerDef, Lexeme};
+ghost use Rattle.std.specs.Prelude.{IfOk, map};
+ghost use Rattle.lrlex_doc_callers.specs.Lexing.{ShowPart, shown};
+
+use lrlex::{
+    Change, DefaultLexerTypes, Document, EditError, LRNonStreamingLexerDef, Lexeme, piece_laws,
+};
 use std::alloc::{AllocError, Global};
 
 /// The whole text as it was cut: each piece with the name of its rule, or "" where that has none.
@@ -57,15 +62,22 @@ pub fn retyped<'d, 't>(
     Ok((change, tokens_that_came(alloc, document, change)?))
 }
 
-/// What a window shows of a document: each piece with a byte in `from..to`, and its rule's name, or "".
+/// What a window shows of a document: each piece with a byte in `from..to`, and its rule's name, or "". Joined, they are a part
+/// of the text, from where the first of them begins to where the last ends.
 pub fn visible<'d, 't>(
     alloc: Global,
     document: &'t Document<'d, DefaultLexerTypes<u32>>,
     from: usize,
     to: usize,
-) -> Result<Vec<(&'d str, &'t str)>, AllocError> {
+) -> Result<Vec<(&'d str, &'t str)>, AllocError>
+    ensures { IfOk result (λ parts. ShowPart document.now.text document.now.boundaries from to
+        (map shown parts.items)) }
+{
+    document.laws();
+    piece_laws();
+    let pieces = document.pieces_in(alloc, from, to)?;
     let mut parts = Vec::new(alloc);
-    for piece in &document.pieces_in(alloc, from, to)? {
+    for piece in &pieces {
         parts.push((piece.name.unwrap_or(""), piece.text))?;
     }
     Ok(parts)

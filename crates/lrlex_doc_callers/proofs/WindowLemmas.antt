@@ -1,0 +1,39 @@
+-- What a window shows of a document.
+use Rattle.std.proofs.Common.{◌≡◌, ℕ, ◌+◌, ◌<◌, ◌≤◌, List, [], ◌∷◌, ◌++◌, length, map, take, get_or, sym, ap, ◌∙◌, arith, suc, slice_range}
+use Rattle.std.specs.Borrow.{Bor}
+use Rattle.std.specs.List.{concat}
+use Rattle.std.proofs.lemmas.List.{map-append, take_all}
+use Rattle.std.proofs.Math.Seq.{take-suc}
+use Rattle.lrlex.specs.Boundaries.{Boundary, boundary_at}
+use Rattle.lrlex.specs.Pieces.{ArePiecesIn, joined}
+use Rattle.lrlex.specs.Words.{Definition}
+use Rattle.lrlex.specs.declared.reading.pieces.Piece.{Piece}
+use Rattle.lrlex_doc_callers.specs.Lexing.{ShowPart, shown}
+
+-- these words show these pieces
+abbrev pub ShowsPieces : List (Bor (List ℕ) × Bor (List ℕ)) → List Piece → Type 0
+ShowsPieces words pieces = map (λ (w : List ℕ × List ℕ). w.1) (map shown words) ≡ map (λ (p : Piece). p.text.now) pieces
+
+pub shows_more : (words more : List (Bor (List ℕ) × Bor (List ℕ))) (name : Bor (List ℕ)) (pieces : List Piece) (k : ℕ) (p : Piece) → k < length pieces → p ≡ get_or pieces k p →
+    ShowsPieces words (take k pieces) → more ≡ words ++ (name, p.text) ∷ [] → ShowsPieces more (take (k + 1) pieces)
+shows_more words more name pieces k p lt at before new =
+    let front : take (k + 1) pieces ≡ take k pieces ++ p ∷ [] = take_more pieces k p lt at in
+    ap (λ ws. map (λ (w : List ℕ × List ℕ). w.1) (map shown ws)) new
+    ∙ ap (map (λ (w : List ℕ × List ℕ). w.1)) (map-append shown words ((name, p.text) ∷ []))
+    ∙ map-append (λ (w : List ℕ × List ℕ). w.1) (map shown words) (shown (name, p.text) ∷ [])
+    ∙ ap (λ (xs : List (List ℕ)). xs ++ p.text.now ∷ []) before
+    ∙ sym (map-append (λ (q : Piece). q.text.now) (take k pieces) (p ∷ []))
+    ∙ ap (map (λ (q : Piece). q.text.now)) (sym front)
+  where
+    take_more : (xs : List Piece) (k : ℕ) (x : Piece) → k < length xs → x ≡ get_or xs k x → take (k + 1) xs ≡ take k xs ++ x ∷ []
+    take_more xs k x lt at = let one : k + 1 ≡ suc k = omega arith in ap (λ n. take n xs) one ∙ take-suc xs k x lt ∙ ap (λ y. take k xs ++ y ∷ []) (sym at)
+
+pub shows_part : (d : Definition) (text : List ℕ) (bounds : List Boundary) (from to : ℕ) (words : List (Bor (List ℕ) × Bor (List ℕ))) (pieces : List Piece) (are : ArePiecesIn d text bounds from to pieces) →
+    joined pieces ≡ slice_range text (boundary_at bounds are.first).place (boundary_at bounds (are.first + length pieces)).place →
+    (k : ℕ) → length pieces ≤ k → ShowsPieces words (take k pieces) → ShowPart text bounds from to (map shown words)
+shows_part d text bounds from to words pieces are part k le shows = record {
+  first = are.first;
+  many = length pieces;
+  text_is = ap concat (shows ∙ ap (map (λ (p : Piece). p.text.now)) (take_all k pieces le)) ∙ part;
+  exactly = are.exactly;
+}
