@@ -1,6 +1,6 @@
 //! Times lexing a text.
 use lrlex::{
-    Budget, DefaultLexerTypes, LRNonStreamingLexerDef, LexBuildResult, LexRun, LexerDef,
+    Budget, DefaultLexerTypes, LRNonStreamingLexerDef, LexBuildResult, LexRun, LexerDef, Step,
     UNSPECIFIED_LEX_FLAGS,
 };
 use lrlex_bench_lib::{Counts, Fault, Lexed, Sizes, Spread, Watch, lexemes, lines_times, peak};
@@ -57,6 +57,27 @@ fn time_run(
     Ok(counts_of(&run))
 }
 
+/// Goes over the text once by a scanner. How many of its tiles have an id.
+fn time_scan(
+    rt: &HostRuntime,
+    definition: &Definition,
+    text: &str,
+    watch: &mut Watch,
+) -> Result<usize, Fault> {
+    let alloc = rt.alloc();
+    let mut lexemes = 0usize;
+    watch.start(rt);
+    let mut scanner = definition.scanner(alloc, text)?;
+    for _ in 0..=text.len() {
+        match scanner.next(alloc)? {
+            Step::Tile(tile) => lexemes = lexemes.saturating_add(tile.id.is_some() as usize),
+            Step::End(_) => break,
+        }
+    }
+    watch.stop(rt);
+    Ok(lexemes)
+}
+
 /// Lexes the text once by `lexer`, which finds its lines too.
 fn time_lexer(
     rt: &HostRuntime,
@@ -83,6 +104,22 @@ pub fn time_runs(
         counts = time_run(rt, definition, text, watch)?;
     }
     Ok(counts)
+}
+
+/// So many times a scanner, the tiles with an id of the last one.
+fn scan_times(
+    rt: &HostRuntime,
+    definition: &Definition,
+    text: &str,
+    times: u32,
+    watch: &mut Watch,
+) -> Result<(usize, Spread), Fault> {
+    let mut scanned = 0;
+    for _ in 0..times {
+        scanned = time_scan(rt, definition, text, watch)?;
+    }
+    let spread = watch.spread()?;
+    Ok((scanned, spread))
 }
 
 /// So many times `lexer`.
@@ -112,7 +149,7 @@ fn sizes_of(definition: &Definition, built: u128, text: &str) -> Sizes {
     }
 }
 
-/// Lexes the text so many times by `run` and by `lexer`, finds its lines as often, and prints what that took.
+/// Lexes the text so many times by `run`, by a scanner and by `lexer`, finds its lines as often, and prints what that took.
 pub fn tell_run(
     rt: &HostRuntime,
     definition: &Definition,
@@ -124,12 +161,15 @@ pub fn tell_run(
     let before = peak(rt);
     let counts = time_runs(rt, definition, text, times, watch)?;
     let runs = watch.spread()?;
+    let (scanned, scans) = scan_times(rt, definition, text, times, watch)?;
     let lexers = lexer_times(rt, definition, text, times, watch)?;
     let lines = lines_times(rt, text, times, watch)?;
     let lexed = Lexed {
         sizes: sizes_of(definition, built, text),
         counts,
         runs,
+        scanned,
+        scans,
         lexers,
         lines,
         before,

@@ -107,6 +107,10 @@ pub struct Lexed {
     pub counts: Counts,
     /// The times of `run`.
     pub runs: Spread,
+    /// How many tiles with an id a scanner gave.
+    pub scanned: usize,
+    /// The times of a scanner.
+    pub scans: Spread,
     /// The times of `lexer`.
     pub lexers: Spread,
     /// The times of finding the lines.
@@ -119,6 +123,9 @@ impl Lexed {
     /// Prints the times.
     fn tell_times(&self, rt: &HostRuntime) -> io::Result<()> {
         tell_bytes(rt, "run", &self.runs, self.sizes.bytes)?;
+        let scanned = self.scanned;
+        println!(rt; "lexemes by a scanner: {scanned}")?;
+        tell_bytes(rt, "scan", &self.scans, self.sizes.bytes)?;
         tell_bytes(rt, "lexer", &self.lexers, self.sizes.bytes)?;
         tell_bytes(rt, "lines", &self.lines, self.sizes.bytes)
     }
