@@ -1,4 +1,4 @@
-use Rattle.std.proofs.Common.{◌≡◌, ◌++◌, ◌+◌, ◌∙◌, ◌≤◌, ℕ, List, length, sym, ap, arith, append_assoc, add-one}
+use Rattle.std.proofs.Common.{◌≡◌, ◌++◌, ◌+◌, ◌∙◌, ℕ, List, length, sym, ap, arith, append_assoc, add-one}
 use Rattle.lrlex_base.specs.Spans.{Span}
 use Rattle.lrlex_report.specs.Warnings.{up_to}
 use Rattle.lrlex_report.specs.declared.warnings.kinds.WarningKind.{WarningKind}
