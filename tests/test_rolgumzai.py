@@ -25,7 +25,6 @@ FILES = {
     "bad.l": "%%\na 'A'\nb 'A'\n( 'B'\n",
     "other.l": "%s k k\n%%\n",
     "three.l": "%%\n( 'A'\n) 'B'\n[a-z] C\n",
-    "never.l": "%%\n[a-z]+ 'ID'\nif 'IF'\n[0-9] 'INT'\n",
     "comments.l": "// c\n%%\na 'A'\n",
     "empty": "",
     "latin": b"ab\n\xe9t\xe9",
@@ -114,14 +113,6 @@ ROWS = [
             1,
         ),
     ),
-    (
-        "check never.l",
-        "",
-        Outcome(
-            "never.l:3:5: Warning: this rule never wins, since other rules match all that it matches\n"
-            "3 | if 'IF'\n  |     ^^\n"
-        ),
-    ),
     ("check latin folder", "", Outcome("", LATIN + FOLDER, 2)),
     ("check comments.l", "", Outcome("comments.l:1:1: Unknown declaration\n1 | // c\n  | ^\n", "", 1)),
     ("check --allow-wholeline-comments true comments.l", "", Outcome()),
@@ -202,6 +193,40 @@ ROWS = [
     ("explain tokens.l none 0", "", Outcome("", MISSING, 2)),
 ]
 
+NEVER_WINS = "this rule never wins: it matches no byte, or other rules match all that it does; put it before them"
+NO_TABLE = "this rule has no table, and is slower: it looks at the next byte, as $ and \\b do, or is too large; leave these out"
+IN_PATTERN = "this target is part of the pattern; write no blank between the target and the name"
+BLANK = "the blank after these start states is part of the pattern; leave it out, or write [ ]"
+LOST = "a backslash is dropped here, before a letter that begins no escape; write the letter, or \\x41 in place of \\x{41}"
+WORD = "after start states \\< and \\> are the beginning and the end of a word; write < and > without the backslash"
+NEVER_ENTERED = "no rule enters this start state; name it as the target of a rule"
+NO_RULES = "no rule is active in this start state, so lexing stops there; list it before a pattern"
+
+# Rule texts, and their warnings: line, column, how many characters are underlined, and the message.
+WARNED = [
+    ("%%\nif 'IF'\n[a-z]+ 'ID'\n", []),
+    ("%%\n[a-z]+ 'ID'\nif 'IF'\n", [(3, 1, 2, NEVER_WINS)]),
+    ("%%\n[a-z]+ 'ID'\r\nif ;\r\n", [(3, 1, 2, NEVER_WINS)]),
+    ("%%\n[a-z]+ 'ID'\nx* 'X'\n", [(3, 1, 2, NEVER_WINS)]),
+    ("%s S\n%%\na <+S>;\n<S>a <-S>;\n", [(4, 1, 4, NEVER_WINS)]),
+    ("%%\na$ 'A'\n[a-z]+ 'ID'\n", [(2, 1, 2, NO_TABLE)]),
+    (
+        "%x COMMENT\n%%\n/\\* <+COMMENT> ;\n<COMMENT>\\*/ <-COMMENT>;\n",
+        [(1, 4, 7, NEVER_ENTERED), (3, 1, 14, IN_PATTERN)],
+    ),
+    ("%s S\n%%\na<S> 'A'\nb <+S>'B'\n", [(3, 1, 4, IN_PATTERN)]),
+    ("%s S\n%%\na\\<S> 'A'\nb<T> 'B'\nc <S>'C'\n", []),
+    ("%s S\n%%\na <+S>;\n<S> b 'B'\n", [(4, 1, 5, BLANK)]),
+    ("%s S\n%%\na <+S>;\n<S>[ ]b 'B'\nc b 'C'\n", []),
+    ("%%\n\\x{41} 'A'\n", [(2, 1, 6, LOST)]),
+    ("%%\na\\u{41}b 'A'\n\\q 'Q'\n", [(2, 1, 8, LOST), (3, 1, 2, LOST)]),
+    ("%%\n\\x41\\u0042\\n\\\\x\\\" 'A'\n\\< 'LT'\n", []),
+    ("%s S\n%%\na <+S>;\n<S>\\< 'LT'\n", [(4, 1, 5, NO_TABLE), (4, 1, 5, WORD)]),
+    ("%x S T\n%%\na <S>'A'\n", [(1, 4, 1, NO_RULES), (1, 6, 1, NEVER_ENTERED), (1, 6, 1, NO_RULES)]),
+    ("%s S\n%%\na <-S>'A'\n", [(1, 4, 1, NEVER_ENTERED)]),
+    ("%%\n", [(1, 1, 1, NO_RULES)]),
+]
+
 # How many of the replayed cases are tried: the worked ones, which come first.
 MANY = 302
 
@@ -264,6 +289,15 @@ def wanted_tokens(case):
     return found
 
 
+def shown_warning(text, line, column, length, message):
+    """A warning about the text of standard input, as it is shown."""
+    return (
+        f"stdin:{line}:{column}: Warning: {message}\n"
+        f"{line} | {text.splitlines()[line - 1]}\n"
+        f"{' ' * len(str(line))} | {' ' * (column - 1)}{'^' * length}\n"
+    )
+
+
 class Rolgumzai(unittest.TestCase):
     """What comes of each command."""
 
@@ -286,6 +320,12 @@ class Rolgumzai(unittest.TestCase):
         for program, (words, stdin, wanted) in self.each(ROWS):
             with self.subTest(words=words, program=program):
                 self.assertEqual(self.run_in_folder(program, words.split(), stdin), wanted)
+
+    def test_warnings(self):
+        for program, (text, warnings) in self.each(WARNED):
+            with self.subTest(text=text, program=program):
+                wanted = "".join(shown_warning(text, *warning) for warning in warnings)
+                self.assertEqual(self.run_in_folder(program, ["check", "-"], text), Outcome(wanted))
 
     def test_words_that_are_refused(self):
         for program, (words, part) in self.each(REFUSED):

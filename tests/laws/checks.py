@@ -227,6 +227,25 @@ def compare_scans(answers, tally):
     tally.at = None
 
 
+def winners(lines):
+    """The rules that win in these runs."""
+    return {piece[0] for line in lines if line.startswith(b"pieces ") for piece in value(line, b"pieces")}
+
+
+def compare_never(rules, answers, tally):
+    """No rule wins any text here of which one of the definitions answers that it never wins."""
+    won = set()
+    for asked in answers.values():
+        won |= winners(line for lines in asked.values() for line in lines)
+    tally.add("won", len(won))
+    for way in ["regex", "tabled", "mixed"]:
+        may_win = value(answers[way]["may_win"][0], b"may_win")
+        never = {place for place, may in enumerate(may_win) if not may}
+        tally.same(f"one answer a rule, {way}", len(rules), len(may_win))
+        tally.law(f"rules that never win, {way}", not never & won, f": {sorted(never)}, {sorted(won)}")
+        tally.add("never" if way == "tabled" else f"never_{way}", len(never))
+
+
 def count_sizes(rules, answers, tally):
     """Counts the rules and their tables."""
     tables, rows, untabled = value(answers["tabled"]["definition"][0], b"tables")
@@ -436,6 +455,7 @@ def compare_case(case, answers, tally):
     rules = value(ways["regex"]["definition"][2], b"rules")
     tally.same("rules by each way", 1, len({tuple(way["definition"][1:]) for way in ways.values()}))
     count_sizes(rules, ways, tally)
+    compare_never(rules, ways, tally)
     compare_ways(ways, tally)
     compare_scans(ways, tally)
     asked = ways[case.run_way]

@@ -134,6 +134,7 @@ class RandomCase:
         self.ways = {way: definition_of(self.rules, way) for way in ["tabled", "mixed"]}
         self.ways["regex"] = reading(self.rules, self.read_text, looked_for)
         for asked in self.ways.values():
+            asked.ask("may_win", "may_win")
             self.ask_places(asked)
         self.ask_run(self.ways[self.run_way])
         self.ask_edits(self.ways[self.edit_way])

@@ -37,6 +37,7 @@ cases: {cases}
 rule texts: {accepted} accepted, {refused} refused with {faults} faults
 rules: {rules}, in {tables} tables of {rows} rows
 rules without a table: {untabled}, with a small budget {untabled_mixed}
+rules that never win: {never}, with a small budget {never_mixed}; rules that won a text: {won}
 runs: {runs}, of {tiles} tiles, {lexemes} lexemes, {errors} errors
 places where tables and asking were compared: {places}
 edits of documents: {edits}, and {unfit} that don't fit

@@ -20,6 +20,7 @@ use lrlex_replay_cases::steps::{Asked, Step, step_of, told_of_step};
 use lrlex_replay_cases::tally::{introduce, print_refused, print_told};
 use lrlex_replay_cases::told::Told;
 use serde_json::Value;
+use std::alloc::AllocError;
 use std::io;
 
 /// Tells how many tables the definition has, how many rows these have, and how many rules have none, and then what it says.
@@ -41,6 +42,18 @@ fn tell_flags(told: &mut Told, definition: &Definition<u32>) {
         Some(flags) => told.truth(*flags == DEFAULT_LEX_FLAGS),
         None => told.null(),
     }
+}
+
+/// Tells of each rule whether it may win.
+fn tell_may_win(told: &mut Told, definition: &Definition<u32>) -> Result<(), AllocError> {
+    let may_win = definition.may_win(told.alloc())?;
+    told.key("may_win");
+    told.open("[");
+    for may_win in &may_win {
+        told.truth(*may_win);
+    }
+    told.close("]");
+    Ok(())
 }
 
 /// The pieces of a part of a text, by a run and by a document.
@@ -65,6 +78,7 @@ fn ask(told: &mut Told, definition: &Definition<u32>, asked: Asked<'_>) -> Resul
             tell_flags(told, definition);
             Ok(())
         }
+        Asked::MayWin => Ok(tell_may_win(told, definition)?),
         Asked::Runs(text, edits) => lex(told, definition, text, edits),
         Asked::Lexer(input, of_run, about) => ask_lexer(told, definition, input, of_run, about),
         Asked::Part(text, ends) => cut_part(told, definition, text, ends),

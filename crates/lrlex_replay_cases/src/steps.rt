@@ -16,6 +16,8 @@ pub enum Asked<'v> {
     Definition,
     /// Whether its flags are the default ones.
     Flags,
+    /// Which rules may win.
+    MayWin,
     /// Runs of a text, and again after each edit.
     Runs(&'v str, &'v [Value]),
     /// A lexer of a text, perhaps that of a run: its items, and what it says of spans and of bytes.
@@ -115,6 +117,7 @@ fn of_none<'v>(name: &str) -> Result<Step<'v>, Trouble> {
     match name {
         "definition" => Ok(Step::Asks(Asked::Definition)),
         "flags" => Ok(Step::Asks(Asked::Flags)),
+        "may_win" => Ok(Step::Asks(Asked::MayWin)),
         "faults" => Ok(Step::DisplaysFaults),
         _ => Err(Trouble::Malformed),
     }

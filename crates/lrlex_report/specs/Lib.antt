@@ -5,3 +5,5 @@ pub mod FaultTexts
 pub mod PlaceTexts
 pub mod Reasons
 pub mod StopTexts
+pub mod WarningTexts
+pub mod Warnings

@@ -35,7 +35,7 @@ fn first_word(text: &str) -> &str
 }
 
 /// The text without the white space at its end.
-fn trim_end(text: &str) -> &str
+pub(crate) fn trim_end(text: &str) -> &str
     ensures value { result.now ≡ trim_end text.now }
     ensures front { result.now ≡ take (length result.now) text.now }
     ensures bound { length result.now ≤ length text.now }
@@ -44,7 +44,7 @@ fn trim_end(text: &str) -> &str
 }
 
 /// The first bytes of the text, so many, and no part of a character.
-fn first_bytes(text: &str, len: usize) -> &str
+pub(crate) fn first_bytes(text: &str, len: usize) -> &str
     ensures value { result.now ≡ first_bytes len text.now }
     ensures front { result.now ≡ take (length result.now) text.now }
     ensures bound { length result.now ≤ length text.now }
@@ -65,7 +65,7 @@ fn through_angle(text: &str) -> &str
 }
 
 /// The text before its last blank; all of it without one.
-fn before_blank(text: &str) -> &str
+pub(crate) fn before_blank(text: &str) -> &str
     ensures value { result.now ≡ before_blank text.now }
     ensures front { result.now ≡ take (length result.now) text.now }
     ensures bound { length result.now ≤ length text.now }

@@ -1,12 +1,8 @@
 //! What is wrong with a rule text, and what its author hardly meant.
 use crate::files::Definition;
 use lrlex::{LexFlags, LexerDef};
-use lrlex_report::{faults_text, place_text};
+use lrlex_report::{faults_text, warnings_of, warnings_text};
 use std::alloc::{AllocError, Global};
-
-/// What is said of a rule that wins no text.
-const NEVER_WINS: &str =
-    "Warning: this rule never wins, since other rules match all that it matches";
 
 /// What is wrong with a rule text, as people read it.
 #[derive(Drop)]
@@ -17,25 +13,7 @@ pub struct Findings {
     pub is_faulty: bool,
 }
 
-/// The rules of a rule text of this file that never win, each at its name.
-fn warnings_text(
-    alloc: Global,
-    file: &str,
-    text: &str,
-    definition: &Definition,
-) -> Result<String, AllocError> {
-    let may_win = definition.may_win(alloc)?;
-    let mut shown = String::new(alloc);
-    for (rule, may_win) in definition.iter_rules().zip(may_win.iter()) {
-        if !*may_win {
-            let warning = place_text(alloc, file, text, rule.name_span(), NEVER_WINS)?;
-            shown.push_str(&warning)?;
-        }
-    }
-    Ok(shown)
-}
-
-/// What is wrong with a rule text of this file: all its faults, or else its rules that never win.
+/// What is wrong with a rule text of this file: all its faults, or else its warnings.
 pub fn findings_of(
     alloc: Global,
     file: &str,
@@ -43,9 +21,9 @@ pub fn findings_of(
     flags: LexFlags,
 ) -> Result<Findings, AllocError> {
     if let Ok(definition) = Definition::new_with_options(alloc, text, flags)? {
-        let shown = warnings_text(alloc, file, text, &definition)?;
+        let warnings = warnings_of(alloc, text, &definition)?;
         return Ok(Findings {
-            shown,
+            shown: warnings_text(alloc, file, text, &warnings)?,
             is_faulty: false,
         });
     }

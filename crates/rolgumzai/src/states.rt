@@ -3,7 +3,7 @@ use crate::files::Definition;
 use lrlex::{LexerDef, StartState};
 
 /// The start state with this id.
-pub fn state_by_id(definition: &Definition, id: usize) -> Option<&StartState> {
+fn state_by_id(definition: &Definition, id: usize) -> Option<&StartState> {
     definition
         .iter_start_states()
         .find(|state| state.id() == id)

@@ -1,7 +1,6 @@
 //! The rules that are active in a start state, and how much each matches.
 use crate::files::Definition;
-use crate::states::state_by_id;
-use lrlex::{Rule, StartState};
+use lrlex::Rule;
 use lrlex_matching::match_len;
 use std::alloc::{AllocError, Global};
 
@@ -12,16 +11,6 @@ pub struct Active {
     pub rule: usize,
     /// How many bytes it matches; 0 for no match, and for one of no bytes, which never wins.
     pub len: usize,
-}
-
-/// Whether a rule is active in a start state.
-fn is_active(rule: &Rule<u32>, state: &StartState) -> bool {
-    let states = rule.start_states();
-    if states.is_empty() {
-        !state.exclusive()
-    } else {
-        states.contains(&state.id())
-    }
 }
 
 /// How many bytes of the text a rule matches.
@@ -37,14 +26,12 @@ pub fn active_in(
     state: usize,
     text: &str,
 ) -> Result<Vec<Active>, AllocError> {
+    let rules = definition.rules();
     let mut active = Vec::new(alloc);
-    let Some(state) = state_by_id(definition, state) else {
-        return Ok(active);
-    };
-    for (number, rule) in definition.rules().iter().enumerate() {
-        if is_active(rule, state) {
+    for place in definition.active_rules(state) {
+        if let Some(rule) = rules.get(*place) {
             let len = len_of(alloc, rule, text)?;
-            active.push(Active { rule: number, len })?;
+            active.push(Active { rule: *place, len })?;
         }
     }
     Ok(active)

@@ -1,0 +1,10 @@
+use Rattle.std.proofs.Common.{rules}
+use Rattle.std.specs.Prelude.{not}
+use Rattle.std.proofs.lemmas.List.Sorted.{answers_always}
+use Rattle.lrlex_base.specs.Classes.{is_line_sep}
+use Rattle.lrlex_rules.proofs.Trims.{trim_end_matches_closure}
+use Rattle.lrlex_report.proofs.warnings.patterns.whole_lines.Goals as goal
+
+pub returns-clause-value : goal.returns-clause-value
+returns-clause-value c =
+    trim_end_matches_closure (λ x. not (is_line_sep x)) _ _ c.trim_end_matches.ensures.matches (answers_always _ _ _ (λ f a r f' k. search rules)) c.utf8.text c.trim_end_matches.utf8

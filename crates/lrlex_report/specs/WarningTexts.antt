@@ -1,0 +1,27 @@
+-- What is shown of warnings.
+use Rattle.std.specs.Prelude.{ℕ, List, ◌++◌, codes, flat_map}
+use Rattle.lrlex_report.specs.PlaceTexts.{place_text}
+use Rattle.lrlex_report.specs.Warnings.{as_told}
+use Rattle.lrlex_report.specs.declared.warnings.kinds.Warning.{Warning}
+use Rattle.lrlex_report.specs.declared.warnings.kinds.WarningKind.{WarningKind}
+use Rattle.lrlex_report.specs.declared.warnings.kinds.WarningKind.TheVariants.{NeverWins, NeverActive, NoTable, TargetInPattern, BlankAfterStates, LostEscape, EscapeAfterStates, NeverEntered, NoRules}
+
+-- what is unusual, why, and what to write in its place
+abbrev pub warning_message : WarningKind → List ℕ
+warning_message NeverWins = codes "this rule never wins: it matches no byte, or other rules match all that it does; put it before them"
+warning_message NeverActive = codes "this rule is active in no start state; list one that is declared"
+warning_message NoTable = codes "this rule has no table, and is slower: it looks at the next byte, as $ and \\b do, or is too large; leave these out"
+warning_message TargetInPattern = codes "this target is part of the pattern; write no blank between the target and the name"
+warning_message BlankAfterStates = codes "the blank after these start states is part of the pattern; leave it out, or write [ ]"
+warning_message LostEscape = codes "a backslash is dropped here, before a letter that begins no escape; write the letter, or \\x41 in place of \\x{41}"
+warning_message EscapeAfterStates = codes "after start states \\< and \\> are the beginning and the end of a word; write < and > without the backslash"
+warning_message NeverEntered = codes "no rule enters this start state; name it as the target of a rule"
+warning_message NoRules = codes "no rule is active in this start state, so lexing stops there; list it before a pattern"
+
+-- `FILE:L:C: Warning: MESSAGE`, then the line and the carets
+abbrev pub warning_text : (file rules : List ℕ) → Warning → List ℕ
+warning_text file rules w = place_text file rules (as_told w).1 (codes "Warning: " ++ warning_message (as_told w).0)
+
+-- one after another
+abbrev pub warning_texts : (file rules : List ℕ) → List Warning → List ℕ
+warning_texts file rules ws = flat_map (warning_text file rules) ws

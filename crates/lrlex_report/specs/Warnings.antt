@@ -1,0 +1,198 @@
+-- What a rule text says and its author hardly meant: each kind of warning is a test of a rule or of a start state.
+use Rattle.std.specs.Prelude.{◌≡◌, ◌<◌, ℕ, suc, zero, ◌+◌, ◌-◌, ◌==◌, Bool, true, false, not, ◌&&◌, ◌||◌, if◌then◌else◌, Option, Some, None, option_map, List, [], ◌∷◌, ◌++◌, length, take, drop, slice_get, slice_index, flat_map, codes}
+use Rattle.std.specs.Char.{is_ascii_alphabetic}
+use Rattle.std.specs.List.{list_any, slice_index_or, before_last, after_last}
+use Rattle.std.specs.Str.{chars, byte, encode_utf8_all}
+use Rattle.lrlex_base.specs.Classes.{is_line_sep}
+use Rattle.lrlex_base.specs.Spans.{Span, span, as_span}
+use Rattle.lrlex_rules.specs.Definition.{Definition, Rule}
+use Rattle.lrlex_rules.specs.declared.states.StartState.{StartState}
+use Rattle.lrlex_rules.specs.Escape.{is_backslash, begins_escape}
+use Rattle.lrlex_rules.specs.RuleLine.{target_name}
+use Rattle.lrlex_rules.specs.RuleParts.{RuleParts, as_rule, as_state}
+use Rattle.lrlex_rules.specs.Text.{is_empty, begins_with, same_text, trim_end, drop_trailing}
+use Rattle.lrlex.specs.Active.{active_places, is_state, lists_none}
+use Rattle.lrlex.specs.Never.{NeverWinsAnywhere, WinsAtNoRow, enters, is_active_somewhere, is_asked_somewhere}
+use Rattle.lrlex.specs.Views.{definition_by}
+use Rattle.lrlex.specs.declared.definition.rule_table.RuleTable.{RuleTable}
+use Rattle.lrlex_report.specs.FaultRanges.{before_blank}
+use Rattle.lrlex_report.specs.PlaceTexts.{nearest}
+use Rattle.lrlex_report.specs.declared.warnings.kinds.WarningKind.{WarningKind}
+use Rattle.lrlex_report.specs.declared.warnings.kinds.WarningKind.TheVariants.{NeverWins, NeverActive, NoTable, TargetInPattern, BlankAfterStates, LostEscape, EscapeAfterStates, NeverEntered, NoRules}
+use Rattle.lrlex_report.specs.declared.warnings.kinds.Warning.{Warning}
+use Rattle.lrlex_report.specs.declared.warnings.answers.Answers.{Answers}
+use Rattle.lrlex_report.specs.declared.warnings.answers.Facts.{Facts}
+
+-- what a warning says: its kind, and where
+abbrev pub as_told : Warning → WarningKind × Span
+as_told w = (w.kind, as_span w.span)
+
+-- one warning, where it holds
+abbrev pub when : Bool → WarningKind → Span → List (WarningKind × Span)
+when holds kind x = if holds then (kind, x) ∷ [] else []
+
+-- the warnings of these tests that hold, all at one place
+abbrev pub those_that_hold : Span → List (WarningKind × Bool) → List (WarningKind × Span)
+those_that_hold x tests = flat_map (λ (t : WarningKind × Bool). when t.1 t.0 x) tests
+
+-- ---- a rule's pattern as the text has it, with its list of start states: from the line's beginning up to the blank before the name
+-- the text up to its last line separator, and with it
+abbrev pub whole_lines_of : List ℕ → List ℕ
+whole_lines_of text = encode_utf8_all (drop_trailing (λ c. not (is_line_sep c)) (chars text))
+
+abbrev pub front_of : (rules : List ℕ) → (name : ℕ) → List ℕ
+front_of rules name = take (nearest rules name) rules
+
+abbrev pub line_start : (rules : List ℕ) → (name : ℕ) → ℕ
+line_start rules name = length (whole_lines_of (front_of rules name))
+
+abbrev pub source_of : (rules : List ℕ) → (name : ℕ) → List ℕ
+source_of rules name = trim_end (before_blank (drop (line_start rules name) (front_of rules name)))
+
+abbrev pub source_span : (rules : List ℕ) → (name : ℕ) → Span
+source_span rules name = span (line_start rules name) (line_start rules name + length (source_of rules name))
+
+-- ---- tests of a rule
+-- a start state has this name
+abbrev pub is_state_name_of : List StartState → List ℕ → Bool
+is_state_name_of states name = list_any (λ s. same_text (as_state s).name name) states
+
+-- the text's last byte is this
+abbrev pub ends_in : ℕ → List ℕ → Bool
+ends_in b text = not (is_empty text) && (slice_index text (length text - 1) == b)
+
+-- there is a text, and it doesn't end in a backslash
+abbrev pub goes_on : List ℕ → Bool
+goes_on front = not (is_empty front) && not (ends_in (byte "\\") front)
+
+abbrev pub is_less : ℕ → Bool
+is_less c = c == byte "<"
+
+-- `T>`, `+T>` or `-T>` of a start state T
+abbrev pub is_target_of : List StartState → List ℕ → Bool
+is_target_of states part = ends_in (byte ">") part && is_state_name_of states (target_name (take (length part - 1) part))
+
+-- the pattern ends in such a target, behind a `<` that doesn't begin it and has no backslash
+abbrev pub ends_in_target : List StartState → (source : List ℕ) → Bool
+ends_in_target states source =
+    list_any is_less source && goes_on (before_last is_less source) && is_target_of states (after_last is_less source)
+
+-- the pattern of a rule with a list of start states begins with a blank
+abbrev pub begins_blank : List ℕ → Bool
+begins_blank pattern = begins_with (codes " ") pattern || begins_with (codes "\t") pattern
+
+-- Without a list, a backslash is lost before a letter that begins no escape. After a list, `\<` and `\>` are no characters:
+-- to `regex` they are the beginning and the end of a word.
+abbrev pub is_unmeant : (listed : Bool) → ℕ → List ℕ → Bool
+is_unmeant true c rest = (c == byte "<") || (c == byte ">")
+is_unmeant false c rest = is_ascii_alphabetic c && not (c == byte "b") && not (begins_escape c rest)
+
+-- the pattern has such an escape
+abbrev pub has_unmeant : (listed : Bool) → List ℕ → Bool
+has_unmeant listed [] = false
+has_unmeant listed (b ∷ []) = false
+has_unmeant listed (b ∷ c ∷ rest) =
+    if is_backslash b then is_unmeant listed c rest || has_unmeant listed rest else has_unmeant listed (c ∷ rest)
+
+-- it is active, and never wins
+abbrev pub never_wins : Facts → Bool
+never_wins known = known.is_active && not known.may_win
+
+abbrev pub has_blank_after_states : Rule → Bool
+has_blank_after_states r = not (lists_none r) && begins_blank r.re_str
+
+abbrev pub loses_escape : (source : List ℕ) → Rule → Bool
+loses_escape source r = lists_none r && has_unmeant false source
+
+abbrev pub has_escape_after_states : Rule → Bool
+has_escape_after_states r = not (lists_none r) && has_unmeant true r.re_str
+
+-- the tests of a rule of which this is known, and what they answer
+abbrev pub rule_tests : Facts → List StartState → (source : List ℕ) → Rule → List (WarningKind × Bool)
+rule_tests known states source r =
+    (NeverWins, never_wins known)
+    ∷ (NeverActive, not known.is_active)
+    ∷ (NoTable, known.is_asked)
+    ∷ (TargetInPattern, ends_in_target states source)
+    ∷ (BlankAfterStates, has_blank_after_states r)
+    ∷ (LostEscape, loses_escape source r)
+    ∷ (EscapeAfterStates, has_escape_after_states r)
+    ∷ []
+
+-- the warnings of the rule, at its pattern
+abbrev pub rule_warnings : Facts → List StartState → (rules : List ℕ) → Rule → List (WarningKind × Span)
+rule_warnings known states rules r =
+    let name = r.name_span.start in those_that_hold (source_span rules name) (rule_tests known states (source_of rules name) r)
+
+-- ---- tests of a start state
+-- no rule enters it; lexing begins in the state with the id 0
+abbrev pub is_entered : {S : Type 0} → (S → ℕ) → List (RuleParts S) → ℕ → Bool
+is_entered number rules q = list_any (λ r. enters q (as_rule number r)) rules
+
+abbrev pub is_never_entered : {S : Type 0} → (S → ℕ) → List (RuleParts S) → ℕ → Bool
+is_never_entered number rules q = not (q == 0) && not (is_entered number rules q)
+
+-- no rule is active in the state with this id, or no state has it
+abbrev pub has_no_rules : Definition → ℕ → Bool
+has_no_rules d q = not (is_state d q) || is_empty (active_places d.states d.rules q)
+
+-- the tests of a start state, and what they answer
+abbrev pub state_tests : {S : Type 0} → (S → ℕ) → RuleTable S → ℕ → List (WarningKind × Bool)
+state_tests number t q =
+    (NeverEntered, is_never_entered number t.rules.items q) ∷ (NoRules, has_no_rules (definition_by number t) q) ∷ []
+
+-- the warnings of a start state, at its name
+abbrev pub state_warnings : {S : Type 0} → (S → ℕ) → RuleTable S → StartState → List (WarningKind × Span)
+state_warnings number t s = those_that_hold (as_state s).name_span (state_tests number t (as_state s).id)
+
+-- ---- all warnings
+-- what a definition answers of its rules, by their places
+pub record Answered : Type 0 where
+  pub may_win : List Bool
+  pub is_active : List Bool
+  pub is_asked : List Bool
+
+abbrev pub as_answered : Answers → Answered
+as_answered a = record { may_win = a.may_win.items; is_active = a.is_active.items; is_asked = a.is_asked.items }
+
+-- These are its answers. `may_win` is false only of a rule that never wins, and of each that wins at no row of its tables.
+pub record AreAnswers {S : Type 0} (number : S → ℕ) (t : RuleTable S) (a : Answered) : Type 0 where
+  pub never : (k : ℕ) → slice_index_or a.may_win k true ≡ false → NeverWinsAnywhere (definition_by number t) k
+  pub struck : (k : ℕ) → WinsAtNoRow t k → slice_index_or a.may_win k false ≡ false
+  pub each : length a.may_win ≡ length t.rules.items
+  pub active : (k : ℕ) → k < length t.rules.items → slice_index_or a.is_active k false ≡ is_active_somewhere (definition_by number t) k
+  pub asked : (k : ℕ) → k < length t.rules.items → slice_index_or a.is_asked k false ≡ is_asked_somewhere t k
+
+-- what is known of the rule at a place
+abbrev pub known_of : Answered → ℕ → Facts
+known_of a k = record {
+  may_win = slice_index_or a.may_win k false;
+  is_active = slice_index_or a.is_active k false;
+  is_asked = slice_index_or a.is_asked k false;
+}
+
+abbrev pub warnings_if : Facts → List StartState → (rules : List ℕ) → Option Rule → List (WarningKind × Span)
+warnings_if known states rules None = []
+warnings_if known states rules (Some r) = rule_warnings known states rules r
+
+abbrev pub warnings_at : {S : Type 0} → (S → ℕ) → RuleTable S → Answered → (rules : List ℕ) → ℕ → List (WarningKind × Span)
+warnings_at number t a rules k =
+    warnings_if (known_of a k) t.start_states.items rules (option_map (as_rule number) (slice_get t.rules.items k))
+
+-- those of the first so many places
+abbrev pub up_to : (ℕ → List (WarningKind × Span)) → ℕ → List (WarningKind × Span)
+up_to at zero = []
+up_to at (suc n) = up_to at n ++ at n
+
+-- of each start state
+abbrev pub states_warnings : {S : Type 0} → (S → ℕ) → RuleTable S → List (WarningKind × Span)
+states_warnings number t = flat_map (state_warnings number t) t.start_states.items
+
+-- of each rule
+abbrev pub rules_warnings : {S : Type 0} → (S → ℕ) → RuleTable S → Answered → (rules : List ℕ) → List (WarningKind × Span)
+rules_warnings number t a rules = up_to (warnings_at number t a rules) (length t.rules.items)
+
+-- these are the warnings of a rule text and its definition: of each start state, then of each rule, in order
+abbrev pub AreWarnings : {S : Type 0} → (S → ℕ) → RuleTable S → (rules : List ℕ) → List (WarningKind × Span) → Type 0
+AreWarnings number t rules told =
+    (a : Answered) × AreAnswers number t a × (told ≡ states_warnings number t ++ rules_warnings number t a rules)

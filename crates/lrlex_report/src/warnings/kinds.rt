@@ -1,0 +1,122 @@
+//! The kinds of warnings, and what is said of each.
+ghost use Rattle.std.specs.Prelude.{◌≡◌, ◌++◌, OnOk, map};
+ghost use Rattle.lrlex_base.specs.Spans.{as_span};
+ghost use Rattle.lrlex_report.specs.WarningTexts.{warning_message};
+ghost use Rattle.lrlex_report.specs.Warnings.{as_told, when, those_that_hold};
+
+use lrlex_base::Span;
+use std::alloc::AllocError;
+
+/// What a rule text says that its author hardly meant. None of these is a fault: the text has a definition.
+#[derive(Clone, Copy, PartialEq, Eq, Debug)]
+pub enum WarningKind {
+    /// A rule that is active in some start state and that wins no text, by `may_win` of the definition.
+    NeverWins,
+    /// A rule that is active in no start state. No rule that was read from a text is so.
+    NeverActive,
+    /// A rule without a table, so that `regex` matches it at each place.
+    NoTable,
+    /// A rule whose pattern ends in `<T>`, `<+T>` or `<-T>` of a start state T.
+    TargetInPattern,
+    /// A rule with a list of start states whose pattern begins with a blank.
+    BlankAfterStates,
+    /// A rule without a list whose pattern has a backslash before a letter that begins no escape.
+    LostEscape,
+    /// A rule with a list whose pattern has `\<` or `\>`.
+    EscapeAfterStates,
+    /// A start state other than `INITIAL` that no rule enters.
+    NeverEntered,
+    /// A start state that no rule is active in.
+    NoRules,
+}
+
+/// A warning: its kind, and the bytes of the rule text that it is about.
+#[derive(Clone, Copy, PartialEq, Eq, Debug)]
+pub struct Warning {
+    pub(crate) kind: WarningKind,
+    pub(crate) span: Span,
+}
+
+impl WarningKind {
+    /// What is unusual, why, and what to write in its place, in English, without a full stop.
+    pub fn message(self) -> &'static str
+        ensures { result.now ≡ warning_message self }
+    {
+        match self {
+            WarningKind::NeverWins => {
+                "this rule never wins: it matches no byte, or other rules match all that it does; put it before them"
+            }
+            WarningKind::NeverActive => {
+                "this rule is active in no start state; list one that is declared"
+            }
+            WarningKind::NoTable => {
+                "this rule has no table, and is slower: it looks at the next byte, as $ and \\b do, or is too large; leave these out"
+            }
+            WarningKind::TargetInPattern => {
+                "this target is part of the pattern; write no blank between the target and the name"
+            }
+            WarningKind::BlankAfterStates => {
+                "the blank after these start states is part of the pattern; leave it out, or write [ ]"
+            }
+            WarningKind::LostEscape => {
+                "a backslash is dropped here, before a letter that begins no escape; write the letter, or \\x41 in place of \\x{41}"
+            }
+            WarningKind::EscapeAfterStates => {
+                "after start states \\< and \\> are the beginning and the end of a word; write < and > without the backslash"
+            }
+            WarningKind::NeverEntered => {
+                "no rule enters this start state; name it as the target of a rule"
+            }
+            WarningKind::NoRules => {
+                "no rule is active in this start state, so lexing stops there; list it before a pattern"
+            }
+        }
+    }
+}
+
+impl Warning {
+    /// What kind of warning it is.
+    pub fn kind(&self) -> WarningKind
+        ensures { result ≡ (as_told self.now).0 }
+    {
+        self.kind
+    }
+
+    /// The bytes that it is about: a rule's pattern with its list of start states, or a start state's name.
+    pub fn span(&self) -> Span
+        ensures { as_span result ≡ (as_told self.now).1 }
+    {
+        self.span
+    }
+}
+
+/// Adds a warning where it holds.
+fn push_when(
+    told: &mut Vec<Warning>,
+    holds: bool,
+    kind: WarningKind,
+    span: Span,
+) -> Result<(), AllocError>
+    ensures { OnOk result (map as_told told.new.items
+        ≡ map as_told told.old.items ++ when holds kind (as_span span)) }
+{
+    if holds {
+        told.push(Warning { kind, span })?;
+    }
+    Ok(())
+}
+
+/// Adds the warnings of these tests that hold, all at one place.
+pub(crate) fn push_all(
+    told: &mut Vec<Warning>,
+    tests: &[(WarningKind, bool)],
+    span: Span,
+) -> Result<(), AllocError>
+    ensures { OnOk result (map as_told told.new.items
+        ≡ map as_told told.old.items ++ those_that_hold (as_span span) tests.now) }
+{
+    'tests: for test in tests {
+        push_when(told, test.1, test.0, span)?;
+    }
+    Ok(())
+}

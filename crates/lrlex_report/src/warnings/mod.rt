@@ -1,0 +1,89 @@
+//! What a rule text says and its author hardly meant.
+ghost use Rattle.std.specs.Prelude.{◌≡◌, ◌++◌, IfOk, OnOk, map};
+ghost use Rattle.lrlex_report.specs.Warnings.{as_answered, as_told, states_warnings, rules_warnings, warnings_at, AreWarnings};
+
+mod answers;
+pub(crate) mod kinds;
+mod patterns;
+mod rules;
+mod states;
+pub(crate) mod texts;
+
+use crate::warnings::answers::Answers;
+use crate::warnings::kinds::Warning;
+use crate::warnings::rules::push_rule;
+use crate::warnings::states::push_state;
+use lrlex::{LRNonStreamingLexerDef, LexerDef, LexerTypes};
+use std::alloc::{AllocError, Global};
+
+/// Adds the warnings of all start states.
+fn push_states<L: LexerTypes>(
+    told: &mut Vec<Warning>,
+    definition: &LRNonStreamingLexerDef<L>,
+) -> Result<(), AllocError>
+    ensures { OnOk result (map as_told told.new.items ≡ map as_told told.old.items
+        ++ states_warnings L.StorageT.number definition.now.table) }
+{
+    let states = definition.iter_start_states().as_slice();
+    for state in states {
+        push_state(told, definition, state)?;
+    }
+    Ok(())
+}
+
+/// Adds the warnings of the rule at a place.
+fn push_place<L: LexerTypes>(
+    told: &mut Vec<Warning>,
+    definition: &LRNonStreamingLexerDef<L>,
+    rules: &str,
+    answers: &Answers,
+    place: usize,
+) -> Result<(), AllocError>
+    ensures { OnOk result (map as_told told.new.items ≡ map as_told told.old.items
+        ++ warnings_at L.StorageT.number definition.now.table (as_answered answers.now)
+        rules.now place) }
+{
+    let states = definition.iter_start_states().as_slice();
+    match definition.get_rule(place) {
+        Some(rule) => push_rule(told, answers.at(place), states, rules, rule),
+        None => Ok(()),
+    }
+}
+
+/// Adds the warnings of all rules.
+fn push_rules<L: LexerTypes>(
+    told: &mut Vec<Warning>,
+    definition: &LRNonStreamingLexerDef<L>,
+    rules: &str,
+    answers: &Answers,
+) -> Result<(), AllocError>
+    ensures { OnOk result (map as_told told.new.items ≡ map as_told told.old.items
+        ++ rules_warnings L.StorageT.number definition.now.table (as_answered answers.now)
+        rules.now) }
+{
+    let count = definition.rules().len();
+    'rules: for place in 0..count {
+        push_place(told, definition, rules, answers, place)?;
+    }
+    Ok(())
+}
+
+/// The warnings of a rule text and its definition: what the text says and its author hardly meant. First those of each start
+/// state, then those of each rule, in order.
+///
+/// The span of a rule's warning is its pattern with its list of start states, that of a start state's is its name. `rules` is the
+/// text that the definition was read from. With another text the nearest places are told.
+pub fn warnings_of<L: LexerTypes>(
+    alloc: Global,
+    rules: &str,
+    definition: &LRNonStreamingLexerDef<L>,
+) -> Result<Vec<Warning>, AllocError>
+    ensures { IfOk result (λ told. AreWarnings L.StorageT.number definition.now.table rules.now
+        (map as_told told.items)) }
+{
+    let answers = Answers::of(alloc, definition)?;
+    let mut told = Vec::new(alloc);
+    push_states(&mut told, definition)?;
+    push_rules(&mut told, definition, rules, &answers)?;
+    Ok(told)
+}

@@ -1,0 +1,75 @@
+//! The warnings of a rule.
+ghost use Rattle.std.specs.Prelude.{◌≡◌, ◌++◌, OnOk, map};
+ghost use Rattle.lrlex.specs.Active.{lists_none};
+ghost use Rattle.lrlex_rules.specs.RuleParts.{as_rule};
+ghost use Rattle.lrlex_report.specs.Warnings.{as_told, never_wins, has_blank_after_states, loses_escape, has_escape_after_states, rule_warnings};
+
+use crate::warnings::answers::Facts;
+use crate::warnings::kinds::{Warning, WarningKind, push_all};
+use crate::warnings::patterns::{begins_blank, ends_in_target, has_unmeant, source_of};
+use lrlex::{Rule, StartState};
+use lrlex_base::{Numbered, Span};
+use std::alloc::AllocError;
+
+/// Whether the rule is active, and never wins.
+fn never_wins(known: Facts) -> bool
+    ensures { result ≡ never_wins known }
+{
+    known.is_active && !known.may_win
+}
+
+/// Whether the rule lists no start states.
+fn lists_none<S: Numbered>(rule: &Rule<S>) -> bool
+    ensures { result ≡ lists_none (as_rule S.number rule.now) }
+{
+    rule.start_states().is_empty()
+}
+
+/// Whether the rule lists start states, and its pattern begins with a blank.
+fn has_blank_after_states<S: Numbered>(rule: &Rule<S>) -> bool
+    ensures { result ≡ has_blank_after_states (as_rule S.number rule.now) }
+{
+    !lists_none(rule) && begins_blank(rule.re_str())
+}
+
+/// Whether the rule lists no start states, and a backslash of its pattern is dropped that is hardly meant so.
+fn loses_escape<S: Numbered>(source: &str, rule: &Rule<S>) -> bool
+    ensures { result ≡ loses_escape source.now (as_rule S.number rule.now) }
+{
+    lists_none(rule) && has_unmeant(false, source.as_bytes())
+}
+
+/// Whether the rule lists start states, and its pattern has `\<` or `\>`.
+fn has_escape_after_states<S: Numbered>(rule: &Rule<S>) -> bool
+    ensures { result ≡ has_escape_after_states (as_rule S.number rule.now) }
+{
+    !lists_none(rule) && has_unmeant(true, rule.re_str().as_bytes())
+}
+
+/// Adds the warnings of a rule of which this is known, where these are the start states of its text.
+pub(crate) fn push_rule<S: Numbered>(
+    told: &mut Vec<Warning>,
+    known: Facts,
+    states: &[StartState],
+    rules: &str,
+    rule: &Rule<S>,
+) -> Result<(), AllocError>
+    ensures { OnOk result (map as_told told.new.items ≡ map as_told told.old.items
+        ++ rule_warnings known states.now rules.now (as_rule S.number rule.now)) }
+{
+    let (start, source) = source_of(rules, rule.name_span().start());
+    let span = Span::new(start, start + source.len());
+    let tests = [
+        (WarningKind::NeverWins, never_wins(known)),
+        (WarningKind::NeverActive, !known.is_active),
+        (WarningKind::NoTable, known.is_asked),
+        (WarningKind::TargetInPattern, ends_in_target(states, source)),
+        (WarningKind::BlankAfterStates, has_blank_after_states(rule)),
+        (WarningKind::LostEscape, loses_escape(source, rule)),
+        (
+            WarningKind::EscapeAfterStates,
+            has_escape_after_states(rule),
+        ),
+    ];
+    push_all(told, &tests, span)
+}
