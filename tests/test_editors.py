@@ -27,7 +27,7 @@ STEPS = [
                                   "6:1-6:2 Invalid regular expression: unclosed group"]),
     ("4s/ID/I2/", ["5:1-5:12 Verbatim code not supported", "6:1-6:2 Invalid regular expression: unclosed group"]),
     ("6s/(/😀()/", ["5:1-5:12 Verbatim code not supported"]),
-    ("5d", ["no diagnostics"]),
+    ("5d", ["4:8-4:10 This rule never wins, since other rules match all that it matches"]),
     # what a script does is one step to neovim
     ("undo", FAULTS),
 ]
@@ -84,7 +84,7 @@ class Editors(unittest.TestCase):
             self.skipTest("neovim isn't installed")
         init = f"{programs.scratch().name}/init.lua"
         with open(init, "w", encoding="utf-8") as file:
-            file.write(settings_below("In 0.7:"))
+            file.write(settings_below("From 0.7 to 0.10:"))
         look = "lua vim.wait(9000, function() return #vim.diagnostic.get(0) > 0 end, 10) print(#vim.diagnostic.get(0))"
         words = ["nvim", "--headless", "-u", init, "-i", "NONE", "-n", "faults.l", "-c", look, "-c", "qa!"]
         self.assertEqual("4", self.run_editor(words, "examples/faults.l").strip())

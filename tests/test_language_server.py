@@ -20,7 +20,9 @@ let 'LET'
 [ \\n]+ ;
 """
 
-FAULTS = "%s here here\n%%\n[a-z]+ 'ID'\n[a-z] 'ID'\n 'indented'\n( 'OPEN'\n"
+FAULTS = "%s here here\n%%\n[a-z]+ 'ID'\n[A-Z] 'ID'\n 'indented'\n( 'OPEN'\n"
+
+NEVER_WINS = "This rule never wins, since other rules match all that it matches"
 
 # How much the gate tries. The long runs are `python3 -m language_server.dialogues` and LRLEX_LONG=1.
 IS_LONG = bool(os.environ.get("LRLEX_LONG"))
@@ -170,11 +172,39 @@ class RuleFiles(Session):
         self.assertEqual(3, len(client.change(URI, ranged((0, 8), (0, 12), "there"))["diagnostics"]))
         self.assertEqual(2, len(client.change(URI, ranged((3, 7), (3, 9), "X"))["diagnostics"]))
         # several changes in one notification, each on the text that the one before makes
-        changes = [ranged((4, 0), (4, 1), "a"), ranged((4, 1), (4, 1), " "), ranged((5, 1), (5, 1), ")")]
+        changes = [ranged((4, 0), (4, 1), "0"), ranged((4, 1), (4, 1), " "), ranged((5, 0), (5, 0), "\\")]
         told = client.change(URI, *changes)
         self.assertEqual((4, []), (told["version"], told["diagnostics"]))
         self.assertEqual(["File ends prematurely"], [spot(it)[4] for it in client.change(URI, "")["diagnostics"]])
         self.assertEqual([], client.close(URI)["diagnostics"])
+        self.assertEqual(0, client.end())
+
+    def test_faults_below_a_half_typed_rule(self):
+        client = self.client()
+        client.begin()
+        text = "%s one\n%x 1\n%%\n[a-z]+ 'ID'\n[0-9+ 'NUMBER'\n<one,two>x 'X'\ny'Y'\nz Z\n<one w 'W'\n[a-z]* 'ID'\n"
+        wanted = [
+            (1, 3, 1, 4, "Invalid start state name"), (4, 0, 4, 5, "Invalid regular expression: unclosed character class"),
+            (5, 0, 5, 9, "Start state not known"), (6, 0, 6, 4, "Rule is missing a space"), (7, 2, 7, 3, "Invalid rule name"),
+            (8, 0, 8, 10, "Invalid start state"), (9, 8, 9, 10, "Rule name already exists"),
+        ]
+        self.assertEqual(wanted, sorted(spot(it) for it in client.open(URI, text)["diagnostics"]))
+        self.assertEqual(wanted[2:], sorted(spot(it) for it in client.change(URI, ranged((1, 3), (1, 4), "l"), ranged((4, 4), (4, 4), "]"))["diagnostics"]))
+        self.assertEqual(0, client.end())
+
+    def test_warnings(self):
+        client = self.client()
+        client.begin()
+        rows = [
+            ("[a-z]+ 'ID'\nif 'IF'\n", [(2, 4, 2, 6, NEVER_WINS)]), ("if 'IF'\n[a-z]+ 'ID'\n", []), ("() 'NONE'\n", [(1, 4, 1, 8, NEVER_WINS)]),
+            ("[a-z]+ 'ID'\nif 'IF'\n( 'OPEN'\n", [(3, 0, 3, 1, "Invalid regular expression: unclosed group")]),
+        ]
+        for rules, wanted in rows:
+            with self.subTest(rules=rules):
+                told = client.open(URI, f"%%\n{rules}")["diagnostics"]
+                self.assertEqual(wanted, [spot(it) for it in told])
+                for it in told:
+                    self.assertEqual((2, [1]) if it["message"] == NEVER_WINS else (1, None), (it["severity"], it.get("tags")))
         self.assertEqual(0, client.end())
 
     def test_columns_in_utf16(self):
@@ -265,6 +295,67 @@ class Texts(Session):
         self.assertEqual((0, 4, 4, "property"), decoded(after["data"], client.types)[1])
         self.assertEqual(after["data"], client.tokens_since(TEXT, before)["data"])
         self.assertEqual([], client.tokens_since(TEXT, {**client.tokens(TEXT)})["edits"])
+        self.assertEqual(0, client.end())
+
+    def test_tokens_that_changed(self):
+        client = self.client("--rules", rules_file(RULES))
+        client.begin()
+        text = 'let a = 12;\n# note\nlet b = "x\ny"; let c = 1;\n'
+        rows = [
+            # the changes since, and which of the tokens are told anew
+            ([], None),
+            ([ranged((0, 4), (0, 5), "long")], 1),
+            ([ranged((0, 4), (0, 5), "bc"), ranged((2, 4), (2, 5), "de")], 7),
+            ([ranged((2, 4), (2, 5), "de"), ranged((0, 4), (0, 5), "bc")], 7),
+            ([ranged((0, 0), (0, 0), "\n\n")], 1),
+            ([ranged((0, 0), (0, 0), "\n"), ranged((0, 0), (1, 0), "")], 0),
+            ([ranged((3, 0), (3, 0), "\n")], 2),
+            ([ranged((0, 10), (0, 10), "?")], 0),
+            ([ranged((0, 10), (0, 10), "?"), ranged((0, 10), (0, 11), "")], 0),
+            ([ranged((0, 0), (4, 0), "")], 0),
+            ([ranged((4, 0), (4, 0), "let d")], 2),
+        ]
+        for changes, told in rows:
+            with self.subTest(changes=changes):
+                client.open(TEXT, text)
+                before = client.tokens(TEXT)
+                if changes:
+                    client.change(TEXT, *changes)
+                edits = client.tokens_since(TEXT, before)["edits"]
+                after = client.tokens(TEXT)["data"]
+                self.assertEqual(after, applied(before["data"], edits))
+                if told is not None:
+                    self.assertLessEqual(sum(len(edit["data"]) for edit in edits), 5 * told + 5)
+                client.close(TEXT)
+        self.assertEqual(0, client.end())
+
+    def test_result_ids_never_repeat(self):
+        path = rules_file(RULES)
+        client = self.client("--rules", path)
+        client.begin()
+        rules, ids = f"file://{path}", set()
+        client.open(TEXT, "let a")
+        for step in range(12):
+            with self.subTest(step=step):
+                before = client.tokens(TEXT)
+                self.assertNotIn(before["resultId"], ids)
+                ids.add(before["resultId"])
+                if step % 3 == 0:
+                    client.close(TEXT)
+                    client.open(TEXT, "12")
+                elif step % 3 == 1:
+                    client.open(rules, RULES + f"!{'!' * step} 'MORE'\n", "lex")
+                    client.close(rules)
+                else:
+                    client.close(TEXT)
+                    client.open("file:///texts/b.txt", "let b")
+                    ids.add(client.tokens("file:///texts/b.txt")["resultId"])
+                    client.open(TEXT, "let a")
+                # what was told before names nothing that is open now
+                after = client.tokens_since(TEXT, before)
+                self.assertIn("data", after)
+                self.assertNotIn(after["resultId"], ids)
+                ids.add(after["resultId"])
         self.assertEqual(0, client.end())
 
     def test_where_lexing_stops(self):

@@ -74,6 +74,11 @@ def spot(diagnostic):
     return start["line"], start["character"], end["line"], end["character"], diagnostic["message"]
 
 
+def faults(told):
+    """The diagnostics that are faults, and no warnings."""
+    return [it for it in told["diagnostics"] if it["severity"] == 1]
+
+
 class Client:
     """A session. `with` ends the process whatever happens."""
 

@@ -8,7 +8,7 @@ dialogues differ.
 import random
 import sys
 
-from language_server.client import Client, applied, ranged, rules_file
+from language_server.client import Client, applied, faults, ranged, rules_file
 
 # Parts of rule texts. Some make faults, so that the rules before stay.
 RULES = [
@@ -131,7 +131,7 @@ class Dialogue:
         self.rules = "%%\n" + "".join(self.chance.sample(RULES, self.chance.randrange(2, 9)))
         uri = f"file://{self.path}"
         self.client.open(uri, self.good, "lex")
-        if not self.client.change(uri, self.rules)["diagnostics"]:
+        if not faults(self.client.change(uri, self.rules)):
             self.good = self.rules
         self.client.close(uri)
         self.tokens.clear()

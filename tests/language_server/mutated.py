@@ -32,8 +32,8 @@ def span(chance):
     return chance.choice([{"start": place(chance), "end": end}, {"start": end, "end": place(chance)}, None, 5, {}])
 
 
-def call(chance):
-    """A method and its parameters."""
+def call(chance, last):
+    """A method and its parameters. `last` names the last answer with tokens."""
     document = {"uri": URI}
     version = {**document, "version": chance.randrange(99)}
     change = {"range": span(chance), "text": chance.choice(PUTS)}
@@ -43,14 +43,14 @@ def call(chance):
         ("textDocument/didClose", {"textDocument": document}),
         ("textDocument/semanticTokens/full", {"textDocument": document}),
         ("textDocument/semanticTokens/range", {"textDocument": document, "range": span(chance)}),
-        ("textDocument/semanticTokens/full/delta", {"textDocument": document, "previousResultId": chance.choice(["1", "2", 3])}),
+        ("textDocument/semanticTokens/full/delta", {"textDocument": document, "previousResultId": chance.choice([last, last, "1", 3])}),
         (chance.choice(NAMES), chance.choice([None, [], {}, 5])),
     ])
 
 
-def message(chance, number):
+def message(chance, number, last):
     """A message of which a part may lack."""
-    method, params = call(chance)
+    method, params = call(chance, last)
     body = {"jsonrpc": "2.0", "method": method, "params": params}
     if chance.random() < REQUESTS:
         body["id"] = chance.choice([number, "s", None, {"a": [1]}, 1.5])
@@ -88,9 +88,9 @@ def most_answers(data):
 def run(client, count, seed):
     """Sends so many messages. Returns how often each code, method or result came of them, and what is wrong."""
     chance = random.Random(seed)
-    came, wrong = Counter(), []
+    came, wrong, last = Counter(), [], None
     for number in range(count):
-        data = json.dumps(message(chance, number)).encode()
+        data = json.dumps(message(chance, number, last)).encode()
         if chance.random() < MUTATED:
             data = mutated(chance, data)
         if b'"exit"' in data or b'"shutdown"' in data:
@@ -105,6 +105,7 @@ def run(client, count, seed):
             if answer.get("id") == f"mark{number}":
                 break
             answers += "method" not in answer
+            last = (answer.get("result") or {}).get("resultId", last)
             came[answer.get("error", {}).get("code", answer.get("method", "result"))] += 1
         if answers > most_answers(data):
             wrong.append(f"{answers} answers to {data!r}")

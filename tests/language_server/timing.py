@@ -43,6 +43,17 @@ def type_keys(client, uri, line, count):
     return typed, taken
 
 
+def changed_tokens(client, uri, line, count):
+    """The seconds that it takes to be told what so many keys at the front of a line change of the tokens, after each."""
+    since, taken = client.tokens(uri), []
+    for _ in range(count):
+        client.change(uri, ranged((line, 0), (line, 0), "a"))
+        seconds, since = timed(lambda: client.tokens_since(uri, since))  # pylint: disable=cell-var-from-loop
+        taken.append(seconds)
+    client.change(uri, ranged((line, 0), (line, count), ""))
+    return taken
+
+
 def main():
     """Times all."""
     rules, path = sys.argv[1:3]
@@ -66,9 +77,8 @@ def main():
         print("all tokens:", spread([timed(lambda: client.tokens(uri))[0] for _ in range(5)]))
         middle = lines // 2
         print("tokens of 60 lines:", spread([timed(lambda: client.tokens_in(uri, (middle, 0), (middle + 60, 0)))[0] for _ in range(50)]))
-        since = client.tokens(uri)
-        client.change(uri, ranged((middle, 0), (middle, 0), "a"))
-        print("tokens that changed:", spread([timed(lambda: client.tokens_since(uri, since))[0]]))
+        for name, line in (("front", 0), ("middle", middle), ("end", lines - 1)):
+            print(f"the tokens that a key at the {name} changes: {spread(changed_tokens(client, uri, line, 50))}")
         print("memory", memory(client.process.pid))
     if programs.is_built("lrlex_bench"):
         big = f"{programs.scratch().name}/big.txt"

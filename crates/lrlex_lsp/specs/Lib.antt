@@ -2,5 +2,4 @@ pub mod Changes
 pub mod Edits
 pub mod Framing
 pub mod Messages
-pub mod Offsets
 pub mod Tokens

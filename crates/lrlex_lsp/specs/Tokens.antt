@@ -1,6 +1,6 @@
 -- How a client reads where tokens are.
 use Rattle.std.specs.Prelude.{ℕ, zero, ◌≡◌, ◌+◌, ◌-◌, ◌^◌, ◌==◌, List, [], ◌∷◌, ◌++◌, min, if◌then◌else◌}
-use Rattle.lrlex_lsp.specs.Offsets.{IsUpTo}
+use Rattle.lrlex.specs.Words.{IsUpTo}
 
 -- line and column of a token that is so many lines down and columns right of the last one, in its line or from the line's beginning
 abbrev pub reached : (last told : ℕ × ℕ) → ℕ × ℕ

@@ -1,8 +1,8 @@
 //! What the server can do, as it tells the client.
 use crate::json::Json;
 use crate::messages::begin_result;
-use crate::positions::Encoding;
 use crate::token_types::legend;
+use lrlex::PositionEncoding;
 use serde_json::Value;
 use std::alloc::{AllocError, Global};
 
@@ -27,7 +27,7 @@ fn put_tokens(json: &mut Json, legend: &str) {
 pub(crate) fn initialized(
     alloc: Global,
     id: &Value,
-    encoding: Encoding,
+    encoding: PositionEncoding,
 ) -> Result<String, AllocError> {
     let legend = legend(alloc)?;
     let mut json = begin_result(alloc, id);
@@ -36,8 +36,8 @@ pub(crate) fn initialized(
     json.open("{");
     json.member("positionEncoding");
     json.text(match encoding {
-        Encoding::Utf8 => "utf-8",
-        Encoding::Utf16 => "utf-16",
+        PositionEncoding::Utf8 => "utf-8",
+        PositionEncoding::Utf16 => "utf-16",
     });
     json.member("textDocumentSync");
     json.put("{\"openClose\":true,\"change\":2}");

@@ -1,11 +1,10 @@
-//! What is wrong with a document: the faults of a rule text, or where lexing stops.
-use crate::faults::{fault_message, shown_end, stop_message};
+//! What is told of what was found of a document.
+use crate::findings::{Finding, Weight, findings_of};
 use crate::json::Json;
-use crate::languages::{Definition, Types};
+use crate::languages::Types;
 use crate::messages::begin_notification;
-use crate::opened::{Opened, Role};
-use crate::positions::{Encoding, position_at};
-use lrlex::{Budget, Document, LexBuildError, LexError, LexFlags, Span, Spanned};
+use crate::opened::Opened;
+use lrlex::{Document, LexFlags, PositionEncoding, Span};
 use std::alloc::{AllocError, Global};
 
 /// A text with its places, and what diagnostics of it name.
@@ -13,36 +12,44 @@ use std::alloc::{AllocError, Global};
 struct Place<'p, 'd> {
     uri: &'p str,
     document: &'p Document<'d, Types>,
-    encoding: Encoding,
+    encoding: PositionEncoding,
 }
 
-/// Adds a position.
-fn put_position(json: &mut Json, place: (usize, usize)) {
-    json.open("{");
-    json.member("line");
-    json.number(place.0);
-    json.member("character");
-    json.number(place.1);
-    json.close("}");
+/// The number that the protocol has for how a finding is told (`DiagnosticSeverity`).
+fn severity(weight: Weight) -> &'static str {
+    match weight {
+        Weight::Fault => "1",
+        Weight::Warning | Weight::Unnecessary => "2",
+    }
 }
 
 impl Place<'_, '_> {
-    /// Adds the range of a span.
-    fn put_range(&self, json: &mut Json, span: Span) {
-        let end = shown_end(self.document.text(), span);
+    /// Adds the position of a byte.
+    fn put_position(&self, json: &mut Json, byte: usize) {
+        let (line, column) = self.document.position_in(byte, self.encoding);
         json.open("{");
-        json.member("start");
-        put_position(
-            json,
-            position_at(self.document, self.encoding, span.start()),
-        );
-        json.member("end");
-        put_position(json, position_at(self.document, self.encoding, end));
+        json.member("line");
+        json.number(line);
+        json.member("character");
+        json.number(column);
         json.close("}");
     }
 
-    /// Adds where something that was declared again stands first.
+    /// Adds the range of a span.
+    fn put_range(&self, json: &mut Json, span: Span) {
+        json.open("{");
+        json.member("start");
+        self.put_position(json, span.start());
+        json.member("end");
+        self.put_position(json, span.end());
+        json.close("}");
+    }
+
+    /// Adds where something that is declared again stands first. `INITIAL`, which no text declares, has an empty span.
     fn put_first(&self, json: &mut Json, span: Span) {
+        if span.len() == 0 {
+            return;
+        }
         json.member("relatedInformation");
         json.open("[");
         json.open("{");
@@ -59,121 +66,75 @@ impl Place<'_, '_> {
         json.close("]");
     }
 
-    /// Adds a message at a span.
-    fn put_diagnostic(&self, json: &mut Json, span: Span, message: &str, first: Option<Span>) {
+    /// Adds a finding.
+    fn put_finding(&self, json: &mut Json, finding: &Finding) {
         json.open("{");
         json.member("range");
-        self.put_range(json, span);
+        self.put_range(json, finding.span);
         json.member("severity");
-        json.put("1");
+        json.put(severity(finding.weight));
         json.member("source");
         json.text("lrlex");
         json.member("message");
-        json.text(message);
-        if let Some(first) = first {
-            if first.start() < first.end() {
-                self.put_first(json, first);
-            }
+        json.text(&finding.message);
+        if finding.weight == Weight::Unnecessary {
+            json.member("tags");
+            json.put("[1]");
+        }
+        if let Some(first) = finding.first {
+            self.put_first(json, first);
         }
         json.close("}");
     }
-
-    /// Adds a fault of the rule text at each of its places. Of a duplicate the first place is told beside the others.
-    fn put_fault(&self, json: &mut Json, message: &str, spans: &[Span]) {
-        match spans.split_first() {
-            None => self.put_diagnostic(json, Span::new(0, 0), message, None),
-            Some((first, others)) => {
-                if others.is_empty() {
-                    self.put_diagnostic(json, *first, message, None);
-                }
-                for other in others {
-                    self.put_diagnostic(json, *other, message, Some(*first));
-                }
-            }
-        }
-    }
 }
 
-/// The faults of a rule text. No tables are made for it.
-fn faults_of(
-    alloc: Global,
-    rules: &str,
-    flags: LexFlags,
-) -> Result<Vec<LexBuildError>, AllocError> {
-    let none = Budget::new(0, 0);
-    match Definition::new_with_budget(alloc, rules, flags, none)? {
-        Ok(_) => Ok(Vec::new(alloc)),
-        Err(faults) => Ok(faults),
-    }
-}
-
-/// Adds what is wrong with the document. Whether anything is.
-fn put_all(
-    alloc: Global,
-    json: &mut Json,
-    at: Place<'_, '_>,
-    role: Role,
-    flags: LexFlags,
-) -> Result<bool, AllocError> {
-    let document = at.document;
-    match (role, document.items().last()) {
-        (Role::Rules, _) => {
-            let rules = document.text();
-            let faults = faults_of(alloc, rules, flags)?;
-            for fault in &faults {
-                let message = fault_message(alloc, rules, fault)?;
-                at.put_fault(json, &message, fault.spans());
-            }
-            Ok(!faults.is_empty())
-        }
-        (Role::Text, Some(Err(error))) => {
-            let message = stop_message(alloc, document, error)?;
-            at.put_diagnostic(json, error.span(), &message, None);
-            Ok(true)
-        }
-        _ => Ok(false),
-    }
-}
-
-/// The notification of all that is wrong with a document, and whether anything is.
-pub(crate) fn told_of(
-    alloc: Global,
-    uri: &str,
-    opened: &Opened<'_>,
-    encoding: Encoding,
-    flags: LexFlags,
-) -> Result<(String, bool), AllocError> {
+/// Begins what is told of a document, up to the list of diagnostics.
+fn begin_told(alloc: Global, uri: &str, version: Option<usize>) -> Json {
     let mut json = begin_notification(alloc, "textDocument/publishDiagnostics");
     json.open("{");
     json.member("uri");
     json.text(uri);
-    if let Some(version) = opened.version {
+    if let Some(version) = version {
         json.member("version");
         json.number(version);
     }
     json.member("diagnostics");
     json.open("[");
+    json
+}
+
+/// Ends it.
+fn end_told(mut json: Json) -> Result<String, AllocError> {
+    json.close("]");
+    json.close("}");
+    json.close("}");
+    json.done()
+}
+
+/// The notification of all that was found of a document, and whether it has a fault.
+pub(crate) fn told_of(
+    alloc: Global,
+    uri: &str,
+    opened: &Opened<'_>,
+    encoding: PositionEncoding,
+    flags: LexFlags,
+) -> Result<(String, bool), AllocError> {
     let place = Place {
         uri,
         document: &opened.document,
         encoding,
     };
-    let has_faults = put_all(alloc, &mut json, place, opened.role, flags)?;
-    json.close("]");
-    json.close("}");
-    json.close("}");
-    Ok((json.done()?, has_faults))
+    let findings = findings_of(alloc, &opened.document, opened.role, flags)?;
+    let mut json = begin_told(alloc, uri, opened.version);
+    let mut is_faulty = false;
+    for finding in &findings {
+        place.put_finding(&mut json, finding);
+        is_faulty = is_faulty || finding.weight == Weight::Fault;
+    }
+    Ok((end_told(json)?, is_faulty))
 }
 
 /// The notification that nothing is told of a document any more.
 pub(crate) fn nothing_of(alloc: Global, uri: &str) -> Result<String, AllocError> {
-    let mut json = begin_notification(alloc, "textDocument/publishDiagnostics");
-    json.open("{");
-    json.member("uri");
-    json.text(uri);
-    json.member("diagnostics");
-    json.put("[]");
-    json.close("}");
-    json.close("}");
-    json.done()
+    end_told(begin_told(alloc, uri, None))
 }

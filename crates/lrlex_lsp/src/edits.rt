@@ -1,31 +1,33 @@
 //! The changes that a client makes in a document.
-ghost use Rattle.std.specs.Prelude.{◌≡◌, ◌↔◌, IfOk, OnErr, IsTrue};
+ghost use Rattle.std.specs.Prelude.{◌≡◌, ◌↔◌, IfOk, IfSome, OnErr, IsTrue};
 ghost use Rattle.lrlex_base.specs.Edits.{edited};
 ghost use Rattle.lrlex_base.specs.Spans.{span};
 ghost use Rattle.lrlex.specs.Nearest.{FitsAt};
 ghost use Rattle.serde_json.specs.View.{view};
-ghost use Rattle.lrlex_lsp.specs.Edits.{WasChanged};
+ghost use Rattle.lrlex_lsp.specs.Edits.{AreBytesOf, WasChanged};
 
 use crate::languages::Types;
 use crate::params::range_of;
-use crate::positions::{Encoding, offset_at};
-use lrlex::{Document, EditError};
+use lrlex::{Document, EditError, PositionEncoding};
 use serde_json::Value;
 use std::alloc::{AllocError, Global};
 
 /// The bytes that a change names: those of its range, or all. None where there is a range that names no places.
 fn bytes_of(
     document: &Document<'_, Types>,
-    encoding: Encoding,
+    encoding: PositionEncoding,
     change: &Value,
-) -> Option<(usize, usize)> {
+) -> Option<(usize, usize)>
+    ensures { IfSome result (λ bytes. AreBytesOf encoding document.now.text (view change.now)
+        bytes.0 bytes.1) }
+{
     match change.get("range") {
         None | Some(Value::Null) => Some((0, document.text().len())),
         Some(range) => {
             let (start, end) = range_of(range)?;
             Some((
-                offset_at(document, encoding, start),
-                offset_at(document, encoding, end),
+                document.offset_at(start, encoding),
+                document.offset_at(end, encoding),
             ))
         }
     }
@@ -57,11 +59,12 @@ fn put(
 pub(crate) fn make_change(
     alloc: Global,
     document: &mut Document<'_, Types>,
-    encoding: Encoding,
+    encoding: PositionEncoding,
     change: &Value,
 ) -> Result<bool, AllocError>
     ensures made { IfOk result (λ fits. IsTrue fits
-        → WasChanged document.old.text document.new.text (view change.now)) }
+        → WasChanged encoding document.old.text
+        document.new.text (view change.now)) }
     ensures unfit { IfOk result (λ fits. ¬ (IsTrue fits) → document.new ≡ document.old) }
     ensures refused { OnErr result (document.new ≡ document.old) }
 {

@@ -75,12 +75,18 @@ pub(crate) fn call_of(message: &Value) -> Call<'_>
     }
 }
 
-/// Begins an answer.
-fn begin(alloc: Global, id: Option<&Value>) -> Json {
+/// Begins a message.
+fn begin(alloc: Global) -> Json {
     let mut json = Json::new(alloc);
     json.open("{");
     json.member("jsonrpc");
     json.put("\"2.0\"");
+    json
+}
+
+/// Begins an answer.
+fn begin_answer(alloc: Global, id: Option<&Value>) -> Json {
+    let mut json = begin(alloc);
     json.member("id");
     match id {
         Some(id) => json.value(id),
@@ -91,7 +97,7 @@ fn begin(alloc: Global, id: Option<&Value>) -> Json {
 
 /// An answer up to its result, which is to follow, and then a bracket.
 pub(crate) fn begin_result(alloc: Global, id: &Value) -> Json {
-    let mut json = begin(alloc, Some(id));
+    let mut json = begin_answer(alloc, Some(id));
     json.member("result");
     json
 }
@@ -110,7 +116,7 @@ pub(crate) fn refusal(
     id: Option<&Value>,
     fault: Fault,
 ) -> Result<String, AllocError> {
-    let mut json = begin(alloc, id);
+    let mut json = begin_answer(alloc, id);
     json.member("error");
     json.open("{");
     json.member("code");
@@ -124,10 +130,7 @@ pub(crate) fn refusal(
 
 /// A notification up to its parameters, which are to follow, and then a bracket.
 pub(crate) fn begin_notification(alloc: Global, method: &str) -> Json {
-    let mut json = Json::new(alloc);
-    json.open("{");
-    json.member("jsonrpc");
-    json.put("\"2.0\"");
+    let mut json = begin(alloc);
     json.member("method");
     json.text(method);
     json.member("params");
@@ -149,10 +152,7 @@ pub(crate) fn warning(alloc: Global, message: &str) -> Result<String, AllocError
 
 /// A request of the server's own, without parameters.
 pub(crate) fn request(alloc: Global, id: usize, method: &str) -> Result<String, AllocError> {
-    let mut json = Json::new(alloc);
-    json.open("{");
-    json.member("jsonrpc");
-    json.put("\"2.0\"");
+    let mut json = begin(alloc);
     json.member("id");
     json.number(id);
     json.member("method");

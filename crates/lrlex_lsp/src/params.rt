@@ -1,4 +1,8 @@
 //! What the parameters of a message say.
+ghost use Rattle.std.specs.Prelude.{◌≡◌, IfSome};
+ghost use Rattle.serde_json.specs.View.{view};
+ghost use Rattle.lrlex_lsp.specs.Edits.{IsPosition, IsRange, number_of};
+
 use serde_json::Value;
 
 /// The text at this pointer.
@@ -11,32 +15,35 @@ pub(crate) fn uri_of(message: &Value) -> Option<&str> {
     text_at(message, "/params/textDocument/uri")
 }
 
-/// The version of the document that a message names.
-pub(crate) fn version_of(message: &Value) -> Option<usize> {
-    match message.pointer("/params/textDocument/version")?.as_u64() {
-        Some(version) => Some(version as usize),
-        None => None,
-    }
-}
-
-/// The number that is this member.
-fn number_in(value: &Value, member: &str) -> Option<usize> {
-    match value.get(member)?.as_u64() {
+/// The number that a value is.
+fn number_of(value: &Value) -> Option<usize>
+    ensures { result ≡ number_of (view value.now) }
+{
+    match value.as_u64() {
         Some(number) => Some(number as usize),
         None => None,
     }
 }
 
+/// The version of the document that a message names.
+pub(crate) fn version_of(message: &Value) -> Option<usize> {
+    number_of(message.pointer("/params/textDocument/version")?)
+}
+
 /// Line and column of a position, both from 0.
-fn place_of(position: &Value) -> Option<(usize, usize)> {
+fn place_of(position: &Value) -> Option<(usize, usize)>
+    ensures { IfSome result (λ place. IsPosition (view position.now) place) }
+{
     Some((
-        number_in(position, "line")?,
-        number_in(position, "character")?,
+        number_of(position.get("line")?)?,
+        number_of(position.get("character")?)?,
     ))
 }
 
 /// Both places of a range.
-pub(crate) fn range_of(range: &Value) -> Option<((usize, usize), (usize, usize))> {
+pub(crate) fn range_of(range: &Value) -> Option<((usize, usize), (usize, usize))>
+    ensures { IfSome result (λ both. IsRange (view range.now) both.0 both.1) }
+{
     Some((place_of(range.get("start")?)?, place_of(range.get("end")?)?))
 }
 

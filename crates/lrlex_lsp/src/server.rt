@@ -10,12 +10,13 @@ use crate::messages::{
     BAD_PARAMS, Call, Fault, NO_JSON, NO_METHOD, NO_REQUEST, NOT_INITIALIZED, answer, call_of,
     refusal, warning,
 };
+use crate::opened::Asked;
 use crate::params::{
     can_refresh, is_rule_file, offers_utf8, range_of, text_at, uri_of, version_of,
 };
-use crate::positions::Encoding;
 use crate::started::{Given, Next, Phase, State};
 use crate::texts::Texts;
+use lrlex::PositionEncoding;
 use serde_json::Value;
 use std::alloc::{AllocError, Global};
 
@@ -48,10 +49,10 @@ impl<'d> Server<'d> {
             phase,
             encoding,
             can_refresh,
-            asked,
+            counts,
             kept,
         } = state;
-        let mut texts = Texts::new(alloc, given, encoding, asked);
+        let mut texts = Texts::new(alloc, given, encoding, counts);
         texts.reopen(kept, can_refresh, told)?;
         Ok(Server {
             alloc,
@@ -70,13 +71,13 @@ impl<'d> Server<'d> {
             texts,
         } = self;
         let encoding = texts.encoding;
-        let asked = texts.asked;
+        let counts = texts.counts;
         let kept = texts.close()?;
         Ok(State {
             phase,
             encoding,
             can_refresh,
-            asked,
+            counts,
             kept,
         })
     }
@@ -129,7 +130,7 @@ impl<'d> Server<'d> {
 
     fn initialize(&mut self, id: &Value, message: &Value) -> Result<String, AllocError> {
         if offers_utf8(message) {
-            self.texts.encoding = Encoding::Utf8;
+            self.texts.encoding = PositionEncoding::Utf8;
         }
         self.can_refresh = can_refresh(message);
         self.phase = Phase::Serving;
@@ -138,20 +139,24 @@ impl<'d> Server<'d> {
 
     /// The answer to a request for tokens.
     fn tokens(&mut self, id: &Value, method: &str, message: &Value) -> Result<String, AllocError> {
-        let encoding = self.texts.encoding;
+        let asked = Asked {
+            id,
+            answer: self.texts.next_answer(),
+            encoding: self.texts.encoding,
+        };
         let uri = uri_of(message).unwrap_or("");
         let Some(opened) = self.texts.open.get_mut(uri) else {
             return refusal(self.alloc, Some(id), BAD_PARAMS);
         };
         if method == "textDocument/semanticTokens/full" {
-            return opened.answer_full(self.alloc, encoding, id);
+            return opened.answer_full(self.alloc, asked);
         }
         if method == "textDocument/semanticTokens/full/delta" {
             let since = text_at(message, "/params/previousResultId").unwrap_or("");
-            return opened.answer_delta(self.alloc, encoding, id, since);
+            return opened.answer_delta(self.alloc, asked, since);
         }
         match message.pointer("/params/range").and_then(range_of) {
-            Some(range) => opened.answer_range(self.alloc, encoding, id, range),
+            Some(range) => opened.answer_range(self.alloc, asked, range),
             None => refusal(self.alloc, Some(id), BAD_PARAMS),
         }
     }

@@ -1,7 +1,6 @@
 //! What a server is begun with, and what outlives it where the given rules change.
 use crate::languages::Language;
-use crate::positions::Encoding;
-use lrlex::LexFlags;
+use lrlex::{LexFlags, PositionEncoding};
 use std::alloc::Global;
 
 /// What the server does after a message.
@@ -20,6 +19,15 @@ pub(crate) enum Phase {
     Begun,
     Serving,
     ShutDown,
+}
+
+/// What a server counts, so that no number is given twice.
+#[derive(Clone, Copy)]
+pub(crate) struct Counts {
+    /// How many requests of its own it has made.
+    pub(crate) asked: usize,
+    /// How many requests for tokens there were.
+    pub(crate) told: usize,
 }
 
 /// The languages of a server.
@@ -48,9 +56,9 @@ pub(crate) struct Kept {
 #[derive(Drop)]
 pub struct State {
     pub(crate) phase: Phase,
-    pub(crate) encoding: Encoding,
+    pub(crate) encoding: PositionEncoding,
     pub(crate) can_refresh: bool,
-    pub(crate) asked: usize,
+    pub(crate) counts: Counts,
     pub(crate) kept: Vec<Kept>,
 }
 
@@ -59,9 +67,9 @@ impl State {
     pub fn new(alloc: Global) -> State {
         State {
             phase: Phase::Begun,
-            encoding: Encoding::Utf16,
+            encoding: PositionEncoding::Utf16,
             can_refresh: false,
-            asked: 0,
+            counts: Counts { asked: 0, told: 0 },
             kept: Vec::new(alloc),
         }
     }

@@ -1,11 +1,13 @@
 //! The documents that are open.
+ghost use Rattle.std.specs.Prelude.{◌≡◌, ◌<◌, ◌+◌, ◌^◌};
+
 use crate::diagnostics::{nothing_of, told_of};
 use crate::edits::make_change;
 use crate::messages::request;
 use crate::opened::{Opened, Role};
-use crate::positions::Encoding;
-use crate::started::{Given, Kept, Next};
+use crate::started::{Counts, Given, Kept, Next};
 use crate::uris::is_same_file;
+use lrlex::PositionEncoding;
 use serde_json::Value;
 use std::alloc::{AllocError, Global};
 use std::collections::BTreeMap;
@@ -15,10 +17,18 @@ use std::collections::BTreeMap;
 pub(crate) struct Texts<'d> {
     alloc: Global,
     given: Given<'d>,
-    pub(crate) encoding: Encoding,
-    /// How many requests of its own the server has made.
-    pub(crate) asked: usize,
+    pub(crate) encoding: PositionEncoding,
+    pub(crate) counts: Counts,
     pub(crate) open: BTreeMap<String, Opened<'d>>,
+}
+
+/// The next number.
+fn counted(count: &mut usize) -> usize
+    ensures next { count.old + 1 < 2 ^ 64 → result ≡ count.old + 1 }
+    ensures count { count.new ≡ result }
+{
+    *count = count.saturating_add(1);
+    *count
 }
 
 impl<'d> Texts<'d> {
@@ -26,14 +36,14 @@ impl<'d> Texts<'d> {
     pub(crate) fn new(
         alloc: Global,
         given: Given<'d>,
-        encoding: Encoding,
-        asked: usize,
+        encoding: PositionEncoding,
+        counts: Counts,
     ) -> Texts<'d> {
         Texts {
             alloc,
             given,
             encoding,
-            asked,
+            counts,
             open: BTreeMap::new(alloc),
         }
     }
@@ -50,8 +60,8 @@ impl<'d> Texts<'d> {
             self.tell(&text.uri, told)?;
         }
         if can_refresh && !kept.is_empty() {
-            self.asked = self.asked.saturating_add(1);
-            let body = request(self.alloc, self.asked, "workspace/semanticTokens/refresh")?;
+            let number = counted(&mut self.counts.asked);
+            let body = request(self.alloc, number, "workspace/semanticTokens/refresh")?;
             told.push(body)?;
         }
         Ok(())
@@ -104,11 +114,22 @@ impl<'d> Texts<'d> {
         };
         let mut all_fit = true;
         for change in changes {
-            let fits = make_change(self.alloc, &mut opened.document, self.encoding, change)?;
-            all_fit = all_fit && fits;
+            if make_change(self.alloc, &mut opened.document, self.encoding, change)? {
+                opened.note_edit();
+            } else {
+                all_fit = false;
+            }
         }
         opened.version = version;
         Ok(all_fit)
+    }
+
+    /// The number of an answer with tokens, which no other has: neither one of this document nor of another, open or closed.
+    pub(crate) fn next_answer(&mut self) -> usize
+        ensures next { self.old.counts.told + 1 < 2 ^ 64 → result ≡ self.old.counts.told + 1 }
+        ensures count { self.new.counts.told ≡ result }
+    {
+        counted(&mut self.counts.told)
     }
 
     /// Closes a document, and tells that nothing is wrong with it any more.

@@ -1,12 +1,19 @@
 //! Semantic tokens: what the pieces of a text are shown as, five numbers a token, each placed by the one before it.
 ghost use Rattle.std.specs.Prelude.{◌≡◌, OnOk};
-ghost use Rattle.lrlex_lsp.specs.Offsets.{IsUpTo};
+ghost use Rattle.lrlex.specs.Words.{IsUpTo};
 ghost use Rattle.lrlex_lsp.specs.Tokens.{IsNextToken, reached, short};
 
 use crate::languages::{Language, Types};
-use crate::positions::{Encoding, position_at, width};
-use lrlex::{Document, Piece};
+use lrlex::{Document, Piece, PositionEncoding};
 use std::alloc::{AllocError, Global};
+
+/// How many columns a text takes.
+fn width(encoding: PositionEncoding, text: &str) -> usize {
+    match encoding {
+        PositionEncoding::Utf8 => text.len(),
+        PositionEncoding::Utf16 => text.encode_utf16().count(),
+    }
+}
 
 /// How far a token is from the one before: lines down, and columns right, in the same line from that token's beginning and else
 /// from the line's.
@@ -27,80 +34,112 @@ fn short(number: usize) -> u32
     u32::try_from(number).unwrap_or(u32::MAX)
 }
 
-/// The tokens of pieces in a row, and where the last of these ends.
+/// How many bytes a piece has, and how many tokens it is shown as.
+#[derive(Clone, Copy)]
+pub(crate) struct Extent {
+    pub(crate) bytes: usize,
+    pub(crate) tokens: usize,
+}
+
+/// What pieces in a row are shown as.
 #[derive(Drop)]
-struct Tokens {
-    encoding: Encoding,
-    numbers: Vec<u32>,
+pub(crate) struct Tokens {
+    /// Five numbers a token.
+    pub(crate) numbers: Vec<u32>,
+    /// Each piece in turn.
+    pub(crate) pieces: Vec<Extent>,
+}
+
+impl Tokens {
+    /// Those of no pieces.
+    pub(crate) fn none(alloc: Global) -> Tokens {
+        Tokens {
+            numbers: Vec::new(alloc),
+            pieces: Vec::new(alloc),
+        }
+    }
+}
+
+/// Tokens to which those of one piece after the other are added.
+#[derive(Drop)]
+struct Row {
+    encoding: PositionEncoding,
+    tokens: Tokens,
     /// Line and column where the next piece begins.
     place: (usize, usize),
     /// Line and column where the last token begins.
     last: (usize, usize),
 }
 
-impl Tokens {
+impl Row {
     /// Adds a token at the place, which isn't before the last one.
     fn push(&mut self, length: usize, kind: u32) -> Result<(), AllocError>
         ensures next { OnOk result (IsNextToken self.old.last self.old.place length kind
-            self.old.numbers.items self.new.numbers.items) }
+            self.old.tokens.numbers.items self.new.tokens.numbers.items) }
         ensures last { OnOk result (self.new.last ≡ self.old.place) }
     {
         let (down, right) = from_last(self.last, self.place);
         let token = [short(down), short(right), short(length), kind, 0];
-        self.numbers.extend_from_slice(&token)?;
+        self.tokens.numbers.extend_from_slice(&token)?;
         self.last = self.place;
         Ok(())
     }
 
-    /// Goes over a part of a line.
-    fn push_part(&mut self, part: &str, kind: Option<u32>) -> Result<(), AllocError> {
+    /// Goes over a part of a line, which has a token unless it is empty or plain. How many tokens that adds.
+    fn push_part(&mut self, part: &str, kind: Option<u32>) -> Result<usize, AllocError> {
         let length = width(self.encoding, part.trim_end_matches('\r'));
+        let mut added = 0;
         if let Some(kind) = kind {
             if length > 0 {
                 self.push(length, kind)?;
+                added = 1;
             }
         }
         let (line, column) = self.place;
         self.place = (line, column.saturating_add(width(self.encoding, part)));
-        Ok(())
+        Ok(added)
     }
 
     /// Goes over a piece, with a token for each line of it.
     fn push_piece(&mut self, text: &str, kind: Option<u32>) -> Result<(), AllocError> {
+        let mut tokens = 0usize;
         let mut is_first = true;
         for part in text.split('\n') {
             if !is_first {
                 self.place = (self.place.0.saturating_add(1), 0);
             }
             is_first = false;
-            self.push_part(part, kind)?;
+            tokens = tokens.saturating_add(self.push_part(part, kind)?);
         }
+        let bytes = text.len();
+        self.tokens.pieces.push(Extent { bytes, tokens })?;
         Ok(())
     }
 }
 
-/// The tokens of these pieces of the document, which stand in a row.
+/// The tokens of these pieces of the document, which stand in a row, after a token at the place `last`.
 fn tokens_of(
     alloc: Global,
     language: &Language,
     document: &Document<'_, Types>,
-    encoding: Encoding,
+    encoding: PositionEncoding,
     pieces: &[Piece<'_, '_>],
-) -> Result<Vec<u32>, AllocError> {
+    last: (usize, usize),
+) -> Result<Tokens, AllocError> {
     let begin = match pieces.first() {
         Some(piece) => piece.span.start(),
         None => 0,
     };
-    let mut tokens = Tokens {
+    let mut row = Row {
         encoding,
-        numbers: Vec::new(alloc),
-        place: position_at(document, encoding, begin),
-        last: (0, 0),
+        tokens: Tokens::none(alloc),
+        place: document.position_in(begin, encoding),
+        last,
     };
     for piece in pieces {
-        tokens.push_piece(piece.text, language.kind_of(piece))?;
+        row.push_piece(piece.text, language.kind_of(piece))?;
     }
-    Ok(tokens.numbers)
+    Ok(row.tokens)
 }
 
 /// The tokens of the whole document.
@@ -108,21 +147,28 @@ pub(crate) fn all_tokens(
     alloc: Global,
     language: &Language,
     document: &Document<'_, Types>,
-    encoding: Encoding,
-) -> Result<Vec<u32>, AllocError> {
+    encoding: PositionEncoding,
+) -> Result<Tokens, AllocError> {
     let pieces = document.pieces(alloc)?;
-    tokens_of(alloc, language, document, encoding, pieces.as_slice())
+    tokens_of(
+        alloc,
+        language,
+        document,
+        encoding,
+        pieces.as_slice(),
+        (0, 0),
+    )
 }
 
-/// The tokens of the pieces that have a byte in `from..to`.
+/// The tokens of the pieces that have a byte in `bytes.0..bytes.1`, after a token at the place `last`.
 pub(crate) fn tokens_in(
     alloc: Global,
     language: &Language,
     document: &Document<'_, Types>,
-    encoding: Encoding,
-    from: usize,
-    to: usize,
-) -> Result<Vec<u32>, AllocError> {
-    let pieces = document.pieces_in(alloc, from, to)?;
-    tokens_of(alloc, language, document, encoding, pieces.as_slice())
+    encoding: PositionEncoding,
+    bytes: (usize, usize),
+    last: (usize, usize),
+) -> Result<Tokens, AllocError> {
+    let pieces = document.pieces_in(alloc, bytes.0, bytes.1)?;
+    tokens_of(alloc, language, document, encoding, pieces.as_slice(), last)
 }
