@@ -21,13 +21,16 @@ FAULTS = [
     "6:1-6:2 Invalid regular expression: unclosed group",
 ]
 
+NEVER_ENTERED = "no rule enters this start state; name it as the target of a rule"
+NEVER_WINS = "this rule never wins: it matches no byte, or other rules match all that it does; put it before them"
+
 # Edits as one types them, and what is wrong after each: the places in bytes, as neovim counts them.
 STEPS = [
     ("1s/here here/here there/", ["4:8-4:10 Rule name already exists", "5:1-5:12 Verbatim code not supported",
                                   "6:1-6:2 Invalid regular expression: unclosed group"]),
     ("4s/ID/I2/", ["5:1-5:12 Verbatim code not supported", "6:1-6:2 Invalid regular expression: unclosed group"]),
     ("6s/(/😀()/", ["5:1-5:12 Verbatim code not supported"]),
-    ("5d", ["4:8-4:10 This rule never wins, since other rules match all that it matches"]),
+    ("5d", [f"1:4-1:8 {NEVER_ENTERED}", f"1:9-1:14 {NEVER_ENTERED}", f"4:1-4:6 {NEVER_WINS}"]),
     # what a script does is one step to neovim
     ("undo", FAULTS),
 ]

@@ -22,7 +22,11 @@ let 'LET'
 
 FAULTS = "%s here here\n%%\n[a-z]+ 'ID'\n[A-Z] 'ID'\n 'indented'\n( 'OPEN'\n"
 
-NEVER_WINS = "This rule never wins, since other rules match all that it matches"
+NEVER_WINS = "this rule never wins: it matches no byte, or other rules match all that it does; put it before them"
+NO_TABLE = "this rule has no table, and is slower: it looks at the next byte, as $ and \\b do, or is too large; leave these out"
+LOST = "a backslash is dropped here, before a letter that begins no escape; write the letter, or \\x41 in place of \\x{41}"
+# The severity of a warning, and its tags: 2 a warning, 4 a hint; tag 1 is that of what does nothing.
+WEIGHTS = {NEVER_WINS: (2, [1]), NO_TABLE: (4, None), LOST: (2, None)}
 
 # How much the gate tries. The long runs are `python3 -m language_server.dialogues` and LRLEX_LONG=1.
 IS_LONG = bool(os.environ.get("LRLEX_LONG"))
@@ -196,7 +200,8 @@ class RuleFiles(Session):
         client = self.client()
         client.begin()
         rows = [
-            ("[a-z]+ 'ID'\nif 'IF'\n", [(2, 4, 2, 6, NEVER_WINS)]), ("if 'IF'\n[a-z]+ 'ID'\n", []), ("() 'NONE'\n", [(1, 4, 1, 8, NEVER_WINS)]),
+            ("[a-z]+ 'ID'\nif 'IF'\n", [(2, 0, 2, 2, NEVER_WINS)]), ("if 'IF'\n[a-z]+ 'ID'\n", []), ("() 'NONE'\n", [(1, 0, 1, 2, NEVER_WINS)]),
+            ("😀\\q 'Q'\na$ 'A'\n", [(1, 0, 1, 4, LOST), (2, 0, 2, 2, NO_TABLE)]),
             ("[a-z]+ 'ID'\nif 'IF'\n( 'OPEN'\n", [(3, 0, 3, 1, "Invalid regular expression: unclosed group")]),
         ]
         for rules, wanted in rows:
@@ -204,7 +209,7 @@ class RuleFiles(Session):
                 told = client.open(URI, f"%%\n{rules}")["diagnostics"]
                 self.assertEqual(wanted, [spot(it) for it in told])
                 for it in told:
-                    self.assertEqual((2, [1]) if it["message"] == NEVER_WINS else (1, None), (it["severity"], it.get("tags")))
+                    self.assertEqual(WEIGHTS.get(it["message"], (1, None)), (it["severity"], it.get("tags")))
         self.assertEqual(0, client.end())
 
     def test_columns_in_utf16(self):

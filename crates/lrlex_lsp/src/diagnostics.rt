@@ -20,6 +20,7 @@ fn severity(weight: Weight) -> &'static str {
     match weight {
         Weight::Fault => "1",
         Weight::Warning | Weight::Unnecessary => "2",
+        Weight::Hint => "4",
     }
 }
 

@@ -1,8 +1,8 @@
 //! What is found of a document: the faults of a rule text or what its author hardly meant, or where lexing stops.
 use crate::languages::{Definition, Types};
 use crate::opened::Role;
-use lrlex::{Document, LexBuildError, LexError, LexFlags, LexerDef, Span, Spanned};
-use lrlex_report::{fault_message, fault_range, stop_message_in};
+use lrlex::{Document, LexBuildError, LexError, LexFlags, Span, Spanned};
+use lrlex_report::{WarningKind, fault_message, fault_range, stop_message_in, warnings_of};
 use std::alloc::{AllocError, Global};
 
 /// How a finding is told.
@@ -12,6 +12,8 @@ pub(crate) enum Weight {
     Warning,
     /// A warning of what does nothing, which editors fade.
     Unnecessary,
+    /// What could be better.
+    Hint,
 }
 
 /// What is found of a part of a text.
@@ -23,9 +25,6 @@ pub(crate) struct Finding {
     /// Where something that is declared again stands first.
     pub(crate) first: Option<Span>,
 }
-
-/// What is said of a rule that wins no text.
-const NEVER_WINS: &str = "This rule never wins, since other rules match all that it matches";
 
 /// Adds a fault of a rule text: that of a duplicate at each place but the first.
 fn push_fault(
@@ -57,21 +56,13 @@ fn push_fault(
     Ok(())
 }
 
-/// Adds a warning.
-fn push_warning(
-    alloc: Global,
-    found: &mut Vec<Finding>,
-    weight: Weight,
-    span: Span,
-    message: &str,
-) -> Result<(), AllocError> {
-    found.push(Finding {
-        weight,
-        span,
-        message: String::from_str(alloc, message)?,
-        first: None,
-    })?;
-    Ok(())
+/// How a warning is told: a rule that does nothing is faded, and one that is slow is a hint.
+fn weight_of(kind: WarningKind) -> Weight {
+    match kind {
+        WarningKind::NeverWins | WarningKind::NeverActive => Weight::Unnecessary,
+        WarningKind::NoTable => Weight::Hint,
+        _ => Weight::Warning,
+    }
 }
 
 /// Adds what the author of a rule text without faults hardly meant.
@@ -84,17 +75,13 @@ fn push_warnings(
     let Ok(definition) = Definition::new_with_options(alloc, rules, flags)? else {
         return Ok(());
     };
-    let may_win = definition.may_win(alloc)?;
-    for (rule, may_win) in definition.iter_rules().zip(may_win.iter()) {
-        if !*may_win {
-            push_warning(
-                alloc,
-                found,
-                Weight::Unnecessary,
-                rule.name_span(),
-                NEVER_WINS,
-            )?;
-        }
+    for warning in &warnings_of(alloc, rules, &definition)? {
+        found.push(Finding {
+            weight: weight_of(warning.kind()),
+            span: warning.span(),
+            message: String::from_str(alloc, warning.kind().message())?,
+            first: None,
+        })?;
     }
     Ok(())
 }
