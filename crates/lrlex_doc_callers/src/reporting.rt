@@ -1,6 +1,6 @@
 //! What is wrong with a rule text, or where lexing stops, for people.
 use lrlex::{DefaultLexerTypes, LRNonStreamingLexerDef, LexerDef};
-use lrlex_report::{bad_byte_text, faults_text, stop_text_in};
+use lrlex_report::{bad_byte_text, faults_text, stop_text_in, warnings_of, warnings_text};
 use std::alloc::{AllocError, Global};
 use std::str;
 
@@ -21,4 +21,14 @@ pub fn complaints_of_file(alloc: Global, rules: &[u8], input: &str) -> Result<St
         Some(shown) => Ok(shown),
         None => complaints(alloc, str::from_utf8(rules).unwrap(), input),
     }
+}
+
+/// What the rule text says and its author hardly meant. Empty where it has faults.
+pub fn advice(alloc: Global, rules: &str) -> Result<String, AllocError> {
+    let built = LRNonStreamingLexerDef::<DefaultLexerTypes<u32>>::from_str(alloc, rules)?;
+    let Ok(definition) = built else {
+        return Ok(String::new(alloc));
+    };
+    let warnings = warnings_of(alloc, rules, &definition)?;
+    warnings_text(alloc, "tokens.l", rules, &warnings)
 }
