@@ -86,9 +86,8 @@ pub fn edits_of(alloc: Global, list: &[Value]) -> Result<Vec<(Edit<'_>, &str)>, 
 
 /// Tells whether an edit fits a text, and whether it makes the other of it.
 pub fn tell_edit(told: &mut Told, old: &str, edit: Edit<'_>, new: &str) {
-    told.key("fits");
-    told.open("[");
+    told.list("fits");
     told.truth(edit.fits(old));
     told.truth(edit.gives(old, new));
-    told.close("]");
+    told.close();
 }
