@@ -9,7 +9,7 @@ use lrlex_replay_cases::facts::tell_no_items;
 use lrlex_replay_cases::reading::Trouble;
 use lrlex_replay_cases::told::Told;
 use serde_json::Value;
-use std::alloc::{AllocError, Global};
+use std::alloc::Global;
 
 /// Takes a run through edits, and tells the items of its lexer; null where an edit doesn't make its text.
 fn tell_after(
@@ -17,7 +17,7 @@ fn tell_after(
     definition: &Definition<u32>,
     text: &str,
     edits: &[(Edit<'_>, &str)],
-) -> Result<(), AllocError> {
+) -> Result<(), Trouble> {
     match lexer_after(told.alloc(), definition, text, edits)? {
         Some(lexer) => tell_lexed(told, &lexer),
         None => {
@@ -35,7 +35,7 @@ pub fn keep_run(
     list: &[Value],
 ) -> Result<(), Trouble> {
     let edits = edits_of(told.alloc(), list)?;
-    Ok(tell_after(told, definition, text, edits.as_slice())?)
+    tell_after(told, definition, text, edits.as_slice())
 }
 
 /// The definition of a rule text without faults.

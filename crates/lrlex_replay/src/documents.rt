@@ -10,7 +10,6 @@ use lrlex_replay_cases::reading::{Change, Trouble, bytes_of, change_of, count_of
 use lrlex_replay_cases::steps::Shown;
 use lrlex_replay_cases::told::Told;
 use serde_json::Value;
-use std::alloc::AllocError;
 
 /// A document of a definition with ids of type `u32`.
 type Edited<'d> = Document<'d, DefaultLexerTypes<u32>>;
@@ -22,18 +21,17 @@ fn tell_change(told: &mut Told, change: lrlex::Change) {
 
 /// Tells what a document shows: its counts, what the last edit changed in its items and in its pieces, its text, its items and its
 /// pieces.
-fn tell_shown(told: &mut Told, document: &Edited<'_>) -> Result<(), AllocError> {
+fn tell_shown(told: &mut Told, document: &Edited<'_>) -> Result<(), Trouble> {
     told.key("document");
     told.numbers(&[
         document.tiles(),
         document.recut_tiles(),
         most_of(document.asked()),
     ]);
-    told.key("changed");
-    told.open("[");
+    told.list("changed");
     tell_change(told, document.changed().items);
     tell_change(told, document.changed().pieces);
-    told.close("]");
+    told.close();
     told.key("text");
     told.text(document.text());
     tell_items(told, document.items());
@@ -42,18 +40,14 @@ fn tell_shown(told: &mut Told, document: &Edited<'_>) -> Result<(), AllocError> 
 }
 
 /// Tells that an edit was out of memory, and what the document shows then.
-fn tell_refused(told: &mut Told, document: &Edited<'_>) -> Result<(), AllocError> {
+fn tell_refused(told: &mut Told, document: &Edited<'_>) -> Result<(), Trouble> {
     told.key("out_of_memory");
     told.null();
     tell_shown(told, document)
 }
 
 /// Makes an edit; where memory is refused, tells what the document shows then, and makes it once more. Whether it fits.
-fn make(
-    told: &mut Told,
-    document: &mut Edited<'_>,
-    change: Change<'_>,
-) -> Result<bool, AllocError> {
+fn make(told: &mut Told, document: &mut Edited<'_>, change: Change<'_>) -> Result<bool, Trouble> {
     let (from, to, put) = change;
     let mut made = document.edit(told.alloc(), from, to, put);
     if let Err(EditError::OutOfMemory) = made {
@@ -63,7 +57,7 @@ fn make(
     match made {
         Ok(()) => Ok(true),
         Err(EditError::DoesNotFit) => Ok(false),
-        Err(EditError::OutOfMemory) => Err(AllocError),
+        Err(EditError::OutOfMemory) => Err(Trouble::Memory),
     }
 }
 
@@ -74,12 +68,11 @@ fn tell_place(told: &mut Told, document: &Edited<'_>, byte: usize) {
 
 /// Tells the places of these bytes.
 fn tell_places(told: &mut Told, document: &Edited<'_>, bytes: &[Value]) -> Result<(), Trouble> {
-    told.key("places");
-    told.open("[");
+    told.list("places");
     for byte in bytes {
         tell_place(told, document, count_of(byte)?);
     }
-    told.close("]");
+    told.close();
     Ok(())
 }
 
@@ -110,14 +103,14 @@ fn type_keys(
     told: &mut Told,
     document: &mut Edited<'_>,
     change: Change<'_>,
-) -> Result<(), AllocError> {
+) -> Result<(), Trouble> {
     let (at, _, keys) = change;
     let typed = typed(told.alloc(), document, at, keys);
     told.key("typed");
     match typed {
         Ok(place) => told.pair(place),
         Err(EditError::DoesNotFit) => told.null(),
-        Err(EditError::OutOfMemory) => return Err(AllocError),
+        Err(EditError::OutOfMemory) => return Err(Trouble::Memory),
     }
     Ok(())
 }
@@ -136,18 +129,17 @@ fn retype(told: &mut Told, document: &mut Edited<'_>, change: Change<'_>) -> Res
             told.null();
             Ok(())
         }
-        Err(EditError::OutOfMemory) => Err(Trouble::from(AllocError)),
+        Err(EditError::OutOfMemory) => Err(Trouble::Memory),
     }
 }
 
 /// Tells the texts that the document has at these spans.
 fn tell_texts(told: &mut Told, document: &Edited<'_>, spans: &[Value]) -> Result<(), Trouble> {
-    told.key("texts");
-    told.open("[");
+    told.list("texts");
     for span in spans {
         told.text(document.text_of(loose_span_of(span)?));
     }
-    told.close("]");
+    told.close();
     Ok(())
 }
 
@@ -163,7 +155,7 @@ fn tell_document(
             let words = visible(told.alloc(), document, span.start(), span.end());
             tell_words(told, words)
         }
-        Shown::Typed(change) => Ok(type_keys(told, document, change)?),
+        Shown::Typed(change) => type_keys(told, document, change),
         Shown::Retyped(change) => retype(told, document, change),
         Shown::Texts(spans) => tell_texts(told, document, spans),
         Shown::Range(span) => {
@@ -191,7 +183,7 @@ pub fn cut_document(
     definition: &Definition<u32>,
     text: &str,
     ends: (usize, usize),
-) -> Result<(), AllocError> {
+) -> Result<(), Trouble> {
     let document = Document::new(told.alloc(), definition, text)?;
     tell_pieces(told, text, document.pieces_in(told.alloc(), ends.0, ends.1))
 }

@@ -9,20 +9,20 @@ use lrlex_replay_cases::steps::Engine;
 use lrlex_replay_cases::told::Told;
 use lrlex_replay_cases::writers::{BrokenWriter, Came, tell_came, tell_served};
 use serde_json::Value;
-use std::alloc::{AllocError, Global};
+use std::alloc::Global;
 use std::error::Error;
 use std::io;
 
 /// What a fault of the engine is.
-fn came_of_fault(fault: &EngineFault) -> Result<Came, AllocError> {
+fn came_of_fault(fault: &EngineFault) -> Result<Came, Trouble> {
     match fault {
-        EngineFault::Memory => Err(AllocError),
+        EngineFault::Memory => Err(Trouble::Memory),
         EngineFault::Write(fault) => Ok(Came::Failed(fault.kind())),
     }
 }
 
 /// What a run came to.
-fn came_of_run(ended: &Result<Ended, EngineFault>) -> Result<Came, AllocError> {
+fn came_of_run(ended: &Result<Ended, EngineFault>) -> Result<Came, Trouble> {
     match ended {
         Ok(Ended::Lexed) => Ok(Came::Lexed),
         Ok(Ended::Stopped) => Ok(Came::Stopped),
@@ -37,7 +37,7 @@ fn ran(
     rules: &str,
     input: &str,
     writer: &mut BrokenWriter,
-) -> Result<Came, AllocError> {
+) -> Result<Came, Trouble> {
     let flags = UNSPECIFIED_LEX_FLAGS;
     let ended = engine::run::<DefaultLexerTypes<u32>, _>(alloc, rules, flags, input, writer);
     came_of_run(&ended)
@@ -58,11 +58,11 @@ fn ran_edited(
     let ended = engine::run_edited::<DefaultLexerTypes<u32>, _>(
         alloc, rules, flags, old, edit, new, writer,
     );
-    Ok(came_of_run(&ended)?)
+    came_of_run(&ended)
 }
 
 /// What reporting the faults of the rule text came to; reporting none where it has none.
-fn reported(alloc: Global, rules: &str, writer: &mut BrokenWriter) -> Result<Came, AllocError> {
+fn reported(alloc: Global, rules: &str, writer: &mut BrokenWriter) -> Result<Came, Trouble> {
     let built = LRNonStreamingLexerDef::<DefaultLexerTypes<u32>>::from_str(alloc, rules)?;
     let came = match built {
         Ok(_) => engine::report(alloc, &[], rules, writer),
@@ -77,9 +77,9 @@ fn reported(alloc: Global, rules: &str, writer: &mut BrokenWriter) -> Result<Cam
 /// What the engine came to.
 fn came_of(alloc: Global, asked: Engine<'_>, writer: &mut BrokenWriter) -> Result<Came, Trouble> {
     match asked {
-        Engine::Run(rules, input) => Ok(ran(alloc, rules, input, writer)?),
+        Engine::Run(rules, input) => ran(alloc, rules, input, writer),
         Engine::RunEdited(rules, texts, edit) => ran_edited(alloc, rules, texts, &edit, writer),
-        Engine::Report(rules) => Ok(reported(alloc, rules, writer)?),
+        Engine::Report(rules) => reported(alloc, rules, writer),
     }
 }
 
@@ -116,27 +116,23 @@ pub fn serve(
 }
 
 /// Tells the text that a fault displays.
-fn tell_displayed<E: Error>(told: &mut Told, fault: &E) -> Result<(), AllocError> {
-    let text = format!(in told.alloc(); "{fault}")?;
-    told.text(text.as_str());
-    Ok(())
+fn tell_displayed<E: Error>(told: &mut Told, fault: &E) {
+    let text = format!(in told.alloc(); "{fault}");
+    told.made(text);
 }
 
 /// Tells the text that each fault displays: those of the engine, of the words and of the texts.
-pub fn display_faults(told: &mut Told) -> Result<(), AllocError> {
-    told.key("faults");
-    told.open("[");
-    tell_displayed(told, &EngineFault::Memory)?;
+pub fn display_faults(told: &mut Told) {
+    told.list("faults");
+    tell_displayed(told, &EngineFault::Memory);
     tell_displayed(
         told,
         &EngineFault::Write(io::Error::from(io::ErrorKind::Other)),
-    )?;
-    for fault in [WordsFault::Memory, WordsFault::Refused] {
-        tell_displayed(told, &fault)?;
-    }
-    for fault in [TextFault::Memory, TextFault::Unreadable, TextFault::NotText] {
-        tell_displayed(told, &fault)?;
-    }
-    told.close("]");
-    Ok(())
+    );
+    tell_displayed(told, &WordsFault::Memory);
+    tell_displayed(told, &WordsFault::Refused);
+    tell_displayed(told, &TextFault::Memory);
+    tell_displayed(told, &TextFault::Unreadable);
+    tell_displayed(told, &TextFault::NotText);
+    told.close();
 }

@@ -23,10 +23,9 @@ pub fn item_seen<T: Id>(item: &Result<DefaultLexeme<T>, LRLexError>) -> Item {
 
 /// Tells lexemes and errors.
 pub fn tell_items(told: &mut Told, items: &[Result<DefaultLexeme<u32>, LRLexError>]) {
-    told.key("items");
-    told.open("[");
+    told.list("items");
     for item in items {
         tell_item(told, item_seen(item));
     }
-    told.close("]");
+    told.close();
 }

@@ -46,15 +46,14 @@ fn tell_place(told: &mut Told, lexer: &LexerOf<'_, '_>, byte: usize) {
 fn tell_span(told: &mut Told, lexer: &LexerOf<'_, '_>, input: &str, span: Span)
     requires { lexer_text lexer.now ≡ input.now }
 {
-    told.key("told");
-    told.open("[");
+    told.list("told");
     told.number(span.start());
     told.number(span.end());
     told.text(lexer.text_of(span));
     tell_fitting(told, fitting(lexer, input, span));
     tell_place(told, lexer, span.start());
     tell_place(told, lexer, span.end());
-    told.close("]");
+    told.close();
 }
 
 /// The items of a lexer.
@@ -63,7 +62,7 @@ fn items_of(alloc: Global, lexer: &LexerOf<'_, '_>) -> Result<Vec<Item>, AllocEr
 }
 
 /// Tells the items of a lexer.
-pub fn tell_lexed(told: &mut Told, lexer: &LexerOf<'_, '_>) -> Result<(), AllocError> {
+pub fn tell_lexed(told: &mut Told, lexer: &LexerOf<'_, '_>) -> Result<(), Trouble> {
     let items = items_of(told.alloc(), lexer)?;
     tell_items(told, items.as_slice());
     Ok(())
@@ -97,10 +96,9 @@ fn tell_spans(
 fn tell_bytes(told: &mut Told, lexer: &LexerOf<'_, '_>, bytes: &[Value]) -> Result<(), Trouble> {
     for value in bytes {
         let byte = count_of(value)?;
-        told.key("place");
-        told.open("[");
+        told.list("place");
         tell_place(told, lexer, byte);
-        told.close("]");
+        told.close();
     }
     Ok(())
 }

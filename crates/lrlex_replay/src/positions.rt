@@ -3,10 +3,9 @@ use crate::building::Definition;
 use crate::lexers::LexerOf;
 use lrlex::{DefaultLexerTypes, Document, EditError, LexerDef, PositionEncoding};
 use lrlex_base::NewlineCache;
-use lrlex_replay_cases::reading::{Trouble, change_of, count_of, elements_of};
+use lrlex_replay_cases::reading::{Change, Trouble, change_of, count_of, elements_of};
 use lrlex_replay_cases::told::Told;
 use serde_json::Value;
-use std::alloc::AllocError;
 
 /// A document of a definition with ids of type `u32`.
 type Edited<'d> = Document<'d, DefaultLexerTypes<u32>>;
@@ -57,37 +56,72 @@ fn tell_of_lexer(told: &mut Told, lexer: &LexerOf<'_, '_>, asked: Question) {
 
 /// Tells all that is asked of a document.
 fn tell_document(told: &mut Told, document: &Edited<'_>, asked: &[Value]) -> Result<(), Trouble> {
-    told.key("positions");
-    told.open("[");
+    told.list("positions");
     for value in asked {
         tell_of_document(told, document, asked_of(value)?);
     }
-    told.close("]");
+    told.close();
     Ok(())
 }
 
 /// Tells all that is asked of a lexer.
 fn tell_lexer(told: &mut Told, lexer: &LexerOf<'_, '_>, asked: &[Value]) -> Result<(), Trouble> {
-    told.key("positions");
-    told.open("[");
+    told.list("positions");
     for value in asked {
         tell_of_lexer(told, lexer, asked_of(value)?);
     }
-    told.close("]");
+    told.close();
     Ok(())
+}
+
+/// Makes an edit, which fits.
+fn edit_once(told: &Told, document: &mut Edited<'_>, change: Change<'_>) -> Result<(), Trouble> {
+    let (from, to, put) = change;
+    match document.edit(told.alloc(), from, to, put) {
+        Ok(()) => Ok(()),
+        Err(EditError::OutOfMemory) => Err(Trouble::Memory),
+        Err(EditError::DoesNotFit) => Err(Trouble::Malformed),
+    }
 }
 
 /// Makes the edits, each of which fits.
 fn edit_all(told: &Told, document: &mut Edited<'_>, edits: &[Value]) -> Result<(), Trouble> {
     for edit in edits {
-        let (from, to, put) = change_of(edit)?;
-        match document.edit(told.alloc(), from, to, put) {
-            Ok(()) => {}
-            Err(EditError::OutOfMemory) => return Err(Trouble::Memory),
-            Err(EditError::DoesNotFit) => return Err(Trouble::Malformed),
-        }
+        edit_once(told, document, change_of(edit)?)?;
     }
     Ok(())
+}
+
+/// Asks the lexer of a text.
+fn ask_lexer(
+    told: &mut Told,
+    definition: &Definition<u32>,
+    text: &str,
+    asked: &[Value],
+) -> Result<(), Trouble> {
+    let lexer = definition.lexer(told.alloc(), text)?;
+    tell_lexer(told, &lexer, asked)
+}
+
+/// Asks a lexer made of a text without items.
+fn ask_bare_lexer(told: &mut Told, text: &str, asked: &[Value]) -> Result<(), Trouble> {
+    let newlines = NewlineCache::from_str(told.alloc(), text)?;
+    let lexer = LexerOf::new(text, Vec::new(told.alloc()), newlines);
+    tell_lexer(told, &lexer, asked)
+}
+
+/// Asks a document after edits, and then both lexers of its text.
+fn ask_edited(
+    told: &mut Told,
+    definition: &Definition<u32>,
+    document: &mut Edited<'_>,
+    edits: &[Value],
+    asked: &[Value],
+) -> Result<(), Trouble> {
+    edit_all(told, document, edits)?;
+    tell_document(told, document, asked)?;
+    ask_lexer(told, definition, document.text(), asked)?;
+    ask_bare_lexer(told, document.text(), asked)
 }
 
 /// Asks a document after edits, then the lexer of its text, and a lexer made of the text without items.
@@ -98,13 +132,6 @@ pub fn ask_positions(
     edits: &[Value],
     asked: &[Value],
 ) -> Result<(), Trouble> {
-    let alloc = told.alloc();
-    let mut document = Document::new(alloc, definition, text)?;
-    edit_all(told, &mut document, edits)?;
-    tell_document(told, &document, asked)?;
-    let lexer = definition.lexer(alloc, document.text())?;
-    tell_lexer(told, &lexer, asked)?;
-    let newlines = NewlineCache::from_str(alloc, document.text())?;
-    let bare = LexerOf::new(document.text(), Vec::new(alloc), newlines);
-    tell_lexer(told, &bare, asked)
+    let mut document = Document::new(told.alloc(), definition, text)?;
+    ask_edited(told, definition, &mut document, edits, asked)
 }

@@ -37,12 +37,20 @@ fn ends_of(lexer: &LexerOf<'_, '_>, span: Span, input: &str) -> ((usize, usize),
 fn tell_ends(told: &mut Told, lexer: &LexerOf<'_, '_>, input: &str, items: &[Item])
     requires { lexer_text lexer.now ≡ input.now }
 {
-    told.key("linecols");
-    told.open("[");
+    told.list("linecols");
     for item in items {
         told.pairs(ends_of(lexer, item.span(), input));
     }
-    told.close("]");
+    told.close();
+}
+
+/// Tells the items of the input, with lines and columns.
+fn tell_placed(told: &mut Told, input: &str, items: &[Item]) -> Result<(), Trouble> {
+    tell_items(told, items);
+    let newlines = NewlineCache::from_str(told.alloc(), input)?;
+    let lexer = LexerOf::new(input, Vec::new(told.alloc()), newlines);
+    tell_ends(told, &lexer, input, items);
+    Ok(())
 }
 
 /// Tells what lexing the input gives, with lines and columns.
@@ -50,12 +58,9 @@ fn tell_lexed(
     told: &mut Told,
     input: &str,
     lexed: Result<Lexed, AllocError>,
-) -> Result<(), AllocError> {
+) -> Result<(), Trouble> {
     let (items, counts) = lexed?;
-    tell_items(told, items.as_slice());
-    let newlines = NewlineCache::from_str(told.alloc(), input)?;
-    let lexer = LexerOf::new(input, Vec::new(told.alloc()), newlines);
-    tell_ends(told, &lexer, input, items.as_slice());
+    tell_placed(told, input, items.as_slice())?;
     tell_counts(told, counts);
     Ok(())
 }
@@ -74,11 +79,11 @@ fn lexed<T: Id>(
 
 /// Tells the definition, and what lexing the input gives: by the definition's tables, and without any, so that each rule is
 /// asked.
-fn tell_definition<T: Id>(
+fn tell_definition<T: Id + Into<u64>>(
     told: &mut Told,
     definition: Definition<T>,
     input: &str,
-) -> Result<(), AllocError> {
+) -> Result<(), Trouble> {
     let alloc = told.alloc();
     tell_states(told, definition.iter_start_states().as_slice());
     tell_rules(told, definition.rules());
@@ -88,12 +93,12 @@ fn tell_definition<T: Id>(
 }
 
 /// Tells all that comes of a rule text and an input, with ids of this type.
-fn tell_text<T: Id>(
+fn tell_text<T: Id + Into<u64>>(
     told: &mut Told,
     rules: &str,
     flags: LexFlags,
     input: &str,
-) -> Result<(), AllocError> {
+) -> Result<(), Trouble> {
     match Definition::<T>::new_with_options(told.alloc(), rules, flags)? {
         Ok(definition) => tell_definition(told, definition, input),
         Err(faults) => {
@@ -125,7 +130,7 @@ fn tell_defined(
     if let Some(members) = case.get("ids").and_then(Value::as_object) {
         set_ids(told, &mut definition, members)?;
     }
-    Ok(tell_definition(told, definition, input)?)
+    tell_definition(told, definition, input)
 }
 
 /// Tells all that comes of a case, with ids of type `u32`.
@@ -145,11 +150,11 @@ fn tell(told: &mut Told, case: &Value) -> Result<(), Trouble> {
     match text_in(case, "storage")? {
         "u8" => {
             let (rules, flags, input) = texts_in(case)?;
-            Ok(tell_text::<u8>(told, rules, flags, input)?)
+            tell_text::<u8>(told, rules, flags, input)
         }
         "u16" => {
             let (rules, flags, input) = texts_in(case)?;
-            Ok(tell_text::<u16>(told, rules, flags, input)?)
+            tell_text::<u16>(told, rules, flags, input)
         }
         "u32" => tell_case(told, case),
         _ => Err(Trouble::Malformed),
@@ -166,7 +171,5 @@ fn told_of(alloc: Global, case: &Value) -> Result<String, Trouble> {
 /// Replays a case. Gives what differs.
 pub fn replay(alloc: Global, case: &Value) -> Result<Findings, Trouble> {
     let told = told_of(alloc, case)?;
-    let mut findings = Findings::new(alloc);
-    findings.compare_all(alloc, case, &told)?;
-    Ok(findings)
+    Findings::of(alloc, case, &told)
 }

@@ -43,13 +43,20 @@ fn shown_mark(alloc: Global, mark: &Diagnostic) -> Result<String, AllocError> {
     format!(in alloc; "{start}..{end} {}\n", mark.message)
 }
 
-/// What an editor marks in a rule text, each in a line.
-fn shown_marks(alloc: Global, rules: &str) -> Result<String, AllocError> {
+/// These marks, each in a line.
+fn shown_all(alloc: Global, marks: &[Diagnostic]) -> Result<String, AllocError> {
     let mut shown = String::new(alloc);
-    for mark in &faults(alloc, rules)? {
-        shown.push_str(&shown_mark(alloc, mark)?)?;
+    for mark in marks {
+        let line = shown_mark(alloc, mark)?;
+        shown.push_str(&line)?;
     }
     Ok(shown)
+}
+
+/// What an editor marks in a rule text, each in a line.
+fn shown_marks(alloc: Global, rules: &str) -> Result<String, AllocError> {
+    let marks = faults(alloc, rules)?;
+    shown_all(alloc, marks.as_slice())
 }
 
 /// Why lexing an input by a rule text stops; nothing where it doesn't, or where the rule text has faults.

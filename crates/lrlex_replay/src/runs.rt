@@ -23,22 +23,20 @@ pub fn most_of(number: u128) -> usize {
 
 /// Tells the boundaries of a run.
 fn tell_boundaries(told: &mut Told, run: &Run<'_, '_>) {
-    told.key("boundaries");
-    told.open("[");
+    told.list("boundaries");
     for index in 0..run.boundaries() {
         tell_boundary(told, run.place(index), run.stack(index));
     }
-    told.close("]");
+    told.close();
 }
 
 /// Tells how far past each boundary the tiles before it looked.
 fn tell_ahead(told: &mut Told, run: &Run<'_, '_>) {
-    told.key("ahead");
-    told.open("[");
+    told.list("ahead");
     for index in 0..run.boundaries() {
         told.number(run.ahead(index) as usize);
     }
-    told.close("]");
+    told.close();
 }
 
 /// Tells pieces of the text, if memory was there for them.
@@ -46,16 +44,15 @@ pub fn tell_pieces(
     told: &mut Told,
     text: &str,
     pieces: Result<Vec<Piece<'_, '_>>, AllocError>,
-) -> Result<(), AllocError> {
+) -> Result<(), Trouble> {
     let pieces = pieces?;
-    told.key("pieces");
-    told.open("[");
+    told.list("pieces");
     for piece in pieces.as_slice() {
         let span = piece.span;
         let is_own = text.get(span.start()..span.end()) == Some(piece.text);
         tell_piece(told, piece.rule, span, piece.name, is_own);
     }
-    told.close("]");
+    told.close();
     Ok(())
 }
 
@@ -83,7 +80,7 @@ fn tell_counts(told: &mut Told, run: &Run<'_, '_>) {
 }
 
 /// Tells what a run answers: its counts, and its lists where they aren't long.
-fn tell_run(told: &mut Told, run: &Run<'_, '_>) -> Result<(), AllocError> {
+fn tell_run(told: &mut Told, run: &Run<'_, '_>) -> Result<(), Trouble> {
     tell_counts(told, run);
     if run.tiles() >= MANY_TILES {
         return Ok(());
@@ -108,6 +105,28 @@ fn lex_again<'d, 't>(
     Ok(run.relex(told.alloc(), edit, text)?)
 }
 
+/// Lexes again after the edit, tells what the new run answers, and gives it.
+fn tell_again<'d, 't>(
+    told: &mut Told,
+    run: Run<'d, 't>,
+    next: &'t Made<'_>,
+) -> Result<Run<'d, 't>, Trouble> {
+    let run = lex_again(told, &run, &next.edit, next.text.as_str())?;
+    tell_run(told, &run)?;
+    Ok(run)
+}
+
+/// Lexes a text, tells what the run answers, and gives it.
+fn tell_first<'d, 't>(
+    told: &mut Told,
+    definition: &'d Definition<u32>,
+    text: &'t str,
+) -> Result<Run<'d, 't>, Trouble> {
+    let run = definition.run(told.alloc(), text)?;
+    tell_run(told, &run)?;
+    Ok(run)
+}
+
 /// Tells what runs answer, of a text and after each edit.
 fn tell_runs<'t>(
     told: &mut Told,
@@ -115,11 +134,9 @@ fn tell_runs<'t>(
     text: &'t str,
     made: &'t [Made<'_>],
 ) -> Result<(), Trouble> {
-    let mut run = definition.run(told.alloc(), text)?;
-    tell_run(told, &run)?;
+    let mut run = tell_first(told, definition, text)?;
     for next in made {
-        run = lex_again(told, &run, &next.edit, next.text.as_str())?;
-        tell_run(told, &run)?;
+        run = tell_again(told, run, next)?;
     }
     Ok(())
 }
@@ -142,31 +159,32 @@ pub fn cut_run(
     definition: &Definition<u32>,
     text: &str,
     ends: (usize, usize),
-) -> Result<(), AllocError> {
+) -> Result<(), Trouble> {
     let run = definition.run(told.alloc(), text)?;
     tell_pieces(told, text, run.pieces_in(told.alloc(), ends.0, ends.1))
 }
 
 /// Tells a place and the start state there, null where there is none.
 fn tell_state_at(told: &mut Told, place: usize, state: Option<StartStateId>) {
-    told.key("end");
-    told.open("[");
+    told.list("end");
     told.number(place);
     match state {
         Some(state) => told.number(state.id()),
         None => told.null(),
     }
-    told.close("]");
+    told.close();
+}
+
+/// Tells where a run of the text ends and the start state there.
+fn tell_run_end(told: &mut Told, definition: &Definition<u32>, text: &str) -> Result<(), Trouble> {
+    let run = definition.run(told.alloc(), text)?;
+    tell_state_at(told, run.end(), run.end_state());
+    Ok(())
 }
 
 /// Tells where lexing the text ends and the start state there, by a run and by a document that was taken apart and put together.
-pub fn tell_end(
-    told: &mut Told,
-    definition: &Definition<u32>,
-    text: &str,
-) -> Result<(), AllocError> {
-    let run = definition.run(told.alloc(), text)?;
-    tell_state_at(told, run.end(), run.end_state());
+pub fn tell_end(told: &mut Told, definition: &Definition<u32>, text: &str) -> Result<(), Trouble> {
+    tell_run_end(told, definition, text)?;
     let document = Document::new(told.alloc(), definition, text)?;
     let document = Document::of_text(definition, document.into_text());
     tell_state_at(told, document.end(), document.end_state());

@@ -1,12 +1,12 @@
 //! What a scanner answers.
 use crate::building::Definition;
 use lrlex::{ScanEnd, ScannedTile, Step};
+use lrlex_replay_cases::reading::Trouble;
 use lrlex_replay_cases::told::Told;
-use std::alloc::AllocError;
 
 /// Tells a tile: its rule, its first byte, how many bytes it has, and its id or null.
 fn tell_tile(told: &mut Told, tile: ScannedTile<u32>) {
-    told.open("[");
+    told.open();
     told.number(tile.rule);
     told.number(tile.span.start());
     told.number(tile.span.len());
@@ -14,7 +14,7 @@ fn tell_tile(told: &mut Told, tile: ScannedTile<u32>) {
         Some(id) => told.number(id as usize),
         None => told.null(),
     }
-    told.close("]");
+    told.close();
 }
 
 /// Tells why there are no more tiles.
@@ -29,16 +29,15 @@ fn tell_end(told: &mut Told, end: ScanEnd<u32>) {
 }
 
 /// Tells the tiles of a text as a scanner gives them, and as the last of them why there are no more.
-pub fn scan(told: &mut Told, definition: &Definition<u32>, text: &str) -> Result<(), AllocError> {
+pub fn scan(told: &mut Told, definition: &Definition<u32>, text: &str) -> Result<(), Trouble> {
     let scanner = definition.scanner(told.alloc(), text)?;
-    told.key("scan");
-    told.open("[");
+    told.list("scan");
     for step in scanner.steps(told.alloc()) {
         match step? {
             Step::Tile(tile) => tell_tile(told, tile),
             Step::End(end) => tell_end(told, end),
         }
     }
-    told.close("]");
+    told.close();
     Ok(())
 }

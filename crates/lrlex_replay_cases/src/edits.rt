@@ -72,23 +72,27 @@ pub fn tell_unfit(told: &mut Told, edits: &[Value], made: usize) -> Result<(), T
     Ok(())
 }
 
+/// The edit `[from, to, text, new]`, beside the text that it makes.
+fn edit_with_text(value: &Value) -> Result<(Edit<'_>, &str), Trouble> {
+    match elements_of(Some(value)) {
+        Some([_, _, _, text]) => Ok((edit_of(value)?, text_of(text)?)),
+        _ => Err(Trouble::Malformed),
+    }
+}
+
 /// The edits of a list, each beside the text that it makes.
 pub fn edits_of(alloc: Global, list: &[Value]) -> Result<Vec<(Edit<'_>, &str)>, Trouble> {
     let mut edits = Vec::new(alloc);
     for value in list {
-        match elements_of(Some(value)) {
-            Some([_, _, _, text]) => edits.push((edit_of(value)?, text_of(text)?))?,
-            _ => return Err(Trouble::Malformed),
-        }
+        edits.push(edit_with_text(value)?)?;
     }
     Ok(edits)
 }
 
 /// Tells whether an edit fits a text, and whether it makes the other of it.
 pub fn tell_edit(told: &mut Told, old: &str, edit: Edit<'_>, new: &str) {
-    told.key("fits");
-    told.open("[");
+    told.list("fits");
     told.truth(edit.fits(old));
     told.truth(edit.gives(old, new));
-    told.close("]");
+    told.close();
 }

@@ -1,7 +1,7 @@
 //! What definitions say, lexemes and errors, and what setting token ids gives.
 use crate::reading::Trouble;
 use crate::told::Told;
-use lrlex_base::{Id, Span, Spanned};
+use lrlex_base::{Span, Spanned};
 use lrlex_rules::{LexBuildError, LexErrorKind, Rule, StartState, StartStateOperation};
 use serde_json::Value;
 use std::alloc::AllocError;
@@ -65,26 +65,25 @@ fn kind_name(kind: &LexErrorKind) -> &'static str {
 
 /// Tells a fault, by its kind and its spans.
 fn tell_fault(told: &mut Told, fault: &LexBuildError) {
-    told.open("{");
+    told.open_object();
     told.member("kind");
     told.text(kind_name(fault.kind()));
     told.member("spans");
-    told.open("[");
+    told.open();
     for span in fault.spans() {
         told.span(*span);
     }
-    told.close("]");
-    told.close("}");
+    told.close();
+    told.close_object();
 }
 
 /// Tells the faults.
 pub fn tell_faults(told: &mut Told, faults: &[LexBuildError]) {
-    told.key("faults");
-    told.open("[");
+    told.list("faults");
     for fault in faults {
         tell_fault(told, fault);
     }
-    told.close("]");
+    told.close();
 }
 
 /// Tells why there is no definition.
@@ -100,22 +99,21 @@ pub fn tell_refusal(told: &mut Told, refusal: &Refusal) {
 
 /// Tells a start state: `[id, name, exclusive, span]`.
 fn tell_state(told: &mut Told, state: &StartState) {
-    told.open("[");
+    told.open();
     told.number(state.id());
     told.text(state.name());
     told.truth(state.exclusive());
     told.span(state.name_span());
-    told.close("]");
+    told.close();
 }
 
 /// Tells the start states.
 pub fn tell_states(told: &mut Told, states: &[StartState]) {
-    told.key("states");
-    told.open("[");
+    told.list("states");
     for state in states {
         tell_state(told, state);
     }
-    told.close("]");
+    told.close();
 }
 
 fn operation_name(operation: StartStateOperation) -> &'static str {
@@ -130,10 +128,10 @@ fn operation_name(operation: StartStateOperation) -> &'static str {
 fn tell_target(told: &mut Told, target: Option<(usize, StartStateOperation)>) {
     match target {
         Some((state, operation)) => {
-            told.open("[");
+            told.open();
             told.number(state);
             told.text(operation_name(operation));
-            told.close("]");
+            told.close();
         }
         None => told.null(),
     }
@@ -141,7 +139,7 @@ fn tell_target(told: &mut Told, target: Option<(usize, StartStateOperation)>) {
 
 /// Tells a rule, with all its fields.
 fn tell_rule(told: &mut Told, rule: RuleSeen<'_>) {
-    told.open("{");
+    told.open_object();
     told.member("tok_id");
     told.value(&Value::from(rule.id));
     told.member("name");
@@ -154,17 +152,13 @@ fn tell_rule(told: &mut Told, rule: RuleSeen<'_>) {
     told.numbers(rule.start_states);
     told.member("target");
     tell_target(told, rule.target);
-    told.close("}");
+    told.close_object();
 }
 
 /// What a rule says, with its id as a number.
-pub fn rule_seen<T: Id>(rule: &Rule<T>) -> RuleSeen<'_> {
-    let id = match rule.tok_id() {
-        Some(id) => id.to_u64(),
-        None => None,
-    };
+fn rule_seen<T: Copy + Into<u64>>(rule: &Rule<T>) -> RuleSeen<'_> {
     RuleSeen {
-        id,
+        id: rule.tok_id().map(|id| id.into()),
         name: rule.name(),
         name_span: rule.name_span(),
         re_str: rule.re_str(),
@@ -174,13 +168,12 @@ pub fn rule_seen<T: Id>(rule: &Rule<T>) -> RuleSeen<'_> {
 }
 
 /// Tells the rules.
-pub fn tell_rules<T: Id>(told: &mut Told, rules: &[Rule<T>]) {
-    told.key("rules");
-    told.open("[");
+pub fn tell_rules<T: Copy + Into<u64>>(told: &mut Told, rules: &[Rule<T>]) {
+    told.list("rules");
     for rule in rules {
         tell_rule(told, rule_seen(rule));
     }
-    told.close("]");
+    told.close();
 }
 
 impl Item {
@@ -193,7 +186,7 @@ impl Item {
 
 /// Tells a lexeme or an error: `["lex", id, start, length]` or `["err", place, state]`.
 pub fn tell_item(told: &mut Told, item: Item) {
-    told.open("[");
+    told.open();
     match item {
         Item::Lexeme(id, span) => {
             told.text("lex");
@@ -207,17 +200,16 @@ pub fn tell_item(told: &mut Told, item: Item) {
             told.value(&Value::from(state));
         }
     }
-    told.close("]");
+    told.close();
 }
 
 /// Tells lexemes and errors.
 pub fn tell_items(told: &mut Told, items: &[Item]) {
-    told.key("items");
-    told.open("[");
+    told.list("items");
     for item in items {
         tell_item(told, *item);
     }
-    told.close("]");
+    told.close();
 }
 
 /// Tells that there are no items to tell of.
@@ -239,19 +231,19 @@ pub fn tell_counts(told: &mut Told, counts: [usize; 3]) {
 
 /// Tells a boundary: `[place, [[count, state], ..]]`.
 pub fn tell_boundary(told: &mut Told, place: usize, stack: &[(usize, usize)]) {
-    told.open("[");
+    told.open();
     told.number(place);
-    told.open("[");
+    told.open();
     for entry in stack {
         told.pair(*entry);
     }
-    told.close("]");
-    told.close("]");
+    told.close();
+    told.close();
 }
 
 /// Tells a piece: `[rule, start, length, name]`, and more where its text isn't the text's at its span.
 pub fn tell_piece(told: &mut Told, rule: usize, span: Span, name: Option<&str>, is_own: bool) {
-    told.open("[");
+    told.open();
     told.number(rule);
     told.number(span.start());
     told.number(span.len());
@@ -259,15 +251,15 @@ pub fn tell_piece(told: &mut Told, rule: usize, span: Span, name: Option<&str>, 
     if !is_own {
         told.text("wrong text");
     }
-    told.close("]");
+    told.close();
 }
 
 /// Tells a pair of a name and a text.
 fn tell_word(told: &mut Told, name: &str, text: &str) {
-    told.open("[");
+    told.open();
     told.text(name);
     told.text(text);
-    told.close("]");
+    told.close();
 }
 
 /// Tells pairs of a name and a text, if memory was there for them.
@@ -276,12 +268,11 @@ pub fn tell_words(
     words: Result<Vec<(&str, &str)>, AllocError>,
 ) -> Result<(), Trouble> {
     let words = words?;
-    told.key("words");
-    told.open("[");
+    told.list("words");
     for (name, text) in words.as_slice() {
         tell_word(told, name, text);
     }
-    told.close("]");
+    told.close();
     Ok(())
 }
 
@@ -316,32 +307,30 @@ fn tell_found(told: &mut Told, found: Option<&Rule<u32>>) {
 
 /// Tells the rule with this id, and what lexemes of the id are called.
 pub fn tell_by_id(told: &mut Told, id: u32, found: Option<&Rule<u32>>, name: Option<&str>) {
-    told.key("by_id");
-    told.open("[");
+    told.list("by_id");
     told.number(id as usize);
     tell_found(told, found);
     told.name(name);
-    told.close("]");
+    told.close();
 }
 
 /// Tells the rule with this name.
 pub fn tell_by_name(told: &mut Told, name: &str, found: Option<&Rule<u32>>) {
-    told.key("by_name");
-    told.open("[");
+    told.list("by_name");
     told.text(name);
     tell_found(told, found);
-    told.close("]");
+    told.close();
 }
 
 /// Tells these names in their order.
 fn tell_sorted(told: &mut Told, names: Vec<&str>) {
     let mut names = names;
     names.sort_unstable();
-    told.open("[");
+    told.open();
     for name in names.as_slice() {
         told.text(name);
     }
-    told.close("]");
+    told.close();
 }
 
 /// Tells the names in their order, or null for none.
@@ -376,14 +365,14 @@ fn tell_own_names(told: &mut Told, names: &Option<HashSet<String>>) -> Result<()
 fn tell_placed(told: &mut Told, names: Vec<(usize, usize, &str)>) {
     let mut names = names;
     names.sort_unstable();
-    told.open("[");
+    told.open();
     for (start, end, name) in names.as_slice() {
-        told.open("[");
+        told.open();
         told.text(name);
         told.numbers(&[*start, *end]);
-        told.close("]");
+        told.close();
     }
-    told.close("]");
+    told.close();
 }
 
 /// Tells the names with their places, in the order of these, or null for none.
@@ -410,11 +399,10 @@ pub fn tell_sets(
     sets: Result<Sets<'_>, AllocError>,
 ) -> Result<(), Trouble> {
     let sets = sets?;
-    told.key(key);
-    told.open("[");
+    told.list(key);
     tell_names(told, &sets.0)?;
     tell_spanned_names(told, &sets.1)?;
-    told.close("]");
+    told.close();
     Ok(())
 }
 
@@ -425,10 +413,9 @@ pub fn tell_name_sets(
     sets: Result<NameSets<'_>, AllocError>,
 ) -> Result<(), Trouble> {
     let sets = sets?;
-    told.key(key);
-    told.open("[");
+    told.list(key);
     tell_names(told, &sets.0)?;
     tell_own_names(told, &sets.1)?;
-    told.close("]");
+    told.close();
     Ok(())
 }

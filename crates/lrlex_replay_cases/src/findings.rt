@@ -41,13 +41,6 @@ pub fn value_of(alloc: Global, text: &str) -> Result<Value, Trouble> {
 }
 
 impl Findings {
-    /// No differences yet.
-    pub fn new(alloc: Global) -> Findings {
-        Findings {
-            differences: Vec::new(alloc),
-        }
-    }
-
     /// The differences, in the order in which they were found.
     pub fn differences(&self) -> &[String] {
         self.differences.as_slice()
@@ -72,13 +65,28 @@ impl Findings {
         Ok(())
     }
 
-    /// Compares what came, lines of a field, a blank and its value, with the case's expectation.
-    pub fn compare_all(&mut self, alloc: Global, case: &Value, told: &str) -> Result<(), Trouble> {
+    /// Compares the value of a text with the field of the case's expectation.
+    fn compare_text(
+        &mut self,
+        alloc: Global,
+        case: &Value,
+        field: &str,
+        got: &str,
+    ) -> Result<(), Trouble> {
+        let got = value_of(alloc, got)?;
+        Ok(self.compare(alloc, case, field, &got)?)
+    }
+
+    /// What differs between what came, lines of a field, a blank and its value, and the case's expectation.
+    pub fn of(alloc: Global, case: &Value, told: &str) -> Result<Findings, Trouble> {
+        let mut findings = Findings {
+            differences: Vec::new(alloc),
+        };
         for line in told.lines() {
             if let Some((field, got)) = line.split_once(' ') {
-                self.compare(alloc, case, field, &value_of(alloc, got)?)?;
+                findings.compare_text(alloc, case, field, got)?;
             }
         }
-        Ok(())
+        Ok(findings)
     }
 }

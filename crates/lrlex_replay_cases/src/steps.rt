@@ -189,11 +189,27 @@ fn ids_step<'v>(ids: &'v Value, spanned: &Value) -> Result<Step<'v>, Trouble> {
     Ok(Step::SetsIds(members, spanned.as_bool() == Some(true)))
 }
 
+/// Two numbers, as counts.
+fn both_counts(first: &Value, second: &Value) -> Result<(usize, usize), Trouble> {
+    Ok((count_of(first)?, count_of(second)?))
+}
+
+/// The elements of two lists.
+fn both_lists<'v>(
+    first: &'v Value,
+    second: &'v Value,
+) -> Result<(&'v [Value], &'v [Value]), Trouble> {
+    Ok((list_of(first)?, list_of(second)?))
+}
+
 /// The step of this name over two values.
 fn of_two<'v>(name: &str, first: &'v Value, second: &'v Value) -> Result<Step<'v>, Trouble> {
     match name {
         "ids" => ids_step(first, second),
-        "find" => Ok(Step::Asks(Asked::Rules(list_of(first)?, list_of(second)?))),
+        "find" => {
+            let (ids, names) = both_lists(first, second)?;
+            Ok(Step::Asks(Asked::Rules(ids, names)))
+        }
         "complaints_of_file" => Ok(Step::Reports(Report::OfFile(
             list_of(first)?,
             text_of(second)?,
@@ -211,15 +227,15 @@ fn of_three<'v>(
 ) -> Result<Step<'v>, Trouble> {
     match name {
         "part" => {
-            let ends = (count_of(second)?, count_of(third)?);
+            let ends = both_counts(second, third)?;
             Ok(Step::Asks(Asked::Part(text, ends)))
         }
         "stop_text" => {
-            let (place, state) = (count_of(second)?, count_of(third)?);
+            let (place, state) = both_counts(second, third)?;
             Ok(Step::Reports(Report::AtStop(text, place, state)))
         }
         "positions" => {
-            let (edits, asked) = (list_of(second)?, list_of(third)?);
+            let (edits, asked) = both_lists(second, third)?;
             Ok(Step::Asks(Asked::Positions(text, edits, asked)))
         }
         "edit" => Ok(Step::Edits(text, edit_of(second)?, text_of(third)?)),
@@ -240,7 +256,7 @@ fn lexer_step<'v>(
     spans: &'v Value,
     bytes: &'v Value,
 ) -> Result<Step<'v>, Trouble> {
-    let about = (list_of(spans)?, list_of(bytes)?);
+    let about = both_lists(spans, bytes)?;
     let of_run = of_run.as_bool() == Some(true);
     Ok(Step::Asks(Asked::Lexer(text_of(input)?, of_run, about)))
 }

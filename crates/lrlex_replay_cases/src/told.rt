@@ -71,15 +71,33 @@ impl Told {
         self.between = "";
     }
 
-    /// Opens a list or an object, by its bracket.
-    pub fn open(&mut self, bracket: &str) {
-        self.put(bracket);
+    /// Opens a list.
+    pub fn open(&mut self) {
+        self.put("[");
         self.between = "";
     }
 
     /// Closes it.
-    pub fn close(&mut self, bracket: &str) {
-        self.add(bracket);
+    pub fn close(&mut self) {
+        self.add("]");
+        self.between = ",";
+    }
+
+    /// Begins a line, and opens the list that is its value.
+    pub fn list(&mut self, key: &str) {
+        self.key(key);
+        self.open();
+    }
+
+    /// Opens an object.
+    pub fn open_object(&mut self) {
+        self.put("{");
+        self.between = "";
+    }
+
+    /// Closes it.
+    pub fn close_object(&mut self) {
+        self.add("}");
         self.between = ",";
     }
 
@@ -111,11 +129,11 @@ impl Told {
 
     /// Adds a list of numbers.
     pub fn numbers(&mut self, numbers: &[usize]) {
-        self.open("[");
+        self.open();
         for number in numbers {
             self.number(*number);
         }
-        self.close("]");
+        self.close();
     }
 
     /// Adds a line and a column, or another two numbers, as a list.
@@ -125,10 +143,10 @@ impl Told {
 
     /// Adds two places, as a list of both.
     pub fn pairs(&mut self, places: ((usize, usize), (usize, usize))) {
-        self.open("[");
+        self.open();
         self.pair(places.0);
         self.pair(places.1);
-        self.close("]");
+        self.close();
     }
 
     /// Adds both ends of a span, as a list.
@@ -144,12 +162,17 @@ impl Told {
         self.between = ",";
     }
 
-    /// Adds a text.
-    pub fn text(&mut self, text: &str) {
-        match String::from_str(self.alloc, text) {
+    /// Adds a text that was made, if memory was there for it.
+    pub fn made(&mut self, text: Result<String, AllocError>) {
+        match text {
             Ok(text) => self.value(&Value::String(text)),
             Err(_) => self.is_refused = true,
         }
+    }
+
+    /// Adds a text.
+    pub fn text(&mut self, text: &str) {
+        self.made(String::from_str(self.alloc, text));
     }
 
     /// Adds a name, or null for none.

@@ -70,11 +70,11 @@ fn word_of(came: Came) -> &'static str {
 
 /// Tells the bytes that a writer holds.
 fn tell_held(told: &mut Told, writer: &BrokenWriter) {
-    told.open("[");
+    told.open();
     for byte in writer.held.as_slice() {
         told.number(*byte as usize);
     }
-    told.close("]");
+    told.close();
 }
 
 /// Tells what a call came to, and what its writer has then.
@@ -84,25 +84,23 @@ pub fn tell_came(
     writer: &BrokenWriter,
 ) -> Result<(), Trouble> {
     let word = word_of(came?);
-    told.key("engine");
-    told.open("[");
+    told.list("engine");
     told.text(word);
     tell_held(told, writer);
     told.number(writer.calls as usize);
     told.number(writer.flushes as usize);
-    told.close("]");
+    told.close();
     Ok(())
 }
 
 /// Tells the status of the program, what both of its writers have then, and how often the first was flushed.
 pub fn tell_served(told: &mut Told, status: u8, lines: &BrokenWriter, faults: &BrokenWriter) {
-    told.key("served");
-    told.open("[");
+    told.list("served");
     told.number(status as usize);
     tell_held(told, lines);
     tell_held(told, faults);
     told.number(lines.flushes as usize);
-    told.close("]");
+    told.close();
 }
 
 impl BrokenWriter {

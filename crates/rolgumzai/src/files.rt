@@ -2,7 +2,7 @@
 use crate::flags::flags_of;
 use crate::output::{FAULTY, UNABLE};
 use clap::ArgMatches;
-use lrlex::{DefaultLexerTypes, LRNonStreamingLexerDef};
+use lrlex::{DefaultLexerTypes, LRNonStreamingLexerDef, LexBuildError};
 use lrlex_report::{bad_byte_text, faults_text};
 use std::io::{ErrorKind, Read};
 use std::{fs, io};
@@ -57,6 +57,17 @@ pub fn path_of<'a>(words: &ArgMatches<'a>, id: &str) -> &'a str {
     words.get_str(id).unwrap_or("")
 }
 
+/// Reports the faults of a rule text of this name.
+pub fn report_faults(
+    rt: &HostRuntime,
+    name: &str,
+    text: &str,
+    faults: &[LexBuildError],
+) -> io::Result<()> {
+    let shown = faults_text(rt.alloc(), name, text, faults)?;
+    eprint!(rt; "{shown}")
+}
+
 /// The definition of a rule text, under the flags of the words. The status where the text has faults, which are reported.
 fn definition_of(
     rt: &HostRuntime,
@@ -68,8 +79,7 @@ fn definition_of(
         Ok(definition) => Ok(Ok(definition)),
         Err(faults) => {
             let name = name_of(path_of(words, "rules"));
-            let shown = faults_text(rt.alloc(), name, text, &faults)?;
-            eprint!(rt; "{shown}")?;
+            report_faults(rt, name, text, &faults)?;
             Ok(Err(FAULTY))
         }
     }

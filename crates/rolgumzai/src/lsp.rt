@@ -1,11 +1,10 @@
 //! `rolgumzai lsp [--rules FILE] [--map NAME=TOKENTYPE]..`: a language server over standard input and output.
-use crate::files::{Definition, text_at};
+use crate::files::{Definition, report_faults, text_at};
 use crate::flags::flags_of;
 use crate::output::{FAULTY, UNABLE};
 use clap::ArgMatches;
 use lrlex::LexFlags;
 use lrlex_lsp::{Options, is_token_type};
-use lrlex_report::faults_text;
 use std::alloc::{AllocError, Global};
 use std::io::BufReader;
 use std::{env, io};
@@ -24,11 +23,10 @@ fn absolute(rt: &HostRuntime, path: &str) -> io::Result<String> {
 
 /// Reports the faults of a rule file. The server goes on without it, until a client mends it.
 fn tell_faults(rt: &HostRuntime, path: &str, text: &str, flags: LexFlags) -> io::Result<()> {
-    if let Err(faults) = Definition::new_with_options(rt.alloc(), text, flags)? {
-        let shown = faults_text(rt.alloc(), path, text, &faults)?;
-        eprint!(rt; "{shown}")?;
+    match Definition::new_with_options(rt.alloc(), text, flags)? {
+        Ok(_) => Ok(()),
+        Err(faults) => report_faults(rt, path, text, &faults),
     }
-    Ok(())
 }
 
 /// The given rule file and its text. None where it can't be read, which is reported.
@@ -50,6 +48,13 @@ fn parted(word: &str) -> Option<(&str, &str)> {
     }
 }
 
+/// Both texts, as texts of their own.
+fn owned(alloc: Global, texts: (&str, &str)) -> Result<(String, String), AllocError> {
+    let first = String::from_str(alloc, texts.0)?;
+    let second = String::from_str(alloc, texts.1)?;
+    Ok((first, second))
+}
+
 /// What the words say of token types. The first word that isn't `NAME=TOKENTYPE`, if there is one.
 fn map_of<'a>(
     alloc: Global,
@@ -57,12 +62,10 @@ fn map_of<'a>(
 ) -> Result<Result<Vec<(String, String)>, &'a str>, AllocError> {
     let mut map = Vec::new(alloc);
     for word in words {
-        let Some((name, kind)) = parted(word) else {
-            return Ok(Err(*word));
-        };
-        let name = String::from_str(alloc, name)?;
-        let kind = String::from_str(alloc, kind)?;
-        map.push((name, kind))?;
+        match parted(word) {
+            Some(texts) => map.push(owned(alloc, texts)?)?,
+            None => return Ok(Err(*word)),
+        }
     }
     Ok(Ok(map))
 }
@@ -83,6 +86,22 @@ fn refuse_input(rt: &HostRuntime) -> io::Result<u8> {
     Ok(UNABLE)
 }
 
+/// The rule file that the words name and its text, if they name one. The status where it can't be had, which is reported.
+fn rules_in(
+    rt: &HostRuntime,
+    words: &ArgMatches<'_>,
+    flags: LexFlags,
+) -> io::Result<Result<Option<(String, String)>, u8>> {
+    match words.get_str("rules") {
+        Some("-") => Ok(Err(refuse_input(rt)?)),
+        Some(path) => match rules_at(rt, path, flags)? {
+            Some(rules) => Ok(Ok(Some(rules))),
+            None => Ok(Err(UNABLE)),
+        },
+        None => Ok(Ok(None)),
+    }
+}
+
 /// Serves with the rules that the words name, if they do. Gives the status.
 fn serve_with(
     rt: &HostRuntime,
@@ -90,15 +109,10 @@ fn serve_with(
     map: Vec<(String, String)>,
 ) -> io::Result<u8> {
     let flags = flags_of(words);
-    let rules = match words.get_str("rules") {
-        Some("-") => return refuse_input(rt),
-        Some(path) => match rules_at(rt, path, flags)? {
-            Some(rules) => Some(rules),
-            None => return Ok(UNABLE),
-        },
-        None => None,
-    };
-    serve_client(rt, Options { rules, map, flags })
+    match rules_in(rt, words, flags)? {
+        Ok(rules) => serve_client(rt, Options { rules, map, flags }),
+        Err(status) => Ok(status),
+    }
 }
 
 /// Serves as the words say. Gives the status.

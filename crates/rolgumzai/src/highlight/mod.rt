@@ -4,14 +4,58 @@ mod map;
 mod marks;
 mod types;
 
-use crate::files::{Definition, path_of, rules_of, text_at};
+use crate::files::{Definition, Types, path_of, rules_of, text_at};
 use crate::output::{UNABLE, print};
 use clap::ArgMatches;
 use classes::class_of;
+use lrlex::{LexRun, Piece};
 use map::{Map, map_of};
 use marks::Marks;
 use std::alloc::{AllocError, Global};
 use std::io;
+
+/// Adds these pieces, marked.
+fn push_pieces(
+    page: &mut String,
+    map: &Map,
+    pieces: &[Piece<'_, '_>],
+    marks: Marks,
+) -> Result<(), AllocError> {
+    for piece in pieces {
+        let class = map.class_of(piece.rule).unwrap_or(class_of(piece));
+        marks.push(page, class, piece.text)?;
+    }
+    Ok(())
+}
+
+/// Adds the pieces of a run, marked, and after the last one the rest of its text.
+fn push_run(
+    alloc: Global,
+    page: &mut String,
+    map: &Map,
+    run: &LexRun<'_, '_, Types>,
+    marks: Marks,
+) -> Result<(), AllocError> {
+    let pieces = run.pieces(alloc)?;
+    push_pieces(page, map, pieces.as_slice(), marks)?;
+    match run.text().split_at_checked(run.end()) {
+        Some((_, rest)) => marks.push_rest(page, rest),
+        None => Ok(()),
+    }
+}
+
+/// The text of a run with its pieces marked, between what precedes and what follows it.
+fn page_of(
+    alloc: Global,
+    map: &Map,
+    run: &LexRun<'_, '_, Types>,
+    marks: Marks,
+) -> Result<String, AllocError> {
+    let mut page = String::from_str(alloc, marks.head())?;
+    push_run(alloc, &mut page, map, run, marks)?;
+    page.push_str(marks.tail())?;
+    Ok(page)
+}
 
 /// The input with its pieces marked, and after the last one the rest of it.
 fn marked(
@@ -22,16 +66,7 @@ fn marked(
     marks: Marks,
 ) -> Result<String, AllocError> {
     let run = definition.run(alloc, input)?;
-    let mut page = String::from_str(alloc, marks.head())?;
-    for piece in &run.pieces(alloc)? {
-        let class = map.class_of(piece.rule).unwrap_or(class_of(piece));
-        marks.push(&mut page, class, piece.text)?;
-    }
-    if let Some((_, rest)) = input.split_at_checked(run.end()) {
-        marks.push_rest(&mut page, rest)?;
-    }
-    page.push_str(marks.tail())?;
-    Ok(page)
+    page_of(alloc, map, &run, marks)
 }
 
 /// How the words want pieces to be marked.
@@ -43,23 +78,44 @@ fn marks_of(words: &ArgMatches<'_>) -> Marks {
     }
 }
 
-/// Shows the text that the words name by these rules. Gives the status.
-fn show(rt: &HostRuntime, words: &ArgMatches<'_>, definition: &Definition) -> io::Result<u8> {
-    let Some(map) = map_of(rt, words, definition)? else {
-        return Ok(UNABLE);
-    };
-    let Some(input) = text_at(rt, path_of(words, "input"))? else {
-        return Ok(UNABLE);
-    };
-    let page = marked(rt.alloc(), definition, &map, &input, marks_of(words))?;
+/// Shows an input. Gives the status.
+fn show(
+    rt: &HostRuntime,
+    definition: &Definition,
+    map: &Map,
+    input: &str,
+    marks: Marks,
+) -> io::Result<u8> {
+    let page = marked(rt.alloc(), definition, map, input, marks)?;
     print(rt, &page)?;
     Ok(0)
+}
+
+/// Shows the input that the words name, by these rules and what the words say of them. Gives the status.
+fn show_input(
+    rt: &HostRuntime,
+    words: &ArgMatches<'_>,
+    definition: &Definition,
+    map: &Map,
+) -> io::Result<u8> {
+    match text_at(rt, path_of(words, "input"))? {
+        Some(input) => show(rt, definition, map, &input, marks_of(words)),
+        None => Ok(UNABLE),
+    }
+}
+
+/// Shows the text that the words name by these rules. Gives the status.
+fn show_by(rt: &HostRuntime, words: &ArgMatches<'_>, definition: &Definition) -> io::Result<u8> {
+    match map_of(rt, words, definition)? {
+        Some(map) => show_input(rt, words, definition, &map),
+        None => Ok(UNABLE),
+    }
 }
 
 /// Shows the text that the words name. Gives the status.
 pub fn serve(rt: &HostRuntime, words: &ArgMatches<'_>) -> io::Result<u8> {
     match rules_of(rt, words)? {
-        Ok((_text, definition)) => show(rt, words, &definition),
+        Ok((_text, definition)) => show_by(rt, words, &definition),
         Err(status) => Ok(status),
     }
 }

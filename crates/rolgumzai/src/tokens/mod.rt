@@ -5,7 +5,7 @@ mod lines;
 use crate::files::{Definition, name_of, path_of, rules_of, text_at};
 use crate::output::{FAULTY, UNABLE, output};
 use clap::ArgMatches;
-use ending::{ending_of, ending_text};
+use ending::{Ending, ending_of, ending_text};
 use lines::{LexerOf, token_of, write_token};
 use lrlex::{LRLexError, Lexer};
 use lrlex_report::stop_text_in;
@@ -34,6 +34,30 @@ fn write_tokens<'a>(
     Ok(stop)
 }
 
+/// Reports where lexing stopped, or in which start state the text ends. Gives the status.
+fn tell_end(
+    rt: &HostRuntime,
+    definition: &Definition,
+    file: &str,
+    input: &str,
+    stop: Option<LRLexError>,
+    ending: Option<Ending>,
+) -> io::Result<u8> {
+    let (shown, status) = match (stop, ending) {
+        (Some(error), _) => {
+            let shown = stop_text_in(rt.alloc(), definition, file, input, &error)?;
+            (shown, FAULTY)
+        }
+        (None, Some(ending)) => {
+            let shown = ending_text(rt.alloc(), definition, file, input, ending)?;
+            (shown, 0)
+        }
+        (None, None) => return Ok(0),
+    };
+    eprint!(rt; "{shown}")?;
+    Ok(status)
+}
+
 /// Prints the tokens of a text, and then what is to be said of its end. Gives the status.
 fn show(
     rt: &HostRuntime,
@@ -45,33 +69,29 @@ fn show(
     let run = definition.run(rt.alloc(), input)?;
     let ending = ending_of(&run);
     let lexer = run.into_lexer(rt.alloc())?;
-    if let Some(error) = write_tokens(rt, definition, &lexer, is_json)? {
-        let shown = stop_text_in(rt.alloc(), definition, file, input, &error)?;
-        eprint!(rt; "{shown}")?;
-        return Ok(FAULTY);
+    let stop = write_tokens(rt, definition, &lexer, is_json)?;
+    tell_end(rt, definition, file, input, stop, ending)
+}
+
+/// Prints the tokens of the input that the words name, by these rules. Gives the status.
+fn show_input(rt: &HostRuntime, words: &ArgMatches<'_>, definition: &Definition) -> io::Result<u8> {
+    let path = path_of(words, "input");
+    match text_at(rt, path)? {
+        Some(input) => show(
+            rt,
+            definition,
+            name_of(path),
+            &input,
+            words.get_flag("json"),
+        ),
+        None => Ok(UNABLE),
     }
-    if let Some(ending) = ending {
-        let shown = ending_text(rt.alloc(), definition, file, input, ending)?;
-        eprint!(rt; "{shown}")?;
-    }
-    Ok(0)
 }
 
 /// Prints the tokens of the text that the words name. Gives the status.
 pub fn serve(rt: &HostRuntime, words: &ArgMatches<'_>) -> io::Result<u8> {
-    let definition = match rules_of(rt, words)? {
-        Ok((_text, definition)) => definition,
-        Err(status) => return Ok(status),
-    };
-    let path = path_of(words, "input");
-    let Some(input) = text_at(rt, path)? else {
-        return Ok(UNABLE);
-    };
-    show(
-        rt,
-        &definition,
-        name_of(path),
-        &input,
-        words.get_flag("json"),
-    )
+    match rules_of(rt, words)? {
+        Ok((_text, definition)) => show_input(rt, words, &definition),
+        Err(status) => Ok(status),
+    }
 }
