@@ -83,12 +83,7 @@ fn next_by(
     Ok((scanner.into_place(alloc), scanned))
 }
 
-fn next_of(
-    alloc: Global,
-    it: Scanning,
-    tiles: &mut [Tile],
-    out: &mut Scanned,
-) -> (Scanning, i32)
+fn next_of(alloc: Global, it: Scanning, tiles: &mut [Tile], out: &mut Scanned) -> (Scanning, i32)
     ensures done { result.1 ≡ pos 0 → AreNext it tiles.old tiles.new out.new result.0 }
     ensures kept { result.1 ≢ pos 0 → result.0 ≡ it }
     ensures misused { result.1 ≢ pos 4 }

@@ -36,6 +36,6 @@ loop-i-preserved c =
     let count : length (xs ++ x ∷ []) ≡ c.loop-i.i + 1 = length-append xs (x ∷ []) ∙ ap (λ n. n + 1) before.1 in
     let within : length xs < length room = omega (arith, before.1, c.loop-i-test.true) in
     let put : set c.loop-i.tiles c.loop-i.i c.tile_of.result ≡ filled (λ (x : ScannedTile ℕ) (t : Tile). tile_by x) (xs ++ x ∷ []) room =
-        ap₂ (λ us n. set us n c.tile_of.result) before.3 (sym before.1)
-        ∙ filled_more (λ (x : ScannedTile ℕ) (t : Tile). tile_by x) xs x room c.tile_of.result within (λ t. sym c.tile_of.ensures) in
+    ap₂ (λ us n. set us n c.tile_of.result) before.3 (sym before.1)
+    ∙ filled_more (λ (x : ScannedTile ℕ) (t : Tile). tile_by x) xs x room c.tile_of.result within (λ t. sym c.tile_of.ensures) in
     (xs ++ x ∷ [], count, subst (λ z. LeadTo c.args.scanner.now (xs ++ x ∷ []) z) (sym moved) (lead_more c.args.scanner.now xs c.loop-i.scanner x before.2 step), put)
