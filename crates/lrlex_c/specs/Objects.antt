@@ -10,7 +10,7 @@ use Rattle.lrlex_rules.specs.Definition.{Definition}
 use Rattle.lrlex_rules.specs.declared.faults.LexBuildError.{LexBuildError}
 use Rattle.lrlex_rules.specs.declared.states.StartState as start
 use Rattle.lrlex.specs.Document.{lexed_bytes}
-use Rattle.lrlex.specs.Scanner.{Scanned, standing}
+use Rattle.lrlex.specs.Scanner.{Scanned}
 use Rattle.lrlex.specs.Views.{definition_of, definition_states}
 use Rattle.lrlex_c.specs.declared.object.Object.{Object}
 use Rattle.lrlex_c.specs.declared.object.Object.TheVariants.{Nothing, Definition as Defined, Refusal, Document, Scanner}
@@ -71,4 +71,4 @@ scanner_in (Some Nothing) = None
 scanner_in (Some (Defined d)) = None
 scanner_in (Some (Refusal r)) = None
 scanner_in (Some (Document e)) = None
-scanner_in (Some (Scanner s)) = Some (standing (definition_of (λ n. n) (arc_value s.definition)) (string_bytes s.text) s.at)
+scanner_in (Some (Scanner s)) = Some s

@@ -4,14 +4,13 @@ ghost use Rattle.std.specs.Arc.{arc_value};
 ghost use Rattle.lrlex_base.specs.Lexemes.{lexeme_seen};
 ghost use Rattle.lrlex_base.specs.Places.{AreBreaksOf};
 ghost use Rattle.lrlex.specs.Document.{IsLexedBy};
-ghost use Rattle.lrlex.specs.Scanner.{IsPlaceOf};
-ghost use Rattle.lrlex.specs.Views.{definition_of};
 
 use lrlex::{
     DefaultLexeme, DefaultLexerTypes, LRNonStreamingLexerDef, LexBuildError, LexedText,
     NewlineCache, ScanPlace,
 };
 use std::alloc::Global;
+use std::marker::Model;
 use std::sync::Arc;
 
 /// A definition with ids of 32 bits.
@@ -40,7 +39,21 @@ pub(crate) struct Scanning {
     pub(crate) definition: Arc<Definition, Global>,
     pub(crate) text: String,
     pub(crate) at: ScanPlace,
-    ghost stands: { IsPlaceOf (definition_of (λ n. n) (arc_value definition)) (string_bytes text) at },
+}
+
+impl Model for Scanning {
+    ghost use Rattle.std.specs.String.{string_bytes};
+    ghost use Rattle.std.specs.Arc.{arc_value};
+    ghost use Rattle.lrlex.specs.Scanner.{IsPlaceOf, Scanned, standing};
+    ghost use Rattle.lrlex.specs.Views.{definition_of};
+
+    ghost Value = { Scanned };
+
+    ghost view = { λ s. standing (definition_of (λ n. n) (arc_value s.definition))
+        (string_bytes s.text) s.at };
+
+    ghost invariant = { λ s. IsPlaceOf (definition_of (λ n. n) (arc_value s.definition))
+        (string_bytes s.text) s.at };
 }
 
 /// What a handle can hold.

@@ -35,7 +35,7 @@ pub(crate) fn write_text(text: &str, out: &mut [u8], len: &mut usize)
 
 /// Copies as much of the name as there is room for, and says how long it is, if there is one.
 pub(crate) fn write_name(name: Option<&str>, out: &mut [u8], len: &mut usize) -> i32
-    ensures { MatchOption name (result ≡ pos 5)
+    ensures { MatchOption name.entry (result ≡ pos 5)
         (λ t. (result ≡ pos 0) × IsWritten t.now out.old out.new len.new) }
 {
     match name {

@@ -1,5 +1,5 @@
 //! Offsets of a document by their lines and columns.
-ghost use Rattle.std.specs.Prelude.{◌≡◌, ◌↔◌, ℕ, pos, None, Some, IfSome, MatchOption, IsCharBoundary};
+ghost use Rattle.std.specs.Prelude.{◌≡◌, ◌≢◌, ◌↔◌, ℕ, pos, None, Some, IfSome, MatchOption, IsCharBoundary};
 ghost use Rattle.lrlex.specs.Document.{lexed_bytes};
 ghost use Rattle.lrlex_positions.specs.Positions.{IsLastUpTo, position_of};
 ghost use Rattle.lrlex_c.specs.Encodings.{encoding_by};
@@ -15,7 +15,7 @@ use lrlex::PositionEncoding;
 use std::alloc::Global;
 use std::mem::replace;
 
-fn offset_of(
+fn offset_by(
     it: Edited,
     position: (usize, usize),
     encoding: PositionEncoding,
@@ -31,6 +31,22 @@ fn offset_of(
     *byte = document.offset_at(position, encoding);
     let text = document.into_text();
     Edited { definition, text }
+}
+
+/// The byte of a position by the encoding of a number, if that is one.
+fn offset_of(it: Edited, position: (usize, usize), encoding: u32, byte: &mut usize) -> (Edited, i32)
+    ensures kept { document_in (Some (Kept result.0)) ≡ document_in (Some (Kept it)) }
+    ensures misused { result.1 ≢ pos 4 }
+    ensures answer { MatchOption (encoding_by encoding) (result.1 ≡ pos 5)
+        (λ e. (result.1 ≡ pos 0) × IsLastUpTo e (lexed_bytes it.text) position byte.new) }
+    ensures inverse { IfSome (encoding_by encoding) (λ e. (at : ℕ)
+        → IsCharBoundary (lexed_bytes it.text) at
+        → position_of e (lexed_bytes it.text) at ≡ position → byte.new ≡ at) }
+{
+    match encoding_of(encoding) {
+        None => (it, NONE),
+        Some(by) => (offset_by(it, position, by, byte), OK),
+    }
 }
 
 fn offset_in(
@@ -49,10 +65,7 @@ fn offset_in(
         (λ e. (at : ℕ) → IsCharBoundary d.1 at → position_of e d.1 at ≡ (line, column)
         → byte.new ≡ at)) }
 {
-    with_document!(object, |it| match encoding_of(encoding) {
-        None => (it, NONE),
-        Some(by) => (offset_of(it, (line, column), by, byte), OK),
-    })
+    with_document!(object, |it| offset_of(it, (line, column), encoding, byte))
 }
 
 /// The byte of a line and column of the document, both from 0, the column counted as the encoding says: 0 is UTF-8, and 1 UTF-16. Past a

@@ -4,7 +4,6 @@ ghost use Rattle.std.specs.Arc.{arc_value};
 ghost use Rattle.lrlex.specs.Scanner.{at_front};
 ghost use Rattle.lrlex.specs.Views.{definition_of};
 ghost use Rattle.lrlex_c.specs.Objects.{definition_in, scanner_in};
-ghost use Rattle.lrlex_c.specs.declared.object.Object.TheVariants.{Scanner as Kept};
 
 use crate::definitions::shared;
 use crate::handle::{Handle, with_object};
@@ -20,8 +19,8 @@ fn begun(
     definition: Arc<Definition, Global>,
     text: &str,
 ) -> Result<Scanning, AllocError>
-    ensures { IfOk result (λ it. scanner_in (Some (Kept it))
-        ≡ Some (at_front (definition_of (λ n. n) (arc_value definition)) text.now)) }
+    ensures { IfOk result (λ it. it ≡ at_front (definition_of (λ n. n) (arc_value definition))
+        text.now) }
 {
     let scanner = definition.scanner(alloc, text)?;
     let at = scanner.into_place(alloc);

@@ -4,7 +4,6 @@ ghost use Rattle.lrlex.specs.Scanner.{IsPlaceOf, standing};
 ghost use Rattle.lrlex.specs.Views.{definition_of};
 ghost use Rattle.lrlex_c.specs.Objects.{scanner_in};
 ghost use Rattle.lrlex_c.specs.Scans.{AreNext, WasScanned, tile_by, told_by};
-ghost use Rattle.lrlex_c.specs.declared.object.Object.TheVariants.{Scanner as Kept};
 
 use crate::handle::{Handle, with_object};
 use crate::object::{Definition, Object, Scanning};
@@ -84,16 +83,9 @@ fn next_by(
     Ok((scanner.into_place(alloc), scanned))
 }
 
-fn next_of(
-    alloc: Global,
-    it: Scanning,
-    tiles: &mut [Tile],
-    out: &mut Scanned,
-) -> (Scanning, i32)
-    ensures done { result.1 ≡ pos 0 → WasScanned tiles.old tiles.new out.new
-        (scanner_in (Some (Kept it))) (scanner_in (Some (Kept result.0))) }
-    ensures kept { result.1 ≢ pos 0 → scanner_in (Some (Kept result.0))
-        ≡ scanner_in (Some (Kept it)) }
+fn next_of(alloc: Global, it: Scanning, tiles: &mut [Tile], out: &mut Scanned) -> (Scanning, i32)
+    ensures done { result.1 ≡ pos 0 → AreNext it tiles.old tiles.new out.new result.0 }
+    ensures kept { result.1 ≢ pos 0 → result.0 ≡ it }
     ensures misused { result.1 ≢ pos 4 }
 {
     let Scanning {
