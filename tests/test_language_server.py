@@ -22,6 +22,7 @@ let 'LET'
 
 FAULTS = "%s here here\n%%\n[a-z]+ 'ID'\n[A-Z] 'ID'\n 'indented'\n( 'OPEN'\n"
 
+NEVER_ENTERED = "no rule enters this start state; name it as the target of a rule"
 NEVER_WINS = "this rule never wins: it matches no byte, or other rules match all that it does; put it before them"
 NO_TABLE = "this rule has no table, and is slower: it looks at the next byte, as $ and \\b do, or is too large; leave these out"
 LOST = "a backslash is dropped here, before a letter that begins no escape; write the letter, or \\x41 in place of \\x{41}"
@@ -178,7 +179,7 @@ class RuleFiles(Session):
         # several changes in one notification, each on the text that the one before makes
         changes = [ranged((4, 0), (4, 1), "0"), ranged((4, 1), (4, 1), " "), ranged((5, 0), (5, 0), "\\")]
         told = client.change(URI, *changes)
-        self.assertEqual((4, []), (told["version"], told["diagnostics"]))
+        self.assertEqual((4, [NEVER_ENTERED, NEVER_ENTERED]), (told["version"], [it["message"] for it in told["diagnostics"]]))
         self.assertEqual(["File ends prematurely"], [spot(it)[4] for it in client.change(URI, "")["diagnostics"]])
         self.assertEqual([], client.close(URI)["diagnostics"])
         self.assertEqual(0, client.end())
@@ -261,7 +262,7 @@ class RuleFiles(Session):
     def test_tokens_of_rule_files(self):
         client = self.client()
         client.begin()
-        self.assertEqual([], client.open(URI, "%x one\n%%\n<one>[a-z]+ <-one>'ID'\n[ ] ;\n")["diagnostics"])
+        self.assertEqual([(0, 3, 0, 6, NEVER_ENTERED)], [spot(it) for it in client.open(URI, "%x one\n%%\n<one>[a-z]+ <-one>'ID'\n[ ] ;\n")["diagnostics"]])
         wanted = [
             (0, 0, 2, "keyword"), (0, 3, 3, "enumMember"), (1, 0, 2, "keyword"), (2, 0, 5, "enumMember"), (2, 5, 7, "regexp"),
             (2, 12, 6, "enumMember"), (2, 18, 4, "type"), (3, 0, 4, "regexp"), (3, 4, 1, "operator"),
