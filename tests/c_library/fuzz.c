@@ -145,10 +145,13 @@ static void check_scanner(lrlex_definition *d, const lrlex_lexed *lexed, const l
             LAW(tiles[i].has_id == (rule.has_name && rule.has_id) && (!tiles[i].has_id || tiles[i].id == rule.id));
         }
     } while (scanned.end == LRLEX_SCAN_MORE);
-    LAW(found + (scanned.end == LRLEX_SCAN_NO_ID) == cut->count && scanned.place == lexed->end);
+    LAW(found == cut->count && scanned.place == lexed->end);
     LAW((scanned.end == LRLEX_SCAN_DONE) == !lexed->stopped && (scanned.end == LRLEX_SCAN_NO_MATCH) == lexed->unmatched);
     LAW(scanned.end != LRLEX_SCAN_NO_MATCH || scanned.state == lexed->state);
-    LAW(scanned.end != LRLEX_SCAN_NO_ID || scanned.rule == pieces[found].rule);
+    if (scanned.end == LRLEX_SCAN_NO_ID) {
+        lrlex_rule rule;
+        LAW(lrlex_rule_at(d, scanned.rule, &rule) == LRLEX_OK && rule.has_name && !rule.has_id);
+    }
     LAW(scanned.end <= LRLEX_SCAN_NO_ID);
     lrlex_free(&scanner);
     scans++;
