@@ -47,12 +47,11 @@ fn tell_flags(told: &mut Told, definition: &Definition<u32>) {
 /// Tells of each rule whether it may win.
 fn tell_may_win(told: &mut Told, definition: &Definition<u32>) -> Result<(), AllocError> {
     let may_win = definition.may_win(told.alloc())?;
-    told.key("may_win");
-    told.open("[");
+    told.list("may_win");
     for may_win in &may_win {
         told.truth(*may_win);
     }
-    told.close("]");
+    told.close();
     Ok(())
 }
 
