@@ -1,5 +1,5 @@
 -- Ids by names, entry by entry.
-use Rattle.std.proofs.Common.{◌≡◌, ℕ, ◌+◌, ◌<◌, Bool, true, false, cond, not, ◌||◌, List, [], ◌∷◌, ◌++◌, length, map, take, get_or, refl, sym, ap, ◌∙◌, Option, Some, None, option_map, reverse}
+use Rattle.std.proofs.Common.{◌≡◌, ℕ, ◌+◌, ◌<◌, Bool, true, false, cond, not, ◌||◌, List, [], ◌∷◌, ◌++◌, length, map, take, get_or, refl, sym, ap, ◌∙◌, Option, Some, option_map, reverse}
 use Rattle.std.proofs.lemmas.List.{map_more, reverse-append}
 use Rattle.std.specs.List.{find}
 use Rattle.std.specs.Str.{bytes_eq}

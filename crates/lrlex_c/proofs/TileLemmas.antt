@@ -1,6 +1,5 @@
 -- Tiles of a scanner, one after the other.
 use Rattle.std.proofs.Common.{◌≡◌, ℕ, ◌<◌, List, [], ◌∷◌, ◌++◌, length, sym, ap, ap₂, ◌∙◌, subst, set, arith}
-use Prim.Native.Nat.{suc, zero}
 use Rattle.lrlex_rules.specs.Definition.{Definition}
 use Rattle.lrlex.specs.Scanner.{IsPlaceOf, IsStep, Scanned, past, standing}
 use Rattle.lrlex.specs.declared.lexing.cursor.ScanPlace.{ScanPlace}

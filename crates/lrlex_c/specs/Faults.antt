@@ -1,8 +1,7 @@
 -- The errors of a rule text, as C reads them.
-use Rattle.std.specs.Prelude.{ℕ, List, [], ◌∷◌, length, option_map, slice_get}
+use Rattle.std.specs.Prelude.{ℕ, List, length, option_map, slice_get}
 use Rattle.std.specs.Option.{option_and_then}
 use Rattle.std.specs.declared.option.Option.{Option}
-use Rattle.std.specs.declared.option.Option.TheVariants.{None, Some}
 use Rattle.lrlex_base.specs.Places.{line_of, column_of}
 use Rattle.lrlex_base.specs.Spans.{span_start, span_end}
 use Rattle.lrlex_base.specs.declared.spans.Span.{Span}

@@ -1,9 +1,7 @@
 -- Rules and start states, as C reads them.
-use Rattle.std.specs.Prelude.{ℕ, List, length, is_some, option_map, slice_get, unwrap_or}
+use Rattle.std.specs.Prelude.{length, is_some, unwrap_or}
 use Rattle.std.specs.Option.{option_map_or}
-use Rattle.std.specs.declared.option.Option.{Option}
-use Rattle.std.specs.declared.option.Option.TheVariants.{None, Some}
-use Rattle.lrlex_rules.specs.Definition.{Definition, Rule, StartState}
+use Rattle.lrlex_rules.specs.Definition.{Rule, StartState}
 use Rattle.lrlex_c.specs.declared.structs.RuleInfo.{RuleInfo}
 use Rattle.lrlex_c.specs.declared.structs.StateInfo.{StateInfo}
 

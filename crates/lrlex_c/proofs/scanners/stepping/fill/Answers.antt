@@ -1,4 +1,4 @@
-use Rattle.std.proofs.Common.{◌≡◌, ℕ, ◌+◌, ◌<◌, ◌≤◌, List, [], ◌∷◌, ◌++◌, length, sym, ap, ap₂, ◌∙◌, subst, set, arith, Some}
+use Rattle.std.proofs.Common.{◌≡◌, ℕ, ◌+◌, ◌<◌, [], ◌∷◌, ◌++◌, length, sym, ap, ap₂, ◌∙◌, subst, set, arith, Some}
 use Rattle.std.proofs.lemmas.List.{length-append}
 use Rattle.lrlex.specs.Scanner.{EndsBy, IsStep, past}
 use Rattle.lrlex.specs.declared.lexing.scanner.Step.TheVariants.{Tile as Found}

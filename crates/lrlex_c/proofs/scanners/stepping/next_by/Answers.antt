@@ -1,4 +1,3 @@
-use Rattle.std.proofs.Common.{IfOk}
 use Rattle.lrlex.specs.Views.{definition_of}
 use Rattle.lrlex_c.proofs.TileLemmas.{next_standing, place_standing}
 use Rattle.lrlex_c.proofs.scanners.stepping.next_by.Goals as goal
