@@ -16,6 +16,7 @@ pub use crate::classes::{is_blank, is_line_sep, is_white_space};
 pub use crate::defaults::{DefaultLexeme, DefaultLexerTypes};
 pub use crate::edits::Edit;
 pub use crate::ids::Id;
+pub use crate::laws::{lexeme_laws, span_laws};
 pub use crate::lexemes::{LexError, Lexeme};
 pub use crate::lexers::{Items, Lexer, LexerTypes, NonStreamingLexer};
 pub use crate::newlines::NewlineCache;
