@@ -11,7 +11,7 @@ use lrlex_matching::match_len;
 use regex::Matcher;
 use std::alloc::{AllocError, Global};
 
-/// How many bytes of the text the rule's pattern matches, by this matcher. The search is counted. No other function calls `match_len`.
+/// How many bytes of the text the rule's pattern matches, by this matcher. The search is counted, by `match_len`.
 fn match_with<S>(matcher: &mut Matcher<'_>, rule: &Rule<S>, text: &str, asked: &mut u128) -> usize
     requires rule { SameCaptures (matcher_pattern matcher.old) (rule_pattern rule.now) }
     requires room { asked.old + 1 < 2 ^ 128 }
@@ -20,8 +20,7 @@ fn match_with<S>(matcher: &mut Matcher<'_>, rule: &Rule<S>, text: &str, asked: &
     ensures counted { asked.new ≡ asked.old + 1 }
     ensures same { matcher_pattern matcher.new ≡ matcher_pattern matcher.old }
 {
-    *asked += 1;
-    match_len(matcher, text)
+    match_len(matcher, text, asked)
 }
 
 /// How many bytes of the text the rule's pattern matches, by the matcher in the slot, which is made where there is none yet. The

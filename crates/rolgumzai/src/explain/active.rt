@@ -13,10 +13,11 @@ pub struct Active {
     pub len: usize,
 }
 
-/// How many bytes of the text a rule matches.
+/// How many bytes of the text a rule matches. That it takes one search isn't told.
 fn len_of(alloc: Global, rule: &Rule<u32>, text: &str) -> Result<usize, AllocError> {
     let mut matcher = rule.matcher(alloc)?;
-    Ok(match_len(&mut matcher, text))
+    let mut asked = 0;
+    Ok(match_len(&mut matcher, text, &mut asked))
 }
 
 /// The rules that are active in a start state, in the order of the file, with how much of the text each matches.
