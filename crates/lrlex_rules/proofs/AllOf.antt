@@ -8,7 +8,7 @@ use Rattle.lrlex_rules.specs.declared.flags.LexFlags.{LexFlags}
 use Rattle.lrlex_rules.specs.declared.faults.LexBuildError.{LexBuildError}
 use Rattle.lrlex_rules.specs.declared.parser.text.Line.{Line}
 use Rattle.lrlex_rules.specs.declared.parser.fatal.Fatal.{Fatal}
-use Rattle.lrlex_rules.specs.Flags.{resolved, config_of}
+use Rattle.lrlex_rules.specs.Flags.{resolved, config_of, size_limit_of}
 use Rattle.lrlex_rules.specs.Text.{Piece}
 use Rattle.lrlex_rules.specs.Event.{Fault, Event, refused_patterns}
 use Rattle.lrlex_rules.specs.Event.Event.{NewState}
@@ -20,6 +20,7 @@ use Rattle.lrlex_rules.specs.LexParser.{as_piece, as_fatal}
 use Rattle.lrlex_rules.specs.Survey.{IsToldBy}
 use Rattle.lrlex_rules.proofs.AllPlaced.{all_placed}
 use Rattle.lrlex_rules.proofs.AsRead.{begin_as_read}
+use Rattle.lrlex_rules.proofs.Refusals.{refused_as_given}
 use Rattle.lrlex_rules.proofs.Whole.{comments_are}
 
 module _ (flags rr : LexFlags) (greatest : ℕ) (text : List ℕ) (comments : Bool) (dls rls : List Line) (fault : Option Fatal) (e : rr ≡ resolved flags) (asked : comments ≡ unwrap_or rr.allow_wholeline_comments false)
@@ -35,9 +36,9 @@ module _ (flags rr : LexFlags) (greatest : ℕ) (text : List ℕ) (comments : Bo
 
   pub are_all : (v : Vec LexBuildError Global) → IsToldBy rr (made (map as_piece dls) (map as_piece rls) (option_map as_fatal fault)) v.items → AreAllFaults flags greatest text v
   are_all v told =
-      let P : List Event → Type 0 = λ es. AreRefusals (config_of rr) (refused_patterns es) (regex_errors v.items) in
-      let Q : LexFlags → Type 0 = λ f. AreRefusals (config_of f) (refused_patterns (all_events flags greatest refuses text)) (regex_errors v.items) in
-      record { refuses = refuses; exact = told.faults ∙ ap part_faults events_are; refusals = subst Q e (subst P events_are told.refusals) }
+      let P : List Event → Type 0 = λ es. AreRefusals (config_of rr) (size_limit_of rr) (refused_patterns es) (regex_errors v.items) in
+      let Q : LexFlags → Type 0 = λ f. AreRefusals (config_of f) (size_limit_of f) (refused_patterns (all_events flags greatest refuses text)) (regex_errors v.items) in
+      record { refuses = refuses; exact = told.faults ∙ ap part_faults events_are; refusals = refused_as_given flags _ _ (subst Q e (subst P events_are told.refusals)) }
 
 pub all_begin : (flags : LexFlags) (greatest : ℕ) (text : List ℕ) (v : Vec LexBuildError Global) → AreAllFaults flags greatest text v → BeginAsRead flags greatest text (as_faults v)
 all_begin flags greatest text v all = subst (BeginAsRead flags greatest text) (sym all.exact) (begin_as_read flags greatest all.refuses text)

@@ -1,7 +1,6 @@
 -- Each of all faults names places that are in the text.
-use Rattle.std.proofs.Common.{◌≡◌, ℕ, ◌+◌, Bool, true, false, List, [], ◌∷◌, ◌++◌, length, drop, map, Option, Some, None, refl, sym, ap, subst, ◌∙◌, arith}
+use Rattle.std.proofs.Common.{◌≡◌, ℕ, ◌+◌, Bool, true, false, List, [], ◌∷◌, ◌++◌, length, drop, map, Option, Some, None, sym, subst}
 use Rattle.std.specs.Prelude.{if◌then◌else◌, All, IfSome}
-use Rattle.std.specs.List.{flat_map}
 use Rattle.std.specs.Str.{IsUtf8}
 use Rattle.std.proofs.lemmas.List.Elements.{All-nil, All-cons, All-head, All-tail, All-append, All-push}
 use Rattle.std.proofs.lemmas.Str.{IsCharBoundary-start, IsCharBoundary-end}
@@ -15,7 +14,7 @@ use Rattle.lrlex_rules.specs.Event.Event.{NewState, Fatal}
 use Rattle.lrlex_rules.specs.Event.FaultKind.{PrematureEnd, RoutinesNotSupported}
 use Rattle.lrlex_rules.specs.Declaration.{Declared, initial, declared_by, state_event, section_end, trimmed_lines}
 use Rattle.lrlex_rules.specs.Outcome.{line_event, rules_section, faults_after}
-use Rattle.lrlex_rules.specs.AllFaults.{settings_at, until_fatal, name_events, declaration_events, rule_events, all_after, declared_lines, lines_after, rule_lines, routines_fault, fault_after, text_fault, then_fault, all_events, onto_first_part, parted, part_faults, all_faults}
+use Rattle.lrlex_rules.specs.AllFaults.{settings_at, name_events, declaration_events, rule_events, all_after, declared_lines, lines_after, rule_lines, routines_fault, fault_after, text_fault, then_fault, all_events, onto_first_part, parted, all_faults}
 use Rattle.lrlex_rules.specs.LexBuildError.{IsPlaced}
 use Rattle.lrlex_rules.specs.LexBuildResult.{as_fault}
 use Rattle.lrlex_rules.proofs.Placed.{IsPiece, starts, cut_pieces}

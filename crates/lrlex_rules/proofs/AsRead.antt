@@ -1,7 +1,7 @@
 -- All faults begin with those that the reading tells.
-use Rattle.std.proofs.Common.{◌≡◌, ◌⊎◌, ℕ, ◌+◌, ◌≤◌, ◌<◌, Bool, true, false, eqb, List, [], ◌∷◌, ◌++◌, length, map, drop, Option, Some, None, Result, Ok, Err, refl, sym, ap, subst, inl, inr, ⊎_elim, ◌∙◌, arith}
+use Rattle.std.proofs.Common.{◌≡◌, ℕ, ◌+◌, ◌≤◌, Bool, true, false, eqb, List, [], ◌∷◌, ◌++◌, drop, Option, Some, None, refl, sym, ap, subst, inr, ⊎_elim, ◌∙◌, arith}
 use Rattle.std.specs.Prelude.{if◌then◌else◌, ◌||◌}
-use Rattle.std.specs.List.{list_any, flat_map}
+use Rattle.std.specs.List.{flat_map}
 use Rattle.std.proofs.lemmas.Bool.{eqb-true}
 use Rattle.std.proofs.lemmas.Bool.Decides.{nat_tests}
 use Rattle.std.proofs.lemmas.List.{append-nil, append_assoc}
@@ -11,15 +11,13 @@ use Rattle.lrlex_rules.specs.Flags.{allows_comments}
 use Rattle.lrlex_rules.specs.Text.{Piece, is_white, cut_lines}
 use Rattle.lrlex_rules.specs.Event.{Fault, fault_at, Event, is_fatal, is_refused}
 use Rattle.lrlex_rules.specs.Event.Event.{NewState, NewRule, Duplicate, Verbatim, Refused, Fatal}
-use Rattle.lrlex_rules.specs.Event.FaultKind.{PrematureEnd, RoutinesNotSupported}
+use Rattle.lrlex_rules.specs.Event.FaultKind.{RoutinesNotSupported}
 use Rattle.lrlex_rules.specs.Declaration.{initial, declared_by, state_event, section_lines, section_end, trimmed_lines, declarations}
-use Rattle.lrlex_rules.specs.Definition.{Definition}
-use Rattle.lrlex_rules.specs.Outcome.{Settings, events_after, then_fatal, line_event, rules_section, end_events, rules_events, events_of, faults_after, definition_or_faults, outcome}
-use Rattle.lrlex_rules.specs.AllFaults.{settings_at, name_events, declaration_events, rule_events, all_after, declared_lines, lines_after, rule_lines, routines_fault, fault_after, text_fault, then_fault, all_events, onto_first_part, parted, part_faults, all_faults}
+use Rattle.lrlex_rules.specs.Outcome.{Settings, events_after, line_event, rules_section, end_events, rules_events, events_of, faults_after, definition_or_faults}
+use Rattle.lrlex_rules.specs.AllFaults.{settings_at, declaration_events, rule_events, all_after, declared_lines, lines_after, rule_lines, routines_fault, fault_after, text_fault, then_fault, all_events, onto_first_part, parted, part_faults, all_faults}
 use Rattle.lrlex_rules.specs.LexBuildResult.{settings, refused_in, faults_of, BeginAsRead}
-use Rattle.lrlex_rules.specs.LexParser.{hits, laid_out}
+use Rattle.lrlex_rules.specs.LexParser.{hits}
 use Rattle.lrlex_rules.specs.Survey.{EndsFatal}
-use Rattle.lrlex_rules.specs.declared.parser.text.Margins.TheVariants as margins
 use Rattle.lrlex_rules.proofs.DuplicateLemmas.{or_false}
 use Rattle.lrlex_rules.proofs.LexParserLemmas.{refused-push}
 use Rattle.lrlex_rules.proofs.Refusals.{none_refused, fatal_refused, pattern_refused}

@@ -4,7 +4,7 @@ use Rattle.std.specs.Prelude.{encode_utf8_all}
 use Rattle.std.specs.Char.{len_utf8}
 use Rattle.std.specs.Str.{NonePass}
 use Rattle.std.proofs.lemmas.List.Elements.{All-head, All-tail, All-cons}
-use Rattle.lrlex_rules.specs.Text.{Piece, cut_chars, rejoined, IsCut}
+use Rattle.lrlex_rules.specs.Text.{Piece, piece, cut_chars, rejoined, IsCut, pieces_at}
 use Rattle.lrlex_rules.proofs.Cuts.{cut_chars_none, cut_chars_first}
 
 abbrev texts : List Piece → List (List ℕ)
@@ -23,6 +23,19 @@ only_cut p o all (t ∷ ts) (c ∷ cs) h =
     ap (λ xs. texts (cut_chars p o xs)) (sym h.joined)
     ∙ ap texts (cut_chars_first p o t c (rejoined ts cs) (All-head (NonePass p) t ts h.inside) (All-head (λ d. p d ≡ true) c cs h.between_pass))
     ∙ ap (λ xs. encode_utf8_all t ∷ xs) (only_cut p (o + (length (encode_utf8_all t) + len_utf8 c)) (rejoined ts cs) ts cs rest)
+
+-- at these offsets
+pub offsets_cut : (p : ℕ → Bool) (o : ℕ) (all : List ℕ) (pieces : List (List ℕ)) (between : List ℕ)
+    → IsCut p all pieces between → cut_chars p o all ≡ pieces_at o pieces between
+offsets_cut p o all [] between h = absurd (omega (arith, h.count))
+offsets_cut p o all (t ∷ []) [] h = ap (cut_chars p o) (sym h.joined) ∙ cut_chars_none p o t (All-head (NonePass p) t [] h.inside)
+offsets_cut p o all (t ∷ u ∷ ts) [] h = absurd (omega (arith, h.count))
+offsets_cut p o all (t ∷ ts) (c ∷ cs) h =
+    let rest : IsCut p (rejoined ts cs) ts cs =
+    record { joined = refl; count = omega (arith, h.count); inside = All-tail (NonePass p) t ts h.inside; between_pass = All-tail (λ d. p d ≡ true) c cs h.between_pass } in
+    ap (cut_chars p o) (sym h.joined)
+    ∙ cut_chars_first p o t c (rejoined ts cs) (All-head (NonePass p) t ts h.inside) (All-head (λ d. p d ≡ true) c cs h.between_pass)
+    ∙ ap (λ xs. piece o (encode_utf8_all t) ∷ xs) (offsets_cut p (o + (length (encode_utf8_all t) + len_utf8 c)) (rejoined ts cs) ts cs rest)
 
 -- ---- there is a cut
 

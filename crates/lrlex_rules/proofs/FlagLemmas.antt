@@ -1,9 +1,13 @@
--- Flags are equal exactly where each of them is.
-use Rattle.std.proofs.Common.{◌≡◌, IsTrue, ℕ, Bool, true, false, ◌&&◌, Option, Some, None, refl, sym, ap, ◌∙◌, subst, nat_eq, true≢false}
+-- Flags are equal exactly where each of them is, and resolved flags are those that are used.
+use Rattle.std.proofs.Common.{◌≡◌, IsTrue, ℕ, Bool, true, false, ◌&&◌, Option, Some, None, refl, sym, ap, ◌∙◌, subst, nat_eq, true≢false, min, arith}
+use Rattle.std.specs.Prelude.{unwrap_or}
+use Rattle.std.proofs.lemmas.Option.{same_Some}
+use Rattle.regex.specs.Patterns.{Config}
 use Rattle.std.proofs.Math.Bool.{beq}
 use Rattle.std.proofs.lemmas.Bool.{eqb-true, eq-eqb}
 use Rattle.std.specs.Option.{option_eq}
 use Rattle.lrlex_rules.specs.declared.flags.LexFlags.{LexFlags}
+use Rattle.lrlex_rules.specs.Flags.{resolved, capped, config_of}
 
 left : (a b : Bool) → IsTrue (a && b) → IsTrue a
 left true b h = refl
@@ -107,3 +111,28 @@ flags_self a =
 
 pub flags_equal : (a b : LexFlags) → a ≡ b → IsTrue (are_equal a b)
 flags_equal a b e = subst (λ x. IsTrue (are_equal a x)) e (flags_self a)
+
+-- ---- resolved flags
+min_once : (n : ℕ) → min (min n 1_000) 1_000 ≡ min n 1_000
+min_once n = omega arith
+
+capped_used : (o : Option ℕ) → min (unwrap_or (capped o) 250) 1_000 ≡ min (unwrap_or o 250) 1_000
+capped_used None = refl
+capped_used (Some n) = min_once n
+
+pub config_resolved : (f : LexFlags) → config_of (resolved f) ≡ config_of f
+config_resolved f = ap (λ (n : ℕ). let made : Config = record (config_of f) { nest_limit = n } in made) (capped_used f.nest_limit)
+
+nesting_is : (o : Option ℕ) (n : ℕ) → capped o ≡ Some n → min (unwrap_or o 250) 1_000 ≡ n
+nesting_is None n h = cc
+nesting_is (Some m) n h = same_Some _ _ h
+
+pub nesting_used : (f : LexFlags) (n : ℕ) → (resolved f).nest_limit ≡ Some n → (config_of f).nest_limit ≡ n
+nesting_used f n h = nesting_is f.nest_limit n h
+
+capped_once : (o : Option ℕ) → capped (capped o) ≡ capped o
+capped_once None = refl
+capped_once (Some n) = ap Some (min_once n)
+
+pub resolved_once : (f : LexFlags) → resolved (resolved f) ≡ resolved f
+resolved_once f = ap (λ (o : Option ℕ). let made : LexFlags = record (resolved f) { nest_limit = o } in made) (capped_once f.nest_limit)

@@ -21,7 +21,7 @@ use Rattle.lrlex_rules.specs.declared.parser.lex_parser.LexParser.{LexParser}
 use Rattle.lrlex_rules.specs.declared.flags.LexFlags.{LexFlags}
 use Rattle.regex.specs.declared.error.Error.{Error}
 use Rattle.lrlex_rules.specs.declared.faults.LexBuildError.{LexBuildError}
-use Rattle.lrlex_rules.specs.Flags.{config_of}
+use Rattle.lrlex_rules.specs.Flags.{config_of, size_limit_of}
 use Rattle.lrlex_rules.specs.LexErrorKind.{is_regex_error}
 use Rattle.lrlex_rules.proofs.Refusals.{calm_refusals, fatal_refusals, one_refusal}
 use Rattle.lrlex_rules.proofs.DuplicateLemmas.{with_duplicate_is, faults_other}
@@ -67,7 +67,7 @@ module _ {S : Type 0} (number : S → ℕ) (flags : LexFlags) (old new : LexPars
         rules = same_rules rs e refl;
         faults = now;
         refused = still re e refl;
-        refusals = calm_refusals (config_of flags) (events ++ e ∷ []) new.faults.list.items (refused-push events e quiet) now;
+        refusals = calm_refusals (config_of flags) (size_limit_of flags) (events ++ e ∷ []) new.faults.list.items (refused-push events e quiet) now;
       }
 
   pub adds_rule : (r : Rule) → new.states ≡ old.states → new.faults ≡ old.faults → new.is_refused ≡ old.is_refused → map (as_rule number) new.rules.list.items ≡ map (as_rule number) old.rules.list.items ++ r ∷ [] → Represents number flags new (events ++ NewRule r ∷ [])
@@ -78,7 +78,7 @@ module _ {S : Type 0} (number : S → ℕ) (flags : LexFlags) (old new : LexPars
         rules = is ∙ ap (λ (rs : List Rule). rs ++ r ∷ []) was.rules ∙ sym (rules-append events e);
         faults = now;
         refused = still re e refl;
-        refusals = calm_refusals (config_of flags) (events ++ e ∷ []) new.faults.list.items (refused-push events e quiet) now;
+        refusals = calm_refusals (config_of flags) (size_limit_of flags) (events ++ e ∷ []) new.faults.list.items (refused-push events e quiet) now;
       }
 
   pub adds_duplicate : (s : Subject) (original found : Span) → new.states ≡ old.states → new.rules ≡ old.rules → new.is_refused ≡ old.is_refused
@@ -90,7 +90,7 @@ module _ {S : Type 0} (number : S → ℕ) (flags : LexFlags) (old new : LexPars
         rules = same_rules rs e refl;
         faults = now;
         refused = still re e refl;
-        refusals = calm_refusals (config_of flags) (events ++ e ∷ []) new.faults.list.items (refused-push events e quiet) now;
+        refusals = calm_refusals (config_of flags) (size_limit_of flags) (events ++ e ∷ []) new.faults.list.items (refused-push events e quiet) now;
       }
 
   pub adds_verbatim : (x : Span) → new.states ≡ old.states → new.rules ≡ old.rules → new.is_refused ≡ old.is_refused
@@ -102,7 +102,7 @@ module _ {S : Type 0} (number : S → ℕ) (flags : LexFlags) (old new : LexPars
         rules = same_rules rs e refl;
         faults = now;
         refused = still re e refl;
-        refusals = calm_refusals (config_of flags) (events ++ e ∷ []) new.faults.list.items (refused-push events e quiet) now;
+        refusals = calm_refusals (config_of flags) (size_limit_of flags) (events ++ e ∷ []) new.faults.list.items (refused-push events e quiet) now;
       }
 
   pub adds_fatal : (f : Fault) → is_regex_error f.kind ≡ false → new.states ≡ old.states → new.rules ≡ old.rules → new.is_refused ≡ true
@@ -114,20 +114,20 @@ module _ {S : Type 0} (number : S → ℕ) (flags : LexFlags) (old new : LexPars
         rules = same_rules rs e refl;
         faults = now;
         refused = re ∙ sym (refused-push events e quiet);
-        refusals = fatal_refusals (config_of flags) events f new.faults.list.items quiet own now;
+        refusals = fatal_refusals (config_of flags) (size_limit_of flags) events f new.faults.list.items quiet own now;
       }
 
   pub adds_refused : (at : ℕ) (pattern : List ℕ) (error : Error) (x : LexBuildError) → new.states ≡ old.states → new.rules ≡ old.rules → new.is_refused ≡ true
-      → new.faults.list.items ≡ old.faults.list.items ++ x ∷ [] → as_fault x ≡ fault_at RegexError at → kind_error x ≡ Some error → IsRefused (config_of flags) pattern error → Represents number flags new (events ++ Refused at pattern ∷ [])
+      → new.faults.list.items ≡ old.faults.list.items ++ x ∷ [] → as_fault x ≡ fault_at RegexError at → kind_error x ≡ Some error → IsRefused (config_of flags) (size_limit_of flags) pattern error → Represents number flags new (events ++ Refused at pattern ∷ [])
   adds_refused at pattern error x ss rs re is fault_is kind_is why =
       let e = Refused at pattern in
-      let P : List LexBuildError → Type 0 = λ es. AreRefusals (config_of flags) (refused_patterns (events ++ e ∷ [])) (regex_errors es) in
+      let P : List LexBuildError → Type 0 = λ es. AreRefusals (config_of flags) (size_limit_of flags) (refused_patterns (events ++ e ∷ [])) (regex_errors es) in
       record {
         states = same_states ss e refl;
         rules = same_rules rs e refl;
         faults = ap (map as_fault) is ∙ map_push as_fault old.faults.list.items x ∙ ap (λ (f : Fault). map as_fault old.faults.list.items ++ f ∷ []) fault_is ∙ ap (λ (fs : List Fault). fs ++ fault_at RegexError at ∷ []) was.faults ∙ sym (faults_other [] events e refl);
         refused = re ∙ sym (refused-push events e quiet);
-        refusals = subst P (sym is) (one_refusal (config_of flags) events at pattern old.faults.list.items x error quiet was.faults kind_is why);
+        refusals = subst P (sym is) (one_refusal (config_of flags) (size_limit_of flags) events at pattern old.faults.list.items x error quiet was.faults kind_is why);
       }
 
 -- ---- names of states

@@ -1,9 +1,8 @@
 -- Events parted after each fatal one, and the faults of the parts.
-use Rattle.std.proofs.Common.{◌≡◌, Bool, true, false, List, [], ◌∷◌, ◌++◌, Option, Some, None, refl, sym, ap, ◌∙◌}
+use Rattle.std.proofs.Common.{◌≡◌, Bool, true, false, List, [], ◌∷◌, ◌++◌, Some, None, refl, sym, ap, ◌∙◌}
 use Rattle.std.specs.Prelude.{◌||◌, if◌then◌else◌, is_some}
 use Rattle.std.specs.List.{list_any, flat_map, filter_map, cons_option}
-use Rattle.std.proofs.lemmas.List.{append-nil, append_assoc}
-use Rattle.std.proofs.lemmas.List.Folds.{list_any-append}
+use Rattle.std.proofs.lemmas.List.{append-nil}
 use Rattle.lrlex_base.specs.Spans.{Span}
 use Rattle.lrlex_rules.specs.Definition.{StartState, Rule}
 use Rattle.lrlex_rules.specs.Event.{Fault, fault, Event, Subject, is_fatal, is_refused, new_state, new_rule, refused_pattern, states_of, rules_of, refused_patterns}

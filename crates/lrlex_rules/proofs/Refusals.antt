@@ -16,7 +16,10 @@ use Rattle.lrlex_rules.specs.Event.Subject.{StateName, RuleName}
 use Rattle.lrlex_rules.specs.Outcome.{faults_after, fault_of}
 use Rattle.lrlex_rules.specs.LexErrorKind.{as_kind, is_regex_error}
 use Rattle.lrlex_rules.specs.LexParser.{first_start, refused_in, as_fault, regex_error, kind_error, regex_errors, IsRefused, AreRefusals}
+use Rattle.lrlex_rules.specs.declared.flags.LexFlags.{LexFlags}
+use Rattle.lrlex_rules.specs.Flags.{resolved, config_of, size_limit_of}
 use Rattle.lrlex_rules.proofs.DuplicateLemmas.{faults_other, or_false}
+use Rattle.lrlex_rules.proofs.FlagLemmas.{config_resolved}
 
 abbrev pub has_regex_error : List Fault → Bool
 has_regex_error fs = list_any (λ (f : Fault). is_regex_error f.kind) fs
@@ -105,29 +108,33 @@ no_errors (e ∷ errors) h =
     let two = or_false (is_regex_error (as_kind e.kind)) (has_regex_error (map as_fault errors)) h in
     ap (λ (o : Option Error). cons_option o (regex_errors errors)) (no_error e.kind two.0) ∙ no_errors errors two.1
 
-none_of : (config : Config) (patterns : List (List ℕ)) (errors : List Error) → patterns ≡ [] → errors ≡ [] → AreRefusals config patterns errors
-none_of config patterns errors h k =
-    let P : List (List ℕ) → Type 0 = λ ps. AreRefusals config ps errors in
-    let Q : List Error → Type 0 = λ es. AreRefusals config [] es in
+none_of : (config : Config) (limit : ℕ) (patterns : List (List ℕ)) (errors : List Error) → patterns ≡ [] → errors ≡ [] → AreRefusals config limit patterns errors
+none_of config limit patterns errors h k =
+    let P : List (List ℕ) → Type 0 = λ ps. AreRefusals config limit ps errors in
+    let Q : List Error → Type 0 = λ es. AreRefusals config limit [] es in
     subst P (sym h) (subst Q (sym k) tt)
 
 -- none is refused before a fatal event, nor by one of another kind
-pub calm_refusals : (config : Config) (events : List Event) (errors : List LexBuildError) → is_refused events ≡ false → map as_fault errors ≡ faults_after [] events → AreRefusals config (refused_patterns events) (regex_errors errors)
-calm_refusals config events errors h e = none_of config _ _ (no_patterns events h) (no_errors errors (ap has_regex_error e ∙ quiet_faults [] events h))
+pub calm_refusals : (config : Config) (limit : ℕ) (events : List Event) (errors : List LexBuildError) → is_refused events ≡ false → map as_fault errors ≡ faults_after [] events → AreRefusals config limit (refused_patterns events) (regex_errors errors)
+calm_refusals config limit events errors h e = none_of config limit _ _ (no_patterns events h) (no_errors errors (ap has_regex_error e ∙ quiet_faults [] events h))
 
-pub fatal_refusals : (config : Config) (events : List Event) (f : Fault) (errors : List LexBuildError) → is_refused events ≡ false → is_regex_error f.kind ≡ false → map as_fault errors ≡ faults_after [] (events ++ Fatal f ∷ [])
-    → AreRefusals config (refused_patterns (events ++ Fatal f ∷ [])) (regex_errors errors)
-fatal_refusals config events f errors h own e =
-    none_of config _ _ (patterns-append events (Fatal f) ∙ append-nil (refused_patterns events) ∙ no_patterns events h)
+pub fatal_refusals : (config : Config) (limit : ℕ) (events : List Event) (f : Fault) (errors : List LexBuildError) → is_refused events ≡ false → is_regex_error f.kind ≡ false → map as_fault errors ≡ faults_after [] (events ++ Fatal f ∷ [])
+    → AreRefusals config limit (refused_patterns (events ++ Fatal f ∷ [])) (regex_errors errors)
+fatal_refusals config limit events f errors h own e =
+    none_of config limit _ _ (patterns-append events (Fatal f) ∙ append-nil (refused_patterns events) ∙ no_patterns events h)
     (no_errors errors (ap has_regex_error (e ∙ faults_other [] events (Fatal f) refl) ∙ list_any-append (λ (g : Fault). is_regex_error g.kind) (faults_after [] events) (f ∷ [])
     ∙ rw (quiet_faults [] events h, own) refl))
 
 -- one more pattern, and why
-pub one_refusal : (config : Config) (events : List Event) (at : ℕ) (pattern : List ℕ) (old : List LexBuildError) (x : LexBuildError) (error : Error) → is_refused events ≡ false → map as_fault old ≡ faults_after [] events
-    → kind_error x ≡ Some error → IsRefused config pattern error → AreRefusals config (refused_patterns (events ++ Refused at pattern ∷ [])) (regex_errors (old ++ x ∷ []))
-one_refusal config events at pattern old x error h e k is =
+pub one_refusal : (config : Config) (limit : ℕ) (events : List Event) (at : ℕ) (pattern : List ℕ) (old : List LexBuildError) (x : LexBuildError) (error : Error) → is_refused events ≡ false → map as_fault old ≡ faults_after [] events
+    → kind_error x ≡ Some error → IsRefused config limit pattern error → AreRefusals config limit (refused_patterns (events ++ Refused at pattern ∷ [])) (regex_errors (old ++ x ∷ []))
+one_refusal config limit events at pattern old x error h e k is =
     let ps : refused_patterns (events ++ Refused at pattern ∷ []) ≡ pattern ∷ [] = patterns-append events (Refused at pattern) ∙ ap (λ (zs : List (List ℕ)). zs ++ pattern ∷ []) (no_patterns events h) in
     let es : regex_errors (old ++ x ∷ []) ≡ error ∷ [] = errors-append old x ∙ ap (λ (o : Option Error). regex_errors old ++ cons_option o []) k ∙ ap (λ (zs : List Error). zs ++ error ∷ []) (no_errors old (ap has_regex_error e ∙ quiet_faults [] events h)) in
-    let P : List (List ℕ) → Type 0 = λ zs. AreRefusals config zs (regex_errors (old ++ x ∷ [])) in
-    let Q : List Error → Type 0 = λ zs. AreRefusals config (pattern ∷ []) zs in
+    let P : List (List ℕ) → Type 0 = λ zs. AreRefusals config limit zs (regex_errors (old ++ x ∷ [])) in
+    let Q : List Error → Type 0 = λ zs. AreRefusals config limit (pattern ∷ []) zs in
     subst P (sym ps) (subst Q (sym es) (is, tt))
+
+-- ---- refused under resolved flags, as under those that were given
+pub refused_as_given : (flags : LexFlags) (patterns : List (List ℕ)) (errors : List Error) → AreRefusals (config_of (resolved flags)) (size_limit_of (resolved flags)) patterns errors → AreRefusals (config_of flags) (size_limit_of flags) patterns errors
+refused_as_given flags patterns errors h = let P : Config → Type 0 = λ config. AreRefusals config (size_limit_of flags) patterns errors in subst P (config_resolved flags) h

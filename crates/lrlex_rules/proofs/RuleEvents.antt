@@ -5,7 +5,7 @@ use Rattle.std.proofs.lemmas.List.{length-map}
 use Rattle.std.proofs.lemmas.Bool.Decides.{nat_tests}
 use Rattle.lrlex_rules.specs.declared.flags.LexFlags.{LexFlags}
 use Rattle.lrlex_rules.specs.declared.parser.lex_parser.LexParser.{LexParser}
-use Rattle.lrlex_rules.specs.Flags.{resolved, has_posix_escapes, config_of}
+use Rattle.lrlex_rules.specs.Flags.{resolved, has_posix_escapes, config_of, size_limit_of}
 use Rattle.lrlex_rules.specs.Event.{Fault, fault_at, Event, states_of, rules_of, span_of}
 use Rattle.lrlex_rules.specs.Definition.{StartState, Rule}
 use Rattle.lrlex_rules.specs.Event.Event.{NewRule, Duplicate, Verbatim, Refused, Fatal}
@@ -18,7 +18,9 @@ use Rattle.lrlex_rules.specs.Outcome.{Settings, rule_event, pattern_event, parts
 use Rattle.lrlex_rules.specs.LexParser.{Represents, Adds, AddsRefused, AddsLine, Suits, IsRefused, hits, refused_in, refused_of, as_fault}
 use Rattle.lrlex_rules.specs.RuleParts.{as_state, as_rule}
 use Rattle.lrlex_rules.specs.Duplicates.{with_duplicate}
+use Rattle.regex.specs.Patterns.{Config}
 use Rattle.regex.specs.declared.error.Error.{Error}
+use Rattle.lrlex_rules.proofs.FlagLemmas.{config_resolved}
 use Rattle.lrlex_rules.proofs.Refusals.{none_refused, pattern_refused}
 use Rattle.lrlex_rules.proofs.LexParserLemmas.{adds_duplicate}
 
@@ -59,7 +61,7 @@ module _ {S : Type 0} (number : S → ℕ) (flags : LexFlags) (greatest : ℕ) (
     regex_refused : (s : Settings) (rules : List Rule) → length rules ≤ s.greatest_id → hits s.refused o ≡ true → Refused o pattern.text ≡ rule_event s rules o parts pattern
     regex_refused s rules h k = sym (rw (le_test s.greatest_id (length rules) h, k) refl)
 
-    pub line_refused : (error : Error) → old.is_refused ≡ false → length old.rules.list.items ≤ greatest → IsRefused (config_of flags) pattern.text error → AddsRefused number old new error o → AddsLine number flags greatest old new o (λ s events. rule_event s (rules_of events) o parts pattern)
+    pub line_refused : (error : Error) → old.is_refused ≡ false → length old.rules.list.items ≤ greatest → IsRefused (config_of flags) (size_limit_of flags) pattern.text error → AddsRefused number old new error o → AddsLine number flags greatest old new o (λ s events. rule_event s (rules_of events) o parts pattern)
     line_refused error calm h why adds s suits events was hit =
         let n = count_of number flags old events was in
         let g = suits.greatest_is in
@@ -70,8 +72,11 @@ module _ {S : Type 0} (number : S → ℕ) (flags : LexFlags) (greatest : ℕ) (
         subst P (regex_refused s (rules_of events) (omega arith) yes) now
 
     -- a new rule
+    abbrev with_config : ℕ → Config → Rule
+    with_config n config = record { id = Some n; name = parts.label.name; name_span = parts.label.span; re_str = pattern.text; start_states = pattern.start_states; target = parts.target; config = config }
+
     abbrev pub with_id : ℕ → LexFlags → Rule
-    with_id n f = record { id = Some n; name = parts.label.name; name_span = parts.label.span; re_str = pattern.text; start_states = pattern.start_states; target = parts.target; config = config_of f }
+    with_id n f = with_config n (config_of f)
 
     kept : (s : Settings) (rules : List Rule) → length rules ≤ s.greatest_id → hits s.refused o ≡ false → NewRule (with_id (length rules) s.flags) ≡ rule_event s rules o parts pattern
     kept s rules h k = sym (rw (le_test s.greatest_id (length rules) h, k) refl)
@@ -85,7 +90,7 @@ module _ {S : Type 0} (number : S → ℕ) (flags : LexFlags) (greatest : ℕ) (
         let told : refused_of new ≡ None = ap (λ v. refused_in (map as_fault v.list.items)) same ∙ ap refused_in was.faults ∙ none_refused events (sym was.refused ∙ calm) in
         let no : hits s.refused o ≡ false = hit ∙ ap (λ (x : Option ℕ). hits x o) told in
         let P : Event → Type 0 = λ x. Represents number flags new (events ++ x ∷ []) in
-        let as_one : with_id (length (rules_of events)) s.flags ≡ with_id (length old.rules.list.items) flags = ap (λ (k : ℕ). with_id k s.flags) (sym n) ∙ ap (λ (f : LexFlags). with_id (length old.rules.list.items) f) suits.flags_are in
+        let as_one : with_id (length (rules_of events)) s.flags ≡ with_id (length old.rules.list.items) flags = ap (λ (k : ℕ). with_id k s.flags) (sym n) ∙ ap (with_config (length old.rules.list.items)) (sym (config_resolved s.flags)) ∙ ap (λ (f : LexFlags). with_id (length old.rules.list.items) f) suits.flags_are in
         subst P (kept s (rules_of events) (omega arith) no) (adds (with_id (length (rules_of events)) s.flags) as_one events was)
 
 -- a rule of these parts

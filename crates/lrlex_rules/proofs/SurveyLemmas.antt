@@ -1,26 +1,25 @@
 -- What a survey stands for after more events, and past a fatal one.
 use Rattle.std.proofs.Common.{◌≡◌, ℕ, Bool, true, false, List, [], ◌∷◌, ◌++◌, map, Option, Some, None, Result, Ok, Err, refl, sym, ap, subst, ◌∙◌}
-use Rattle.std.specs.Prelude.{◌||◌, if◌then◌else◌}
+use Rattle.std.specs.Prelude.{if◌then◌else◌}
 use Rattle.std.specs.List.{cons_option}
 use Rattle.std.proofs.lemmas.List.{append-nil, append_assoc}
 use Rattle.regex.specs.Patterns.{Config}
 use Rattle.regex.specs.declared.error.Error.{Error}
 use Rattle.lrlex_rules.specs.declared.flags.LexFlags.{LexFlags}
 use Rattle.lrlex_rules.specs.declared.faults.LexBuildError.{LexBuildError}
-use Rattle.lrlex_rules.specs.declared.parser.lex_parser.LexParser.{LexParser}
 use Rattle.lrlex_rules.specs.declared.parser.survey.Survey.{Survey}
-use Rattle.lrlex_rules.specs.Flags.{has_posix_escapes, config_of}
+use Rattle.lrlex_rules.specs.Flags.{has_posix_escapes, config_of, size_limit_of}
 use Rattle.lrlex_rules.specs.Text.{Piece}
 use Rattle.lrlex_rules.specs.Escape.{trim_head}
 use Rattle.lrlex_rules.specs.Definition.{StartState, Rule}
 use Rattle.lrlex_rules.specs.Event.{Fault, span_of, Event, is_fatal, is_refused, states_of, rules_of, refused_patterns}
 use Rattle.lrlex_rules.specs.Event.Event.{Verbatim, Fatal}
-use Rattle.lrlex_rules.specs.Declaration.{Declared, state_named, state_event, new_or_duplicate, declared_by}
+use Rattle.lrlex_rules.specs.Declaration.{Declared, state_named, state_event, new_or_duplicate}
 use Rattle.lrlex_rules.specs.Declaration.Declared.{Name, Wrong}
-use Rattle.lrlex_rules.specs.RuleLine.{LineParts, Pattern, split, read_pattern}
+use Rattle.lrlex_rules.specs.RuleLine.{LineParts, split, read_pattern}
 use Rattle.lrlex_rules.specs.Outcome.{Settings, events_after, faults_after, rule_with_name, pattern_event, parts_event, split_event, is_verbatim, line_event}
-use Rattle.lrlex_rules.specs.AllFaults.{until_fatal, name_events, part_faults, then_fault}
-use Rattle.lrlex_rules.specs.LexBuildResult.{as_fault, kind_error, regex_errors, IsRefused, AreRefusals}
+use Rattle.lrlex_rules.specs.AllFaults.{until_fatal, name_events, part_faults}
+use Rattle.lrlex_rules.specs.LexBuildResult.{as_fault, kind_error, regex_errors, AreRefusals}
 use Rattle.lrlex_rules.specs.LexParser.{Represents}
 use Rattle.lrlex_rules.specs.RuleParts.{as_state, as_rule}
 use Rattle.lrlex_rules.specs.Survey.{EndsFatal, Surveys, IsCalm, IsAtFault, IsToldBy}
@@ -96,11 +95,11 @@ pub errors_split : (xs ys : List LexBuildError) → regex_errors (xs ++ ys) ≡ 
 errors_split [] ys = refl
 errors_split (x ∷ xs) ys = elim (kind_error x) as (λ o. cons_option o (regex_errors (xs ++ ys)) ≡ cons_option o (regex_errors xs) ++ regex_errors ys) [ None ↦ errors_split xs ys | Some z ↦ ap (λ (zs : List Error). z ∷ zs) (errors_split xs ys) ]
 
-join_refusals : (config : Config) (ps : List (List ℕ)) (es : List Error) (qs : List (List ℕ)) (fs : List Error) → AreRefusals config ps es → AreRefusals config qs fs → AreRefusals config (ps ++ qs) (es ++ fs)
-join_refusals config [] [] qs fs h k = k
-join_refusals config [] (e ∷ es) qs fs h k = absurd h
-join_refusals config (p ∷ ps) [] qs fs h k = absurd h
-join_refusals config (p ∷ ps) (e ∷ es) qs fs h k = (h.0, join_refusals config ps es qs fs h.1 k)
+join_refusals : (config : Config) (limit : ℕ) (ps : List (List ℕ)) (es : List Error) (qs : List (List ℕ)) (fs : List Error) → AreRefusals config limit ps es → AreRefusals config limit qs fs → AreRefusals config limit (ps ++ qs) (es ++ fs)
+join_refusals config limit [] [] qs fs h k = k
+join_refusals config limit [] (e ∷ es) qs fs h k = absurd h
+join_refusals config limit (p ∷ ps) [] qs fs h k = absurd h
+join_refusals config limit (p ∷ ps) (e ∷ es) qs fs h k = (h.0, join_refusals config limit ps es qs fs h.1 k)
 
 map_split : (xs ys : List LexBuildError) → map as_fault (xs ++ ys) ≡ map as_fault xs ++ map as_fault ys
 map_split [] ys = refl
@@ -120,18 +119,18 @@ module _ {S : Type 0} (number : S → ℕ) (flags : LexFlags) (old : Survey S) (
     patterns = was.patterns;
     refused = patterns_split events more ∙ ap (λ (ps : List (List ℕ)). ps ++ refused_patterns more) was.refused ∙ append_assoc was.patterns (refused_patterns was.since) (refused_patterns more)
         ∙ ap (λ (ps : List (List ℕ)). was.patterns ++ ps) (sym (patterns_split was.since more));
-    refusals = subst (λ v. AreRefusals (config_of flags) was.patterns (regex_errors v.items)) (sym told) was.refusals;
+    refusals = subst (λ v. AreRefusals (config_of flags) (size_limit_of flags) was.patterns (regex_errors v.items)) (sym told) was.refusals;
   }
 
   pub grows_to_fault : (new : Survey S) (more : List Event) → new.told ≡ old.told → Represents number flags new.parser (was.since ++ more) → (is_refused (was.since ++ more) ≡ true → EndsFatal (was.since ++ more)) → IsAtFault number flags new (events ++ more)
   grows_to_fault new more told now ends = (grows new more told now, ends)
 
-  all_refusals : AreRefusals (config_of flags) (refused_patterns events) (regex_errors (old.told.items ++ old.parser.faults.list.items))
+  all_refusals : AreRefusals (config_of flags) (size_limit_of flags) (refused_patterns events) (regex_errors (old.told.items ++ old.parser.faults.list.items))
   all_refusals =
-      let P : List (List ℕ) → Type 0 = λ ps. AreRefusals (config_of flags) ps (regex_errors (old.told.items ++ old.parser.faults.list.items)) in
-      let Q : List Error → Type 0 = λ es. AreRefusals (config_of flags) (was.patterns ++ refused_patterns was.since) es in
+      let P : List (List ℕ) → Type 0 = λ ps. AreRefusals (config_of flags) (size_limit_of flags) ps (regex_errors (old.told.items ++ old.parser.faults.list.items)) in
+      let Q : List Error → Type 0 = λ es. AreRefusals (config_of flags) (size_limit_of flags) (was.patterns ++ refused_patterns was.since) es in
       subst P (sym was.refused) (subst Q (sym (errors_split old.told.items old.parser.faults.list.items))
-      (join_refusals (config_of flags) was.patterns (regex_errors old.told.items) (refused_patterns was.since) (regex_errors old.parser.faults.list.items) was.refusals was.parser.refusals))
+      (join_refusals (config_of flags) (size_limit_of flags) was.patterns (regex_errors old.told.items) (refused_patterns was.since) (regex_errors old.parser.faults.list.items) was.refusals was.parser.refusals))
 
   -- past a fatal fault
   abbrev passed : (new : Survey S) → EndsFatal was.since → new.told.items ≡ old.told.items ++ old.parser.faults.list.items → new.parser.states ≡ old.parser.states → new.parser.rules ≡ old.parser.rules → new.parser.faults.list.items ≡ [] → new.parser.is_refused ≡ false
@@ -146,8 +145,8 @@ module _ {S : Type 0} (number : S → ℕ) (flags : LexFlags) (old : Survey S) (
           faults = ap (map as_fault) none ∙ sym (none_kept was.since);
           refused = calm ∙ sym (calm_kept was.since);
           refusals =
-              let P : List (List ℕ) → Type 0 = λ ps. AreRefusals (config_of flags) ps (regex_errors new.parser.faults.list.items) in
-              let Q : List LexBuildError → Type 0 = λ es. AreRefusals (config_of flags) [] (regex_errors es) in
+              let P : List (List ℕ) → Type 0 = λ ps. AreRefusals (config_of flags) (size_limit_of flags) ps (regex_errors new.parser.faults.list.items) in
+              let Q : List LexBuildError → Type 0 = λ es. AreRefusals (config_of flags) (size_limit_of flags) [] (regex_errors es) in
               subst P (sym (patterns_kept was.since)) (subst Q (sym none) tt);
         };
         states = states_kept was.since ∙ was.states;
@@ -159,7 +158,7 @@ module _ {S : Type 0} (number : S → ℕ) (flags : LexFlags) (old : Survey S) (
             ∙ ap (λ (fs : List Fault). map as_fault new.told.items ++ fs) (sym (faults_kept was.since rest));
         patterns = refused_patterns events;
         refused = sym (append-nil (refused_patterns events)) ∙ ap (λ (ps : List (List ℕ)). refused_patterns events ++ ps) (sym (patterns_kept was.since));
-        refusals = subst (λ (es : List LexBuildError). AreRefusals (config_of flags) (refused_patterns events) (regex_errors es)) (sym told) all_refusals;
+        refusals = subst (λ (es : List LexBuildError). AreRefusals (config_of flags) (size_limit_of flags) (refused_patterns events) (regex_errors es)) (sym told) all_refusals;
       }
 
   pub passes_over : (new : Survey S) → EndsFatal was.since → new.told.items ≡ old.told.items ++ old.parser.faults.list.items → new.parser.states ≡ old.parser.states → new.parser.rules ≡ old.parser.rules → new.parser.faults.list.items ≡ [] → new.parser.is_refused ≡ false
@@ -171,7 +170,7 @@ module _ {S : Type 0} (number : S → ℕ) (flags : LexFlags) (old : Survey S) (
   tells_all told is part = record {
     faults = ap (map as_fault) is ∙ map_split old.told.items old.parser.faults.list.items ∙ ap (λ (fs : List Fault). map as_fault old.told.items ++ fs) (was.parser.faults ∙ sym part)
         ∙ ap (λ (es : List Event). map as_fault old.told.items ++ part_faults es) (sym (append-nil was.since)) ∙ sym (was.told []) ∙ ap part_faults (append-nil events);
-    refusals = subst (λ (es : List LexBuildError). AreRefusals (config_of flags) (refused_patterns events) (regex_errors es)) (sym is) all_refusals;
+    refusals = subst (λ (es : List LexBuildError). AreRefusals (config_of flags) (size_limit_of flags) (refused_patterns events) (regex_errors es)) (sym is) all_refusals;
   }
 
   pub tells_calm : (told : List LexBuildError) → told ≡ old.told.items ++ old.parser.faults.list.items → is_refused was.since ≡ false → IsToldBy flags events told

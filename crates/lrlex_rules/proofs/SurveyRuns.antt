@@ -1,20 +1,18 @@
 -- A survey over one line after another.
-use Rattle.std.proofs.Common.{◌≡◌, ℕ, zero, suc, ◌+◌, ◌<◌, Bool, true, false, eqb, List, [], ◌∷◌, ◌++◌, length, take, get_or, map, Option, Some, None, refl, sym, ap, subst, ◌∙◌, arith}
-use Rattle.std.specs.Prelude.{if◌then◌else◌, ◌==◌, ◌||◌}
-use Rattle.std.specs.List.{list_any}
+use Rattle.std.proofs.Common.{◌≡◌, ℕ, zero, suc, ◌+◌, ◌<◌, Bool, true, false, eqb, List, [], ◌∷◌, ◌++◌, length, take, get_or, map, Some, None, refl, sym, ap, subst, ◌∙◌, arith}
+use Rattle.std.specs.Prelude.{if◌then◌else◌, ◌==◌}
 use Rattle.std.proofs.lemmas.List.{take_more, map_push}
 use Rattle.std.proofs.lemmas.Bool.Decides.{nat_tests}
 use Rattle.lrlex_rules.specs.declared.flags.LexFlags.{LexFlags}
 use Rattle.lrlex_rules.specs.declared.parser.text.Line.{Line}
 use Rattle.lrlex_rules.specs.declared.parser.survey.Survey.{Survey}
-use Rattle.lrlex_rules.specs.Flags.{resolved}
 use Rattle.lrlex_rules.specs.Text.{Piece}
-use Rattle.lrlex_rules.specs.Event.{Event, is_fatal, is_refused}
+use Rattle.lrlex_rules.specs.Event.{Event, is_refused}
 use Rattle.lrlex_rules.specs.Declaration.{state_event, declared_by}
 use Rattle.lrlex_rules.specs.Outcome.{Settings, events_after, line_event}
 use Rattle.lrlex_rules.specs.AllFaults.{settings_at, name_events, declaration_events, rule_events, all_after}
 use Rattle.lrlex_rules.specs.LexParser.{Represents, AddsLine, Suits, AreApart, hits, refused_of, as_piece}
-use Rattle.lrlex_rules.specs.Survey.{EndsFatal, Surveys, IsCalm, IsAtFault, AddsRules}
+use Rattle.lrlex_rules.specs.Survey.{EndsFatal, IsCalm, IsAtFault, AddsRules}
 use Rattle.lrlex_rules.proofs.LexParserLemmas.{refused-push}
 use Rattle.lrlex_rules.proofs.SurveyLemmas.{name_events_are, name_events_end, name_events_same, line_event_same, grows_to_fault}
 

@@ -1,5 +1,5 @@
 -- What the event of a rule line has of whether `regex` refuses its pattern.
-use Rattle.std.proofs.Common.{◌≡◌, ◌⊎◌, ℕ, Bool, true, false, eqb, List, Option, Some, None, Result, Ok, Err, refl, sym, ap, subst, inl, inr, ⊎_elim, ◌∙◌}
+use Rattle.std.proofs.Common.{◌≡◌, ◌⊎◌, ℕ, Bool, true, false, List, Option, Some, None, Result, Ok, Err, refl, sym, ap, subst, inl, inr, ⊎_elim, ◌∙◌}
 use Rattle.std.specs.Prelude.{if◌then◌else◌, nat_lt, length}
 use Rattle.lrlex_rules.specs.declared.flags.LexFlags.{LexFlags}
 use Rattle.lrlex_rules.specs.Flags.{has_posix_escapes, config_of}
@@ -7,7 +7,7 @@ use Rattle.lrlex_rules.specs.Text.{Piece}
 use Rattle.lrlex_rules.specs.Escape.{trim_head}
 use Rattle.lrlex_rules.specs.Definition.{Rule}
 use Rattle.lrlex_rules.specs.Event.{Fault, fault_at, span_of, Event, is_fatal, states_of, rules_of}
-use Rattle.lrlex_rules.specs.Event.Event.{NewState, NewRule, Duplicate, Verbatim, Refused, Fatal}
+use Rattle.lrlex_rules.specs.Event.Event.{NewRule, Verbatim, Refused, Fatal}
 use Rattle.lrlex_rules.specs.Event.FaultKind.{TooManyRules}
 use Rattle.lrlex_rules.specs.RuleLine.{LineParts, Pattern, split, read_pattern}
 use Rattle.lrlex_rules.specs.Outcome.{Settings, rule_with_name, rule_event, pattern_event, parts_event, split_event, is_verbatim, line_event}

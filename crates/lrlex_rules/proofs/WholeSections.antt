@@ -1,12 +1,11 @@
 -- The sections of a rule text, as they are read.
 use Rattle.std.proofs.Common.{◌≡◌, ℕ, ◌+◌, ◌-◌, ◌≤◌, Bool, true, false, List, [], length, drop, map, Option, Some, None, refl, sym, ap, ◌∙◌, arith}
-use Rattle.std.specs.Prelude.{if◌then◌else◌}
 use Rattle.std.specs.Option.{option_map}
 use Rattle.std.proofs.lemmas.List.{drop-drop}
 use Rattle.lrlex_rules.specs.declared.parser.text.Margins.TheVariants as margins
 use Rattle.lrlex_rules.specs.declared.parser.text.Line.{Line}
 use Rattle.lrlex_rules.specs.Text.{Piece, piece, is_white, cut_lines}
-use Rattle.lrlex_rules.specs.Event.{Fault, fault_at}
+use Rattle.lrlex_rules.specs.Event.{fault_at}
 use Rattle.lrlex_rules.specs.Event.FaultKind.{PrematureEnd, RoutinesNotSupported}
 use Rattle.lrlex_rules.specs.Declaration.{section_lines, section_end, trimmed_lines}
 use Rattle.lrlex_rules.specs.Outcome.{rules_section}

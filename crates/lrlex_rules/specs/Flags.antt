@@ -1,5 +1,5 @@
 -- The settings of a rule file.
-use Rattle.std.specs.Prelude.{ℕ, ◌*◌, ◌^◌, min, Bool, true, false, Some, None, unwrap_or}
+use Rattle.std.specs.Prelude.{ℕ, ◌*◌, ◌^◌, min, Bool, true, false, Option, Some, None, option_map, unwrap_or}
 use Rattle.regex.specs.Patterns.{Config}
 use Rattle.lrlex_rules.specs.declared.flags.LexFlags.{LexFlags}
 
@@ -48,7 +48,11 @@ config_of f = record {
   nest_limit = nest_limit_of f;
 }
 
--- the flags, where each that is unset and has a default of lrlex's own is set to it
+-- a limit on nesting that is set, as it is used
+abbrev pub capped : Option ℕ → Option ℕ
+capped limit = option_map (λ (n : ℕ). min n 1_000) limit
+
+-- the flags as they are used: each that is unset and has a default of lrlex's own is set to it, and a limit on nesting that is set is at most 1,000
 abbrev pub resolved : LexFlags → LexFlags
 resolved flags = record flags {
   octal = Some (config_of flags).octal;
@@ -56,6 +60,7 @@ resolved flags = record flags {
   dot_matches_new_line = Some (config_of flags).flags.dot_matches_new_line;
   posix_escapes = Some (has_posix_escapes flags);
   allow_wholeline_comments = Some (allows_comments flags);
+  nest_limit = capped flags.nest_limit;
 }
 
 -- the limit on a compiled pattern's size, in bytes

@@ -1,19 +1,19 @@
 -- What parsing a rule text returns: a definition or faults.
-use Rattle.std.specs.Prelude.{◌≡◌, ◌≢◌, ℕ, Bool, false, ◌++◌, if◌then◌else◌, Option, Some, None, List, [], ◌∷◌, map, Result, Ok, Err, Vec}
+use Rattle.std.specs.Prelude.{◌≡◌, ◌≢◌, ◌≤◌, ◌^◌, ℕ, Bool, false, ◌++◌, if◌then◌else◌, Option, Some, None, List, [], ◌∷◌, map, Result, Ok, Err, Vec}
 use Rattle.std.specs.List.{filter_map}
 use Rattle.std.specs.declared.alloc.Global.{Global}
 use Rattle.regex.specs.Patterns.{Config}
 use Rattle.regex.specs.Sources.{IsRefusal}
 use Rattle.regex.specs.Failures.{IsRightKind}
 use Rattle.regex.specs.declared.error.Error.{Error}
-use Rattle.regex.specs.declared.error.Error.TheVariants.{OutOfMemory}
+use Rattle.regex.specs.declared.error.Error.TheVariants.{Internal, OutOfMemory}
 use Rattle.lrlex_base.specs.Spans.{Span, as_span}
 use Rattle.lrlex_rules.specs.declared.flags.LexFlags.{LexFlags}
 use Rattle.lrlex_rules.specs.declared.faults.LexBuildError.{LexBuildError}
 use Rattle.lrlex_rules.specs.declared.faults.LexErrorKind.{LexErrorKind}
 use Rattle.lrlex_rules.specs.declared.faults.LexErrorKind.TheVariants.{RegexError}
 use Rattle.lrlex_rules.specs.Definition.{Definition}
-use Rattle.lrlex_rules.specs.Flags.{config_of}
+use Rattle.lrlex_rules.specs.Flags.{config_of, size_limit_of}
 use Rattle.lrlex_rules.specs.WrappedPattern.{wrapped}
 use Rattle.lrlex_rules.specs.Event.{Fault, fault, is_refused, refused_patterns}
 use Rattle.lrlex_rules.specs.Outcome.{Settings, events_of, outcome}
@@ -51,18 +51,19 @@ kind_error e = regex_error e.kind
 abbrev pub regex_errors : List LexBuildError → List Error
 regex_errors errors = filter_map kind_error errors
 
--- `regex` refuses this pattern with this error
-pub record IsRefused (config : Config) (pattern : List ℕ) (error : Error) : Type 0 where
+-- `regex` refuses this pattern with this error, under this limit on its size
+pub record IsRefused (config : Config) (limit : ℕ) (pattern : List ℕ) (error : Error) : Type 0 where
   pub by_grammar : IsRefusal config (wrapped pattern) error
   pub kind : IsRightKind config (wrapped pattern) error
   pub not_memory : error ≢ OutOfMemory
+  pub no_internal : limit ≤ 2 ^ 34 → error ≢ Internal
 
--- `regex` refuses each of these patterns with the error at the same place
-abbrev pub AreRefusals : Config → List (List ℕ) → List Error → Type 0
-AreRefusals config [] [] = Unit {0}
-AreRefusals config [] (e ∷ es) = ⊥
-AreRefusals config (p ∷ ps) [] = ⊥
-AreRefusals config (p ∷ ps) (e ∷ es) = IsRefused config p e × AreRefusals config ps es
+-- `regex` refuses each of these patterns with the error at the same place, under this limit on their sizes
+abbrev pub AreRefusals : Config → (limit : ℕ) → List (List ℕ) → List Error → Type 0
+AreRefusals config limit [] [] = Unit {0}
+AreRefusals config limit [] (e ∷ es) = ⊥
+AreRefusals config limit (p ∷ ps) [] = ⊥
+AreRefusals config limit (p ∷ ps) (e ∷ es) = IsRefused config limit p e × AreRefusals config limit ps es
 
 -- the settings of a build
 abbrev pub settings : LexFlags → ℕ → Option ℕ → Settings
@@ -80,7 +81,7 @@ IsAnswer view flags greatest text answer = seen view as_faults answer ≡ outcom
 -- each `RegexError` of these faults is why `regex` refused the pattern of that very line, wrapped
 abbrev pub AreByRegex : LexFlags → ℕ → List ℕ → Vec LexBuildError Global → Type 0
 AreByRegex flags greatest text v =
-    AreRefusals (config_of flags) (refused_patterns (events_of (settings flags greatest (refused_in (as_faults v))) text)) (regex_errors v.items)
+    AreRefusals (config_of flags) (size_limit_of flags) (refused_patterns (events_of (settings flags greatest (refused_in (as_faults v))) text)) (regex_errors v.items)
 
 -- where the answer is faults, each `RegexError` is why `regex` refused that very pattern
 abbrev pub AreOwnRefusals : {D : Type 0} → LexFlags → ℕ → List ℕ → Result D (Vec LexBuildError Global) → Type 0
@@ -91,7 +92,7 @@ AreOwnRefusals flags greatest text (Err v) = AreByRegex flags greatest text v
 pub record AreAllFaults (flags : LexFlags) (greatest : ℕ) (text : List ℕ) (v : Vec LexBuildError Global) : Type 0 where
   pub refuses : ℕ → Bool
   pub exact : as_faults v ≡ all_faults flags greatest refuses text
-  pub refusals : AreRefusals (config_of flags) (refused_patterns (all_events flags greatest refuses text)) (regex_errors v.items)
+  pub refusals : AreRefusals (config_of flags) (size_limit_of flags) (refused_patterns (all_events flags greatest refuses text)) (regex_errors v.items)
 
 -- the faults that an outcome tells; none where it is a definition
 abbrev pub faults_of : Result Definition (List Fault) → List Fault

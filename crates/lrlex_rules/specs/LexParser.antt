@@ -21,7 +21,7 @@ use Rattle.lrlex_rules.specs.declared.parser.lex_parser.LexParser.{LexParser}
 use Rattle.lrlex_rules.specs.declared.parser.lex_parser.RuleFile.{RuleFile}
 use Rattle.lrlex_rules.specs.Definition.{StartState, Definition}
 use Rattle.lrlex_rules.specs.RuleParts.{as_rule, as_state}
-use Rattle.lrlex_rules.specs.Flags.{resolved, config_of}
+use Rattle.lrlex_rules.specs.Flags.{resolved, config_of, size_limit_of}
 use Rattle.lrlex_rules.specs.Text.{Piece, piece, begins_with, trim}
 use Rattle.lrlex_rules.specs.Event.{Fault, fault_at, Event, states_of, rules_of, is_refused, refused_patterns}
 use Rattle.lrlex_rules.specs.Event.Event.{Refused}
@@ -112,7 +112,7 @@ pub record Represents {S : Type 0} (number : S → ℕ) (flags : LexFlags) (b : 
   pub rules : map (as_rule number) b.rules.list.items ≡ rules_of events
   pub faults : map as_fault b.faults.list.items ≡ faults_after [] events
   pub refused : b.is_refused ≡ is_refused events
-  pub refusals : AreRefusals (config_of flags) (refused_patterns events) (regex_errors b.faults.list.items)
+  pub refusals : AreRefusals (config_of flags) (size_limit_of flags) (refused_patterns events) (regex_errors b.faults.list.items)
 
 -- from one state of the parser to the next, one event more
 abbrev pub Adds : {S : Type 0} → (S → ℕ) → LexParser S → LexParser S → (List Event → Event) → Type 0
@@ -121,7 +121,7 @@ Adds number old new event = (flags : LexFlags) (events : List Event) → Represe
 -- from one state of the parser to the next, the event of a pattern that `regex` refused at this place
 abbrev pub AddsRefused : {S : Type 0} → (S → ℕ) → LexParser S → LexParser S → Error → ℕ → Type 0
 AddsRefused number old new error at =
-    (flags : LexFlags) (pattern : List ℕ) → IsRefused (config_of flags) pattern error → (events : List Event) → Represents number flags old events → Represents number flags new (events ++ Refused at pattern ∷ [])
+    (flags : LexFlags) (pattern : List ℕ) → IsRefused (config_of flags) (size_limit_of flags) pattern error → (events : List Event) → Represents number flags old events → Represents number flags new (events ++ Refused at pattern ∷ [])
 
 -- from one state of the parser to the next, these events in place of those before
 abbrev pub Reads : {S : Type 0} → (S → ℕ) → LexParser S → LexParser S → (List Event → List Event) → Type 0

@@ -1,13 +1,12 @@
 -- What contracts see of a survey of all faults.
-use Rattle.std.specs.Prelude.{◌≡◌, ℕ, ◌<◌, true, false, Bool, Option, List, [], ◌∷◌, ◌++◌, length, map}
-use Rattle.std.specs.List.{slice_index_or}
+use Rattle.std.specs.Prelude.{◌≡◌, ℕ, true, false, Bool, List, [], ◌∷◌, ◌++◌, map}
 use Rattle.lrlex_rules.specs.declared.flags.LexFlags.{LexFlags}
 use Rattle.lrlex_rules.specs.declared.parser.text.Line.{Line}
 use Rattle.lrlex_rules.specs.declared.faults.LexBuildError.{LexBuildError}
 use Rattle.lrlex_rules.specs.declared.parser.survey.Survey.{Survey}
-use Rattle.lrlex_rules.specs.Flags.{resolved, config_of}
-use Rattle.lrlex_rules.specs.Event.{Fault, Event, is_fatal, is_refused, states_of, rules_of, refused_patterns}
-use Rattle.lrlex_rules.specs.AllFaults.{all_after, rule_events, part_faults, parted}
+use Rattle.lrlex_rules.specs.Flags.{resolved, config_of, size_limit_of}
+use Rattle.lrlex_rules.specs.Event.{Event, is_fatal, is_refused, states_of, rules_of, refused_patterns}
+use Rattle.lrlex_rules.specs.AllFaults.{all_after, rule_events, part_faults}
 use Rattle.lrlex_rules.specs.LexBuildResult.{as_fault, regex_errors, AreRefusals}
 use Rattle.lrlex_rules.specs.LexParser.{Represents, as_piece}
 
@@ -28,7 +27,7 @@ pub record Surveys {S : Type 0} (number : S → ℕ) (flags : LexFlags) (v : Sur
   pub told : (more : List Event) → part_faults (events ++ more) ≡ map as_fault v.told.items ++ part_faults (since ++ more)
   pub patterns : List (List ℕ)
   pub refused : refused_patterns events ≡ patterns ++ refused_patterns since
-  pub refusals : AreRefusals (config_of flags) patterns (regex_errors v.told.items)
+  pub refusals : AreRefusals (config_of flags) (size_limit_of flags) patterns (regex_errors v.told.items)
 
 -- its parser has met no fatal fault since, or just met one
 abbrev pub IsCalm : {S : Type 0} → (S → ℕ) → LexFlags → Survey S → List Event → Type 0
@@ -50,4 +49,4 @@ AddsRules number flags greatest old new lines =
 -- these are the faults of these events, and each `RegexError` is why `regex` refused that very pattern
 pub record IsToldBy (flags : LexFlags) (events : List Event) (told : List LexBuildError) : Type 0 where
   pub faults : map as_fault told ≡ part_faults events
-  pub refusals : AreRefusals (config_of flags) (refused_patterns events) (regex_errors told)
+  pub refusals : AreRefusals (config_of flags) (size_limit_of flags) (refused_patterns events) (regex_errors told)

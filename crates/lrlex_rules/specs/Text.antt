@@ -41,6 +41,12 @@ pub record IsCut (p : ℕ → Bool) (all : List ℕ) (pieces : List (List ℕ)) 
   pub inside : All (NonePass p) pieces
   pub between_pass : All (λ c. p c ≡ true) between
 
+-- pieces of characters from offset o on, with these characters between them
+abbrev pub pieces_at : ℕ → List (List ℕ) → List ℕ → List Piece
+pieces_at o [] between = []
+pieces_at o (t ∷ ts) [] = piece o (encode_utf8_all t) ∷ []
+pieces_at o (t ∷ ts) (c ∷ cs) = piece o (encode_utf8_all t) ∷ pieces_at (o + (length (encode_utf8_all t) + len_utf8 c)) ts cs
+
 -- the lines of a text, without their separators
 abbrev pub cut_lines : Piece → List Piece
 cut_lines x = cut is_line_sep x

@@ -110,7 +110,7 @@ impl LexFlags {
         self.allow_wholeline_comments.unwrap_or(false)
     }
 
-    /// The flags, with each unset one that has a default set to it.
+    /// The flags as they are used: each unset one that has a default is set to it, and a nest limit that is set is at most 1,000.
     pub(crate) fn resolved(&self) -> LexFlags
         ensures { result ≡ resolved self.now }
     {
@@ -121,6 +121,7 @@ impl LexFlags {
             octal: Some(config.octal),
             posix_escapes: Some(self.has_posix_escapes()),
             allow_wholeline_comments: Some(self.allows_comments()),
+            nest_limit: self.nest_limit.map(|limit| limit.min(MOST_NESTED)),
             ..*self
         }
     }

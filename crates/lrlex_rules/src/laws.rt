@@ -1,8 +1,8 @@
 // What no single call's contract states: each law is the contract of a function that needs no caller.
-ghost use Rattle.std.specs.Prelude.{◌≡◌, ℕ, ◌↔◌, Bool, IsTrue, List, map, encode_utf8_all};
+ghost use Rattle.std.specs.Prelude.{◌≡◌, ℕ, ◌↔◌, Bool, IsTrue, Some, List, map, encode_utf8_all};
 ghost use Rattle.std.specs.Str.{chars};
-ghost use Rattle.lrlex_rules.specs.Flags.{unset, resolved};
-ghost use Rattle.lrlex_rules.specs.Text.{Piece, IsCut, cut};
+ghost use Rattle.lrlex_rules.specs.Flags.{unset, resolved, config_of, size_limit_of, has_posix_escapes, allows_comments};
+ghost use Rattle.lrlex_rules.specs.Text.{Piece, IsCut, cut, pieces_at};
 ghost use Rattle.lrlex_rules.specs.declared.flags.LexFlags.{LexFlags};
 ghost use Rattle.lrlex_rules.specs.declared.states.StartStateOperation.{StartStateOperation};
 
@@ -10,11 +10,19 @@ use crate::flags::{DEFAULT_LEX_FLAGS, LexFlags, UNSPECIFIED_LEX_FLAGS};
 use crate::states::StartStateOperation;
 
 /// Of `UNSPECIFIED_LEX_FLAGS` nothing is set, and `DEFAULT_LEX_FLAGS` are what that resolves to. Flags are equal exactly
-/// where each of them is.
+/// where each of them is. Resolved flags are those that are used: a rule text is read under them as under the flags that were
+/// given, and a nest limit that they have is the one that patterns are read under.
 pub fn flag_laws()
     ensures unset { UNSPECIFIED_LEX_FLAGS ≡ unset }
     ensures defaults { DEFAULT_LEX_FLAGS ≡ resolved unset }
     ensures equal { (a b : LexFlags) → IsTrue (⟦<LexFlags as PartialEq>⟧.eq a b) ↔ (a ≡ b) }
+    ensures config { (f : LexFlags) → config_of (resolved f) ≡ config_of f }
+    ensures size { (f : LexFlags) → size_limit_of (resolved f) ≡ size_limit_of f }
+    ensures escapes { (f : LexFlags) → has_posix_escapes (resolved f) ≡ has_posix_escapes f }
+    ensures comments { (f : LexFlags) → allows_comments (resolved f) ≡ allows_comments f }
+    ensures nesting { (f : LexFlags) (n : ℕ) → (resolved f).nest_limit ≡ Some n
+        → (config_of f).nest_limit ≡ n }
+    ensures once { (f : LexFlags) → resolved (resolved f) ≡ resolved f }
 {}
 
 /// An operation equals itself alone.
@@ -24,11 +32,13 @@ pub fn operation_laws()
 {}
 
 /// A text is cut in one way at the characters that pass a test, as its lines are: it is the pieces with those characters
-/// between them, and no piece has such a character.
+/// between them, and no piece has such a character. Each piece is at the offset after all that is before it.
 pub fn line_laws()
     ensures some { (p : ℕ → Bool) (x : Piece) →
         (pieces : List (List ℕ)) × (between : List ℕ) × IsCut p (chars x.text) pieces between }
     ensures only { (p : ℕ → Bool) (x : Piece) (pieces : List (List ℕ)) (between : List ℕ)
         → IsCut p (chars x.text) pieces between
         → map (λ y. y.text) (cut p x) ≡ map encode_utf8_all pieces }
+    ensures offsets { (p : ℕ → Bool) (x : Piece) (pieces : List (List ℕ)) (between : List ℕ)
+        → IsCut p (chars x.text) pieces between → cut p x ≡ pieces_at x.at pieces between }
 {}

@@ -4,8 +4,9 @@ use Rattle.lrlex_rules.specs.LexParser.{Suits, settings, refused_of, AreRefusals
 use Rattle.lrlex_rules.specs.declared.flags.LexFlags.{LexFlags}
 use Rattle.lrlex_rules.specs.Event.{refused_patterns}
 use Rattle.lrlex_rules.specs.Outcome.{events_of}
-use Rattle.lrlex_rules.specs.Flags.{config_of}
+use Rattle.lrlex_rules.specs.Flags.{config_of, size_limit_of}
 use Rattle.lrlex_rules.proofs.LexBuildResultLemmas.{whole, answers_faults, answers_definition, none_told}
+use Rattle.lrlex_rules.proofs.Refusals.{refused_as_given}
 use Rattle.lrlex_rules.proofs.Initial.{outcome_first}
 use Rattle.lrlex_rules.proofs.Lawful.{outcome_lawful}
 use Rattle.lrlex_rules.proofs.PlacedFaults.{outcome_placed}
@@ -33,8 +34,8 @@ returns-then-not-is_empty-clause-refusals g c =
     let r = refused_of c.parse.new.self in
     let suits : Suits (settings c.args.flags g.StorageT.Numbered.greatest r) rr g.StorageT.Numbered.greatest = record { flags_are = sym c.resolved-resolved.ensures; greatest_is = refl } in
     let all = whole g.StorageT.Numbered.number c.args.flags rr g.StorageT.Numbered.greatest r c.args.text.now c.parse.new.self c.resolved-resolved.ensures (c.in_ok-parse.ensures (settings c.args.flags g.StorageT.Numbered.greatest r) suits _ (c.in_ok-parser.ensures rr) refl) in
-    let P : LexFlags → Type 0 = λ f. AreRefusals (config_of f) (refused_patterns (events_of (settings c.args.flags g.StorageT.Numbered.greatest r) c.args.text.now)) (regex_errors c.parse.new.self.faults.list.items) in
-    subst P c.resolved-resolved.ensures all.refusals
+    let P : LexFlags → Type 0 = λ f. AreRefusals (config_of f) (size_limit_of f) (refused_patterns (events_of (settings c.args.flags g.StorageT.Numbered.greatest r) c.args.text.now)) (regex_errors c.parse.new.self.faults.list.items) in
+    refused_as_given c.args.flags _ _ (subst P c.resolved-resolved.ensures all.refusals)
 
 pub returns-then-not-is_empty-clause-placed : goal.returns-then-not-is_empty-clause-placed
 returns-then-not-is_empty-clause-placed g c =

@@ -1,4 +1,4 @@
-use Rattle.std.proofs.Common.{◌≡◌, ◌∙◌, ◌-◌, length, subst}
+use Rattle.std.proofs.Common.{◌∙◌, ◌-◌, length, subst}
 use Rattle.std.specs.Prelude.{Option}
 use Rattle.std.specs.Option.{IfSome}
 use Rattle.lrlex_rules.specs.declared.parser.text.Line.{Line}

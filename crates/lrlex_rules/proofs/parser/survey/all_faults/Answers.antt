@@ -1,5 +1,4 @@
-use Rattle.std.proofs.Common.{◌≡◌, ◌∙◌, [], ◌∷◌, List, map, sym, ap, subst}
-use Rattle.lrlex_rules.specs.declared.parser.text.Line.{Line}
+use Rattle.std.proofs.Common.{◌∙◌, [], ◌∷◌, map, sym, ap, subst}
 use Rattle.lrlex_rules.specs.Event.Event.{NewState}
 use Rattle.lrlex_rules.specs.Declaration.{initial}
 use Rattle.lrlex_rules.specs.LexParser.{AreApart, as_piece}

@@ -3,7 +3,7 @@ use Rattle.std.specs.Option.{option_map}
 use Rattle.std.specs.String.{string_bytes}
 use Rattle.std.proofs.lemmas.List.{map_push}
 use Rattle.lrlex_rules.specs.Definition.{Rule}
-use Rattle.lrlex_rules.specs.Flags.{config_of}
+use Rattle.lrlex_rules.specs.Flags.{config_of, size_limit_of}
 use Rattle.lrlex_rules.specs.RuleParts.{as_rule}
 use Rattle.lrlex_rules.specs.LexParser.{as_parts, as_pattern, IsRefused}
 use Rattle.lrlex_rules.proofs.LexParserLemmas.{on_ok, adds_rule}
@@ -34,7 +34,8 @@ returns-in-Err g c =
     let refused = rw c.in-Err.is at c.in_ok-rule.ensures.refused in
     let kind = rw c.in-Err.is at c.in_ok-rule.ensures.kind in
     let not_memory = rw c.in-Err.is at c.in_ok-rule.ensures.not_memory in
-    let why : IsRefused (config_of c.args.flags.now) (string_bytes c.args.pattern.text) c.in-Err.error = record { by_grammar = refused; kind = kind; not_memory = not_memory } in
+    let no_internal = rw c.in-Err.is at c.in_ok-rule.ensures.no_internal in
+    let why : IsRefused (config_of c.args.flags.now) (size_limit_of c.args.flags.now) (string_bytes c.args.pattern.text) c.in-Err.error = record { by_grammar = refused; kind = kind; not_memory = not_memory; no_internal = no_internal } in
     on_ok c.refuse_pattern.result (line_refused g.StorageT.Numbered.number c.args.flags.now g.StorageT.Numbered.greatest c.args.self.now c.refuse_pattern.new.self c.args.at (as_parts c.args.parts) (as_pattern c.args.pattern) c.in-Err.error c.requires room why) c.refuse_pattern.ensures
 
 pub push-requires : goal.push-requires

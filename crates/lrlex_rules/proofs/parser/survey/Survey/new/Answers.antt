@@ -1,6 +1,6 @@
 use Rattle.std.proofs.Common.{◌∷◌, ◌++◌, [], List, map, refl, sym, ap, subst}
 use Rattle.lrlex_rules.specs.declared.faults.LexBuildError.{LexBuildError}
-use Rattle.lrlex_rules.specs.Flags.{unset, config_of}
+use Rattle.lrlex_rules.specs.Flags.{unset, config_of, size_limit_of}
 use Rattle.lrlex_rules.specs.Event.{Event}
 use Rattle.lrlex_rules.specs.Event.Event.{NewState}
 use Rattle.lrlex_rules.specs.Declaration.{initial}
@@ -20,7 +20,7 @@ returns-clause-stands g c flags =
         told = λ more. ap (λ (es : List LexBuildError). map as_fault es ++ part_faults (first ++ more)) none;
         patterns = [];
         refused = refl;
-        refusals = subst (λ (es : List LexBuildError). AreRefusals (config_of flags) [] (regex_errors es)) none tt;
+        refusals = subst (λ (es : List LexBuildError). AreRefusals (config_of flags) (size_limit_of flags) [] (regex_errors es)) none tt;
       },
       refl,
     )

@@ -1,4 +1,4 @@
-use Rattle.std.proofs.Common.{List, true, false, subst, refl}
+use Rattle.std.proofs.Common.{List, false, subst, refl}
 use Rattle.std.proofs.lemmas.List.{take_all}
 use Rattle.lrlex_rules.specs.declared.parser.text.Line.{Line}
 use Rattle.lrlex_rules.specs.Survey.{AddsRules}
