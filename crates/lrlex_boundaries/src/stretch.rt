@@ -57,6 +57,10 @@ pub(crate) fn stored(
     ensures ordered { IfOk result (λ r. r.0 ≤ r.1) }
     ensures within { IfOk result (λ r. r.1 ≤ length entries.new.items) }
     ensures stack { IfOk result (λ r. slice_range entries.new.items r.0 r.1 ≡ stack.now) }
+    ensures few { IfOk result (λ _.
+        length entries.new.items ≤ length entries.old.items + length stack.now) }
+    ensures fewer { first + kept ≡ length entries.old.items → IfOk result (λ _.
+        length entries.new.items + kept ≤ length entries.old.items + length stack.now) }
 {
     let shared = first + kept;
     let rest = &stack[kept..];
