@@ -9,7 +9,7 @@ use Rattle.regex.specs.Patterns.{Re, empty}
 use Rattle.lrlex_matching.specs.Matching.{match_length}
 use Rattle.lrlex_table.specs.Table.{pattern_at, IsLongest, NoneMatches}
 use Rattle.lrlex_table.specs.declared.merged_tables.Part.{Part}
-use Rattle.lrlex_table.specs.declared.merged_tables.Tables.{Tables}
+use Rattle.lrlex_table.specs.declared.tables.Tables.{Tables}
 use Rattle.lrlex_table.specs.Tables.{is_among, is_tabled, AreRising, ArePartsOf, AreTablesOf, IsPartOf, IsBestAmong, IsWinnerAmong, IsDecidedAmong, IsTableScanOf}
 use Rattle.lrlex_table.specs.Reach.{IsDecidedBy}
 use Rattle.lrlex_table.specs.declared.walk.TableScan.{TableScan}

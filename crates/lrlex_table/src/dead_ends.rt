@@ -3,12 +3,15 @@ ghost use Rattle.std.specs.Prelude.{◌≡◌, ℕ, ◌+◌, ◌<◌, ◌≤◌,
 ghost use Rattle.regex.specs.Patterns.{Re};
 ghost use Rattle.lrlex_table.specs.Table.{EndsInRowOf};
 ghost use Rattle.lrlex_table.specs.Reach.{IsDecidedBy};
-ghost use Rattle.lrlex_table.specs.Tables.{is_among, is_tabled, IsPartOf, AreTablesOf, IsBestAmong, IsWinnerAmong, IsTableScanOf};
+ghost use Rattle.lrlex_table.specs.Tables.{is_among, is_tabled, IsPartOf, AreTablesOf, IsBestAmong, IsWinnerAmong, IsTableScanOf, IsBelow};
+ghost use Rattle.lrlex_table.specs.Ahead.{AreAheadIn};
 ghost use Rattle.lrlex_table.specs.DeadEnds.{table_at, IsVain, IsVainPast, IsDeadEndIn};
 
+use crate::ahead::Ahead;
 use crate::hash::hash_with;
-use crate::merged_tables::{Part, Tables, combined};
+use crate::merged_tables::{Part, combined};
 use crate::table::{MARK, Table, row_of};
+use crate::tables::Tables;
 use crate::walk::{FAR, TableScan, Walk, cell_at};
 use std::alloc::Global;
 use std::collections::HashMap;
@@ -37,7 +40,9 @@ pub struct DeadEnds<'d, 't> {
     known: HashMap<u64, usize>,
     /// No dead end is after this place.
     known_to: usize,
+    pub(crate) ahead: Ahead,
     ghost right: { All (IsDeadEndIn lists.now text.now) ends.items },
+    ghost marked: { AreAheadIn lists.now text.now ahead },
 }
 
 /// The hash of a dead end.
@@ -68,6 +73,7 @@ impl<'d, 't> DeadEnds<'d, 't> {
             ends: Vec::new(alloc),
             known: HashMap::new(alloc),
             known_to: 0,
+            ahead: Ahead::new(alloc),
         }
     }
 
@@ -296,8 +302,54 @@ impl<'d, 't> DeadEnds<'d, 't> {
         }
     }
 
-    /// Which pattern wins at this place, as `winner_at` returns it, where a dead end may be known or the list has another number
-    /// of tables than one. Out of line, so that only the walk through one table is in line.
+    /// Which pattern wins at this place, if that was found ahead.
+    #[inline(always)]
+    fn winner_ahead(
+        &mut self,
+        tables: &Tables,
+        list: usize,
+        place: usize,
+        rest: &str,
+    ) -> Option<TableScan>
+        requires tables { slice_get self.old.lists.now list ≡ Some tables.now }
+        requires rest { rest.now ≡ drop place self.old.text.now }
+        ensures scan { IfSome result (λ s. (ps : List Re) → AreTablesOf ps tables.now →
+            IsTableScanOf ps (is_tabled tables.now.parts.items) rest.now s) }
+        ensures past { IfSome result (λ s. IsBelow s.reach s.winner) }
+        ensures lists { self.new.lists ≡ self.old.lists }
+        ensures text { self.new.text ≡ self.old.text }
+    {
+        let cut = self.ahead.take(list, place)?;
+        let part = tables.only()?;
+        let Some(chain) = &tables.chain else {
+            return None
+        };
+        let walk = Walk {
+            len: cut.len,
+            row: chain.base_of(cut.row),
+            reach: cut.len + 1,
+        };
+        Some(part.scan_of(rest, walk))
+    }
+
+    /// Looks ahead from this place on, if that is due and the list has a chain.
+    fn look_ahead(&mut self, tables: &Tables, list: usize, place: usize)
+        requires tables { slice_get self.old.lists.now list ≡ Some tables.now }
+        requires inside { place ≤ length self.old.text.now }
+        ensures lists { self.new.lists ≡ self.old.lists }
+        ensures text { self.new.text ≡ self.old.text }
+    {
+        if !self.ahead.is_due(list) {
+            return;
+        }
+        if let Some(chain) = &tables.chain {
+            let text = self.text;
+            self.ahead.look(chain, text.as_bytes(), place);
+        }
+    }
+
+    /// Which pattern wins at this place, as `winner_at` returns it, where it wasn't found ahead. Out of line, so that only what was found
+    /// ahead is in line.
     #[inline(never)]
     fn winner_out_of_line(
         &mut self,
@@ -317,6 +369,10 @@ impl<'d, 't> DeadEnds<'d, 't> {
         ensures lists { self.new.lists ≡ self.old.lists }
         ensures text { self.new.text ≡ self.old.text }
     {
+        self.look_ahead(tables, list, place);
+        if let Some(scan) = self.winner_ahead(tables, list, place, rest) {
+            return scan;
+        }
         if place < self.known_to {
             return self.winner_of_parts_at(tables, list, place, rest);
         }
@@ -344,12 +400,8 @@ impl<'d, 't> DeadEnds<'d, 't> {
         ensures lists { self.new.lists ≡ self.old.lists }
         ensures text { self.new.text ≡ self.old.text }
     {
-        if place >= self.known_to {
-            if let Some(part) = tables.only() {
-                let scan = part.winner(rest);
-                self.keep_far(scan, list, place);
-                return scan;
-            }
+        if let Some(scan) = self.winner_ahead(tables, list, place, rest) {
+            return scan;
         }
         self.winner_out_of_line(tables, list, place, rest)
     }

@@ -7,3 +7,7 @@ returns-then-place-self-clause-winner c ps are = (c.winner_of_parts_at.ensures.s
 pub returns-then-place-self-clause-decided : goal.returns-then-place-self-clause-decided
 returns-then-place-self-clause-decided c ps are none =
     decided_all ps c.args.tables.now.parts.items c.args.tables.now.asked.items c.args.rest.now c.winner_of_parts_at.result.reach are none (c.winner_of_parts_at.ensures.scan ps are).decided
+
+pub returns-in-Some-clause-decided : goal.returns-in-Some-clause-decided
+returns-in-Some-clause-decided c ps are none =
+    decided_all ps c.args.tables.now.parts.items c.args.tables.now.asked.items c.args.rest.now c.in-Some.scan.reach are none (c.in-Some.ensures.scan ps are).decided

@@ -1,7 +1,7 @@
 use Rattle.std.proofs.Common.{List, take, ◌<◌, IfSome}
 use Rattle.regex.specs.Patterns.{Re}
 use Rattle.lrlex_table.specs.Tables.{is_tabled, AreTablesOf, IsTableScanOf}
-use Rattle.lrlex_table.proofs.merged_tables.Tables.winner_of_parts.Given as goal
+use Rattle.lrlex_table.proofs.tables.Tables.winner_of_parts.Given as goal
 
 abbrev pub invariant-parts : goal.invariant-parts
 invariant-parts l =

@@ -1,5 +1,5 @@
 use Rattle.lrlex_table.proofs.WinnerLemmas.{decided_all, only_part}
-use Rattle.lrlex_table.proofs.merged_tables.Tables.winner.Goals as goal
+use Rattle.lrlex_table.proofs.tables.Tables.winner.Goals as goal
 
 pub returns-in-Some-clause-winner : goal.returns-in-Some-clause-winner
 returns-in-Some-clause-winner c ps are = (only_part ps c.args.self.now c.in-Some.part.now c.args.text.now c.winner.result c.in-Some.ensures are (c.winner.ensures.scan ps)).winner

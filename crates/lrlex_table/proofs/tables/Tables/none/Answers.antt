@@ -1,7 +1,7 @@
 use Rattle.std.proofs.Common.{◌+◌, sym, ap, ◌∙◌, subst}
 use Rattle.lrlex_table.specs.Tables.{is_among, AreRising}
 use Rattle.lrlex_table.proofs.PartLemmas.{rising_push, among_more}
-use Rattle.lrlex_table.proofs.merged_tables.Tables.none.Goals as goal
+use Rattle.lrlex_table.proofs.tables.Tables.none.Goals as goal
 
 pub patterns-preserved : goal.patterns-preserved
 patterns-preserved c =

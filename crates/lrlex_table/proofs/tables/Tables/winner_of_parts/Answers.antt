@@ -5,7 +5,7 @@ use Rattle.regex.specs.Patterns.{Re}
 use Rattle.lrlex_table.specs.declared.merged_tables.Part.{Part}
 use Rattle.lrlex_table.specs.Tables.{is_among, is_tabled, IsPartOf, AreTablesOf, IsTableScanOf}
 use Rattle.lrlex_table.proofs.WinnerLemmas.{scan_start, none_before, tabled_more, scan_of_fewer}
-use Rattle.lrlex_table.proofs.merged_tables.Tables.winner_of_parts.Goals as goal
+use Rattle.lrlex_table.proofs.tables.Tables.winner_of_parts.Goals as goal
 
 pub parts-init : goal.parts-init
 parts-init c =

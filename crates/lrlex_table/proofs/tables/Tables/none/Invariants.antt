@@ -1,6 +1,6 @@
 use Rattle.std.proofs.Common.{◌≡◌, ℕ, ◌<◌, true}
 use Rattle.lrlex_table.specs.Tables.{is_among, AreRising}
-use Rattle.lrlex_table.proofs.merged_tables.Tables.none.Given as goal
+use Rattle.lrlex_table.proofs.tables.Tables.none.Given as goal
 
 abbrev pub invariant-patterns : goal.invariant-patterns
 invariant-patterns l =

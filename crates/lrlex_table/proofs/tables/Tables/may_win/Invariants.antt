@@ -2,7 +2,7 @@ use Rattle.std.proofs.Common.{◌≡◌, List, length}
 use Rattle.regex.specs.Patterns.{Re}
 use Rattle.lrlex_table.specs.Tables.{AreTablesOf}
 use Rattle.lrlex_table.specs.Never.{NoneOfWins, AreStruck}
-use Rattle.lrlex_table.proofs.merged_tables.Tables.may_win.Given as goal
+use Rattle.lrlex_table.proofs.tables.Tables.may_win.Given as goal
 
 abbrev pub invariant-parts : goal.invariant-parts
 invariant-parts l =

@@ -1,6 +1,6 @@
 use Rattle.std.proofs.Common.{◌≡◌, ◌<◌, ◌^◌, take}
 use Rattle.lrlex_table.specs.Tables.{rows_of}
-use Rattle.lrlex_table.proofs.merged_tables.Tables.rows.Given as goal
+use Rattle.lrlex_table.proofs.tables.Tables.rows.Given as goal
 
 abbrev pub invariant-parts : goal.invariant-parts
 invariant-parts l =

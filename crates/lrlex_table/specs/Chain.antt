@@ -1,0 +1,47 @@
+-- The chain of a table (Chain): its walk goes on behind a match, with the next one.
+use Rattle.std.specs.Prelude.{◌≡◌, ◌≢◌, ℕ, ◌+◌, ◌-◌, ◌<◌, ◌≤◌, true, List, length, take, drop, Some, slice_get, slice_index_or}
+use Rattle.lrlex_table.specs.Cell.{wins_at}
+use Rattle.lrlex_table.specs.Table.{next_rows, next_of}
+use Rattle.lrlex_table.specs.Reach.{row_after}
+use Rattle.lrlex_table.specs.declared.table.Table.{Table}
+use Rattle.lrlex_table.specs.declared.chain.Chain.{Chain}
+
+-- the chain's row behind row r on byte b
+abbrev pub row_behind : List ℕ → List ℕ → ℕ → ℕ → ℕ
+row_behind cells columns r b = slice_index_or cells (slice_index_or columns b 0 + r) 0
+
+-- the table's row for which the chain's row stands
+abbrev pub base_of : Chain → ℕ → ℕ
+base_of c r = slice_index_or c.bases.items r 0
+
+-- The chain's row goes to row `to` on the byte. Below the fresh rows it goes where the table's row goes. Else the table's row goes
+-- nowhere and a pattern matches there, so that the next match begins: it goes where the table's start goes.
+abbrev pub GoesTo : Table → Chain → ℕ → ℕ → ℕ → Type 0
+GoesTo t c r b to =
+    (to < c.fresh → base_of c to ≡ next_of (next_rows t) (base_of c r) (Some b))
+    × (c.fresh ≤ to → (next_of (next_rows t) (base_of c r) (Some b) ≡ 0)
+    × (wins_at t.wins.items (base_of c r) ≡ true)
+    × (base_of c to ≡ next_of (next_rows t) t.start (Some b))
+    × (base_of c to ≢ 0))
+
+-- each row of the chain goes on each byte as the table says, from the table's start on
+abbrev pub IsChainOf : Table → Chain → Type 0
+IsChainOf t c =
+    (base_of c c.start ≡ t.start)
+    × ((r b : ℕ) → r < length c.bases.items → b < 256 → GoesTo t c r b (row_behind c.cells.items c.columns.items r b))
+
+-- The table's walk reads the first n bytes of the text and comes to row r, where a pattern matches. On the next byte it goes nowhere.
+abbrev pub IsCut : Table → List ℕ → ℕ → ℕ → Type 0
+IsCut t text n r =
+    (0 < n)
+    × (n < length text)
+    × (row_after (next_rows t) t.start (take n text) ≡ r)
+    × (wins_at t.wins.items r ≡ true)
+    × (next_of (next_rows t) r (slice_get text n) ≡ 0)
+
+-- In the text from `from` on, the marks cut: a match begins at each of the first `count` and ends at the next, in the row that is noted for it.
+abbrev pub AreMarksOf : Table → Chain → List ℕ → ℕ → List ℕ → List ℕ → ℕ → Type 0
+AreMarksOf t c text from places rows count =
+    (k : ℕ) → k < count →
+    (slice_index_or places k 0 < slice_index_or places (k + 1) 0)
+    × IsCut t (drop (from + slice_index_or places k 0) text) (slice_index_or places (k + 1) 0 - slice_index_or places k 0) (base_of c (slice_index_or rows k 0))
