@@ -18,3 +18,4 @@ pub mod NeverLemmas
 pub mod ForCallers
 pub mod ChainLemmas
 pub mod AheadLemmas
+pub mod CheckingLemmas

@@ -63,7 +63,7 @@ pub none_before : (parts : List Part) (k : ℕ) → is_tabled (take 0 parts) k �
 none_before [] k is = cc
 none_before (p ∷ ps) k is = cc
 
-either_false : (b : Bool) → (b || false) ≡ true → b ≡ true
+pub either_false : (b : Bool) → (b || false) ≡ true → b ≡ true
 either_false true is = refl
 either_false false is = is
 

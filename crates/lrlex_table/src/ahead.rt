@@ -1,135 +1,156 @@
-//! Matches that were found ahead, one behind the other.
-ghost use Rattle.std.specs.Prelude.{◌≡◌, ℕ, ◌+◌, ◌<◌, ◌≤◌, true, false, List, All, length, drop, vec_len, IfSome};
-ghost use Rattle.lrlex_table.specs.Table.{next_rows};
-ghost use Rattle.lrlex_table.specs.Chain.{IsChainOf, IsCut, AreMarksOf, base_of};
-ghost use Rattle.lrlex_table.specs.declared.table.Table.{Table};
-ghost use Rattle.lrlex_table.specs.declared.chain.Chain.{Chain};
+//! Matches that were found ahead, one behind the other, and where it is worth while to look for more.
+ghost use Rattle.std.specs.Prelude.{◌≡◌, ◌+◌, ◌<◌, ◌≤◌, [], length, true};
+ghost use Rattle.lrlex_table.specs.Chain.{IsChainOf, AreMarksOf};
+ghost use Rattle.lrlex_table.specs.Ahead.{IsFoundIn};
 
 use crate::chain::Chain;
-use crate::marks::MOST_BYTES;
+use crate::marks::{Found, MOST_BYTES};
 use std::alloc::Global;
 
-/// Fewer bytes than these aren't looked at ahead.
-const LEAST_BYTES: usize = 128;
+/// How many bytes are looked at ahead at first.
+const FIRST_BYTES: usize = 256;
 
-/// How many bytes more may be looked at ahead for a match that was looked for by itself.
-const BYTES_A_MATCH: usize = 16;
+/// How many bytes are passed before it is tried with another list.
+const TRY_AGAIN: usize = 64;
 
-/// Marks that were found ahead, by the chain of this list. The first match begins at `from`, and each begins where the one
-/// before it ends. So many bytes are looked at ahead next time: at most twice as many as were of use this time, and some for each match
-/// that was looked for by itself. So what is of no use takes time in proportion to the text.
+/// How many bytes are passed at most before it is tried again, where little of what was found was of use.
+const MOST_WAIT: usize = 65_536;
+
+/// Matches that were found ahead from this place on, by the chain of this list: those from `at` on are left. The next one begins at `begin`,
+/// and each where the one before it ends. Where none is left, it isn't looked ahead before `begin`. So the bytes that are looked at are
+/// in proportion to the text: what is behind the last match that was found is part of the next one.
 #[derive(Drop)]
 pub(crate) struct Ahead {
     pub(crate) list: usize,
     pub(crate) from: usize,
-    pub(crate) places: Vec<u16>,
-    pub(crate) rows: Vec<u16>,
-    pub(crate) count: usize,
-    at: usize,
+    pub(crate) begin: usize,
+    pub(crate) at: usize,
+    pub(crate) found: Vec<Found>,
+    /// Where the last match ends that was found.
+    end: usize,
+    places: Vec<u16>,
+    rows: Vec<u16>,
+    /// How many bytes are looked at the next time: more each time, so long as most of what was found is of use.
     bytes: usize,
-    ghost room: { 0 < count → (count < vec_len places) × (count ≤ vec_len rows) },
-}
-
-/// A match that was found ahead: how many bytes it has, and the row of the chain in which it ends.
-#[derive(Clone, Copy)]
-pub(crate) struct Cut {
-    pub(crate) len: usize,
-    pub(crate) row: u16,
+    /// How many bytes were looked at last, until it is known whether that was of use.
+    looked: usize,
+    /// How many of these bytes were passed without a match that was asked for.
+    pub(crate) passed: usize,
+    /// How many bytes are passed before it is tried again.
+    wait: usize,
 }
 
 impl Ahead {
     /// Nothing found ahead yet, and no room for it.
     pub(crate) fn new(alloc: Global) -> Ahead
-        ensures { result.count ≡ 0 }
+        ensures { result.found.items ≡ [] }
     {
         Ahead {
-            list: 0,
+            list: usize::MAX,
             from: 0,
+            begin: 0,
+            at: 0,
+            found: Vec::new(alloc),
+            end: 0,
             places: Vec::new(alloc),
             rows: Vec::new(alloc),
-            count: 0,
-            at: 0,
-            bytes: 0,
+            bytes: FIRST_BYTES,
+            looked: 0,
+            passed: 0,
+            wait: FIRST_BYTES,
         }
     }
 
-    /// The match of this list that begins at the place, if it is the next that was found ahead. It is passed.
-    #[inline(always)]
-    pub(crate) fn take(&mut self, list: usize, place: usize) -> Option<Cut>
-        ensures list { self.new.list ≡ self.old.list }
-        ensures from { self.new.from ≡ self.old.from }
-        ensures places { self.new.places ≡ self.old.places }
-        ensures rows { self.new.rows ≡ self.old.rows }
-        ensures count { self.new.count ≡ self.old.count }
-        ensures same { IfSome result (λ _. self.old.list ≡ list) }
-        ensures cut { (t : Table) (c : Chain) (text : List ℕ) →
-            AreMarksOf t c text self.old.from self.old.places.items self.old.rows.items self.old.count →
-            IfSome result (λ r. IsCut t (drop place text) r.len (base_of c r.row)) }
-    {
-        let at = self.at;
-        if at >= self.count || self.list != list {
-            return None;
-        }
-        let begin = self.places[at] as usize;
-        if place < self.from || place - self.from != begin {
-            return None;
-        }
-        let len = (self.places[at + 1] as usize).saturating_sub(begin);
-        self.at = at + 1;
-        Some(Cut {
-            len,
-            row: self.rows[at],
-        })
+    /// Whether a match is left.
+    fn has_more(&self) -> bool {
+        self.at < self.found.len()
     }
 
-    /// Whether to look ahead for matches of this list now. It isn't where few were looked for by themselves since the last time.
-    pub(crate) fn is_due(&mut self, list: usize) -> bool
-        ensures list { self.new.list ≡ list }
-        ensures none { self.new.count ≡ 0 }
+    /// Whether nothing that was found is of use for this list from this place on.
+    pub(crate) fn is_spent(&self, list: usize, place: usize) -> bool {
+        if !self.has_more() {
+            return place >= self.begin;
+        }
+        self.list != list && place >= self.end
+    }
+
+    /// Whether to look ahead for matches of this list from this place on. Else it is put off. Nothing that was found is left.
+    pub(crate) fn is_due(&mut self, list: usize, place: usize) -> bool
+        ensures list { result ≡ true → self.new.list ≡ list }
+        ensures none { self.new.found.items ≡ [] }
     {
+        if self.has_more() {
+            let left = self.end.saturating_sub(self.begin);
+            self.passed = self.passed.saturating_add(left);
+        }
+        self.found.clear();
+        self.at = 0;
+        if self.looked > 0 {
+            let is_of_use = self.passed <= self.looked / 2;
+            self.looked = 0;
+            if !is_of_use {
+                self.bytes = FIRST_BYTES;
+                self.wait = self.wait.saturating_mul(2).min(MOST_WAIT);
+                self.begin = place.saturating_add(self.wait);
+                return false;
+            }
+            self.bytes = self.bytes.saturating_mul(2).min(MOST_BYTES);
+            self.wait = FIRST_BYTES;
+        }
         if self.list != list {
             self.list = list;
-            self.bytes = 0;
+            self.begin = place.saturating_add(TRY_AGAIN);
+            return false;
         }
-        self.count = 0;
-        self.at = 0;
-        self.bytes = self.bytes.saturating_add(BYTES_A_MATCH).min(MOST_BYTES);
-        self.bytes >= LEAST_BYTES
+        true
     }
 
-    /// Makes room for the marks of a text of so many bytes, the first time. Whether there is room.
-    fn has_room(&mut self, text: usize) -> bool
-        ensures list { self.new.list ≡ self.old.list }
-        ensures count { self.new.count ≡ 0 }
+    /// Doesn't look ahead from this place on for some time.
+    pub(crate) fn put_off(&mut self, place: usize)
+        ensures { self.new.found.items ≡ [] }
     {
-        self.count = 0;
-        let room = text.min(MOST_BYTES) + 2;
-        if self.places.len() == room && self.rows.len() == room {
+        self.found.clear();
+        self.at = 0;
+        self.begin = place.saturating_add(MOST_WAIT);
+    }
+
+    /// Makes room for what is found in so many bytes. Whether there is room.
+    fn has_room(&mut self, bytes: usize) -> bool
+        requires { bytes ≤ 8192 }
+        ensures list { self.new.list ≡ self.old.list }
+        ensures none { self.new.found.items ≡ [] }
+        ensures at { self.new.at ≡ 0 }
+        ensures from { self.new.from ≡ self.old.from }
+    {
+        self.found.clear();
+        self.at = 0;
+        if self.places.len() >= bytes + 2 && self.rows.len() >= bytes + 2 {
             return true;
         }
-        self.places.resize(room, 0).is_ok() && self.rows.resize(room, 0).is_ok()
+        self.places.resize(bytes + 2, 0).is_ok() && self.rows.resize(bytes + 2, 0).is_ok()
     }
 
-    /// Looks for marks in the text from this place on.
+    /// Looks for matches in the text from this place on.
     #[inline(never)]
     pub(crate) fn look(&mut self, chain: &Chain, text: &[u8], from: usize)
         requires { from ≤ length text.now }
         ensures list { self.new.list ≡ self.old.list }
-        ensures marks { (t : Table) → IsChainOf t chain.now →
-            AreMarksOf t chain.now text.now self.new.from self.new.places.items self.new.rows.items self.new.count }
+        ensures found { IsFoundIn chain.now text.now from self.new }
     {
-        if !self.has_room(text.len()) {
-            self.bytes = 0;
-            return;
-        }
         let many = self.bytes.min(text.len() - from).min(MOST_BYTES);
-        self.bytes = 0;
-        if many + 1 >= self.places.len() || many >= self.rows.len() {
+        self.from = from;
+        self.begin = from.saturating_add(many);
+        if !self.has_room(many) || many + 1 >= self.places.len() || many >= self.rows.len() {
             return;
         }
-        self.from = from;
-        self.count = chain.mark(text, from, many, &mut self.places, &mut self.rows);
-        self.at = 0;
-        self.bytes = (self.places[self.count] as usize).saturating_mul(2);
+        let count = chain.mark(text, from, many, &mut self.places, &mut self.rows);
+        if count == 0 || self.found.reserve(count).is_err() {
+            return;
+        }
+        chain.name(&self.places, &self.rows, count, &mut self.found);
+        self.begin = from;
+        self.end = from.saturating_add(self.places[count] as usize);
+        self.looked = many;
+        self.passed = 0;
     }
 }

@@ -10,6 +10,8 @@ pub struct Chain {
     pub(crate) columns: Vec<u32>,
     /// For each row the table's row that it stands for.
     pub(crate) bases: Vec<u16>,
+    /// For each row the place in the list of the pattern that wins there, if one does.
+    pub(crate) wins: Vec<u16>,
     pub(crate) fresh: u16,
     pub(crate) start: u16,
     ghost bytes: { length columns.items ≡ 256 },
@@ -47,6 +49,7 @@ impl Chain {
         cells: Vec<u16>,
         columns: Vec<u32>,
         bases: Vec<u16>,
+        wins: Vec<u16>,
         fresh: u16,
         start: u16,
     ) -> Option<Chain> {
@@ -61,6 +64,7 @@ impl Chain {
             cells,
             columns,
             bases,
+            wins,
             fresh,
             start,
         })

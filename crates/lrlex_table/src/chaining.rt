@@ -1,10 +1,11 @@
-//! Builds the chain of a table. What comes out is checked cell by cell, so nothing has to be shown of how it is built.
+//! Builds the chain of a table. What comes out is checked, so nothing has to be shown of how it is built.
 ghost use Rattle.std.specs.Prelude.{◌≡◌, IfOk, IfSome, map};
-ghost use Rattle.lrlex_table.specs.Chain.{IsChainOf};
+ghost use Rattle.lrlex_table.specs.Chain.{IsChainOf, NamesWinners, IsChainOfAll};
 
 use crate::budget::Budget;
 use crate::chain::Chain;
 use crate::hash::hash_with;
+use crate::merged_tables::Part;
 use crate::table::Table;
 use crate::tables::Tables;
 use std::alloc::{AllocError, Global};
@@ -15,18 +16,31 @@ const MOST_ROWS: usize = 32_768;
 /// What it costs to build and to check the cells of a row for all bytes, in the budget's units of work.
 const WORK_OF_A_ROW: usize = 1_500;
 
-/// For each byte a hash of where all rows go on it. Bytes with one hash share a column.
-fn hashes_of(alloc: Global, table: &Table) -> Result<Vec<u64>, AllocError> {
-    let mut hashes = vec![in alloc; 0u64; 256]?;
-    for row in 0..table.rows().min(MOST_ROWS) {
+/// For each byte a hash of where all rows go on it.
+fn hashes_of(table: &Table) -> [u64; 256] {
+    let mut hashes = [0u64; 256];
+    let (rows, _) = table.cells.as_chunks::<256>();
+    for row in rows {
         for byte in 0..256usize {
-            let to = table.next_of(row as u16, byte as u8);
-            if let Some(hash) = hashes.get_mut(byte) {
-                *hash = hash_with(*hash, to as u64);
-            }
+            hashes[byte] = hash_with(hashes[byte], row[byte] as u64);
         }
     }
-    Ok(hashes)
+    hashes
+}
+
+/// For each byte the first with the same hash: the first byte of its class.
+fn firsts_of(hashes: &[u64; 256]) -> [u8; 256] {
+    let mut firsts = [0u8; 256];
+    for byte in 0..256usize {
+        let hash = hashes[byte];
+        let first = hashes
+            .iter()
+            .position(|other: &u64| -> bool { *other == hash });
+        if let Some(first) = first {
+            firsts[byte] = first as u8;
+        }
+    }
+    firsts
 }
 
 /// A chain in the making.
@@ -70,17 +84,29 @@ fn links_of(alloc: Global, table: &Table) -> Result<Links, AllocError> {
 }
 
 impl Links {
-    /// Where a row that stands for this one goes on the byte: as the table's row does, and where that goes nowhere and a pattern
-    /// matches there, where the next match begins.
-    fn next_of(&self, table: &Table, base: u16, byte: u8) -> u16 {
-        let on = table.next_of(base, byte);
-        if on != 0 || table.win_of(base).is_none() {
-            return on;
-        }
-        match self.fresh.get(byte as usize) {
+    /// Appends the column of this byte: each row goes on it as the table's row does, and where that goes nowhere and a pattern matches
+    /// there, where the next match begins.
+    fn add_column(
+        &self,
+        table: &Table,
+        byte: u8,
+        cells: &mut Vec<u16>,
+    ) -> Result<(), AllocError> {
+        let fresh = match self.fresh.get(byte as usize) {
             Some(row) => *row,
             None => 0,
+        };
+        cells.reserve(self.bases.len())?;
+        for base in &self.bases {
+            let on = table.next_of(*base, byte);
+            let to = if on == 0 && table.win_of(*base).is_some() {
+                fresh
+            } else {
+                on
+            };
+            cells.push(to)?;
         }
+        Ok(())
     }
 
     /// The cells by columns, and for each byte where its column begins.
@@ -88,41 +114,49 @@ impl Links {
         &self,
         alloc: Global,
         table: &Table,
-        hashes: &[u64],
+        firsts: &[u8; 256],
     ) -> Result<(Vec<u16>, Vec<u32>), AllocError> {
         let mut cells = Vec::new(alloc);
         let mut columns = Vec::with_capacity(alloc, 256)?;
-        for byte in 0..hashes.len().min(256) {
-            let hash = hashes[byte];
-            let like = hashes
-                .iter()
-                .position(|other: &u64| -> bool { *other == hash });
-            let known = match like {
-                Some(first) => columns.get(first).copied(),
-                None => None,
-            };
+        for byte in 0..256usize {
+            let known = columns.get(firsts[byte] as usize).copied();
             if let Some(column) = known {
                 columns.push(column)?;
                 continue;
             }
             columns.push(cells.len().min(u32::MAX as usize) as u32)?;
-            cells.reserve(self.bases.len())?;
-            for base in &self.bases {
-                cells.push(self.next_of(table, *base, byte as u8))?;
-            }
+            self.add_column(table, byte as u8, &mut cells)?;
         }
         Ok((cells, columns))
     }
+
+    /// For each row the place in the list of the pattern that wins there, where one does.
+    fn wins(&self, alloc: Global, part: &Part) -> Result<Vec<u16>, AllocError> {
+        let mut wins = Vec::with_capacity(alloc, self.bases.len())?;
+        for base in &self.bases {
+            let place = match part.table.win_of(*base) {
+                Some(won) => part.patterns.get(won as usize).copied(),
+                None => None,
+            };
+            let place = match place {
+                Some(place) => place.min(u16::MAX as usize) as u16,
+                None => 0,
+            };
+            wins.push(place)?;
+        }
+        Ok(wins)
+    }
 }
 
-/// The chain of the table. None where the table has too many rows, or the budget is spent.
+/// The chain of the part. None where its table has too many rows, or the budget is spent.
 pub(crate) fn chain_of(
     alloc: Global,
-    table: &Table,
+    part: &Part,
     budget: &mut Budget,
 ) -> Result<Option<Chain>, AllocError>
-    ensures { IfOk result (λ o. IfSome o (IsChainOf table.now)) }
+    ensures { IfOk result (λ o. IfSome o (λ c. IsChainOf part.now.table c × NamesWinners part.now c)) }
 {
+    let table = &part.table;
     let rows = table.rows();
     if rows > MOST_ROWS
         || rows > budget.rows()
@@ -130,14 +164,16 @@ pub(crate) fn chain_of(
     {
         return Ok(None);
     }
-    let hashes = hashes_of(alloc, table)?;
+    let firsts = firsts_of(&hashes_of(table));
     let links = links_of(alloc, table)?;
-    let (cells, columns) = links.cells(alloc, table, &hashes)?;
-    let Some(chain) = Chain::of_parts(cells, columns, links.bases, rows as u16, table.start) else {
+    let (cells, columns) = links.cells(alloc, table, &firsts)?;
+    let wins = links.wins(alloc, part)?;
+    let made = Chain::of_parts(cells, columns, links.bases, wins, rows as u16, table.start);
+    let Some(chain) = made else {
         return Ok(None);
     };
     budget.pay_rows(chain.cells.len().div_ceil(256));
-    if chain.is_of(table) {
+    if chain.is_of(table, &firsts) && chain.names_winners(part) {
         Ok(Some(chain))
     } else {
         Ok(None)
@@ -145,15 +181,25 @@ pub(crate) fn chain_of(
 }
 
 impl Tables {
-    /// Adds the chain of the only table, where there is only one and the budget pays for it.
+    /// The chain of the only table, where each pattern is in it and the budget pays for the chain.
+    fn chain_for(&self, alloc: Global, budget: &mut Budget) -> Result<Option<Chain>, AllocError>
+        ensures { IfOk result (λ o. IfSome o (IsChainOfAll self.now.parts.items self.now.asked.items)) }
+    {
+        if self.asked.len() > 0 {
+            return Ok(None);
+        }
+        let Some(part) = self.only() else {
+            return Ok(None)
+        };
+        chain_of(alloc, part, budget)
+    }
+
+    /// Adds the chain of the only table, where each pattern is in it and the budget pays for the chain.
     fn add_chain(&mut self, alloc: Global, budget: &mut Budget) -> Result<(), AllocError>
         ensures parts { self.new.parts ≡ self.old.parts }
         ensures asked { self.new.asked ≡ self.old.asked }
     {
-        let made = match self.only() {
-            Some(part) => chain_of(alloc, &part.table, budget)?,
-            None => None,
-        };
+        let made = self.chain_for(alloc, budget)?;
         self.chain = made;
         Ok(())
     }

@@ -3,7 +3,7 @@ ghost use Rattle.std.specs.Prelude.{◌≡◌, ℕ, ◌+◌, ◌<◌, ◌≤◌,
 ghost use Rattle.regex.specs.Patterns.{Re};
 ghost use Rattle.lrlex_table.specs.Table.{EndsInRowOf};
 ghost use Rattle.lrlex_table.specs.Reach.{IsDecidedBy};
-ghost use Rattle.lrlex_table.specs.Tables.{is_among, is_tabled, IsPartOf, AreTablesOf, IsBestAmong, IsWinnerAmong, IsTableScanOf, IsBelow};
+ghost use Rattle.lrlex_table.specs.Tables.{is_among, is_tabled, IsPartOf, AreTablesOf, IsBestAmong, IsTableScanOf};
 ghost use Rattle.lrlex_table.specs.Ahead.{AreAheadIn};
 ghost use Rattle.lrlex_table.specs.DeadEnds.{table_at, IsVain, IsVainPast, IsDeadEndIn};
 
@@ -302,85 +302,6 @@ impl<'d, 't> DeadEnds<'d, 't> {
         }
     }
 
-    /// Which pattern wins at this place, if that was found ahead.
-    #[inline(always)]
-    fn winner_ahead(
-        &mut self,
-        tables: &Tables,
-        list: usize,
-        place: usize,
-        rest: &str,
-    ) -> Option<TableScan>
-        requires tables { slice_get self.old.lists.now list ≡ Some tables.now }
-        requires rest { rest.now ≡ drop place self.old.text.now }
-        ensures scan { IfSome result (λ s. (ps : List Re) → AreTablesOf ps tables.now →
-            IsTableScanOf ps (is_tabled tables.now.parts.items) rest.now s) }
-        ensures past { IfSome result (λ s. IsBelow s.reach s.winner) }
-        ensures lists { self.new.lists ≡ self.old.lists }
-        ensures text { self.new.text ≡ self.old.text }
-    {
-        let cut = self.ahead.take(list, place)?;
-        let part = tables.only()?;
-        let Some(chain) = &tables.chain else {
-            return None
-        };
-        let walk = Walk {
-            len: cut.len,
-            row: chain.base_of(cut.row),
-            reach: cut.len + 1,
-        };
-        Some(part.scan_of(rest, walk))
-    }
-
-    /// Looks ahead from this place on, if that is due and the list has a chain.
-    fn look_ahead(&mut self, tables: &Tables, list: usize, place: usize)
-        requires tables { slice_get self.old.lists.now list ≡ Some tables.now }
-        requires inside { place ≤ length self.old.text.now }
-        ensures lists { self.new.lists ≡ self.old.lists }
-        ensures text { self.new.text ≡ self.old.text }
-    {
-        if !self.ahead.is_due(list) {
-            return;
-        }
-        if let Some(chain) = &tables.chain {
-            let text = self.text;
-            self.ahead.look(chain, text.as_bytes(), place);
-        }
-    }
-
-    /// Which pattern wins at this place, as `winner_at` returns it, where it wasn't found ahead. Out of line, so that only what was found
-    /// ahead is in line.
-    #[inline(never)]
-    fn winner_out_of_line(
-        &mut self,
-        tables: &Tables,
-        list: usize,
-        place: usize,
-        rest: &str,
-    ) -> TableScan
-        requires tables { slice_get self.old.lists.now list ≡ Some tables.now }
-        requires rest { rest.now ≡ drop place self.old.text.now }
-        requires inside { place ≤ length self.old.text.now }
-        ensures winner { (ps : List Re) → AreTablesOf ps tables.now →
-            IsWinnerAmong ps (is_tabled tables.now.parts.items) rest.now result.winner }
-        ensures decided { (ps : List Re) → AreTablesOf ps tables.now →
-            tables.now.asked.items ≡ [] → IsDecidedBy ps rest.now result.reach }
-        ensures past { IfSome result.winner (λ t. t.len < result.reach) }
-        ensures lists { self.new.lists ≡ self.old.lists }
-        ensures text { self.new.text ≡ self.old.text }
-    {
-        self.look_ahead(tables, list, place);
-        if let Some(scan) = self.winner_ahead(tables, list, place, rest) {
-            return scan;
-        }
-        if place < self.known_to {
-            return self.winner_of_parts_at(tables, list, place, rest);
-        }
-        let scan = tables.winner(rest);
-        self.keep_far(scan, list, place);
-        scan
-    }
-
     /// Which pattern of the list wins at this place of the text among those that have a table, as `Tables::winner` returns it for
     /// the rest of the text. All such calls for a text together take time in proportion to the text. A scan that went far in vain
     /// is made once more, to keep the dead ends, and each later walk stops at the first that is known.
@@ -400,9 +321,19 @@ impl<'d, 't> DeadEnds<'d, 't> {
         ensures lists { self.new.lists ≡ self.old.lists }
         ensures text { self.new.text ≡ self.old.text }
     {
-        if let Some(scan) = self.winner_ahead(tables, list, place, rest) {
-            return scan;
+        if place >= self.ahead.begin {
+            if let Some(found) = self.found_at(tables, list, place, rest) {
+                return TableScan {
+                    winner: Some(found),
+                    reach: found.len + 1,
+                };
+            }
         }
-        self.winner_out_of_line(tables, list, place, rest)
+        if place < self.known_to {
+            return self.winner_of_parts_at(tables, list, place, rest);
+        }
+        let scan = tables.winner(rest);
+        self.keep_far(scan, list, place);
+        scan
     }
 }

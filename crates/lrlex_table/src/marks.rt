@@ -1,17 +1,24 @@
 //! The walk through a chain, which finds many matches in a row without a branch that depends on the text.
-ghost use Rattle.std.specs.Prelude.{◌≡◌, ℕ, ◌+◌, ◌<◌, ◌≤◌, All, true, length, vec_len, slice_index_or};
-ghost use Rattle.lrlex_table.specs.Chain.{row_behind, base_of, GoesTo, IsChainOf, AreMarksOf};
+ghost use Rattle.std.specs.Prelude.{◌≡◌, ◌+◌, ◌<◌, ◌≤◌, All, length, vec_len, vec_capacity, slice_index_or};
+ghost use Rattle.lrlex_table.specs.Ahead.{AreNamed};
+ghost use Rattle.lrlex_table.specs.Chain.{row_behind, IsChainOf, AreMarksOf};
 ghost use Rattle.lrlex_table.specs.declared.table.Table.{Table};
 
 use crate::chain::Chain;
-use crate::table::Table;
 
 /// The most bytes in which marks are looked for at once.
 pub(crate) const MOST_BYTES: usize = 8192;
 
+/// A match that was found ahead: the place in the list of the pattern that wins, and where the match ends.
+#[derive(Clone, Copy)]
+pub(crate) struct Found {
+    pub(crate) pattern: u16,
+    pub(crate) end: u16,
+}
+
 /// The row behind this one on the byte.
 #[inline(always)]
-fn next(cells: &[u16], columns: &[u32], rows: usize, row: usize, byte: u8) -> usize
+pub(crate) fn next(cells: &[u16], columns: &[u32], rows: usize, row: usize, byte: u8) -> usize
     requires row { row < rows }
     requires bytes { length columns.now ≡ 256 }
     requires within { All (λ c. c + rows ≤ length cells.now) columns.now }
@@ -34,62 +41,6 @@ fn begun(row: usize, fresh: usize) -> usize
 }
 
 impl Chain {
-    /// The table's row for which the row stands.
-    #[inline(always)]
-    pub(crate) fn base_of(&self, row: u16) -> u16
-        ensures { result ≡ base_of self.now row }
-    {
-        match self.bases.get(row as usize) {
-            Some(base) => *base,
-            None => 0,
-        }
-    }
-
-    /// Whether the row goes on the byte as the table says.
-    fn goes_as(&self, table: &Table, row: usize, byte: u8) -> bool
-        requires { row < vec_len self.now.bases }
-        ensures { result ≡ true → GoesTo table.now self.now row byte
-            (row_behind self.now.cells.items self.now.columns.items row byte) }
-    {
-        let to = next(&self.cells, &self.columns, self.bases.len(), row, byte) as u16;
-        let base = self.base_of(row as u16);
-        let on = table.next_of(base, byte);
-        let stands_for = self.base_of(to);
-        if to < self.fresh {
-            return stands_for == on;
-        }
-        on == 0
-            && table.win_of(base).is_some()
-            && stands_for == table.next_of(table.start, byte)
-            && stands_for != 0
-    }
-
-    /// Whether the row goes on each byte as the table says.
-    fn row_goes_as(&self, table: &Table, row: usize) -> bool
-        requires { row < vec_len self.now.bases }
-        ensures { result ≡ true → (b : ℕ) → b < 256 → GoesTo table.now self.now row b
-            (row_behind self.now.cells.items self.now.columns.items row b) }
-    {
-        'bytes: for byte in 0..256usize {
-            if !self.goes_as(table, row, byte as u8) {
-                return false;
-            }
-        }
-        true
-    }
-
-    /// Whether it is a chain of this table.
-    pub(crate) fn is_of(&self, table: &Table) -> bool
-        ensures { result ≡ true → IsChainOf table.now self.now }
-    {
-        'rows: for row in 0..self.bases.len() {
-            if !self.row_goes_as(table, row) {
-                return false;
-            }
-        }
-        self.base_of(self.start) == table.start
-    }
-
     /// Marks where matches begin and end in so many bytes of the text from `from` on: the first begins there, and each other
     /// where the one before it ends. For each match its row is noted. Returns how many matches were found. What the lists have
     /// after these is left over.
@@ -128,5 +79,24 @@ impl Chain {
             row = behind;
         }
         count
+    }
+
+    /// The matches between the first marks, so many that each has a mark behind it. They take the place of those in the list.
+    #[inline(always)]
+    pub(crate) fn name(&self, places: &[u16], rows: &[u16], count: usize, found: &mut Vec<Found>)
+        requires places { count < length places.now }
+        requires rows { count ≤ length rows.now }
+        requires room { count ≤ vec_capacity found.old }
+        ensures count { length found.new.items ≡ count }
+        ensures named { AreNamed self.now places.now rows.now found.new.items }
+    {
+        found.clear();
+        'matches: for at in 0..count {
+            let pattern = match self.wins.get(rows[at] as usize) {
+                Some(pattern) => *pattern,
+                None => 0,
+            };
+            found.push_reserved(Found { pattern, end: places[at + 1] });
+        }
     }
 }
