@@ -156,4 +156,3 @@ returns-clause-goes_on g c on f u =
     e.place e.entries (e.moved ∙ sym (ap (λ (x : Rule). stack_after (plain p.stack.items) x.target) rule_is))
     (omega (arith, e.lookahead, c.saturating_sub-lookahead.ensures, c.max.ensures))
     (e.ahead ∙ ap (λ i. p.ahead.items ++ capped i ∷ []) (sym e.lookahead)) e.kept
-
