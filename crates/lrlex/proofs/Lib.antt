@@ -7,6 +7,7 @@ pub mod EditLemmas
 pub mod IdLemmas
 pub mod InPlaceLemmas
 pub mod ItemLemmas
+pub mod KindLemmas
 pub mod KnownLemmas
 pub mod MeetLemmas
 pub mod NameLemmas
@@ -34,6 +35,7 @@ pub mod RaisedLemmas
 pub mod FrontLemmas
 pub mod PutLemmas
 pub mod GoingLemmas
+pub mod AdvanceLemmas
 pub mod SearchLemmas
 pub mod RestLemmas
 pub mod PieceLemmas

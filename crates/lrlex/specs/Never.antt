@@ -8,7 +8,7 @@ use Rattle.lrlex_rules.specs.declared.states.StartStateOperation.{StartStateOper
 use Rattle.lrlex_rules.specs.declared.states.StartStateOperation.TheVariants.{Pop}
 use Rattle.lrlex_table.specs.Reach.{IsText}
 use Rattle.lrlex_table.specs.Never.{WinsNowhereIn}
-use Rattle.lrlex_table.specs.declared.merged_tables.Tables.{Tables}
+use Rattle.lrlex_table.specs.declared.tables.Tables.{Tables}
 use Rattle.lrlex.specs.StateTables.{list_in}
 use Rattle.lrlex.specs.Active.{is_state, is_active, rule_at}
 use Rattle.lrlex.specs.Tiling.{Wins, Tile, End, Done, NoMatch, NoId, NoTarget}

@@ -1,5 +1,5 @@
 -- The rules of a start state, as lexing holds them from tile to tile.
-use Rattle.std.specs.Prelude.{◌≡◌, ℕ, ◌+◌, ◌≤◌, List, MatchOption, Some, length, slice_get}
+use Rattle.std.specs.Prelude.{◌≡◌, ℕ, ◌+◌, ◌<◌, ◌≤◌, List, MatchOption, Some, length, drop, slice_get, IsCharBoundary}
 use Rattle.lrlex_rules.specs.Definition.{Definition}
 use Rattle.lrlex_table.specs.Tables.{AreTablesOf}
 use Rattle.lrlex.specs.Active.{active_count, active_places}
@@ -13,6 +13,7 @@ use Rattle.lrlex.specs.declared.definition.rule_table.RuleTable.{RuleTable}
 use Rattle.lrlex.specs.declared.definition.rule_table.StateRules.{StateRules}
 use Rattle.lrlex.specs.declared.lexing.winner.Searcher.{Searcher}
 use Rattle.lrlex.specs.declared.lexing.winner.Scan.{Scan}
+use Rattle.lrlex.specs.declared.lexing.winner.Tile.{Tile}
 
 -- these are the rules that are active in state q of the definition, and their tables
 pub record AreOf {S : Type 0} (number : S → ℕ) (d : RuleTable S) (q : ℕ) (rules : StateRules) : Type 0 where
@@ -32,6 +33,15 @@ pub record IsSearcherOf {S : Type 0} (d : RuleTable S) (input : List ℕ) (s : S
 pub record IsScanOf (d : Definition) (q : ℕ) (text : List ℕ) (s : Scan) : Type 0 where
   pub winner : MatchOption s.winner (IsStuck d q text) (λ t. Wins d q text t.rule t.len)
   pub decided : IsDecided d q text s.reach
+
+-- This tile was found ahead at a place of the text, in state q: it wins there, the byte behind it decides it, and no rule is searched for.
+pub record IsFoundAt {S : Type 0} (number : S → ℕ) (d : RuleTable S) (q : ℕ) (input : List ℕ) (place : ℕ) (t : Tile) : Type 0 where
+  pub wins : Wins (definition_by number d) q (drop place input) t.rule t.len
+  pub decided : IsDecided (definition_by number d) q (drop place input) (t.len + 1)
+  pub cuts : IsCharBoundary (drop place input) t.len
+  pub rule : t.rule < length d.rules.items
+  pub within : place + t.len < length input
+  pub tabled : untabled_count d q ≡ 0
 
 -- the searches of one look in state q: one for each active rule that the state's tables leave out
 pub record HasAsked {S : Type 0} (number : S → ℕ) (d : RuleTable S) (q before after : ℕ) : Type 0 where

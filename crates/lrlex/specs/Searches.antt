@@ -2,7 +2,7 @@
 use Rattle.std.specs.Prelude.{◌≡◌, ℕ, ◌+◌, ◌-◌, ◌<◌, ◌⊎◌, ◌==◌, min, List, length, map, Option, option_map, option_and_then, unwrap_or, slice_get, slice_range, nat_lt, if◌then◌else◌}
 use Rattle.std.specs.List.{position, sum_by}
 use Rattle.lrlex_rules.specs.RuleParts.{as_state}
-use Rattle.lrlex_table.specs.declared.merged_tables.Tables.{Tables}
+use Rattle.lrlex_table.specs.declared.tables.Tables.{Tables}
 use Rattle.lrlex.specs.Tiling.{top}
 use Rattle.lrlex_boundaries.specs.Boundaries.{Boundary, place_and_stack}
 use Rattle.lrlex_boundaries.specs.Moves.{Meets}

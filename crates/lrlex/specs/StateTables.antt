@@ -8,7 +8,7 @@ use Rattle.lrlex_rules.specs.RuleParts.{RuleParts, as_rule, as_state}
 use Rattle.lrlex_rules.specs.Patterns.{pattern_of}
 use Rattle.lrlex_rules.specs.declared.states.StartState as start
 use Rattle.lrlex_table.specs.Tables.{AreTablesOf, rows_of}
-use Rattle.lrlex_table.specs.declared.merged_tables.Tables.{Tables}
+use Rattle.lrlex_table.specs.declared.tables.Tables.{Tables}
 use Rattle.lrlex.specs.Active.{no_rule}
 
 -- the id of each state is its place

@@ -3,7 +3,7 @@ use Rattle.std.specs.Prelude.{ℕ, List, option_map, Result, Ok, Err, map}
 use Rattle.lrlex_base.specs.Spans.{span_start, span_end}
 use Rattle.lrlex_base.specs.LexemeParts.{LexemeParts}
 use Rattle.lrlex_rules.specs.Definition.{Definition}
-use Rattle.lrlex_table.specs.declared.merged_tables.Tables.{Tables}
+use Rattle.lrlex_table.specs.declared.tables.Tables.{Tables}
 use Rattle.lrlex.specs.Errors.{lex_error_span, lex_error_state}
 use Rattle.lrlex_rules.specs.RuleParts.{RuleParts, as_rule, as_state, state_number}
 use Rattle.lrlex.specs.Tiling.{Item, Lexeme, Error}

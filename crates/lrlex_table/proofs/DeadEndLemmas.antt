@@ -10,7 +10,7 @@ use Rattle.lrlex_table.specs.Reach.{row_after}
 use Rattle.lrlex_table.specs.DeadEnds.{matches_after, table_at, IsVain, IsVainPast, IsDeadEndIn}
 use Rattle.lrlex_table.specs.declared.table.Table.{Table}
 use Rattle.lrlex_table.specs.declared.merged_tables.Part.{Part}
-use Rattle.lrlex_table.specs.declared.merged_tables.Tables.{Tables}
+use Rattle.lrlex_table.specs.declared.tables.Tables.{Tables}
 use Rattle.lrlex_table.specs.declared.dead_ends.DeadEnd.{DeadEnd}
 use Rattle.lrlex_table.proofs.CellLemmas.{none_of, unmarked_row}
 use Rattle.lrlex_table.proofs.WalkLemmas.{Stands, stands_unmarked, stands_dead}

@@ -16,3 +16,6 @@ pub mod DeadEndLemmas
 pub mod WinnerLemmas
 pub mod NeverLemmas
 pub mod ForCallers
+pub mod ChainLemmas
+pub mod AheadLemmas
+pub mod CheckingLemmas

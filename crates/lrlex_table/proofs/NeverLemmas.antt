@@ -9,7 +9,7 @@ use Rattle.lrlex_table.specs.Reach.{IsText}
 use Rattle.lrlex_table.specs.Never.{NeverWins, NoneOfWins, NeverWinsIn, WinsAt, IsStruck, AreStruck, WinsNowhere}
 use Rattle.lrlex_table.specs.declared.table.Table.{Table}
 use Rattle.lrlex_table.specs.declared.merged_tables.Part.{Part}
-use Rattle.lrlex_table.specs.declared.merged_tables.Tables.{Tables}
+use Rattle.lrlex_table.specs.declared.tables.Tables.{Tables}
 use Rattle.lrlex_table.specs.Tables.{AreRising, IsPartOf}
 use Rattle.lrlex_table.proofs.WalkLemmas.{Stands, stands_start, stands_marked, stands_unmarked, stands_dead}
 use Rattle.lrlex_table.proofs.PartLemmas.{rising_within, rising_lt}

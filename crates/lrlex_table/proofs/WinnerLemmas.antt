@@ -9,7 +9,7 @@ use Rattle.regex.specs.Patterns.{Re, empty}
 use Rattle.lrlex_matching.specs.Matching.{match_length}
 use Rattle.lrlex_table.specs.Table.{pattern_at, IsLongest, NoneMatches}
 use Rattle.lrlex_table.specs.declared.merged_tables.Part.{Part}
-use Rattle.lrlex_table.specs.declared.merged_tables.Tables.{Tables}
+use Rattle.lrlex_table.specs.declared.tables.Tables.{Tables}
 use Rattle.lrlex_table.specs.Tables.{is_among, is_tabled, AreRising, ArePartsOf, AreTablesOf, IsPartOf, IsBestAmong, IsWinnerAmong, IsDecidedAmong, IsTableScanOf}
 use Rattle.lrlex_table.specs.Reach.{IsDecidedBy}
 use Rattle.lrlex_table.specs.declared.walk.TableScan.{TableScan}
@@ -63,7 +63,7 @@ pub none_before : (parts : List Part) (k : ℕ) → is_tabled (take 0 parts) k �
 none_before [] k is = cc
 none_before (p ∷ ps) k is = cc
 
-either_false : (b : Bool) → (b || false) ≡ true → b ≡ true
+pub either_false : (b : Bool) → (b || false) ≡ true → b ≡ true
 either_false true is = refl
 either_false false is = is
 

@@ -4,7 +4,7 @@ use Rattle.lrlex_table.specs.Cell.{wins_at}
 use Rattle.lrlex_table.specs.Table.{next_rows}
 use Rattle.lrlex_table.specs.Reach.{row_after}
 use Rattle.lrlex_table.specs.declared.table.Table.{Table}
-use Rattle.lrlex_table.specs.declared.merged_tables.Tables.{Tables}
+use Rattle.lrlex_table.specs.declared.tables.Tables.{Tables}
 use Rattle.lrlex_table.specs.declared.dead_ends.DeadEnd.{DeadEnd}
 
 -- a pattern matches at the row to which these bytes lead from row r

@@ -7,4 +7,6 @@ pub mod ProductBuilder
 pub mod Source
 pub mod Tables
 pub mod Never
+pub mod Chain
+pub mod Ahead
 pub mod DeadEnds

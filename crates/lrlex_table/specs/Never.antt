@@ -6,7 +6,7 @@ use Rattle.lrlex_table.specs.Reach.{IsText}
 use Rattle.lrlex_table.specs.declared.table.Table.{Table}
 use Rattle.lrlex_table.specs.Tables.{AreTablesOf}
 use Rattle.lrlex_table.specs.declared.merged_tables.Part.{Part}
-use Rattle.lrlex_table.specs.declared.merged_tables.Tables.{Tables}
+use Rattle.lrlex_table.specs.declared.tables.Tables.{Tables}
 
 -- no text has its longest match by the pattern at place k
 pub record NeverWins (ps : List Re) (k : ℕ) : Type 0 where

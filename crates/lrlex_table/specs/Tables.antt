@@ -7,7 +7,7 @@ use Rattle.lrlex_table.specs.Table.{pattern_at, IsTableOf, IsLongest, NoneMatche
 use Rattle.lrlex_table.specs.Reach.{IsText, BeginsAlike}
 use Rattle.lrlex_table.specs.declared.cached_table.CachedTable.{CachedTable}
 use Rattle.lrlex_table.specs.declared.merged_tables.Part.{Part}
-use Rattle.lrlex_table.specs.declared.merged_tables.Tables.{Tables}
+use Rattle.lrlex_table.specs.declared.tables.Tables.{Tables}
 use Rattle.lrlex_table.specs.declared.walk.TableScan.{TableScan}
 use Rattle.lrlex_table.specs.declared.walk.PatternMatch.{PatternMatch}
 

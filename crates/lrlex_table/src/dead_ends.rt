@@ -3,12 +3,15 @@ ghost use Rattle.std.specs.Prelude.{◌≡◌, ℕ, ◌+◌, ◌<◌, ◌≤◌,
 ghost use Rattle.regex.specs.Patterns.{Re};
 ghost use Rattle.lrlex_table.specs.Table.{EndsInRowOf};
 ghost use Rattle.lrlex_table.specs.Reach.{IsDecidedBy};
-ghost use Rattle.lrlex_table.specs.Tables.{is_among, is_tabled, IsPartOf, AreTablesOf, IsBestAmong, IsWinnerAmong, IsTableScanOf};
+ghost use Rattle.lrlex_table.specs.Tables.{is_among, is_tabled, IsPartOf, AreTablesOf, IsBestAmong, IsTableScanOf};
+ghost use Rattle.lrlex_table.specs.Ahead.{AreAheadIn};
 ghost use Rattle.lrlex_table.specs.DeadEnds.{table_at, IsVain, IsVainPast, IsDeadEndIn};
 
+use crate::ahead::Ahead;
 use crate::hash::hash_with;
-use crate::merged_tables::{Part, Tables, combined};
+use crate::merged_tables::{Part, combined};
 use crate::table::{MARK, Table, row_of};
+use crate::tables::Tables;
 use crate::walk::{FAR, TableScan, Walk, cell_at};
 use std::alloc::Global;
 use std::collections::HashMap;
@@ -37,7 +40,9 @@ pub struct DeadEnds<'d, 't> {
     known: HashMap<u64, usize>,
     /// No dead end is after this place.
     known_to: usize,
+    pub(crate) ahead: Ahead,
     ghost right: { All (IsDeadEndIn lists.now text.now) ends.items },
+    ghost marked: { AreAheadIn lists.now text.now ahead },
 }
 
 /// The hash of a dead end.
@@ -68,6 +73,7 @@ impl<'d, 't> DeadEnds<'d, 't> {
             ends: Vec::new(alloc),
             known: HashMap::new(alloc),
             known_to: 0,
+            ahead: Ahead::new(alloc),
         }
     }
 
@@ -296,35 +302,6 @@ impl<'d, 't> DeadEnds<'d, 't> {
         }
     }
 
-    /// Which pattern wins at this place, as `winner_at` returns it, where a dead end may be known or the list has another number
-    /// of tables than one. Out of line, so that only the walk through one table is in line.
-    #[inline(never)]
-    fn winner_out_of_line(
-        &mut self,
-        tables: &Tables,
-        list: usize,
-        place: usize,
-        rest: &str,
-    ) -> TableScan
-        requires tables { slice_get self.old.lists.now list ≡ Some tables.now }
-        requires rest { rest.now ≡ drop place self.old.text.now }
-        requires inside { place ≤ length self.old.text.now }
-        ensures winner { (ps : List Re) → AreTablesOf ps tables.now →
-            IsWinnerAmong ps (is_tabled tables.now.parts.items) rest.now result.winner }
-        ensures decided { (ps : List Re) → AreTablesOf ps tables.now →
-            tables.now.asked.items ≡ [] → IsDecidedBy ps rest.now result.reach }
-        ensures past { IfSome result.winner (λ t. t.len < result.reach) }
-        ensures lists { self.new.lists ≡ self.old.lists }
-        ensures text { self.new.text ≡ self.old.text }
-    {
-        if place < self.known_to {
-            return self.winner_of_parts_at(tables, list, place, rest);
-        }
-        let scan = tables.winner(rest);
-        self.keep_far(scan, list, place);
-        scan
-    }
-
     /// Which pattern of the list wins at this place of the text among those that have a table, as `Tables::winner` returns it for
     /// the rest of the text. All such calls for a text together take time in proportion to the text. A scan that went far in vain
     /// is made once more, to keep the dead ends, and each later walk stops at the first that is known.
@@ -344,13 +321,19 @@ impl<'d, 't> DeadEnds<'d, 't> {
         ensures lists { self.new.lists ≡ self.old.lists }
         ensures text { self.new.text ≡ self.old.text }
     {
-        if place >= self.known_to {
-            if let Some(part) = tables.only() {
-                let scan = part.winner(rest);
-                self.keep_far(scan, list, place);
-                return scan;
+        if place >= self.ahead.begin {
+            if let Some(found) = self.found_at(tables, list, place, rest) {
+                return TableScan {
+                    winner: Some(found),
+                    reach: found.len + 1,
+                };
             }
         }
-        self.winner_out_of_line(tables, list, place, rest)
+        if place < self.known_to {
+            return self.winner_of_parts_at(tables, list, place, rest);
+        }
+        let scan = tables.winner(rest);
+        self.keep_far(scan, list, place);
+        scan
     }
 }

@@ -2,13 +2,19 @@
 //! walk over the text.
 #![tactic(auto)]
 
+mod ahead;
 mod budget;
 mod cached_table;
+mod chain;
+mod chaining;
+mod checking;
 mod dead_ends;
 mod determinize;
 mod hash;
 mod index;
+mod looking;
 mod marking;
+mod marks;
 mod merged_tables;
 mod never;
 mod nfa;
@@ -17,14 +23,18 @@ mod product;
 mod source;
 mod step;
 mod table;
+mod tables;
 mod walk;
 
 pub use budget::Budget;
 pub use cached_table::CachedTable;
+pub use chain::Chain;
+pub use chaining::add_chains;
 pub use dead_ends::{DeadEnd, DeadEnds};
-pub use merged_tables::{Part, Tables, joined_tables, tables_between};
+pub use merged_tables::{Part, joined_tables, tables_between};
 pub use never::may_win_in;
 pub use pattern_table::table_of;
 pub use source::Source;
 pub use table::Table;
+pub use tables::Tables;
 pub use walk::{PatternMatch, TableScan};

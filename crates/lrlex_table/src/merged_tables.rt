@@ -1,7 +1,7 @@
 //! Merges the tables of a list's patterns in pairs, so that as few tables as can be had are left.
 ghost use Rattle.std.specs.Prelude.{◌≡◌, ℕ, Bool, ◌||◌, ◌+◌, ◌^◌, ◌<◌, ◌≤◌, List, [], ◌∷◌, ◌++◌, length, map, vec_len, slice_index, IfOk, OnOk, IsSome, IfSome, MatchOption, IsTrue, IsFalse, IsUtf8};
 ghost use Rattle.regex.specs.Patterns.{Re};
-ghost use Rattle.lrlex_table.specs.Table.{pattern_at, IsTableOf};
+ghost use Rattle.lrlex_table.specs.Table.{pattern_at, EndsInRowOf, IsTableOf};
 ghost use Rattle.lrlex_table.specs.Reach.{IsDecidedBy};
 ghost use Rattle.lrlex_table.specs.Tables.{AreRising, AreCached, rows_of, is_among, is_tabled, patterns_at, IsPartOf, AreParts, Covers, ArePartsOf, AreTablesOf, IsBelow, IsLongestOf, IsBestAmong, IsWinnerAmong, IsTableScanOf};
 
@@ -9,7 +9,8 @@ use crate::budget::Budget;
 use crate::cached_table::CachedTable;
 use crate::product::product;
 use crate::table::Table;
-use crate::walk::{PatternMatch, TableScan};
+use crate::tables::Tables;
+use crate::walk::{PatternMatch, TableScan, Walk};
 use std::alloc::{AllocError, Global};
 
 /// The most rows of a table that is joined from two.
@@ -23,13 +24,6 @@ const WORK_OF_A_TRY: usize = 500;
 pub struct Part {
     pub(crate) table: Table,
     pub(crate) patterns: Vec<usize>,
-}
-
-/// The tables of a list of patterns, and the places of the patterns that have none, which `regex` matches.
-#[derive(Drop)]
-pub struct Tables {
-    pub(crate) parts: Vec<Part>,
-    pub(crate) asked: Vec<usize>,
 }
 
 /// The most rows of a table joined from these two: where it would have many more than both, they aren't joined.
@@ -142,14 +136,18 @@ fn alone(
         }
         None => asked.push(index)?,
     }
-    Ok(Tables { parts, asked })
+    Ok(Tables {
+        parts,
+        asked,
+        chain: None,
+    })
 }
 
 /// The tables of the patterns of both, where those of `right` come after those of `left` in the list: as few as can be had
 /// within the budget.
 pub fn joined_tables(
     alloc: Global,
-    mut left: Tables,
+    left: Tables,
     right: Tables,
     budget: &mut Budget,
 ) -> Result<Tables, AllocError>
@@ -158,11 +156,17 @@ pub fn joined_tables(
         ArePartsOf ps middle hi right.parts.items right.asked.items →
         IfOk result (λ t. ArePartsOf ps lo hi t.parts.items t.asked.items) }
 {
+    let mut parts = left.parts;
+    let mut asked = left.asked;
     'parts: for part in right.parts {
-        put(alloc, &mut left.parts, part, budget)?;
+        put(alloc, &mut parts, part, budget)?;
     }
-    left.asked.extend_from_slice(&right.asked)?;
-    Ok(left)
+    asked.extend_from_slice(&right.asked)?;
+    Ok(Tables {
+        parts,
+        asked,
+        chain: None,
+    })
 }
 
 /// How many rows the table at this place of the cache has, or 1 where there is none.
@@ -299,6 +303,23 @@ impl Part {
         })
     }
 
+    /// What a walk through the part's table has found in the text, with the place of its pattern in the list.
+    #[inline(always)]
+    pub(crate) fn scan_of(&self, text: &str, walk: Walk) -> TableScan
+        requires ends { EndsInRowOf self.now.table text.now walk.reach walk.len walk.row }
+        requires within { walk.reach ≤ length text.now + 1 }
+        requires past { walk.len < walk.reach }
+        ensures scan { (ps : List Re) → IsPartOf ps 0 (length ps) self.now →
+            IsTableScanOf ps (is_among self.now.patterns.items) text.now result }
+        ensures past { IsBelow result.reach result.winner }
+    {
+        let scan = self.table.scan_of(text, walk);
+        TableScan {
+            winner: self.in_list(scan.winner),
+            reach: scan.reach,
+        }
+    }
+
     /// Which of the part's patterns wins, by its place in the list, and how many bytes of the text decide that.
     #[inline(always)]
     pub(crate) fn winner(&self, text: &str) -> TableScan
@@ -326,6 +347,7 @@ impl Tables {
         Ok(Tables {
             parts: Vec::new(alloc),
             asked,
+            chain: None,
         })
     }
 

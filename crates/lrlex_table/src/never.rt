@@ -5,8 +5,9 @@ ghost use Rattle.lrlex_table.specs.Table.{IsTableOf};
 ghost use Rattle.lrlex_table.specs.Tables.{IsPartOf, AreTablesOf};
 ghost use Rattle.lrlex_table.specs.Never.{NeverWins, NoneOfWins, WinsAt, IsStruck, AreStruck, AreTablesOn, NeverWinsIn, WinsNowhereIn};
 
-use crate::merged_tables::{Part, Tables};
+use crate::merged_tables::Part;
 use crate::table::Table;
+use crate::tables::Tables;
 use std::alloc::{AllocError, Global};
 
 impl Table {

@@ -2,6 +2,7 @@
 pub(crate) mod active;
 pub(crate) mod active_lists;
 pub(crate) mod ids;
+pub(crate) mod kinds;
 pub(crate) mod lexer_def;
 pub(crate) mod lookups;
 pub(crate) mod names;

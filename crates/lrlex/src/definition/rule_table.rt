@@ -3,9 +3,11 @@ ghost use Rattle.lrlex.specs.Active.{active_places, is_state, lacks_target};
 ghost use Rattle.lrlex_rules.specs.RuleParts.{as_rule, as_state};
 ghost use Rattle.lrlex.specs.StateTables.{AreServed, ArePlaced, list_in};
 ghost use Rattle.lrlex.specs.Ids.{HaveDistinctIds};
+ghost use Rattle.lrlex.specs.Kinds.{kind_of};
 
 use crate::definition::active::{are_placed, has_state, position_of};
 use crate::definition::active_lists::lists_for;
+use crate::definition::kinds::{Kind, kinds_of};
 use crate::definition::names::have_own_ids;
 use crate::definition::state_tables::tables_for;
 use lrlex_base::Numbered;
@@ -27,6 +29,8 @@ pub(crate) fn usual_budget() -> Budget {
 #[derive(Drop)]
 pub(crate) struct RuleTable<S> {
     pub(crate) rules: Vec<Rule<S>>,
+    /// What lexing needs of each rule for each tile: a rule itself is large, and those of a definition are many.
+    pub(crate) kinds: Vec<Kind<S>>,
     pub(crate) start_states: Vec<StartState>,
     pub(crate) flags: LexFlags,
     /// Whether the id of each rule that has one is its place, as in every definition that was read.
@@ -40,6 +44,7 @@ pub(crate) struct RuleTable<S> {
     /// Which of the lists each state has.
     pub(crate) list_at: Vec<usize>,
     ghost distinct: { IsTrue own_ids → HaveDistinctIds rules.items },
+    ghost kinded: { ∥ kinds.items ≡ map kind_of rules.items ∥₁ },
     ghost at_places: { IsTrue placed → ArePlaced start_states.items },
     ghost listed: { map (list_in (map (λ v. v.items) lists.items)) list_at.items ≡ map (λ s. active_places (map as_state start_states.items) (map (as_rule (λ _. 0)) rules.items) (as_state s).id) start_states.items },
     ghost served: { ∥ AreServed rules.items (map (λ v. v.items) lists.items) tables.items ∥₁ },
@@ -67,8 +72,10 @@ impl<S: Copy> RuleTable<S> {
         let placed = are_placed(&start_states);
         let (lists, list_at) = lists_for(alloc, &start_states, placed, &rules)?;
         let tables = tables_for(alloc, &rules, &lists, budget)?;
+        let kinds = kinds_of(alloc, &rules)?;
         Ok(RuleTable {
             rules,
+            kinds,
             start_states,
             flags,
             own_ids,
@@ -205,6 +212,19 @@ impl<S: Numbered> RuleTable<S> {
             rules
         } else {
             self.rules_in(id)
+        }
+    }
+
+    /// Makes the rules those that are active in the first state with the id, where they aren't yet.
+    #[inline(always)]
+    pub(crate) fn enter<'d>(&'d self, rules: &mut StateRules<'d>, id: usize)
+        requires id { is_state (definition_by S.number self.now) id ≡ true }
+        requires rules { AreOf S.number self.now rules.old.state rules.old }
+        ensures state { rules.new.state ≡ id }
+        ensures rules { AreOf S.number self.now rules.new.state rules.new }
+    {
+        if rules.state != id {
+            *rules = self.rules_in(id);
         }
     }
 

@@ -9,7 +9,7 @@ ghost use Rattle.lrlex.specs.StateTables.{pattern_in, patterns_on, AreServed, co
 
 use lrlex_rules::Rule;
 use lrlex_table::{
-    Budget, CachedTable, Source, Table, Tables, joined_tables, table_of, tables_between,
+    Budget, CachedTable, Source, Table, Tables, add_chains, joined_tables, table_of, tables_between,
 };
 use std::alloc::{AllocError, Global};
 
@@ -166,6 +166,7 @@ pub(crate) fn tables_for<S>(
         let made = tables_on(alloc, rules, places, &mut singles, &mut budget)?;
         tables.push(made)?;
     }
+    add_chains(alloc, tables.as_mut_slice(), &mut budget)?;
     Ok(tables)
 }
 

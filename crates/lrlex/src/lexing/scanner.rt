@@ -3,12 +3,12 @@ ghost use Rattle.std.specs.Prelude.{◌≡◌, OnErr, IfOk};
 ghost use Rattle.lrlex.specs.Scanner.{IsCursorOf, IsPlaceOf, IsStep, StayedAt, after_step, at_front, scanned_by, standing};
 ghost use Rattle.lrlex.specs.Views.{definition_by, definition_of};
 
-use crate::definition::active::{lacks_id, lexeme_id};
 use crate::definition::non_streaming::LRNonStreamingLexerDef;
 use crate::definition::rule_table::RuleTable;
 use crate::errors::LRLexError;
 use crate::lexing::cursor::{Cursor, ScanPlace, cursor_at, cursor_of};
-use crate::lexing::stack::{step, top_of};
+use crate::lexing::scanning::{seek, take_tile};
+use crate::lexing::stack::top_of;
 use lrlex_base::{LexerTypes, Numbered, Span};
 use lrlex_rules::StartStateId;
 use std::alloc::{AllocError, Global};
@@ -48,6 +48,7 @@ pub enum Step<S> {
 }
 
 /// Takes the next step. After refused memory the cursor stands where it stood.
+#[inline(always)]
 fn next_step<'d, S: Numbered>(
     alloc: Global,
     table: &'d RuleTable<S>,
@@ -64,40 +65,21 @@ fn next_step<'d, S: Numbered>(
     ensures stayed { OnErr result (StayedAt cursor.old cursor.new) }
 {
     let place = cursor.place;
-    if place == text.len() {
-        return Ok(Step::End(ScanEnd::Done));
+    table.enter(&mut cursor.rules, top_of(&cursor.stack));
+    if let Some(tile) = cursor.searcher.ahead(table, cursor.rules, place) {
+        let kind = table.kinds[tile.rule];
+        if kind.plain {
+            let end = place + tile.len;
+            cursor.place = end;
+            return Ok(Step::Tile(ScannedTile {
+                rule: tile.rule,
+                id: kind.id,
+                span: Span::new(place, end),
+            }));
+        }
+        return take_tile(table, text, cursor, Some(tile));
     }
-    let state = top_of(&cursor.stack);
-    let rules = table.rules_at(cursor.rules, state);
-    cursor.rules = rules;
-    let mut asked = 0;
-    let scan = cursor.searcher.winner(
-        alloc,
-        table,
-        state,
-        rules,
-        place,
-        &text[place..],
-        &mut asked,
-    )?;
-    let Some(tile) = scan.winner else {
-        return Ok(Step::End(ScanEnd::NoMatch(StartStateId::new(state))));
-    };
-    let rule = &table.rules[tile.rule];
-    if lacks_id(rule) {
-        return Ok(Step::End(ScanEnd::NoId(tile.rule)));
-    }
-    let found = ScannedTile {
-        rule: tile.rule,
-        id: lexeme_id(rule),
-        span: Span::new(place, place + tile.len),
-    };
-    if table.lacks_target(rule) {
-        return Ok(Step::End(ScanEnd::NoTarget(found)));
-    }
-    step(&mut cursor.stack, rule.target_state())?;
-    cursor.place = place + tile.len;
-    Ok(Step::Tile(found))
+    seek(alloc, table, text, cursor)
 }
 
 /// A lexer that is pulled: `next` gives one tile after the other, and nothing of them is kept. Beside the stack of start states
@@ -123,6 +105,7 @@ impl<'lexer, 'input, S: Numbered> Model for Scanner<'lexer, 'input, S> {
 
 impl<'lexer, 'input, S: Numbered> Scanner<'lexer, 'input, S> {
     /// The next tile, or why there is none. At an end, and after refused memory, the scanner is what it was.
+    #[inline(always)]
     pub fn next(&mut self, alloc: Global) -> Result<Step<S>, AllocError>
         ensures step { IfOk result (IsStep S.number self.old) }
         ensures moved { IfOk result (λ s. self.new ≡ after_step self.old s) }

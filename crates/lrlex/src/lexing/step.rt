@@ -1,4 +1,4 @@
-ghost use Rattle.std.specs.Prelude.{◌≡◌, ◌+◌, ◌-◌, ◌^◌, ◌<◌, ◌≤◌, true, false, [], ◌∷◌, ◌++◌, length, map, IfOk, OnOk, IsCharBoundary};
+ghost use Rattle.std.specs.Prelude.{◌≡◌, ◌+◌, ◌-◌, ◌^◌, ◌<◌, ◌≤◌, true, false, [], ◌∷◌, ◌++◌, length, map, max, None, option_map, IfOk, OnOk};
 ghost use Rattle.lrlex.specs.Active.{is_state, lexeme_id};
 ghost use Rattle.lrlex_rules.specs.RuleParts.{as_rule};
 ghost use Rattle.lrlex.specs.Searches.{untabled_count};
@@ -11,15 +11,15 @@ ghost use Rattle.lrlex.specs.Searcher.{AreOf, IsSearcherOf};
 ghost use Rattle.lrlex.specs.Views.{definition_by, item_of, items_by};
 ghost use Rattle.lrlex.specs.Progress.{Front, HasAdvanced, HasEnded, HasEntered, HasSearched, IsUnderWay};
 
-use crate::definition::active::{lacks_id, lexeme_id};
 use crate::definition::rule_table::{RuleTable, StateRules};
 use crate::errors::LRLexError;
-use crate::lexing::stack::{step, top_of};
-use crate::lexing::winner::Searcher;
+use crate::lexing::stack::top_of;
+use crate::lexing::taking::take_scan;
+use crate::lexing::winner::{Scan, Searcher};
 use lrlex_base::{Lexeme, Numbered, Span};
 use lrlex_boundaries::Boundaries;
 use lrlex_boundaries::room::append;
-use lrlex_rules::{Rule, StartStateId};
+use lrlex_rules::StartStateId;
 use std::alloc::{AllocError, Global};
 
 /// What a run has found so far. Its last boundary is its place with its stack.
@@ -73,20 +73,20 @@ pub(crate) fn begin<X: Copy>(alloc: Global, text: &str) -> Result<Progress<X>, A
     Ok(progress)
 }
 
-/// Gives the tile's lexeme, if its rule gives one.
+/// Gives a lexeme with the id, if there is one.
 #[inline(always)]
-fn push_lexeme<S: Numbered, X: Lexeme<S>>(
+pub(crate) fn push_lexeme<S: Numbered, X: Lexeme<S>>(
     items: &mut Vec<Result<X, LRLexError>>,
-    rule: &Rule<S>,
+    id: Option<S>,
     place: usize,
     len: usize,
 ) -> Result<(), AllocError>
     requires { place + len < 2 ^ 64 }
     ensures { OnOk result (map (item_of S.number X.seen) items.new.items
         ≡ map (item_of S.number X.seen) items.old.items
-        ++ lexeme_of (lexeme_id (as_rule S.number rule.now)) place len) }
+        ++ lexeme_of (option_map S.number id) place len) }
 {
-    if let Some(id) = lexeme_id(rule) {
+    if let Some(id) = id {
         append(items, Ok(Lexeme::new(id, place, len)))?;
     }
     Ok(())
@@ -124,30 +124,22 @@ pub(crate) fn capped(lookahead: usize) -> u8
     }
 }
 
-/// Enters the next boundary: moves the stack by the rule's target. The tiles looked `lookahead` bytes past its place.
+/// Enters the next boundary, with the same stack, behind a tile of so many bytes. The byte behind it decided it.
 #[inline(always)]
 #[tactic(auto, unfolding(crate::specs::Tiling::stack_after))]
-fn push_boundary<S, X: Copy>(
-    progress: &mut Progress<X>,
-    rule: &Rule<S>,
-    place: usize,
-    lookahead: usize,
-) -> Result<(), AllocError>
+fn stay<X: Copy>(progress: &mut Progress<X>, len: usize) -> Result<(), AllocError>
+    requires place { progress.old.place + len < 2 ^ 64 }
     requires entries { AreEntries progress.old.stack.items }
-    requires room { length (plain progress.old.stack.items) + 1 < 2 ^ 64 }
     requires last { last_entries progress.old.boundaries ≡ progress.old.stack.items }
-    ensures { OnOk result (HasEntered progress.old progress.new rule.now.target place lookahead) }
+    ensures { OnOk result (HasEntered progress.old progress.new None (progress.old.place + len)
+        (max progress.old.lookahead (len + 1) - len)) }
 {
+    let place = progress.place + len;
+    let lookahead = progress.lookahead.saturating_sub(len).max(1);
     progress.place = place;
     progress.lookahead = lookahead;
     append(&mut progress.ahead, capped(lookahead))?;
-    // read as a whole only where there is one, so that the tiles of other rules don't pay for it
-    if rule.target_state().is_none() {
-        progress.boundaries.repeat(place)?;
-    } else {
-        let kept = step(&mut progress.stack, rule.target_state())?;
-        progress.boundaries.push(place, &progress.stack, kept)?;
-    }
+    progress.boundaries.repeat(place)?;
     Ok(())
 }
 
@@ -185,33 +177,23 @@ pub(crate) fn advance<'d, S: Numbered, X: Lexeme<S>>(
         → HasSearched S.number table.now text.now f progress.old progress.new) }
 {
     let place = progress.place;
-    let state = top_of(&progress.stack);
-    *rules = table.rules_at(*rules, state);
+    table.enter(rules, top_of(&progress.stack));
+    let state = rules.state;
+    if let Some(tile) = searcher.ahead(table, *rules, place) {
+        let kind = table.kinds[tile.rule];
+        if kind.plain {
+            push_lexeme::<S, X>(&mut progress.items, kind.id, place, tile.len)?;
+            stay(progress, tile.len)?;
+            return Ok(true);
+        }
+        let scan = Scan {
+            winner: Some(tile),
+            reach: tile.len + 1,
+        };
+        return take_scan(table, text, state, scan, progress.asked, progress);
+    }
+    let mut asked = progress.asked;
     let rest = &text[place..];
-    let scan = searcher.winner(
-        alloc,
-        table,
-        state,
-        *rules,
-        place,
-        rest,
-        &mut progress.asked,
-    )?;
-    let Some(tile) = scan.winner else {
-        push_error::<S, X>(&mut progress.items, place, Some(state))?;
-        return Ok(false);
-    };
-    let rule = &table.rules[tile.rule];
-    if lacks_id(rule) {
-        push_error::<S, X>(&mut progress.items, place, None)?;
-        return Ok(false);
-    }
-    push_lexeme::<S, X>(&mut progress.items, rule, place, tile.len)?;
-    if table.lacks_target(rule) {
-        push_error::<S, X>(&mut progress.items, place, None)?;
-        return Ok(false);
-    }
-    let lookahead = progress.lookahead.max(scan.reach).saturating_sub(tile.len);
-    push_boundary(progress, rule, place + tile.len, lookahead)?;
-    Ok(true)
+    let scan = searcher.winner(alloc, table, state, *rules, place, rest, &mut asked)?;
+    take_scan(table, text, state, scan, asked, progress)
 }

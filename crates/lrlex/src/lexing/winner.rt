@@ -1,7 +1,7 @@
 //! The winner at a place: the best of what the tables tell and of what the rules without one answer, as they are asked.
 ghost use Rattle.std.specs.Prelude.{◌≡◌, ℕ, length, slice_index, [], ◌+◌, ◌^◌, ◌<◌, ◌≤◌, ◌⊎◌, true, false, vec_len, List, drop, IfOk, IfSome, IsCharBoundary};
 ghost use Rattle.lrlex_rules.specs.Matchers.{AreMatchers};
-ghost use Rattle.lrlex.specs.Searcher.{AreOf, HasAsked, IsSearcherOf, IsScanOf};
+ghost use Rattle.lrlex.specs.Searcher.{AreOf, HasAsked, IsFoundAt, IsSearcherOf, IsScanOf};
 ghost use Rattle.lrlex.specs.Views.{definition_by};
 
 use crate::definition::rule_table::{RuleTable, StateRules};
@@ -172,9 +172,33 @@ impl<'d, 't> Searcher<'d, 't> {
         Ok(Searcher { matchers, ends })
     }
 
-    /// The rule that wins at the place, from which on the rest of the text stands, among those that are active in the
-    /// state.
+    /// The tile at the place by the rules of the state, if it was found ahead. No rule is searched for then, and the byte behind the tile
+    /// decides it.
     #[inline(always)]
+    pub(crate) fn ahead<S: Numbered>(
+        &mut self,
+        table: &RuleTable<S>,
+        rules: StateRules<'_>,
+        place: usize,
+    ) -> Option<Tile>
+        requires rules { AreOf S.number table.now rules.state rules }
+        requires searcher { (input : List ℕ) × IsSearcherOf table.now input self.old }
+        ensures tile { (input : List ℕ) → IsSearcherOf table.now input self.old
+            → IfSome result (IsFoundAt S.number table.now rules.entry.state input place) }
+        ensures searcher { (input : List ℕ) → IsSearcherOf table.now input self.old
+            → IsSearcherOf table.now input self.new }
+    {
+        let found = self.ends.ahead_at(rules.tables, rules.list, place)?;
+        let rule = active_place(rules.active, table.rules.len(), found.pattern);
+        Some(Tile {
+            rule,
+            len: found.len,
+        })
+    }
+
+    /// The rule that wins at the place, from which on the rest of the text stands, among those that are active in the
+    /// state. Out of line, since most tiles are found ahead.
+    #[inline(never)]
     pub(crate) fn winner<S: Numbered>(
         &mut self,
         alloc: Global,

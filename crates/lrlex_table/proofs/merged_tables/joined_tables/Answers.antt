@@ -23,7 +23,7 @@ parts-preserved c =
       append_assoc at.yielded (x ∷ []) rest ∙ rw steps at inv.1,
       omega arith,
       λ ps lo hi left right. c.in_ok-put.ensures.parts ps lo hi (inv.3 ps lo hi left right) (all_at (IsPartOf ps lo hi) c.args.right.parts.items at.yielded rest x right whole),
-      neither_more c.put.new.parts.items at.left.parts.items c.args.left.parts.items at.yielded x c.in_ok-put.ensures.covers inv.4,
+      neither_more c.put.new.parts.items at.parts.items c.args.left.parts.items at.yielded x c.in_ok-put.ensures.covers inv.4,
     )
 
 pub returns : goal.returns
@@ -37,7 +37,7 @@ returns c ps lo middle hi left right =
     c.in_ok-extend_from_slice.ensures.items ∙ ap (λ v. v.items ++ c.deref.result.now) inv.0 ∙ ap (λ l. c.args.left.asked.items ++ l) c.deref.ensures.value in
     let below = rising_bounds lo middle c.args.left.asked.items left.rises in
     let above = rising_bounds middle hi c.args.right.asked.items right.rises in
-    subst (ArePartsOf ps lo hi at.left.parts.items) (sym asked)
-    (parts_both ps lo middle hi c.args.left.parts.items c.args.right.parts.items at.left.parts.items c.args.left.asked.items c.args.right.asked.items left right
+    subst (ArePartsOf ps lo hi at.parts.items) (sym asked)
+    (parts_both ps lo middle hi c.args.left.parts.items c.args.right.parts.items at.parts.items c.args.left.asked.items c.args.right.asked.items left right
     (inv.3 ps lo hi (parts_wider ps lo middle lo hi c.args.left.parts.items (omega arith) above left.are) (parts_wider ps middle hi lo hi c.args.right.parts.items below (omega arith) right.are))
     (λ k missing. subst (λ ys. Neither c.args.left.parts.items ys k) all (inv.4 k missing)))

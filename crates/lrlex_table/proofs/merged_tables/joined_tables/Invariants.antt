@@ -7,8 +7,8 @@ use Rattle.lrlex_table.proofs.merged_tables.joined_tables.Given as goal
 
 abbrev pub invariant-parts : goal.invariant-parts
 invariant-parts l =
-    (l.left.asked ≡ l.fn.left.asked)
+    (l.asked ≡ l.fn.left.asked)
     × (l.yielded ++ into_iter_items l.part-iterator ≡ into_iter_items l.initial.part-iterator)
     × (into_iter_len l.part-iterator ≡ length (into_iter_items l.part-iterator))
-    × ((ps : List Re) (lo hi : ℕ) → AreParts ps lo hi l.fn.left.parts.items → AreParts ps lo hi l.fn.right.parts.items → AreParts ps lo hi l.left.parts.items)
-    × ((k : ℕ) → is_tabled l.left.parts.items k ≡ false → Neither l.fn.left.parts.items l.yielded k)
+    × ((ps : List Re) (lo hi : ℕ) → AreParts ps lo hi l.fn.left.parts.items → AreParts ps lo hi l.fn.right.parts.items → AreParts ps lo hi l.parts.items)
+    × ((k : ℕ) → is_tabled l.parts.items k ≡ false → Neither l.fn.left.parts.items l.yielded k)

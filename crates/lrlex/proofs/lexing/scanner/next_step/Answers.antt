@@ -1,137 +1,84 @@
-use Rattle.std.proofs.Common.{◌≡◌, ◌+◌, ◌<◌, length, drop, true, false, refl, sym, ap, ap₂, ◌∙◌, subst, arith, vec_len, IsCharBoundary}
+use Rattle.std.proofs.Common.{◌≡◌, ◌+◌, ◌<◌, not, length, drop, refl, sym, ap, ap₂, ◌∙◌, subst, arith}
 use Rattle.std.proofs.lemmas.Str.{IsCharBoundary-from_rest}
+use Rattle.regex_hir.specs.Text.{is_some_and}
 use Rattle.lrlex_base.specs.Spans.{span}
-use Rattle.lrlex_boundaries.specs.Entries.{plain, AreEntries}
-use Rattle.lrlex_rules.specs.Definition.{Rule}
-use Rattle.lrlex.specs.Active.{lacks_id, lacks_target, lexeme_id, rule_at}
-use Rattle.lrlex.specs.Scanner.{IsCursorOf, IsTileAt, Scanned}
-use Rattle.lrlex.specs.Searcher.{AreOf}
-use Rattle.lrlex.specs.Tiling.{Tile, IsTaken, IsWinner, stack_after, top}
+use Rattle.lrlex_boundaries.specs.Entries.{plain}
+use Rattle.lrlex.specs.Active.{is_state, rule_at}
+use Rattle.lrlex.specs.Scanner.{Scanned}
+use Rattle.lrlex.specs.Searcher.{IsFoundAt}
+use Rattle.lrlex.specs.Tiling.{Tile, Wins, top}
 use Rattle.lrlex.specs.Views.{definition_by}
-use Rattle.lrlex.proofs.ReachLemmas.{AreStates, IsSound, sound_after, wins_at}
-use Rattle.lrlex.proofs.ViewLemmas.{rule_read}
+use Rattle.lrlex.proofs.KindLemmas.{kinds_len, plain_rule, no_target_at, stays}
 use Rattle.lrlex.proofs.lexing.scanner.next_step.Goals as goal
 
-pub returns-then-lacks_id-clause-cursor : goal.returns-then-lacks_id-clause-cursor
-returns-then-lacks_id-clause-cursor g c = record {
-  stands = c.requires.stands;
-  initial = c.requires.initial;
-  rules = subst (λ q. AreOf g.S.Numbered.number c.args.table.now q c.rules_at-rules.result) (sym c.rules_at-rules.ensures.state) c.rules_at-rules.ensures.rules;
-  searcher = c.in_ok-scan.ensures.searcher c.args.text.now c.requires.searcher;
-}
+pub index-kind-requires : goal.index-kind-requires
+index-kind-requires g c =
+    let table = c.args.table.now in
+    let p = c.args.cursor.now in
+    let tile = c.in-Some.tile in
+    let at : IsFoundAt g.S.Numbered.number table c.enter.new.rules.state c.args.text.now p.place tile = c.in-Some.ensures.tile c.args.text.now c.requires.searcher in
+    omega (arith, at.rule, kinds_len table, table.kinds.ok.0)
 
-pub returns-then-lacks_target-clause-cursor : goal.returns-then-lacks_target-clause-cursor
-returns-then-lacks_target-clause-cursor g c = record {
-  stands = c.requires.stands;
-  initial = c.requires.initial;
-  rules = subst (λ q. AreOf g.S.Numbered.number c.args.table.now q c.rules_at-rules.result) (sym c.rules_at-rules.ensures.state) c.rules_at-rules.ensures.rules;
-  searcher = c.in_ok-scan.ensures.searcher c.args.text.now c.requires.searcher;
-}
-
-pub returns-in_err-step-clause-cursor : goal.returns-in_err-step-clause-cursor
-returns-in_err-step-clause-cursor g c =
-    let d = definition_by g.S.Numbered.number c.args.table.now in
-    let same : c.step.new.entries.items ≡ c.args.cursor.now.stack.items = c.in_err-step.ensures.same in
+pub returns-then-kind-clause-cursor : goal.returns-then-kind-clause-cursor
+returns-then-kind-clause-cursor g c =
+    let table = c.args.table.now in
+    let p = c.args.cursor.now in
+    let tile = c.in-Some.tile in
+    let at : IsFoundAt g.S.Numbered.number table c.enter.new.rules.state c.args.text.now p.place tile = c.in-Some.ensures.tile c.args.text.now c.requires.searcher in
     record {
       stands = record {
-        boundary = c.requires.stands.boundary;
-        entries = subst AreEntries (sym same) c.requires.stands.entries;
-        states = subst (λ xs. AreStates d (plain xs)) (sym same) c.requires.stands.states;
-        some = omega (arith, c.requires.stands.some, ap (λ xs. length (plain xs)) same);
-        room = omega (arith, c.requires.stands.room, ap (λ xs. length (plain xs)) same);
+        boundary = IsCharBoundary-from_rest c.args.text.now p.place tile.len c.requires.stands.boundary.0 at.cuts;
+        entries = c.requires.stands.entries;
+        states = c.requires.stands.states;
+        some = c.requires.stands.some;
+        room = omega (arith, c.requires.stands.room);
       };
       initial = c.requires.initial;
-      rules = subst (λ q. AreOf g.S.Numbered.number c.args.table.now q c.rules_at-rules.result) (sym c.rules_at-rules.ensures.state) c.rules_at-rules.ensures.rules;
-      searcher = c.in_ok-scan.ensures.searcher c.args.text.now c.requires.searcher;
+      rules = c.enter.ensures.rules;
+      searcher = c.in-Some.ensures.searcher c.args.text.now c.requires.searcher;
     }
 
-pub returns-then-lacks_id-clause-step : goal.returns-then-lacks_id-clause-step
-returns-then-lacks_id-clause-step g c =
-    let d = definition_by g.S.Numbered.number c.args.table.now in
-    let stack = plain c.args.cursor.now.stack.items in
-    let t : Tile = record { rule = c.in-Some.tile.rule; len = c.in-Some.tile.len } in
-    let on_top : c.top_of-state.result ≡ top stack = c.top_of-state.ensures ∙ ap (λ s. top (plain s)) c.deref.ensures.value in
-    let within : t.rule < length c.args.table.now.rules.items = omega (arith, c.args.table.now.rules.ok.0, (rw c.in-Some.is at c.in_ok-scan.ensures.tile).1) in
-    let rule_is = rule_read g.S.Numbered.number c.args.table.now t.rule c.index-rule.result.now within c.index-rule.ensures in
-    let wins = wins_at d c.top_of-state.result stack c.range_from.result.now (drop c.args.cursor.now.place c.args.text.now) t on_top c.range_from.ensures.value (rw c.in-Some.is at c.in_ok-scan.ensures.scan.winner) in
-    (t, refl, wins, ap lacks_id rule_is ∙ sym c.if-lacks_id.ensures)
-
-pub returns-then-lacks_target-clause-step : goal.returns-then-lacks_target-clause-step
-returns-then-lacks_target-clause-step g c =
-    let d = definition_by g.S.Numbered.number c.args.table.now in
-    let stack = plain c.args.cursor.now.stack.items in
-    let t : Tile = record { rule = c.in-Some.tile.rule; len = c.in-Some.tile.len } in
-    let on_top : c.top_of-state.result ≡ top stack = c.top_of-state.ensures ∙ ap (λ s. top (plain s)) c.deref.ensures.value in
-    let within : t.rule < length c.args.table.now.rules.items = omega (arith, c.args.table.now.rules.ok.0, (rw c.in-Some.is at c.in_ok-scan.ensures.tile).1) in
-    let rule_is = rule_read g.S.Numbered.number c.args.table.now t.rule c.index-rule.result.now within c.index-rule.ensures in
-    let wins = wins_at d c.top_of-state.result stack c.range_from.result.now (drop c.args.cursor.now.place c.args.text.now) t on_top c.range_from.ensures.value (rw c.in-Some.is at c.in_ok-scan.ensures.scan.winner) in (
+pub returns-then-kind-clause-step : goal.returns-then-kind-clause-step
+returns-then-kind-clause-step g c =
+    let table = c.args.table.now in
+    let p = c.args.cursor.now in
+    let tile = c.in-Some.tile in
+    let at : IsFoundAt g.S.Numbered.number table c.enter.new.rules.state c.args.text.now p.place tile = c.in-Some.ensures.tile c.args.text.now c.requires.searcher in
+    let d = definition_by g.S.Numbered.number table in
+    let t : Tile = record { rule = tile.rule; len = tile.len } in
+    let on_top : c.enter.new.rules.state ≡ top (plain p.stack.items) = c.enter.ensures.state ∙ c.top_of.ensures ∙ ap (λ s. top (plain s)) c.deref.ensures.value in
+    let kind = c.index-kind.result.now in
+    let rule = plain_rule g.S.Numbered.number table tile.rule kind at.rule c.index-kind.ensures c.if-kind.true in
+    let target = no_target_at g.S.Numbered.number table tile.rule kind at.rule c.index-kind.ensures c.if-kind.true in (
       t,
       record {
         rule = refl;
-        id = c.lexeme_id.ensures ∙ sym (ap lexeme_id rule_is);
-        bytes = ap₂ span c.new-2.ensures.start c.new-2.ensures.end;
-      },
-      (wins, ap lacks_id rule_is ∙ sym c.if-lacks_id.ensures, ap (lacks_target d) rule_is ∙ sym c.if-lacks_target.ensures),
-    )
-
-pub returns-clause-step : goal.returns-clause-step
-returns-clause-step g c =
-    let d = definition_by g.S.Numbered.number c.args.table.now in
-    let stack = plain c.args.cursor.now.stack.items in
-    let t : Tile = record { rule = c.in-Some.tile.rule; len = c.in-Some.tile.len } in
-    let on_top : c.top_of-state.result ≡ top stack = c.top_of-state.ensures ∙ ap (λ s. top (plain s)) c.deref.ensures.value in
-    let within : t.rule < length c.args.table.now.rules.items = omega (arith, c.args.table.now.rules.ok.0, (rw c.in-Some.is at c.in_ok-scan.ensures.tile).1) in
-    let rule_is = rule_read g.S.Numbered.number c.args.table.now t.rule c.index-rule.result.now within c.index-rule.ensures in
-    let wins = wins_at d c.top_of-state.result stack c.range_from.result.now (drop c.args.cursor.now.place c.args.text.now) t on_top c.range_from.ensures.value (rw c.in-Some.is at c.in_ok-scan.ensures.scan.winner) in (
-      t,
-      record {
-        rule = refl;
-        id = c.lexeme_id.ensures ∙ sym (ap lexeme_id rule_is);
-        bytes = ap₂ span c.new-2.ensures.start c.new-2.ensures.end;
+        id = sym rule.gives;
+        bytes = ap₂ span c.new.ensures.start c.new.ensures.end;
       },
       record {
-        wins = wins;
-        has_id = ap lacks_id rule_is ∙ sym c.if-lacks_id.ensures;
-        has_target = ap (lacks_target d) rule_is ∙ sym c.if-lacks_target.ensures;
+        wins = subst (λ q. Wins d q (drop p.place c.args.text.now) tile.rule tile.len) on_top at.wins;
+        has_id = rule.has_id;
+        has_target = ap (λ o. is_some_and o (λ s. not (is_state d s.0))) target;
       },
     )
 
-pub returns-clause-moved : goal.returns-clause-moved
-returns-clause-moved g c =
-    let d = definition_by g.S.Numbered.number c.args.table.now in
-    let stack = plain c.args.cursor.now.stack.items in
-    let k = c.in-Some.tile.rule in
-    let within : k < length c.args.table.now.rules.items = omega (arith, c.args.table.now.rules.ok.0, (rw c.in-Some.is at c.in_ok-scan.ensures.tile).1) in
-    let rule_is = rule_read g.S.Numbered.number c.args.table.now k c.index-rule.result.now within c.index-rule.ensures in
-    let moved : plain c.step.new.entries.items ≡ stack_after stack (rule_at d k).target =
-    c.in_ok-step.ensures.moved ∙ ap (stack_after stack) c.target_state.ensures ∙ sym (ap (λ (x : Rule). stack_after stack x.target) rule_is) in
-    ap₂ (λ p s. let made : Scanned = record { definition = d; text = c.args.text.now; place = p; stack = s } in made) (sym c.new-2.ensures.end) moved
+pub returns-then-kind-clause-moved : goal.returns-then-kind-clause-moved
+returns-then-kind-clause-moved g c =
+    let table = c.args.table.now in
+    let p = c.args.cursor.now in
+    let tile = c.in-Some.tile in
+    let at : IsFoundAt g.S.Numbered.number table c.enter.new.rules.state c.args.text.now p.place tile = c.in-Some.ensures.tile c.args.text.now c.requires.searcher in
+    let d = definition_by g.S.Numbered.number table in
+    let stack = plain p.stack.items in
+    let target = no_target_at g.S.Numbered.number table tile.rule c.index-kind.result.now at.rule c.index-kind.ensures c.if-kind.true in
+    ap₂ (λ p s. let made : Scanned = record { definition = d; text = c.args.text.now; place = p; stack = s } in made) (sym c.new.ensures.end)
+    (sym (stays stack (rule_at d tile.rule).target target))
 
-pub returns-clause-cursor : goal.returns-clause-cursor
-returns-clause-cursor g c =
-    let d = definition_by g.S.Numbered.number c.args.table.now in
-    let text = c.args.text.now in
-    let place = c.args.cursor.now.place in
-    let stack = plain c.args.cursor.now.stack.items in
-    let t : Tile = record { rule = c.in-Some.tile.rule; len = c.in-Some.tile.len } in
-    let on_top : c.top_of-state.result ≡ top stack = c.top_of-state.ensures ∙ ap (λ s. top (plain s)) c.deref.ensures.value in
-    let within : t.rule < length c.args.table.now.rules.items = omega (arith, c.args.table.now.rules.ok.0, (rw c.in-Some.is at c.in_ok-scan.ensures.tile).1) in
-    let rule_is = rule_read g.S.Numbered.number c.args.table.now t.rule c.index-rule.result.now within c.index-rule.ensures in
-    let wins = wins_at d c.top_of-state.result stack c.range_from.result.now (drop place text) t on_top c.range_from.ensures.value (rw c.in-Some.is at c.in_ok-scan.ensures.scan.winner) in
-    let has_target : lacks_target d (rule_at d t.rule) ≡ false = ap (lacks_target d) rule_is ∙ sym c.if-lacks_target.ensures in
-    let moved : plain c.step.new.entries.items ≡ stack_after stack (rule_at d t.rule).target =
-    c.in_ok-step.ensures.moved ∙ ap (stack_after stack) c.target_state.ensures ∙ sym (ap (λ (x : Rule). stack_after stack x.target) rule_is) in
-    let sound : IsSound d stack (stack_after stack (rule_at d t.rule).target) = sound_after d stack (rule_at d t.rule).target c.requires.initial c.requires.stands.states c.requires.stands.some has_target in
-    record {
-      stands = record {
-        boundary =
-            IsCharBoundary-from_rest text place t.len c.requires.stands.boundary.0 (subst (λ rest. IsCharBoundary rest t.len) c.range_from.ensures.value (rw c.in-Some.is at c.in_ok-scan.ensures.tile).0);
-        entries = c.in_ok-step.ensures.entries;
-        states = subst (AreStates d) (sym moved) sound.states;
-        some = omega (arith, sound.some, ap length moved);
-        room = omega (arith, sound.deep, ap length moved, c.requires.stands.room, wins.some);
-      };
-      initial = c.requires.initial;
-      rules = subst (λ q. AreOf g.S.Numbered.number c.args.table.now q c.rules_at-rules.result) (sym c.rules_at-rules.ensures.state) c.rules_at-rules.ensures.rules;
-      searcher = c.in_ok-scan.ensures.searcher text c.requires.searcher;
-    }
+pub take_tile-requires-clause-cursor : goal.take_tile-requires-clause-cursor
+take_tile-requires-clause-cursor g c = record {
+  stands = c.requires.stands;
+  initial = c.requires.initial;
+  rules = c.enter.ensures.rules;
+  searcher = c.in-Some.ensures.searcher c.args.text.now c.requires.searcher;
+}

@@ -1,20 +1,106 @@
-use Rattle.std.proofs.Common.{rules, refl, ◌≡◌, ◌+◌, ◌<◌, ◌≤◌, List, [], ◌∷◌, ◌++◌, None, length, drop, sym, ap, ◌∙◌, subst, arith, append_assoc, length-append, IsCharBoundary}
+use Rattle.std.proofs.Common.{◌≡◌, ℕ, ◌+◌, ◌<◌, ◌++◌, ◌∷◌, [], Result, Ok, Err, IfOk, not, length, drop, sym, ap, ◌∙◌, subst, arith}
 use Rattle.std.proofs.lemmas.List.{length-map}
-use Rattle.std.proofs.lemmas.Str.{IsCharBoundary-from_rest}
-use Rattle.lrlex_rules.specs.Definition.{Rule}
-use Rattle.lrlex.specs.Active.{active_count, lacks_id, lacks_target, lexeme_id}
-use Rattle.lrlex.specs.Searches.{untabled_count}
-use Rattle.lrlex.specs.Tiling.{Tile, Item, Error, top, IsStuck, IsTaken, stack_after, lexeme_of, tile_items, NoMatch, NoId, NoTarget}
+use Rattle.regex_hir.specs.Text.{is_some_and}
 use Rattle.lrlex_rules.specs.RuleParts.{as_rule}
-use Rattle.lrlex_boundaries.specs.Entries.{plain}
-use Rattle.lrlex.specs.Reach.{Reached}
-use Rattle.lrlex.specs.Views.{definition_by, items_by}
-use Rattle.lrlex.proofs.ViewLemmas.{rule_read}
-use Rattle.lrlex.proofs.ReachLemmas.{Reached-more, ended, entries_now, searches_now, searches-few, last_now, room_for, wins_at, something_left}
+use Rattle.lrlex.specs.Active.{is_state}
 use Rattle.lrlex.specs.Lookahead.{IsDecided, capped}
-use Rattle.lrlex.proofs.LookaheadLemmas.{looked_more}
-use Rattle.lrlex.proofs.FrontLemmas.{joined, last_behind}
+use Rattle.lrlex.specs.Searcher.{IsFoundAt}
+use Rattle.lrlex.specs.Searches.{untabled_count}
+use Rattle.lrlex.specs.Tiling.{Tile, Wins, IsTaken, lexeme_of, stack_after, top}
+use Rattle.lrlex_boundaries.specs.Entries.{plain}
+use Rattle.lrlex.specs.Views.{definition_by, items_by}
+use Rattle.lrlex.proofs.AdvanceLemmas.{advanced, searched}
+use Rattle.lrlex.proofs.FrontLemmas.{last_behind}
+use Rattle.lrlex.proofs.KindLemmas.{kinds_len, plain_rule, no_target_at}
+use Rattle.lrlex.proofs.ReachLemmas.{entries_now, last_now, room_for, searches-few}
 use Rattle.lrlex.proofs.lexing.step.advance.Goals as goal
+
+if_ok : {A E : Type 0} (r : Result A E) (P : Type 0) → P → IfOk r (λ _. P)
+if_ok (Ok x) P h = h
+if_ok (Err e) P h = tt
+
+pub index-kind-requires : goal.index-kind-requires
+index-kind-requires g c =
+    let table = c.args.table.now in
+    let p = c.args.progress.now in
+    let tile = c.in-Some.tile in
+    let at : IsFoundAt g.S.Numbered.number table c.enter.new.rules.state c.args.text.now p.place tile = c.in-Some.ensures.tile c.args.text.now c.requires.searcher in
+    omega (arith, at.rule, kinds_len table, table.kinds.ok.0)
+
+pub stay-requires-clause-entries : goal.stay-requires-clause-entries
+stay-requires-clause-entries g c =
+    let p = c.args.progress.now in
+    entries_now (definition_by g.S.Numbered.number c.args.table.now) c.args.text.now p.place p.stack.items (c.requires.under_way.0.items ++ items_by g.S.Numbered.number g.X.Lexeme.seen p.items.items) (c.requires.under_way.0.boundaries ++ p.boundaries) p.asked c.requires.under_way.1.reached
+
+pub stay-requires-clause-last : goal.stay-requires-clause-last
+stay-requires-clause-last g c =
+    let p = c.args.progress.now in
+    sym (last_behind c.requires.under_way.0.boundaries p.boundaries c.requires.under_way.1.some)
+    ∙ last_now (definition_by g.S.Numbered.number c.args.table.now) c.args.text.now p.place p.stack.items (c.requires.under_way.0.items ++ items_by g.S.Numbered.number g.X.Lexeme.seen p.items.items) (c.requires.under_way.0.boundaries ++ p.boundaries) p.asked c.requires.under_way.1.reached
+
+pub returns-then-kind-clause-held : goal.returns-then-kind-clause-held
+returns-then-kind-clause-held g c = (c.enter.ensures.rules, c.in-Some.ensures.searcher c.args.text.now c.requires.searcher)
+
+pub returns-in-Some-clause-held : goal.returns-in-Some-clause-held
+returns-in-Some-clause-held g c = if_ok c.take_scan.result _ (c.enter.ensures.rules, c.in-Some.ensures.searcher c.args.text.now c.requires.searcher)
+
+pub returns-clause-held : goal.returns-clause-held
+returns-clause-held g c = if_ok c.take_scan-2.result _ (c.enter.ensures.rules, c.in_ok-scan.ensures.searcher c.args.text.now (c.ahead.ensures.searcher c.args.text.now c.requires.searcher))
+
+pub returns-then-kind-clause-goes_on : goal.returns-then-kind-clause-goes_on
+returns-then-kind-clause-goes_on g c on f u =
+    let table = c.args.table.now in
+    let p = c.args.progress.now in
+    let tile = c.in-Some.tile in
+    let at : IsFoundAt g.S.Numbered.number table c.enter.new.rules.state c.args.text.now p.place tile = c.in-Some.ensures.tile c.args.text.now c.requires.searcher in
+    let d = definition_by g.S.Numbered.number table in
+    let text = c.args.text.now in
+    let t : Tile = record { rule = tile.rule; len = tile.len } in
+    let on_top : c.enter.new.rules.state ≡ top (plain p.stack.items) = c.enter.ensures.state ∙ c.top_of.ensures ∙ ap (λ s. top (plain s)) c.deref.ensures.value in
+    let kind = c.index-kind.result.now in
+    let rule = plain_rule g.S.Numbered.number table tile.rule kind at.rule c.index-kind.ensures c.if-kind.true in
+    let target = no_target_at g.S.Numbered.number table tile.rule kind at.rule c.index-kind.ensures c.if-kind.true in
+    let taken : IsTaken d (drop p.place text) (plain p.stack.items) t = record {
+      wins = subst (λ q. Wins d q (drop p.place text) tile.rule tile.len) on_top at.wins;
+      has_id = rule.has_id;
+      has_target = ap (λ o. is_some_and o (λ s. not (is_state d s.0))) target;
+    } in
+    let n = c.stay.new.progress in
+    let e = c.in_ok-stay.ensures in
+    advanced g.S.Numbered.number g.X.Lexeme.seen d text f p n u c.requires.inside t (tile.len + 1) taken at.cuts
+    (subst (λ q. IsDecided d q (drop p.place text) (tile.len + 1)) on_top at.decided)
+    (omega (arith, e.asked))
+    (ap (items_by g.S.Numbered.number g.X.Lexeme.seen) e.items ∙ c.in_ok-push_lexeme.ensures
+    ∙ ap (λ o. items_by g.S.Numbered.number g.X.Lexeme.seen p.items.items ++ lexeme_of o p.place tile.len) (sym rule.gives))
+    e.place e.entries (e.moved ∙ ap (stack_after (plain p.stack.items)) (sym target))
+    e.lookahead (e.ahead ∙ ap (λ i. p.ahead.items ++ capped i ∷ []) (sym e.lookahead)) e.kept
+
+pub returns-then-kind-clause-asked : goal.returns-then-kind-clause-asked
+returns-then-kind-clause-asked g c f u =
+    let table = c.args.table.now in
+    let p = c.args.progress.now in
+    let tile = c.in-Some.tile in
+    let at : IsFoundAt g.S.Numbered.number table c.enter.new.rules.state c.args.text.now p.place tile = c.in-Some.ensures.tile c.args.text.now c.requires.searcher in
+    let on_top : c.enter.new.rules.state ≡ top (plain p.stack.items) = c.enter.ensures.state ∙ c.top_of.ensures ∙ ap (λ s. top (plain s)) c.deref.ensures.value in
+    let e = c.in_ok-stay.ensures in
+    searched g.S.Numbered.number g.X.Lexeme.seen table c.args.text.now f p c.stay.new.progress u c.requires.inside (omega (arith, e.asked))
+    (omega (arith, e.asked, ap (untabled_count table) on_top, at.tabled))
+
+pub take_scan-requires-clause-scan : goal.take_scan-requires-clause-scan
+take_scan-requires-clause-scan g c =
+    let table = c.args.table.now in
+    let p = c.args.progress.now in
+    let tile = c.in-Some.tile in
+    let at : IsFoundAt g.S.Numbered.number table c.enter.new.rules.state c.args.text.now p.place tile = c.in-Some.ensures.tile c.args.text.now c.requires.searcher in
+    record { winner = at.wins; decided = at.decided }
+
+pub take_scan-requires-clause-tile : goal.take_scan-requires-clause-tile
+take_scan-requires-clause-tile g c =
+    let table = c.args.table.now in
+    let p = c.args.progress.now in
+    let tile = c.in-Some.tile in
+    let at : IsFoundAt g.S.Numbered.number table c.enter.new.rules.state c.args.text.now p.place tile = c.in-Some.ensures.tile c.args.text.now c.requires.searcher in
+    (at.cuts, omega (arith, at.rule, table.rules.ok.0))
 
 pub winner-requires-clause-room : goal.winner-requires-clause-room
 winner-requires-clause-room g c =
@@ -26,211 +112,5 @@ winner-requires-clause-room g c =
     (omega (arith, few, r.asks)) in
     omega (arith, c.args.table.now.rules.ok.0, room)
 
-pub push_boundary-requires-clause-entries : goal.push_boundary-requires-clause-entries
-push_boundary-requires-clause-entries g c =
-    let p = c.args.progress.now in
-    entries_now (definition_by g.S.Numbered.number c.args.table.now) c.args.text.now p.place p.stack.items (c.requires.under_way.0.items ++ items_by g.S.Numbered.number g.X.Lexeme.seen p.items.items) (c.requires.under_way.0.boundaries ++ p.boundaries) p.asked c.requires.under_way.1.reached
-
-pub push_boundary-requires-clause-last : goal.push_boundary-requires-clause-last
-push_boundary-requires-clause-last g c =
-    let p = c.args.progress.now in
-    sym (last_behind c.requires.under_way.0.boundaries p.boundaries c.requires.under_way.1.some)
-    ∙ last_now (definition_by g.S.Numbered.number c.args.table.now) c.args.text.now p.place p.stack.items (c.requires.under_way.0.items ++ items_by g.S.Numbered.number g.X.Lexeme.seen p.items.items) (c.requires.under_way.0.boundaries ++ p.boundaries) p.asked c.requires.under_way.1.reached
-
-pub returns-in_default-clause-ends : goal.returns-in_default-clause-ends
-returns-in_default-clause-ends g c on f u =
-    let d = definition_by g.S.Numbered.number c.args.table.now in
-    let text = c.args.text.now in
-    let p = c.args.progress.now in
-    let r = u.reached in
-    let found = f.items ++ items_by g.S.Numbered.number g.X.Lexeme.seen p.items.items in
-    let bounds = f.boundaries ++ p.boundaries in
-    let on_top : c.top_of-state.result ≡ top (plain p.stack.items) = c.top_of-state.ensures ∙ ap (λ s. top (plain s)) c.deref.ensures.value in
-    let q = c.top_of-state.result in
-    record {
-      lexed =
-          ended d text p.place p.stack.items found bounds p.asked r (f.items ++ items_by g.S.Numbered.number g.X.Lexeme.seen c.push_error.new.items.items) (NoMatch q)
-          (something_left text p.place c.requires.inside, on_top, subst (IsStuck d q) c.range_from-rest.ensures.value (rw c.in_default.is at c.in_ok-scan.ensures.scan.winner))
-          (joined f.items (items_by g.S.Numbered.number g.X.Lexeme.seen p.items.items) _ _ c.in_ok-push_error.ensures);
-      same = refl;
-      ahead = refl;
-    }
-
-pub returns-in_default-clause-asked : goal.returns-in_default-clause-asked
-returns-in_default-clause-asked g c f u =
-    let d = definition_by g.S.Numbered.number c.args.table.now in
-    let text = c.args.text.now in
-    let p = c.args.progress.now in
-    let r = u.reached in
-    let found = f.items ++ items_by g.S.Numbered.number g.X.Lexeme.seen p.items.items in
-    let bounds = f.boundaries ++ p.boundaries in
-    let on_top : c.top_of-state.result ≡ top (plain p.stack.items) = c.top_of-state.ensures ∙ ap (λ s. top (plain s)) c.deref.ensures.value in
-    let few : c.winner.new.asked ≤ p.asked + active_count d (top (plain p.stack.items)) = subst (λ q. c.winner.new.asked ≤ p.asked + active_count d q) on_top c.in_ok-scan.ensures.asked.counted in
-    record {
-      few =
-          searches_now d text p.place p.stack.items found bounds p.asked r c.winner.new.asked c.requires.inside few;
-      exact =
-          subst (λ q. c.winner.new.asked ≡ p.asked + untabled_count c.args.table.now q) on_top (c.in_ok-scan.ensures.asked.exact);
-    }
-
-pub returns-then-lacks_id-clause-ends : goal.returns-then-lacks_id-clause-ends
-returns-then-lacks_id-clause-ends g c on f u =
-    let d = definition_by g.S.Numbered.number c.args.table.now in
-    let text = c.args.text.now in
-    let p = c.args.progress.now in
-    let r = u.reached in
-    let found = f.items ++ items_by g.S.Numbered.number g.X.Lexeme.seen p.items.items in
-    let bounds = f.boundaries ++ p.boundaries in
-    let on_top : c.top_of-state.result ≡ top (plain p.stack.items) = c.top_of-state.ensures ∙ ap (λ s. top (plain s)) c.deref.ensures.value in
-    let t : Tile = record { rule = c.in-Some.tile.rule; len = c.in-Some.tile.len } in
-    let within : t.rule < length c.args.table.now.rules.items = omega (arith, c.args.table.now.rules.ok.0, (rw c.in-Some.is at c.in_ok-scan.ensures.tile).1) in
-    let rule_is = rule_read g.S.Numbered.number c.args.table.now t.rule c.index-rule.result.now within c.index-rule.ensures in
-    let wins = wins_at d c.top_of-state.result (plain p.stack.items) c.range_from-rest.result.now (drop p.place text) t on_top c.range_from-rest.ensures.value (rw c.in-Some.is at c.in_ok-scan.ensures.scan.winner) in
-    record {
-      lexed =
-          ended d text p.place p.stack.items found bounds p.asked r (f.items ++ items_by g.S.Numbered.number g.X.Lexeme.seen c.push_error-then-lacks_id.new.items.items) NoId
-          (t, wins, ap lacks_id rule_is ∙ sym c.if-lacks_id.ensures)
-          (joined f.items (items_by g.S.Numbered.number g.X.Lexeme.seen p.items.items) _ _ c.in_ok-push_error-2.ensures);
-      same = refl;
-      ahead = refl;
-    }
-
-pub returns-then-lacks_id-clause-asked : goal.returns-then-lacks_id-clause-asked
-returns-then-lacks_id-clause-asked g c f u =
-    let d = definition_by g.S.Numbered.number c.args.table.now in
-    let text = c.args.text.now in
-    let p = c.args.progress.now in
-    let r = u.reached in
-    let found = f.items ++ items_by g.S.Numbered.number g.X.Lexeme.seen p.items.items in
-    let bounds = f.boundaries ++ p.boundaries in
-    let on_top : c.top_of-state.result ≡ top (plain p.stack.items) = c.top_of-state.ensures ∙ ap (λ s. top (plain s)) c.deref.ensures.value in
-    let few : c.winner.new.asked ≤ p.asked + active_count d (top (plain p.stack.items)) = subst (λ q. c.winner.new.asked ≤ p.asked + active_count d q) on_top c.in_ok-scan.ensures.asked.counted in
-    record {
-      few =
-          searches_now d text p.place p.stack.items found bounds p.asked r c.winner.new.asked c.requires.inside few;
-      exact =
-          subst (λ q. c.winner.new.asked ≡ p.asked + untabled_count c.args.table.now q) on_top (c.in_ok-scan.ensures.asked.exact);
-    }
-
-pub returns-then-lacks_target-clause-ends : goal.returns-then-lacks_target-clause-ends
-returns-then-lacks_target-clause-ends g c on f u =
-    let d = definition_by g.S.Numbered.number c.args.table.now in
-    let text = c.args.text.now in
-    let p = c.args.progress.now in
-    let r = u.reached in
-    let found = f.items ++ items_by g.S.Numbered.number g.X.Lexeme.seen p.items.items in
-    let bounds = f.boundaries ++ p.boundaries in
-    let on_top : c.top_of-state.result ≡ top (plain p.stack.items) = c.top_of-state.ensures ∙ ap (λ s. top (plain s)) c.deref.ensures.value in
-    let t : Tile = record { rule = c.in-Some.tile.rule; len = c.in-Some.tile.len } in
-    let within : t.rule < length c.args.table.now.rules.items = omega (arith, c.args.table.now.rules.ok.0, (rw c.in-Some.is at c.in_ok-scan.ensures.tile).1) in
-    let rule_is = rule_read g.S.Numbered.number c.args.table.now t.rule c.index-rule.result.now within c.index-rule.ensures in
-    let wins = wins_at d c.top_of-state.result (plain p.stack.items) c.range_from-rest.result.now (drop p.place text) t on_top c.range_from-rest.ensures.value (rw c.in-Some.is at c.in_ok-scan.ensures.scan.winner) in
-    let given : f.items ++ items_by g.S.Numbered.number g.X.Lexeme.seen c.push_lexeme.new.items.items ≡ found ++ tile_items d p.place t =
-    joined f.items (items_by g.S.Numbered.number g.X.Lexeme.seen p.items.items) _ _ c.in_ok-push_lexeme.ensures ∙ sym (ap (λ (x : Rule). found ++ lexeme_of (lexeme_id x) p.place t.len) rule_is) in
-    record {
-      lexed =
-          ended d text p.place p.stack.items found bounds p.asked r (f.items ++ items_by g.S.Numbered.number g.X.Lexeme.seen c.push_error-then-lacks_target.new.items.items) (NoTarget t)
-          (wins, ap lacks_id rule_is ∙ sym c.if-lacks_id.ensures, ap (lacks_target d) rule_is ∙ sym c.if-lacks_target.ensures)
-          (joined f.items (items_by g.S.Numbered.number g.X.Lexeme.seen c.push_lexeme.new.items.items) _ _ c.in_ok-push_error-3.ensures ∙ ap (λ (xs : List Item). xs ++ Error p.place p.place None ∷ []) given
-          ∙ append_assoc found (tile_items d p.place t) (Error p.place p.place None ∷ []));
-      same = refl;
-      ahead = refl;
-    }
-
-pub returns-then-lacks_target-clause-asked : goal.returns-then-lacks_target-clause-asked
-returns-then-lacks_target-clause-asked g c f u =
-    let d = definition_by g.S.Numbered.number c.args.table.now in
-    let text = c.args.text.now in
-    let p = c.args.progress.now in
-    let r = u.reached in
-    let found = f.items ++ items_by g.S.Numbered.number g.X.Lexeme.seen p.items.items in
-    let bounds = f.boundaries ++ p.boundaries in
-    let on_top : c.top_of-state.result ≡ top (plain p.stack.items) = c.top_of-state.ensures ∙ ap (λ s. top (plain s)) c.deref.ensures.value in
-    let few : c.winner.new.asked ≤ p.asked + active_count d (top (plain p.stack.items)) = subst (λ q. c.winner.new.asked ≤ p.asked + active_count d q) on_top c.in_ok-scan.ensures.asked.counted in
-    record {
-      few =
-          searches_now d text p.place p.stack.items found bounds p.asked r c.winner.new.asked c.requires.inside few;
-      exact =
-          subst (λ q. c.winner.new.asked ≡ p.asked + untabled_count c.args.table.now q) on_top (c.in_ok-scan.ensures.asked.exact);
-    }
-
-pub returns-clause-goes_on : goal.returns-clause-goes_on
-returns-clause-goes_on g c on f u =
-    let d = definition_by g.S.Numbered.number c.args.table.now in
-    let text = c.args.text.now in
-    let p = c.args.progress.now in
-    let r = u.reached in
-    let found = f.items ++ items_by g.S.Numbered.number g.X.Lexeme.seen p.items.items in
-    let bounds = f.boundaries ++ p.boundaries in
-    let on_top : c.top_of-state.result ≡ top (plain p.stack.items) = c.top_of-state.ensures ∙ ap (λ s. top (plain s)) c.deref.ensures.value in
-    let t : Tile = record { rule = c.in-Some.tile.rule; len = c.in-Some.tile.len } in
-    let within : t.rule < length c.args.table.now.rules.items = omega (arith, c.args.table.now.rules.ok.0, (rw c.in-Some.is at c.in_ok-scan.ensures.tile).1) in
-    let rule_is = rule_read g.S.Numbered.number c.args.table.now t.rule c.index-rule.result.now within c.index-rule.ensures in
-    let wins = wins_at d c.top_of-state.result (plain p.stack.items) c.range_from-rest.result.now (drop p.place text) t on_top c.range_from-rest.ensures.value (rw c.in-Some.is at c.in_ok-scan.ensures.scan.winner) in
-    let given : f.items ++ items_by g.S.Numbered.number g.X.Lexeme.seen c.push_lexeme.new.items.items ≡ found ++ tile_items d p.place t =
-    joined f.items (items_by g.S.Numbered.number g.X.Lexeme.seen p.items.items) _ _ c.in_ok-push_lexeme.ensures ∙ sym (ap (λ (x : Rule). found ++ lexeme_of (lexeme_id x) p.place t.len) rule_is) in
-    let taken : IsTaken d (drop p.place text) (plain p.stack.items) t = record {
-      wins = wins;
-      has_id = ap lacks_id rule_is ∙ sym c.if-lacks_id.ensures;
-      has_target = ap (lacks_target d) rule_is ∙ sym c.if-lacks_target.ensures;
-    } in
-    let n = c.push_boundary.new.progress in
-    let e = c.in_ok-push_boundary.ensures in
-    let few : n.asked ≤ p.asked + active_count d (top (plain p.stack.items)) =
-    subst (λ q. n.asked ≤ p.asked + active_count d q) on_top (omega (arith, e.asked, c.in_ok-scan.ensures.asked.counted)) in
-    let more : f.items ++ items_by g.S.Numbered.number g.X.Lexeme.seen n.items.items ≡ found ++ tile_items d p.place t = ap (λ xs. f.items ++ items_by g.S.Numbered.number g.X.Lexeme.seen xs) e.items ∙ given in
-    let kept = joined f.boundaries p.boundaries n.boundaries _ e.kept in
-    let reach = c.in_ok-scan.scan.reach in
-    let decided = subst (λ q. IsDecided d q (drop p.place text) reach) on_top (subst (λ xs. IsDecided d c.top_of-state.result xs reach) c.range_from-rest.ensures.value c.in_ok-scan.ensures.scan.decided) in
-    record {
-      under_way = record {
-        boundary =
-            subst (IsCharBoundary text) (sym c.in_ok-push_boundary.ensures.place)
-            (IsCharBoundary-from_rest text p.place t.len u.boundary.0 (subst (λ rest. IsCharBoundary rest t.len) c.range_from-rest.ensures.value (rw c.in-Some.is at c.in_ok-scan.ensures.tile).0));
-        reached =
-            subst (λ i. Reached d text i n.stack.items (f.items ++ items_by g.S.Numbered.number g.X.Lexeme.seen n.items.items) (f.boundaries ++ n.boundaries) n.asked) (sym e.place)
-            (Reached-more d text p.place p.stack.items found bounds p.asked r n.stack.items (f.items ++ items_by g.S.Numbered.number g.X.Lexeme.seen n.items.items) (f.boundaries ++ n.boundaries) n.asked t c.requires.inside taken few
-            e.entries (e.moved ∙ sym (ap (λ (x : Rule). stack_after (plain p.stack.items) x.target) rule_is)) more
-            kept);
-        looked =
-            looked_more d text r.before bounds (f.ahead ++ p.ahead.items) p.place p.stack.items p.lookahead r.kept u.looked reach c.in-Some.tile.len decided n.stack.items n.place n.lookahead (f.boundaries ++ n.boundaries) (f.ahead ++ n.ahead.items)
-            e.place (omega (arith, e.lookahead, c.saturating_sub-lookahead.ensures, c.max.ensures)) (kept ∙ ap (λ i. bounds ++ record { place = i; entries = n.stack.items } ∷ []) (sym e.place))
-            (joined f.ahead p.ahead.items n.ahead.items _ e.ahead ∙ ap (λ i. (f.ahead ++ p.ahead.items) ++ capped i ∷ []) (sym e.lookahead));
-        some = omega (arith, ap length e.kept, length-append p.boundaries (record { place = p.place + t.len; entries = n.stack.items } ∷ []));
-      };
-      grows = omega (arith, e.place, wins.some);
-      more = (_, e.kept);
-    }
-
-pub returns-clause-asked : goal.returns-clause-asked
-returns-clause-asked g c f u =
-    let d = definition_by g.S.Numbered.number c.args.table.now in
-    let text = c.args.text.now in
-    let p = c.args.progress.now in
-    let r = u.reached in
-    let found = f.items ++ items_by g.S.Numbered.number g.X.Lexeme.seen p.items.items in
-    let bounds = f.boundaries ++ p.boundaries in
-    let on_top : c.top_of-state.result ≡ top (plain p.stack.items) = c.top_of-state.ensures ∙ ap (λ s. top (plain s)) c.deref.ensures.value in
-    let few : c.push_boundary.new.progress.asked ≤ p.asked + active_count d (top (plain p.stack.items)) =
-    subst (λ q. c.push_boundary.new.progress.asked ≤ p.asked + active_count d q) on_top (omega (arith, c.in_ok-push_boundary.ensures.asked, c.in_ok-scan.ensures.asked.counted)) in
-    record {
-      few =
-          searches_now d text p.place p.stack.items found bounds p.asked r c.push_boundary.new.progress.asked c.requires.inside few;
-      exact =
-          subst (λ q. c.push_boundary.new.progress.asked ≡ p.asked + untabled_count c.args.table.now q) on_top (omega (arith, c.in_ok-push_boundary.ensures.asked, c.in_ok-scan.ensures.asked.exact));
-    }
-
-pub returns-in_default-clause-held : goal.returns-in_default-clause-held
-returns-in_default-clause-held g c = (search rules, c.in_ok-scan.ensures.searcher c.args.text.now c.requires.searcher)
-
-pub returns-then-lacks_id-clause-held : goal.returns-then-lacks_id-clause-held
-returns-then-lacks_id-clause-held g c = (search rules, c.in_ok-scan.ensures.searcher c.args.text.now c.requires.searcher)
-
-pub returns-then-lacks_target-clause-held : goal.returns-then-lacks_target-clause-held
-returns-then-lacks_target-clause-held g c = (search rules, c.in_ok-scan.ensures.searcher c.args.text.now c.requires.searcher)
-
-pub returns-clause-held : goal.returns-clause-held
-returns-clause-held g c = (search rules, c.in_ok-scan.ensures.searcher c.args.text.now c.requires.searcher)
-
 pub winner-requires-clause-searcher : goal.winner-requires-clause-searcher
-winner-requires-clause-searcher g c = (c.args.text.now, c.requires.searcher, c.range_from-rest.ensures.value, omega (arith, c.requires.inside))
+winner-requires-clause-searcher g c = (c.args.text.now, c.ahead.ensures.searcher c.args.text.now c.requires.searcher, c.range_from-rest.ensures.value, omega (arith, c.requires.inside))

@@ -9,11 +9,11 @@ invariant_of-self c =
     let self = c.args.self.now in
     let ok : is_ok c.push.result ≡ true = sym c.is_ok.ensures.value ∙ c.if-is_ok.true in
     let items : c.push.new.self.items ≡ self.ends.items ++ c.args.end ∷ [] = c.push.ensures.items ∙ ap (λ b. if b then self.ends.items ++ c.args.end ∷ [] else self.ends.items) ok in
-    record { right = subst (All (IsDeadEndIn self.lists.now self.text.now)) (sym items) (All-push (IsDeadEndIn self.lists.now self.text.now) self.ends.items c.args.end self.right c.requires) }
+    record { right = subst (All (IsDeadEndIn self.lists.now self.text.now)) (sym items) (All-push (IsDeadEndIn self.lists.now self.text.now) self.ends.items c.args.end self.right c.requires); marked = self.marked }
 
 pub invariant_of-self-else-is_ok : goal.invariant_of-self-else-is_ok
 invariant_of-self-else-is_ok c =
     let self = c.args.self.now in
     let no : is_ok c.push.result ≡ false = sym c.is_ok.ensures.value ∙ c.if-is_ok.false in
     let items : c.push.new.self.items ≡ self.ends.items = c.push.ensures.items ∙ ap (λ b. if b then self.ends.items ++ c.args.end ∷ [] else self.ends.items) no in
-    record { right = subst (All (IsDeadEndIn self.lists.now self.text.now)) (sym items) self.right }
+    record { right = subst (All (IsDeadEndIn self.lists.now self.text.now)) (sym items) self.right; marked = self.marked }

@@ -1,7 +1,7 @@
 use Rattle.std.proofs.Common.{ℕ, List, Vec, Global, length, map, sym, subst}
 use Rattle.regex.specs.Patterns.{Re}
 use Rattle.lrlex_table.specs.Never.{AreTablesOn, NeverWinsIn, WinsNowhereIn}
-use Rattle.lrlex_table.specs.declared.merged_tables.Tables.{Tables}
+use Rattle.lrlex_table.specs.declared.tables.Tables.{Tables}
 use Rattle.lrlex.proofs.NeverLemmas.{never_anywhere}
 use Rattle.lrlex.proofs.definition.rule_table.RuleTable.may_win.Goals as goal
 

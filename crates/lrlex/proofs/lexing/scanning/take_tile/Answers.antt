@@ -1,0 +1,133 @@
+use Rattle.std.proofs.Common.{◌≡◌, ◌+◌, ◌<◌, length, drop, true, false, refl, sym, ap, ap₂, ◌∙◌, subst, arith, vec_len, IsCharBoundary}
+use Rattle.std.proofs.lemmas.Str.{IsCharBoundary-from_rest}
+use Rattle.lrlex_base.specs.Spans.{span}
+use Rattle.lrlex_boundaries.specs.Entries.{plain, AreEntries}
+use Rattle.lrlex_rules.specs.Definition.{Rule}
+use Rattle.lrlex.specs.Active.{lacks_id, lacks_target, lexeme_id, rule_at}
+use Rattle.lrlex.specs.Scanner.{IsCursorOf, IsTileAt, Scanned}
+use Rattle.lrlex.specs.Searcher.{AreOf}
+use Rattle.lrlex.specs.Tiling.{Tile, IsTaken, IsWinner, stack_after, top}
+use Rattle.lrlex.specs.Views.{definition_by}
+use Rattle.lrlex.proofs.ReachLemmas.{AreStates, IsSound, sound_after, wins_at}
+use Rattle.lrlex.proofs.ViewLemmas.{rule_read}
+use Rattle.lrlex.proofs.lexing.scanning.take_tile.Goals as goal
+
+pub returns-then-lacks_id-clause-cursor : goal.returns-then-lacks_id-clause-cursor
+returns-then-lacks_id-clause-cursor g c = record {
+  stands = c.requires.cursor.stands;
+  initial = c.requires.cursor.initial;
+  rules = c.requires.cursor.rules;
+  searcher = c.requires.cursor.searcher;
+}
+
+pub returns-then-lacks_target-clause-cursor : goal.returns-then-lacks_target-clause-cursor
+returns-then-lacks_target-clause-cursor g c = record {
+  stands = c.requires.cursor.stands;
+  initial = c.requires.cursor.initial;
+  rules = c.requires.cursor.rules;
+  searcher = c.requires.cursor.searcher;
+}
+
+pub returns-in_err-step-clause-cursor : goal.returns-in_err-step-clause-cursor
+returns-in_err-step-clause-cursor g c =
+    let d = definition_by g.S.Numbered.number c.args.table.now in
+    let same : c.step.new.entries.items ≡ c.args.cursor.now.stack.items = c.in_err-step.ensures.same in
+    record {
+      stands = record {
+        boundary = c.requires.cursor.stands.boundary;
+        entries = subst AreEntries (sym same) c.requires.cursor.stands.entries;
+        states = subst (λ xs. AreStates d (plain xs)) (sym same) c.requires.cursor.stands.states;
+        some = omega (arith, c.requires.cursor.stands.some, ap (λ xs. length (plain xs)) same);
+        room = omega (arith, c.requires.cursor.stands.room, ap (λ xs. length (plain xs)) same);
+      };
+      initial = c.requires.cursor.initial;
+      rules = c.requires.cursor.rules;
+      searcher = c.requires.cursor.searcher;
+    }
+
+pub returns-then-lacks_id-clause-step : goal.returns-then-lacks_id-clause-step
+returns-then-lacks_id-clause-step g c =
+    let d = definition_by g.S.Numbered.number c.args.table.now in
+    let stack = plain c.args.cursor.now.stack.items in
+    let t : Tile = record { rule = c.in-Some.tile.rule; len = c.in-Some.tile.len } in
+    let within : t.rule < length c.args.table.now.rules.items = omega (arith, c.args.table.now.rules.ok.0, (rw c.in-Some.is at c.requires.tile).1) in
+    let rule_is = rule_read g.S.Numbered.number c.args.table.now t.rule c.index-rule.result.now within c.index-rule.ensures in
+    let wins = wins_at d c.args.cursor.now.rules.state stack (drop c.args.cursor.now.place c.args.text.now) (drop c.args.cursor.now.place c.args.text.now) t c.requires.state refl (rw c.in-Some.is at c.requires.winner) in
+    (t, refl, wins, ap lacks_id rule_is ∙ sym c.if-lacks_id.ensures)
+
+pub returns-then-lacks_target-clause-step : goal.returns-then-lacks_target-clause-step
+returns-then-lacks_target-clause-step g c =
+    let d = definition_by g.S.Numbered.number c.args.table.now in
+    let stack = plain c.args.cursor.now.stack.items in
+    let t : Tile = record { rule = c.in-Some.tile.rule; len = c.in-Some.tile.len } in
+    let within : t.rule < length c.args.table.now.rules.items = omega (arith, c.args.table.now.rules.ok.0, (rw c.in-Some.is at c.requires.tile).1) in
+    let rule_is = rule_read g.S.Numbered.number c.args.table.now t.rule c.index-rule.result.now within c.index-rule.ensures in
+    let wins = wins_at d c.args.cursor.now.rules.state stack (drop c.args.cursor.now.place c.args.text.now) (drop c.args.cursor.now.place c.args.text.now) t c.requires.state refl (rw c.in-Some.is at c.requires.winner) in (
+      t,
+      record {
+        rule = refl;
+        id = c.lexeme_id.ensures ∙ sym (ap lexeme_id rule_is);
+        bytes = ap₂ span c.new.ensures.start c.new.ensures.end;
+      },
+      (wins, ap lacks_id rule_is ∙ sym c.if-lacks_id.ensures, ap (lacks_target d) rule_is ∙ sym c.if-lacks_target.ensures),
+    )
+
+pub returns-clause-step : goal.returns-clause-step
+returns-clause-step g c =
+    let d = definition_by g.S.Numbered.number c.args.table.now in
+    let stack = plain c.args.cursor.now.stack.items in
+    let t : Tile = record { rule = c.in-Some.tile.rule; len = c.in-Some.tile.len } in
+    let within : t.rule < length c.args.table.now.rules.items = omega (arith, c.args.table.now.rules.ok.0, (rw c.in-Some.is at c.requires.tile).1) in
+    let rule_is = rule_read g.S.Numbered.number c.args.table.now t.rule c.index-rule.result.now within c.index-rule.ensures in
+    let wins = wins_at d c.args.cursor.now.rules.state stack (drop c.args.cursor.now.place c.args.text.now) (drop c.args.cursor.now.place c.args.text.now) t c.requires.state refl (rw c.in-Some.is at c.requires.winner) in (
+      t,
+      record {
+        rule = refl;
+        id = c.lexeme_id.ensures ∙ sym (ap lexeme_id rule_is);
+        bytes = ap₂ span c.new.ensures.start c.new.ensures.end;
+      },
+      record {
+        wins = wins;
+        has_id = ap lacks_id rule_is ∙ sym c.if-lacks_id.ensures;
+        has_target = ap (lacks_target d) rule_is ∙ sym c.if-lacks_target.ensures;
+      },
+    )
+
+pub returns-clause-moved : goal.returns-clause-moved
+returns-clause-moved g c =
+    let d = definition_by g.S.Numbered.number c.args.table.now in
+    let stack = plain c.args.cursor.now.stack.items in
+    let k = c.in-Some.tile.rule in
+    let within : k < length c.args.table.now.rules.items = omega (arith, c.args.table.now.rules.ok.0, (rw c.in-Some.is at c.requires.tile).1) in
+    let rule_is = rule_read g.S.Numbered.number c.args.table.now k c.index-rule.result.now within c.index-rule.ensures in
+    let moved : plain c.step.new.entries.items ≡ stack_after stack (rule_at d k).target =
+    c.in_ok-step.ensures.moved ∙ ap (stack_after stack) c.target_state.ensures ∙ sym (ap (λ (x : Rule). stack_after stack x.target) rule_is) in
+    ap₂ (λ p s. let made : Scanned = record { definition = d; text = c.args.text.now; place = p; stack = s } in made) (sym c.new.ensures.end) moved
+
+pub returns-clause-cursor : goal.returns-clause-cursor
+returns-clause-cursor g c =
+    let d = definition_by g.S.Numbered.number c.args.table.now in
+    let text = c.args.text.now in
+    let place = c.args.cursor.now.place in
+    let stack = plain c.args.cursor.now.stack.items in
+    let t : Tile = record { rule = c.in-Some.tile.rule; len = c.in-Some.tile.len } in
+    let within : t.rule < length c.args.table.now.rules.items = omega (arith, c.args.table.now.rules.ok.0, (rw c.in-Some.is at c.requires.tile).1) in
+    let rule_is = rule_read g.S.Numbered.number c.args.table.now t.rule c.index-rule.result.now within c.index-rule.ensures in
+    let wins = wins_at d c.args.cursor.now.rules.state stack (drop place text) (drop place text) t c.requires.state refl (rw c.in-Some.is at c.requires.winner) in
+    let has_target : lacks_target d (rule_at d t.rule) ≡ false = ap (lacks_target d) rule_is ∙ sym c.if-lacks_target.ensures in
+    let moved : plain c.step.new.entries.items ≡ stack_after stack (rule_at d t.rule).target =
+    c.in_ok-step.ensures.moved ∙ ap (stack_after stack) c.target_state.ensures ∙ sym (ap (λ (x : Rule). stack_after stack x.target) rule_is) in
+    let sound : IsSound d stack (stack_after stack (rule_at d t.rule).target) = sound_after d stack (rule_at d t.rule).target c.requires.cursor.initial c.requires.cursor.stands.states c.requires.cursor.stands.some has_target in
+    record {
+      stands = record {
+        boundary =
+            IsCharBoundary-from_rest text place t.len c.requires.cursor.stands.boundary.0 (rw c.in-Some.is at c.requires.tile).0;
+        entries = c.in_ok-step.ensures.entries;
+        states = subst (AreStates d) (sym moved) sound.states;
+        some = omega (arith, sound.some, ap length moved);
+        room = omega (arith, sound.deep, ap length moved, c.requires.cursor.stands.room, wins.some);
+      };
+      initial = c.requires.cursor.initial;
+      rules = c.requires.cursor.rules;
+      searcher = c.requires.cursor.searcher;
+    }

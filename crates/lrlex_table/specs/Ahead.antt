@@ -1,0 +1,66 @@
+-- Matches that were found ahead (Ahead).
+use Rattle.std.specs.Prelude.{◌≡◌, ℕ, zero, suc, ◌+◌, ◌-◌, ◌<◌, List, All, [], length, drop, Some, slice_get, slice_index_or, IsCharBoundary}
+use Rattle.regex.specs.Patterns.{Re}
+use Rattle.lrlex_table.specs.Tables.{AreTablesOf}
+use Rattle.lrlex_table.specs.Chain.{IsChainOf, IsWonBy, AreMarksOf}
+use Rattle.lrlex_table.specs.declared.table.Table.{Table}
+use Rattle.lrlex_table.specs.declared.chain.Chain.{Chain}
+use Rattle.lrlex_table.specs.declared.tables.Tables.{Tables}
+use Rattle.lrlex_table.specs.declared.marks.Found.{Found}
+use Rattle.lrlex_table.specs.declared.ahead.Ahead.{Ahead}
+
+abbrev pub nothing : Found
+nothing = record { pattern = 0; end = 0 }
+
+-- where match k ends, and its pattern
+abbrev pub end_at : List Found → ℕ → ℕ
+end_at found k = (slice_index_or found k nothing).end
+
+abbrev pub won_at : List Found → ℕ → ℕ
+won_at found k = (slice_index_or found k nothing).pattern
+
+-- where match k begins
+abbrev pub start_at : List Found → ℕ → ℕ
+start_at found zero = 0
+start_at found (suc k) = end_at found k
+
+-- the matches end at the marks, each with the pattern that the chain has for its row
+abbrev pub AreNamed : Chain → List ℕ → List ℕ → List Found → Type 0
+AreNamed c places rows found =
+    (k : ℕ) → k < length found →
+    (end_at found k ≡ slice_index_or places (k + 1) 0)
+    × (won_at found k ≡ slice_index_or c.wins.items (slice_index_or rows k 0) 0)
+
+-- in the text from `from` on, marks of the chain were found, and none of the matches between them is passed
+pub record IsFoundIn (c : Chain) (text : List ℕ) (from : ℕ) (a : Ahead) : Type 0 where
+  pub places : List ℕ
+  pub rows : List ℕ
+  pub all : a.at ≡ 0
+  pub from_is : a.from ≡ from
+  pub begin : 0 < length a.found.items → a.begin ≡ from
+  pub first : slice_index_or places 0 0 ≡ 0
+  pub named : AreNamed c places rows a.found.items
+  pub marks : (t : Table) → IsChainOf t c → AreMarksOf t c text from places rows (length a.found.items)
+
+-- each pattern of the list is in its only table, and at this place of the text pattern k wins with n bytes, which the byte behind them decides
+abbrev pub IsWonAt : Tables → List ℕ → ℕ → ℕ → ℕ → Type 0
+IsWonAt ts text place k n =
+    (ts.asked.items ≡ [])
+    × (length ts.parts.items ≡ 1)
+    × (place + n < length text)
+    × ((ps : List Re) → AreTablesOf ps ts → IsCharBoundary text place)
+    × All (λ p. IsWonBy p (drop place text) k n) ts.parts.items
+
+-- in the text from `from` on, each match begins where the one before it ends, and wins there
+abbrev pub AreWonIn : Tables → List ℕ → ℕ → List Found → Type 0
+AreWonIn ts text from found =
+    (k : ℕ) → k < length found →
+    (start_at found k < end_at found k)
+    × IsWonAt ts text (from + start_at found k) (won_at found k) (end_at found k - start_at found k)
+
+-- in the text, the matches are those of their list, and the next one begins at its place
+abbrev pub AreAheadIn : List Tables → List ℕ → Ahead → Type 0
+AreAheadIn lists text a =
+    (ts : Tables) → slice_get lists a.list ≡ Some ts →
+    AreWonIn ts text a.from a.found.items
+    × (a.at < length a.found.items → a.begin ≡ a.from + start_at a.found.items a.at)

@@ -1,0 +1,156 @@
+//! Matches that were found ahead, one behind the other, and where it is worth while to look for more.
+ghost use Rattle.std.specs.Prelude.{◌≡◌, ◌+◌, ◌<◌, ◌≤◌, [], length, true};
+ghost use Rattle.lrlex_table.specs.Chain.{IsChainOf, AreMarksOf};
+ghost use Rattle.lrlex_table.specs.Ahead.{IsFoundIn};
+
+use crate::chain::Chain;
+use crate::marks::{Found, MOST_BYTES};
+use std::alloc::Global;
+
+/// How many bytes are looked at ahead at first.
+const FIRST_BYTES: usize = 256;
+
+/// How many bytes are passed before it is tried with another list.
+const TRY_AGAIN: usize = 64;
+
+/// How many bytes are passed at most before it is tried again, where little of what was found was of use.
+const MOST_WAIT: usize = 65_536;
+
+/// Matches that were found ahead from this place on, by the chain of this list: those from `at` on are left. The next one begins at `begin`,
+/// and each where the one before it ends. Where none is left, it isn't looked ahead before `begin`. So the bytes that are looked at are
+/// in proportion to the text: what is behind the last match that was found is part of the next one.
+#[derive(Drop)]
+pub(crate) struct Ahead {
+    pub(crate) list: usize,
+    pub(crate) from: usize,
+    pub(crate) begin: usize,
+    pub(crate) at: usize,
+    pub(crate) found: Vec<Found>,
+    /// Where the last match ends that was found.
+    end: usize,
+    places: Vec<u16>,
+    rows: Vec<u16>,
+    /// How many bytes are looked at the next time: more each time, so long as most of what was found is of use.
+    bytes: usize,
+    /// How many bytes were looked at last, until it is known whether that was of use.
+    looked: usize,
+    /// How many of these bytes were passed without a match that was asked for.
+    pub(crate) passed: usize,
+    /// How many bytes are passed before it is tried again.
+    wait: usize,
+}
+
+impl Ahead {
+    /// Nothing found ahead yet, and no room for it.
+    pub(crate) fn new(alloc: Global) -> Ahead
+        ensures { result.found.items ≡ [] }
+    {
+        Ahead {
+            list: usize::MAX,
+            from: 0,
+            begin: 0,
+            at: 0,
+            found: Vec::new(alloc),
+            end: 0,
+            places: Vec::new(alloc),
+            rows: Vec::new(alloc),
+            bytes: FIRST_BYTES,
+            looked: 0,
+            passed: 0,
+            wait: FIRST_BYTES,
+        }
+    }
+
+    /// Whether a match is left.
+    fn has_more(&self) -> bool {
+        self.at < self.found.len()
+    }
+
+    /// Whether nothing that was found is of use for this list from this place on.
+    pub(crate) fn is_spent(&self, list: usize, place: usize) -> bool {
+        if !self.has_more() {
+            return place >= self.begin;
+        }
+        self.list != list && place >= self.end
+    }
+
+    /// Whether to look ahead for matches of this list from this place on. Else it is put off. Nothing that was found is left.
+    pub(crate) fn is_due(&mut self, list: usize, place: usize) -> bool
+        ensures list { result ≡ true → self.new.list ≡ list }
+        ensures none { self.new.found.items ≡ [] }
+    {
+        if self.has_more() {
+            let left = self.end.saturating_sub(self.begin);
+            self.passed = self.passed.saturating_add(left);
+        }
+        self.found.clear();
+        self.at = 0;
+        if self.looked > 0 {
+            let is_of_use = self.passed <= self.looked / 2;
+            self.looked = 0;
+            if !is_of_use {
+                self.bytes = FIRST_BYTES;
+                self.wait = self.wait.saturating_mul(2).min(MOST_WAIT);
+                self.begin = place.saturating_add(self.wait);
+                return false;
+            }
+            self.bytes = self.bytes.saturating_mul(2).min(MOST_BYTES);
+            self.wait = FIRST_BYTES;
+        }
+        if self.list != list {
+            self.list = list;
+            self.begin = place.saturating_add(TRY_AGAIN);
+            return false;
+        }
+        true
+    }
+
+    /// Doesn't look ahead from this place on for some time.
+    pub(crate) fn put_off(&mut self, place: usize)
+        ensures { self.new.found.items ≡ [] }
+    {
+        self.found.clear();
+        self.at = 0;
+        self.begin = place.saturating_add(MOST_WAIT);
+    }
+
+    /// Makes room for what is found in so many bytes. Whether there is room.
+    fn has_room(&mut self, bytes: usize) -> bool
+        requires { bytes ≤ 8192 }
+        ensures list { self.new.list ≡ self.old.list }
+        ensures none { self.new.found.items ≡ [] }
+        ensures at { self.new.at ≡ 0 }
+        ensures from { self.new.from ≡ self.old.from }
+    {
+        self.found.clear();
+        self.at = 0;
+        if self.places.len() >= bytes + 2 && self.rows.len() >= bytes + 2 {
+            return true;
+        }
+        self.places.resize(bytes + 2, 0).is_ok() && self.rows.resize(bytes + 2, 0).is_ok()
+    }
+
+    /// Looks for matches in the text from this place on.
+    #[inline(never)]
+    pub(crate) fn look(&mut self, chain: &Chain, text: &[u8], from: usize)
+        requires { from ≤ length text.now }
+        ensures list { self.new.list ≡ self.old.list }
+        ensures found { IsFoundIn chain.now text.now from self.new }
+    {
+        let many = self.bytes.min(text.len() - from).min(MOST_BYTES);
+        self.from = from;
+        self.begin = from.saturating_add(many);
+        if !self.has_room(many) || many + 1 >= self.places.len() || many >= self.rows.len() {
+            return;
+        }
+        let count = chain.mark(text, from, many, &mut self.places, &mut self.rows);
+        if count == 0 || self.found.reserve(count).is_err() {
+            return;
+        }
+        chain.name(&self.places, &self.rows, count, &mut self.found);
+        self.begin = from;
+        self.end = from.saturating_add(self.places[count] as usize);
+        self.looked = many;
+        self.passed = 0;
+    }
+}

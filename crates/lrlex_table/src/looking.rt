@@ -1,0 +1,139 @@
+//! Which pattern wins at a place, where matches that were looked for ahead tell it.
+ghost use Rattle.std.specs.Prelude.{◌≡◌, ◌+◌, ◌<◌, ◌≤◌, List, [], length, drop, Some, IfSome, IsCharBoundary, slice_get};
+ghost use Rattle.regex.specs.Patterns.{Re};
+ghost use Rattle.lrlex_table.specs.Reach.{IsDecidedBy};
+ghost use Rattle.lrlex_table.specs.Tables.{is_tabled, AreTablesOf, IsBestAmong};
+
+use crate::dead_ends::DeadEnds;
+use crate::tables::Tables;
+use crate::walk::PatternMatch;
+
+impl<'d, 't> DeadEnds<'d, 't> {
+    /// The next match that was found ahead in this text, as `ahead_at` returns it.
+    #[inline(always)]
+    fn take(
+        &mut self,
+        tables: &Tables,
+        list: usize,
+        place: usize,
+        text: &str,
+    ) -> Option<PatternMatch>
+        requires tables { slice_get self.old.lists.now list ≡ Some tables.now }
+        requires text { text.now ≡ self.old.text.now }
+        ensures tabled { IfSome result (λ _. tables.now.asked.items ≡ []) }
+        ensures winner { IfSome result (λ t. (ps : List Re) → AreTablesOf ps tables.now →
+            (0 < t.len) × IsBestAmong ps (is_tabled tables.now.parts.items) (drop place text.now) t.pattern t.len) }
+        ensures decided { IfSome result (λ t. (ps : List Re) → AreTablesOf ps tables.now →
+            IsDecidedBy ps (drop place text.now) (t.len + 1)) }
+        ensures within { IfSome result (λ t. place + t.len < length text.now) }
+        ensures lists { self.new.lists ≡ self.old.lists }
+        ensures text { self.new.text ≡ self.old.text }
+    {
+        let _ = tables;
+        let _ = text;
+        if self.ahead.begin != place || self.ahead.list != list {
+            return None;
+        }
+        let at = self.ahead.at;
+        if at >= self.ahead.found.len() {
+            return None;
+        }
+        let found = self.ahead.found[at];
+        let end = self.ahead.from + found.end as usize;
+        self.ahead.at = at + 1;
+        self.ahead.begin = end;
+        Some(PatternMatch {
+            pattern: found.pattern as usize,
+            len: end - place,
+        })
+    }
+
+    /// Which pattern of the list wins at this place, where matches that were looked for ahead tell it. Then each pattern of the list has a table,
+    /// and the byte behind the match decides.
+    #[inline(always)]
+    pub fn ahead_at(&mut self, tables: &Tables, list: usize, place: usize) -> Option<PatternMatch>
+        requires tables { slice_get self.old.lists.now list ≡ Some tables.now }
+        ensures tabled { IfSome result (λ _. tables.now.asked.items ≡ []) }
+        ensures winner { IfSome result (λ t. (ps : List Re) → AreTablesOf ps tables.now →
+            (0 < t.len) × IsBestAmong ps (is_tabled tables.now.parts.items) (drop place self.old.text.now) t.pattern t.len) }
+        ensures decided { IfSome result (λ t. (ps : List Re) → AreTablesOf ps tables.now →
+            IsDecidedBy ps (drop place self.old.text.now) (t.len + 1)) }
+        ensures within { IfSome result (λ t. place + t.len < length self.old.text.now) }
+        ensures lists { self.new.lists ≡ self.old.lists }
+        ensures text { self.new.text ≡ self.old.text }
+    {
+        let text = self.text;
+        self.take(tables, list, place, text)
+    }
+
+    /// Passes the matches that were found ahead for this list, up to the first that begins at this place or after it.
+    fn pass_to(&mut self, tables: &Tables, list: usize, place: usize)
+        requires tables { slice_get self.old.lists.now list ≡ Some tables.now }
+        requires list { self.old.ahead.list ≡ list }
+        ensures lists { self.new.lists ≡ self.old.lists }
+        ensures text { self.new.text ≡ self.old.text }
+    {
+        let _ = tables;
+        let most = self.ahead.found.len();
+        let first = self.ahead.begin;
+        let mut at = self.ahead.at;
+        let mut begin = first;
+        'passed: while at < most && begin < place {
+            begin = self.ahead.from + self.ahead.found[at].end as usize;
+            at += 1;
+        }
+        self.ahead.passed = self.ahead.passed.saturating_add(begin.saturating_sub(first));
+        self.ahead.at = at;
+        self.ahead.begin = begin;
+    }
+
+    /// Looks ahead in this text from this place on, if that is due and the list has a chain.
+    fn look_ahead(&mut self, tables: &Tables, list: usize, place: usize, text: &str)
+        requires tables { slice_get self.old.lists.now list ≡ Some tables.now }
+        requires text { text.now ≡ self.old.text.now }
+        requires inside { place ≤ length text.now }
+        requires boundary { IsCharBoundary text.now place }
+        ensures lists { self.new.lists ≡ self.old.lists }
+        ensures text { self.new.text ≡ self.old.text }
+    {
+        if !self.ahead.is_due(list, place) {
+            return;
+        }
+        let Some(chain) = &tables.chain else {
+            self.ahead.put_off(place);
+            return;
+        };
+        self.ahead.look(chain, text.as_bytes(), place);
+    }
+
+    /// Which pattern wins at this place, where the next match that was found ahead doesn't begin behind it: passes what isn't of use any more,
+    /// and looks ahead where nothing is left. Out of line, so that a walk isn't longer for it.
+    #[inline(never)]
+    pub(crate) fn found_at(
+        &mut self,
+        tables: &Tables,
+        list: usize,
+        place: usize,
+        rest: &str,
+    ) -> Option<PatternMatch>
+        requires tables { slice_get self.old.lists.now list ≡ Some tables.now }
+        requires rest { rest.now ≡ drop place self.old.text.now }
+        requires inside { place ≤ length self.old.text.now }
+        ensures winner { IfSome result (λ t. (ps : List Re) → AreTablesOf ps tables.now →
+            (0 < t.len) × IsBestAmong ps (is_tabled tables.now.parts.items) rest.now t.pattern t.len) }
+        ensures decided { IfSome result (λ t. (ps : List Re) → AreTablesOf ps tables.now →
+            IsDecidedBy ps rest.now (t.len + 1)) }
+        ensures within { IfSome result (λ t. t.len < length rest.now) }
+        ensures lists { self.new.lists ≡ self.old.lists }
+        ensures text { self.new.text ≡ self.old.text }
+    {
+        let text = self.text;
+        if self.ahead.list == list {
+            self.pass_to(tables, list, place);
+        }
+        if self.ahead.is_spent(list, place) {
+            self.look_ahead(tables, list, place, text);
+        }
+        self.ahead_at(tables, list, place)
+    }
+}

@@ -1,0 +1,102 @@
+//! The walk through a chain, which finds many matches in a row without a branch that depends on the text.
+ghost use Rattle.std.specs.Prelude.{◌≡◌, ◌+◌, ◌<◌, ◌≤◌, All, length, vec_len, vec_capacity, slice_index_or};
+ghost use Rattle.lrlex_table.specs.Ahead.{AreNamed};
+ghost use Rattle.lrlex_table.specs.Chain.{row_behind, IsChainOf, AreMarksOf};
+ghost use Rattle.lrlex_table.specs.declared.table.Table.{Table};
+
+use crate::chain::Chain;
+
+/// The most bytes in which marks are looked for at once.
+pub(crate) const MOST_BYTES: usize = 8192;
+
+/// A match that was found ahead: the place in the list of the pattern that wins, and where the match ends.
+#[derive(Clone, Copy)]
+pub(crate) struct Found {
+    pub(crate) pattern: u16,
+    pub(crate) end: u16,
+}
+
+/// The row behind this one on the byte.
+#[inline(always)]
+pub(crate) fn next(cells: &[u16], columns: &[u32], rows: usize, row: usize, byte: u8) -> usize
+    requires row { row < rows }
+    requires bytes { length columns.now ≡ 256 }
+    requires within { All (λ c. c + rows ≤ length cells.now) columns.now }
+    requires lead { All (λ r. r < rows) cells.now }
+    ensures row { result < rows }
+    ensures behind { result ≡ row_behind cells.now columns.now row byte }
+{
+    let first = columns[byte as usize] as usize;
+    let column = &cells[first..first + rows];
+    column[row] as usize
+}
+
+/// One where a match begins at the row, and else nothing.
+#[inline(always)]
+fn begun(row: usize, fresh: usize) -> usize
+    ensures one { fresh ≤ row → result ≡ 1 }
+    ensures none { row < fresh → result ≡ 0 }
+{
+    (row >= fresh) as usize
+}
+
+impl Chain {
+    /// Marks where matches begin and end in so many bytes of the text from `from` on: the first begins there, and each other
+    /// where the one before it ends. For each match its row is noted. Returns how many matches were found. What the lists have
+    /// after these is left over.
+    #[inline(never)]
+    pub(crate) fn mark(
+        &self,
+        text: &[u8],
+        from: usize,
+        many: usize,
+        places: &mut [u16],
+        rows: &mut [u16],
+    ) -> usize
+        requires inside { from + many ≤ length text.now }
+        requires short { many ≤ 8192 }
+        requires places { many + 1 < length places.old }
+        requires rows { many < length rows.old }
+        ensures count { result ≤ many }
+        ensures places { length places.new ≡ length places.old }
+        ensures rows { length rows.new ≡ length rows.old }
+        ensures first { slice_index_or places.new 0 0 ≡ 0 }
+        ensures marks { (t : Table) → IsChainOf t self.now →
+            AreMarksOf t self.now text.now from places.new rows.new result }
+    {
+        let cells = self.cells.as_slice();
+        let columns = self.columns.as_slice();
+        let height = self.bases.len();
+        let fresh = self.fresh as usize;
+        let mut row = self.start as usize;
+        let mut count = 0usize;
+        places[0] = 0;
+        'bytes: for at in 0..many {
+            let behind = next(cells, columns, height, row, text[from + at]);
+            places[count + 1] = at as u16;
+            rows[count] = row as u16;
+            count += begun(behind, fresh);
+            row = behind;
+        }
+        count
+    }
+
+    /// The matches between the first marks, so many that each has a mark behind it. They take the place of those in the list.
+    #[inline(always)]
+    pub(crate) fn name(&self, places: &[u16], rows: &[u16], count: usize, found: &mut Vec<Found>)
+        requires places { count < length places.now }
+        requires rows { count ≤ length rows.now }
+        requires room { count ≤ vec_capacity found.old }
+        ensures count { length found.new.items ≡ count }
+        ensures named { AreNamed self.now places.now rows.now found.new.items }
+    {
+        found.clear();
+        'matches: for at in 0..count {
+            let pattern = match self.wins.get(rows[at] as usize) {
+                Some(pattern) => *pattern,
+                None => 0,
+            };
+            found.push_reserved(Found { pattern, end: places[at + 1] });
+        }
+    }
+}
