@@ -1,11 +1,11 @@
 -- What a change of the last entry does to the plain stack.
 use Rattle.std.proofs.Math.Seq.{take-append_seam}
 use Rattle.lrlex.specs.Tiling.{top, or_initial}
-use Rattle.std.proofs.lemmas.Bool.{cond-true, cond-false, ne_eqb}
+use Rattle.std.proofs.lemmas.Bool.{cond-true, cond-false, eqb-true, ne_eqb}
 use Rattle.std.proofs.lemmas.Option.{same_Some, none-some}
 use Rattle.std.proofs.lemmas.List.{get_or_at}
-use Rattle.std.proofs.lemmas.List.Elements.{All-pop, All-push, All-nil, All-head, All-tail}
-use Rattle.std.proofs.Common.{◌≢◌, cond, eq-eqb, subst, Some, slice_get, slice_index, ◌-◌, take, false, true≢false, ◌==◌, ◌≡◌, ℕ, zero, suc, ◌+◌, ◌<◌, List, [], ◌∷◌, ◌++◌, length, replicate, refl, sym, ap, ◌∙◌, arith, append_assoc, append-nil, length-append}
+use Rattle.std.proofs.lemmas.List.Elements.{All-cons, All-pop, All-push, All-nil, All-head, All-tail}
+use Rattle.std.proofs.Common.{◌≢◌, Bool, true, cond, eq-eqb, subst, Some, slice_get, slice_index, ◌-◌, take, false, true≢false, ◌==◌, ◌≡◌, ℕ, zero, suc, ◌+◌, ◌<◌, List, [], ◌∷◌, ◌++◌, length, replicate, refl, sym, ap, ◌∙◌, arith, append_assoc, append-nil, length-append}
 use Rattle.std.proofs.lemmas.List.{length-replicate}
 use Rattle.lrlex_boundaries.specs.Entries.{plain, Differ, AreEntries, begins_with_state, entry_count}
 
@@ -120,7 +120,7 @@ onto : ℕ → List (ℕ × ℕ) → List (ℕ × ℕ)
 onto q [] = (1, q) ∷ []
 onto q (r ∷ rs) = cond (r.1 == q) ((suc r.0, r.1) ∷ rs) ((1, q) ∷ r ∷ rs)
 
-entries_of : List ℕ → List (ℕ × ℕ)
+pub entries_of : List ℕ → List (ℕ × ℕ)
 entries_of [] = []
 entries_of (q ∷ qs) = onto q (entries_of qs)
 
@@ -157,6 +157,39 @@ entries_of-plain (r ∷ rs) h = with_count r.0 (All-head (λ x. 0 < x.0) r rs h.
 
 pub same_entries : (xs ys : List (ℕ × ℕ)) → AreEntries xs → AreEntries ys → plain xs ≡ plain ys → xs ≡ ys
 same_entries xs ys h k e = sym (entries_of-plain xs h) ∙ ap entries_of e ∙ entries_of-plain ys k
+
+-- each stack has entries
+
+plain-cond : (b : Bool) (q : ℕ) (r : ℕ × ℕ) (rs : List (ℕ × ℕ)) → (b ≡ true → r.1 ≡ q) → plain (cond b ((suc r.0, r.1) ∷ rs) ((1, q) ∷ r ∷ rs)) ≡ q ∷ plain (r ∷ rs)
+plain-cond true q r rs h = ap (λ x. x ∷ plain (r ∷ rs)) (h refl)
+plain-cond false q r rs h = refl
+
+plain-onto : (q : ℕ) (rs : List (ℕ × ℕ)) → plain (onto q rs) ≡ q ∷ plain rs
+unfolding onto
+plain-onto q [] = refl
+plain-onto q (r ∷ rs) = plain-cond (r.1 == q) q r rs (λ e. eqb-true r.1 q e)
+
+pub plain-entries_of : (s : List ℕ) → plain (entries_of s) ≡ s
+unfolding entries_of
+plain-entries_of [] = refl
+plain-entries_of (q ∷ qs) = plain-onto q (entries_of qs) ∙ ap (λ xs. q ∷ xs) (plain-entries_of qs)
+
+entries-cond : (b : Bool) (q : ℕ) (r : ℕ × ℕ) (rs : List (ℕ × ℕ)) → (b ≡ false → q ≢ r.1) → AreEntries (r ∷ rs) → AreEntries (cond b ((suc r.0, r.1) ∷ rs) ((1, q) ∷ r ∷ rs))
+entries-cond true q r rs h rest = record {
+  some = All-cons (λ x. 0 < x.0) (suc r.0, r.1) rs (omega arith) (All-tail (λ x. 0 < x.0) r rs rest.some);
+  differ = differ-any r.0 (suc r.0) r.1 rs rest.differ;
+}
+entries-cond false q r rs h rest = record { some = All-cons (λ x. 0 < x.0) (1, q) (r ∷ rs) (omega arith) rest.some; differ = (h refl, rest.differ) }
+
+entries-onto : (q : ℕ) (rs : List (ℕ × ℕ)) → AreEntries rs → AreEntries (onto q rs)
+unfolding onto
+entries-onto q [] h = entries-one q
+entries-onto q (r ∷ rs) h = entries-cond (r.1 == q) q r rs (λ e is. true≢false (sym (eq-eqb r.1 q (sym is)) ∙ e)) h
+
+pub are-entries_of : (s : List ℕ) → AreEntries (entries_of s)
+unfolding entries_of
+are-entries_of [] = record { some = All-nil (λ x. 0 < x.0); differ = tt }
+are-entries_of (q ∷ qs) = entries-onto q (entries_of qs) (are-entries_of qs)
 
 -- ---- a list of entries is as long as its stack has entries
 

@@ -18,6 +18,7 @@ pub mod ReachLemmas
 pub mod EntryLemmas
 pub mod ScanLemmas
 pub mod ScannerLemmas
+pub mod ScannedRuns
 pub mod StepsLemmas
 pub mod SpliceLemmas
 pub mod TailLemmas

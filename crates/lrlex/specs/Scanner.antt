@@ -1,5 +1,5 @@
 -- A scanner, and what its steps say.
-use Rattle.std.specs.Prelude.{◌≡◌, ℕ, ◌+◌, ◌^◌, ◌<◌, ◌≤◌, Bool, true, false, List, All, [], ◌∷◌, ◌++◌, length, drop, Option, Some, None, option_map, if◌then◌else◌, IsCharBoundary}
+use Rattle.std.specs.Prelude.{◌≡◌, ℕ, ◌+◌, ◌^◌, ◌<◌, true, false, List, All, [], ◌∷◌, ◌++◌, length, drop, Option, Some, None, option_map, if◌then◌else◌, IsCharBoundary}
 use Rattle.lrlex_base.specs.Spans.{as_span, span, span_end}
 use Rattle.lrlex_boundaries.specs.Entries.{plain, AreEntries}
 use Rattle.lrlex_rules.specs.Definition.{Definition}
@@ -29,6 +29,11 @@ pub record Scanned : Type 0 where
 -- a scanner at the front of a text
 abbrev pub at_front : Definition → List ℕ → Scanned
 at_front d text = record { definition = d; text = text; place = 0; stack = if is_state d 0 then 0 ∷ [] else [] }
+
+-- the start state on top of its stack, if it has one
+abbrev pub top_state : List ℕ → Option ℕ
+top_state [] = None
+top_state (q ∷ qs) = Some (top (q ∷ qs))
 
 -- the text from its place on
 abbrev pub left : Scanned → List ℕ

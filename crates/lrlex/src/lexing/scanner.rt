@@ -1,6 +1,7 @@
 //! A lexer that is pulled: one tile at a time, and no list is kept.
-ghost use Rattle.std.specs.Prelude.{◌≡◌, OnErr, IfOk};
-ghost use Rattle.lrlex.specs.Scanner.{IsCursorOf, IsPlaceOf, IsStep, StayedAt, after_step, at_front, scanned_by, standing};
+ghost use Rattle.std.specs.Prelude.{◌≡◌, OnErr, IfOk, option_map};
+ghost use Rattle.lrlex_rules.specs.RuleParts.{state_number};
+ghost use Rattle.lrlex.specs.Scanner.{IsCursorOf, IsPlaceOf, IsStep, StayedAt, after_step, at_front, scanned_by, standing, top_state};
 ghost use Rattle.lrlex.specs.Views.{definition_by, definition_of};
 
 use crate::definition::non_streaming::LRNonStreamingLexerDef;
@@ -124,6 +125,16 @@ impl<'lexer, 'input, S: Numbered> Scanner<'lexer, 'input, S> {
         match &self.cursor {
             Some(cursor) => cursor.place,
             None => 0,
+        }
+    }
+
+    /// The start state in which it stands: the top of its stack. None where the definition has no start state 0.
+    pub fn state(&self) -> Option<StartStateId>
+        ensures { option_map state_number result ≡ top_state self.now.stack }
+    {
+        match &self.cursor {
+            Some(cursor) => Some(StartStateId::new(top_of(&cursor.stack))),
+            None => None,
         }
     }
 
