@@ -1,3 +1,4 @@
 pub mod Utf16Lemmas
 pub mod ColumnLemmas
+pub mod LineLemmas
 pub mod PositionLemmas

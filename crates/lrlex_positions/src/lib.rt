@@ -2,7 +2,10 @@
 #![tactic(auto)]
 
 mod encoding;
+mod lines;
 mod positions;
+mod walks;
 
 pub use crate::encoding::PositionEncoding;
+pub use crate::lines::Lines;
 pub use crate::positions::{offset_at, position_at};
