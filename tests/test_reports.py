@@ -1,5 +1,6 @@
 """What people are shown of faults and of errors, against worked answers."""
 
+import re
 import unittest
 
 from support import replay
@@ -107,6 +108,47 @@ MARKS = [
     ("%x S\n%%\n«<S>a)»\t'A'\n", "Invalid regular expression: unopened group"),
 ]
 
+# Patterns that `regex` refuses, after a list of start states, and why, in its words: one for each kind of error that a rule can have
+# under the default flags.
+REFUSED = [
+    (r"[\A]", "invalid escape sequence found in character class"),
+    ("[z-a]", "invalid character class range, the start must be <= the end"),
+    (r"[a-\d]", "invalid range boundary, must be a literal"),
+    ("[a", "unclosed character class"),
+    ("a{99999999999}", "decimal literal invalid"),
+    (r"\x{}", "hexadecimal literal empty"),
+    (r"\x{D800}", "hexadecimal literal is not a Unicode scalar value"),
+    (r"\x{G}", "invalid hexadecimal digit"),
+    (r"\p{L", "incomplete escape sequence, reached end of pattern prematurely"),
+    (r"\y", "unrecognized escape sequence"),
+    ("(?i-)", "dangling flag negation operator"),
+    ("(?ii)", "duplicate flag"),
+    ("(?i--s)", "flag negation operator repeated"),
+    ("(?z)", "unrecognized flag"),
+    ("(?P<a>a)(?P<a>b)", "duplicate capture group name"),
+    ("(?P<>a)", "empty capture group name"),
+    ("(?P<1>a)", "invalid capture group character"),
+    ("(a", "unclosed group"),
+    ("a)", "unopened group"),
+    (r"(?-u:\xFF)", "pattern can match invalid UTF-8"),
+    ("(" * 251 + "a" + ")" * 251, "groups, classes or repetitions nest deeper than the nesting limit allows"),
+    ("a{}", "repetition quantifier expects a valid decimal"),
+    ("a{2,1}", "invalid repetition count range, the start must be <= the end"),
+    ("a{2", "unclosed counted repetition"),
+    ("*", "repetition operator missing expression"),
+    (r"\b{a", "special word boundary assertion is either unclosed or contains an invalid character"),
+    (
+        r"\b{a}",
+        "unrecognized special word boundary assertion, valid choices are: start, end, start-half or end-half",
+    ),
+    (r"(?-u)\pL", "Unicode not allowed here"),
+    (r"\p{foo}", "Unicode property not found"),
+    (r"\p{Script=foo}", "Unicode property value not found"),
+    ("(?=a)", "look-around, including look-ahead and look-behind, is not supported"),
+]
+
+TOO_LARGE = "the compiled pattern exceeds the size limit, which `RegexBuilder::size_limit` sets"
+
 
 def unmarked(text):
     """A text without its marks, and the bytes between which they were."""
@@ -152,9 +194,26 @@ class Reports(replay.TestCase):
                 answered = shown(["stop", RULES, text])
                 self.assertEqual(answered.rstrip("\n").split(" ", 1)[1:], [reason] if reason else [])
 
+    def texts_of(self, patterns):
+        """What the fault of each of these patterns displays, and what is shown of it."""
+        cases = [from_text("%%\n").case(["first_fault", f"%%\n<*>{pattern} 'A'\n"]) for pattern in patterns]
+        return [answers.last("shown").split("\n", 1) for answers in replay.answers(cases)]
+
     def test_a_refused_pattern_has_the_reason_of_regex(self):
-        text = shown(["first_fault", "%%\n( 'A'"])
-        self.assertTrue(text.startswith("Invalid regular expression: "), text)
+        for (pattern, reason), (displayed, text) in zip(REFUSED, self.texts_of([it for it, _ in REFUSED]), strict=True):
+            with self.subTest(pattern=pattern):
+                found = re.fullmatch(r"Invalid regular expression: regex parse error at (\d+)\.\.(\d+): (.*)", displayed)
+                self.assertTrue(found, displayed)
+                start, end = int(found[1]), int(found[2])
+                self.assertTrue(start <= end <= len(rf"\A(?:{pattern})"), displayed)
+                self.assertEqual(found[3], reason)
+                self.assertEqual(text, f"tokens.l:2:1: Invalid regular expression: {reason}\n2 | <*>{pattern} 'A'\n  | ^\n")
+
+    def test_a_pattern_that_is_too_large_has_this_reason(self):
+        pattern = "((a{100}){100}){100}"
+        [(displayed, text)] = self.texts_of([pattern])
+        self.assertEqual(displayed, f"Invalid regular expression: {TOO_LARGE}")
+        self.assertEqual(text, f"tokens.l:2:1: Invalid regular expression: {TOO_LARGE}\n2 | <*>{pattern} 'A'\n  | ^\n")
 
     def test_bytes_that_are_not_utf_8(self):
         self.check_shown([(["complaints_of_file", list(data), ""], wanted) for data, wanted in FILES])

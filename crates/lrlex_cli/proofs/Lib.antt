@@ -3,3 +3,4 @@ pub mod EngineLemmas
 pub mod LineLemmas
 pub mod NumberLemmas
 pub mod SplitLemmas
+pub mod WritingLemmas

@@ -9,3 +9,7 @@ AppendsFront old new bs = (n : ℕ) × (n < length bs) × Appends old new (take 
 -- `Ok` has written bs, an error a proper prefix of bs
 abbrev pub Writes : {T E : Type 0} → Option (List ℕ) → Option (List ℕ) → Result T E → List ℕ → Type 0
 Writes old new r bs = MatchResult r (λ _. Appends old new bs) (λ _. AppendsFront old new bs)
+
+-- some beginning of bs was written, or all
+abbrev pub WritesSome : Option (List ℕ) → Option (List ℕ) → List ℕ → Type 0
+WritesSome old new bs = (n : ℕ) × Appends old new (take n bs)

@@ -1,6 +1,8 @@
 //! The program: its words, its files, its standard streams and its status.
-ghost use Rattle.std.specs.Prelude.{◌≡◌};
+ghost use Rattle.std.specs.Prelude.{◌≡◌, ◌++◌, IfOk};
 ghost use Rattle.lrlex_cli.specs.Engine.{HasPlacedFaults};
+ghost use Rattle.lrlex_cli.specs.Program.{fault_text, status_of};
+ghost use Rattle.lrlex_cli.specs.Writing.{Writes, WritesSome};
 
 use crate::engine::{Ended, EngineFault};
 use crate::texts::{TextFault, read_text, split, text_at};
@@ -10,6 +12,7 @@ use crate::{engine, words};
 use lrlex::{DefaultLexerTypes, LexFlags, UNSPECIFIED_LEX_FLAGS};
 use lrlex_base::{Edit, Span};
 use std::alloc::Global;
+use std::io;
 use std::io::{Read, Write};
 use std::rt::Files;
 
@@ -47,27 +50,37 @@ impl<'a> Fault<'a> {
     }
 }
 
-/// Writes the pieces. An error of the writer is ignored.
-fn say<E: Write>(err: &mut E, pieces: &[&str]) {
-    for piece in pieces {
-        if write_bytes(err, piece.as_bytes()).is_err() {
-            return;
-        }
+/// Writes three texts, one after another. It stops at the first error of `write`.
+fn write_three<E: Write>(err: &mut E, first: &str, second: &str, third: &str) -> io::Result<()>
+    ensures { Writes (E.contents err.old) (E.contents err.new) result
+        (first.now ++ (second.now ++ third.now)) }
+{
+    write_bytes(err, first.as_bytes())?;
+    write_bytes(err, second.as_bytes())?;
+    write_bytes(err, third.as_bytes())
+}
+
+/// Writes the line of the fault. It stops at the first error of `write`. A line that names no file is one write.
+fn write_fault<E: Write>(fault: Fault<'_>, err: &mut E) -> io::Result<()>
+    ensures { Writes (E.contents err.old) (E.contents err.new) result (fault_text fault.entry) }
+{
+    match fault {
+        Fault::Usage => write_bytes(err, b"Usage: lrlex <lexer.l> <input file>\n"),
+        Fault::CannotOpen(path) => write_three(err, "Can't open file ", path, "\n"),
+        Fault::NotText(path) => write_three(err, "File ", path, " is not UTF-8\n"),
+        Fault::Memory => write_bytes(err, b"Out of memory\n"),
+        Fault::CannotWrite => write_bytes(err, b"Can't write\n"),
+        Fault::BadEdit => write_bytes(err, b"Bad edit\n"),
     }
 }
 
-/// Writes the line of the fault and returns the status, 1. A line that names no file is one write. An error of `err` is ignored.
+/// Writes the line of the fault and returns the status, 1. A line that names no file is one write. An error of `err` is ignored:
+/// of the line, the beginning was written then.
 pub fn refuse<E: Write>(fault: Fault<'_>, err: &mut E) -> u8
-    ensures { result ≡ 1 }
+    ensures status { result ≡ 1 }
+    ensures line { WritesSome (E.contents err.old) (E.contents err.new) (fault_text fault.entry) }
 {
-    match fault {
-        Fault::Usage => say(err, &["Usage: lrlex <lexer.l> <input file>\n"]),
-        Fault::CannotOpen(path) => say(err, &["Can't open file ", path, "\n"]),
-        Fault::NotText(path) => say(err, &["File ", path, " is not UTF-8\n"]),
-        Fault::Memory => say(err, &["Out of memory\n"]),
-        Fault::CannotWrite => say(err, &["Can't write\n"]),
-        Fault::BadEdit => say(err, &["Bad edit\n"]),
-    }
+    let _ignored = write_fault(fault, err);
     1
 }
 
@@ -80,7 +93,9 @@ fn answered<E: Write>(status: Result<u8, Fault<'_>>, err: &mut E) -> u8 {
 }
 
 /// Flushes what was written and returns the status.
-fn flushed<W: Write>(out: &mut W, status: u8) -> Result<u8, Fault<'static>> {
+fn flushed<W: Write>(out: &mut W, status: u8) -> Result<u8, Fault<'static>>
+    ensures { IfOk result (λ s. s ≡ status) }
+{
     match out.flush() {
         Ok(()) => Ok(status),
         Err(_) => Err(Fault::CannotWrite),
@@ -96,6 +111,7 @@ fn conclude<W: Write, E: Write>(
     err: &mut E,
 ) -> Result<u8, Fault<'static>>
     requires { HasPlacedFaults rules.now ended }
+    ensures { IfOk result (λ s. s ≡ status_of ended) }
 {
     match ended {
         Ok(Ended::Lexed) => flushed(out, 0),
