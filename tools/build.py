@@ -151,6 +151,10 @@ def main(names=(), is_timed=False, jobs=0):
     if not shutil.which("rt"):
         print("build: it takes the Rattle kit: rt isn't on PATH", file=sys.stderr)
         return 1
+    listed = crates.read()
+    if unknown := [it for it in names if it not in listed]:
+        print(f"build: crates.txt has no {unknown[0]}", file=sys.stderr)
+        return 1
     processes.end_all_at_exit()
     held = os.open(f"{crates.TOP}/crates", os.O_RDONLY)
     try:
