@@ -1,5 +1,5 @@
 -- Where marks cut, patterns win.
-use Rattle.std.proofs.Common.{◌≡◌, zero, suc, ℕ, ◌+◌, ◌-◌, ◌<◌, ◌≤◌, true, false, List, All, [], ◌∷◌, ◌++◌, length, take, drop, get_or, IsUtf8, Option, Some, None, Result, Ok, Err, is_some, slice_get, slice_index_or, refl, sym, ap, ◌∙◌, subst, inl, inr, arith, true≢false, add-one}
+use Rattle.std.proofs.Common.{◌≡◌, zero, suc, ℕ, ◌+◌, ◌-◌, ◌<◌, ◌≤◌, true, List, All, [], ◌∷◌, ◌++◌, length, take, drop, get_or, IsUtf8, Option, Some, None, Result, Ok, Err, is_some, slice_get, slice_index_or, refl, sym, ap, ◌∙◌, subst, inl, inr, arith, true≢false, add-one}
 use Rattle.std.specs.Prelude.{IsCharBoundary, IfOk, IfSome}
 use Rattle.std.proofs.lemmas.Bool.{cases_lt}
 use Rattle.std.proofs.lemmas.List.{append-nil, drop_all, take_all, length-drop, get_or_past, get_or_read}
@@ -10,8 +10,8 @@ use Rattle.lrlex_table.specs.Cell.{wins_at}
 use Rattle.lrlex_table.specs.Table.{next_rows, IsLongest}
 use Rattle.lrlex_table.specs.Reach.{IsText, IsDecidedBy}
 use Rattle.lrlex_table.specs.Tables.{is_among, is_tabled, patterns_at, AreTablesOf, IsBestAmong, IsPartOf}
-use Rattle.lrlex_table.specs.Chain.{base_of, row_at, IsChainOf, NamesWinners, IsChainOfAll, IsCut, IsWonBy, AreMarksOf}
-use Rattle.lrlex_table.specs.Ahead.{nothing, end_at, won_at, start_at, AreNamed, IsFoundIn, IsWonAt, AreWonIn, AreAheadIn}
+use Rattle.lrlex_table.specs.Chain.{base_of, row_at, IsChainOf, NamesWinners, IsChainOfAll, IsCut, IsWonBy}
+use Rattle.lrlex_table.specs.Ahead.{nothing, end_at, won_at, start_at, IsFoundIn, IsWonAt, AreWonIn, AreAheadIn}
 use Rattle.lrlex_table.specs.declared.chain.Chain.{Chain}
 use Rattle.lrlex_table.specs.declared.marks.Found.{Found}
 use Rattle.lrlex_table.specs.declared.ahead.Ahead.{Ahead}
@@ -148,8 +148,7 @@ module _ (ts : Tables) (c : Chain) (all : IsChainOfAll ts.parts.items ts.asked.i
       let first = starts k lt in
       let cut = cut_at k lt (bound_at k lt) in
       let won : IsWonAt ts text (a.from + p) w (end - p) = subst (λ f. IsWonAt ts text (f + p) w (end - p)) (sym is.from_is) cut.1 in
-      let by_name : IsWonAt ts text (a.from + p) (won_at a.found.items k) (end - p) = subst (λ x. IsWonAt ts text (a.from + p) x (end - p)) (sym named.1) won in
-      (
+      let by_name : IsWonAt ts text (a.from + p) (won_at a.found.items k) (end - p) = subst (λ x. IsWonAt ts text (a.from + p) x (end - p)) (sym named.1) won in (
         omega (arith, first, named.0, cut.0),
         subst (λ q. IsWonAt ts text (a.from + q) (won_at a.found.items k) (end_at a.found.items k - q)) (sym first)
             (subst (λ e. IsWonAt ts text (a.from + p) (won_at a.found.items k) (e - p)) (sym named.0) by_name),

@@ -1,5 +1,5 @@
 -- A chain that is one of a table for a byte of each class.
-use Rattle.std.proofs.Common.{◌≡◌, ℕ, ◌+◌, ◌-◌, ◌*◌, ◌<◌, List, length, take, drop, get_or, Some, sym, ap, ◌∙◌, arith}
+use Rattle.std.proofs.Common.{◌≡◌, ℕ, ◌+◌, ◌<◌, List, length, take, drop, get_or, Some, sym, ap, ◌∙◌}
 use Rattle.std.proofs.lemmas.List.{get_or-take, get_or-drop, get_or-map}
 use Rattle.lrlex_table.specs.Cell.{row_in, rows_in}
 use Rattle.lrlex_table.specs.Table.{next_rows, next_of}

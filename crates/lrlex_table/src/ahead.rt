@@ -86,7 +86,7 @@ impl Ahead {
         self.found.clear();
         self.at = 0;
         if self.looked > 0 {
-            let is_of_use = self.passed <= self.looked / 2;
+            let is_of_use = self.passed <= self.looked / 4;
             self.looked = 0;
             if !is_of_use {
                 self.bytes = FIRST_BYTES;

@@ -86,12 +86,7 @@ fn links_of(alloc: Global, table: &Table) -> Result<Links, AllocError> {
 impl Links {
     /// Appends the column of this byte: each row goes on it as the table's row does, and where that goes nowhere and a pattern matches
     /// there, where the next match begins.
-    fn add_column(
-        &self,
-        table: &Table,
-        byte: u8,
-        cells: &mut Vec<u16>,
-    ) -> Result<(), AllocError> {
+    fn add_column(&self, table: &Table, byte: u8, cells: &mut Vec<u16>) -> Result<(), AllocError> {
         let fresh = match self.fresh.get(byte as usize) {
             Some(row) => *row,
             None => 0,

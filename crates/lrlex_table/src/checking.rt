@@ -124,7 +124,10 @@ impl Chain {
             if let Some(won) = part.table.win_of(self.bases[row]) {
                 let named = self.wins.get(row).copied();
                 let place = part.patterns.get(won as usize).copied();
-                if named.is_none() || place.is_none() || named.map(|n: u16| -> usize { n as usize }) != place {
+                if named.is_none()
+                    || place.is_none()
+                    || named.map(|n: u16| -> usize { n as usize }) != place
+                {
                     return false;
                 }
             }

@@ -82,7 +82,10 @@ impl<'d, 't> DeadEnds<'d, 't> {
             begin = self.ahead.from + self.ahead.found[at].end as usize;
             at += 1;
         }
-        self.ahead.passed = self.ahead.passed.saturating_add(begin.saturating_sub(first));
+        self.ahead.passed = self
+            .ahead
+            .passed
+            .saturating_add(begin.saturating_sub(first));
         self.ahead.at = at;
         self.ahead.begin = begin;
     }

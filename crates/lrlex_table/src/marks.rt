@@ -96,7 +96,10 @@ impl Chain {
                 Some(pattern) => *pattern,
                 None => 0,
             };
-            found.push_reserved(Found { pattern, end: places[at + 1] });
+            found.push_reserved(Found {
+                pattern,
+                end: places[at + 1],
+            });
         }
     }
 }

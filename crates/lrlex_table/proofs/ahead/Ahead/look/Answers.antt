@@ -1,4 +1,4 @@
-use Rattle.std.proofs.Common.{◌≡◌, ◌++◌, length, take, drop, get_or, refl, sym, ap, ◌∙◌, subst, arith}
+use Rattle.std.proofs.Common.{◌≡◌, length, get_or, refl, sym, ap, ◌∙◌, subst, arith}
 use Rattle.lrlex_table.specs.Chain.{AreMarksOf}
 use Rattle.lrlex_table.proofs.AheadLemmas.{written_back}
 use Rattle.lrlex_table.proofs.ahead.Ahead.look.Goals as goal

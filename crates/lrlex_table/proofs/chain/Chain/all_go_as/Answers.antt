@@ -1,4 +1,4 @@
-use Rattle.std.proofs.Common.{◌≡◌, ◌<◌, sym, subst, inl, inr, arith}
+use Rattle.std.proofs.Common.{◌≡◌, subst, inl, inr, arith}
 use Rattle.std.proofs.lemmas.Bool.{cases_lt}
 use Rattle.lrlex_table.specs.Chain.{row_behind, GoesTo}
 use Rattle.lrlex_table.proofs.chain.Chain.all_go_as.Goals as goal

@@ -1,4 +1,4 @@
-use Rattle.std.proofs.Common.{◌≡◌, ◌+◌, ◌≤◌, length, vec_capacity}
+use Rattle.std.proofs.Common.{◌≡◌, length, vec_capacity}
 use Rattle.lrlex_table.specs.Ahead.{AreNamed}
 use Rattle.lrlex_table.proofs.chain.Chain.name.Given as goal
 

@@ -1,5 +1,4 @@
-use Rattle.std.proofs.Common.{◌≤◌, length, slice_get, sym, ap, ◌∙◌, subst, arith, IsUtf8}
-use Rattle.std.specs.Prelude.{IsCharBoundary}
+use Rattle.std.proofs.Common.{slice_get, ap, ◌∙◌, subst}
 use Rattle.lrlex_table.specs.Ahead.{AreWonIn, IsFoundIn}
 use Rattle.lrlex_table.proofs.ByteLemmas.{are_bytes}
 use Rattle.lrlex_table.proofs.AheadLemmas.{found_won, found_begins, ahead_of}
