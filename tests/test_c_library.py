@@ -10,6 +10,10 @@ FIRST = """1:1 ID abc
 1:5 INT 123
 1:1 ID ab
 stopped at 3 in state 0
+2 tokens, end 5 in state 1
+2 tokens, end 6 in state 0
+1 tokens, end 3 in state 1, stopped
+0 tokens, end 0 in state 0, stopped
 kind 6, Start state already exists: 1:4, bytes 3 to 4 1:6, bytes 5 to 6
 kind 9, Rule name already exists: 3:6, bytes 15 to 16 4:4, bytes 21 to 22
 kind 10, Invalid regular expression: regex parse error at 2..3: unclosed group: 5:1, bytes 24 to 24

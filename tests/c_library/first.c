@@ -1,4 +1,4 @@
-/* A first text, a text that stops, a refused rule text, a document through edits, and a scanner, as a user of the header writes them. */
+/* A first text, a text that stops, texts that end in start states, a refused rule text, a document through edits, and a scanner, as a user of the header writes them. */
 #include "check.h"
 
 #include <stdlib.h>
@@ -32,6 +32,21 @@ static void lex(const char *text) {
     free(tokens);
     lrlex_free(&d);
     CHECK(d.hidden == NULL);
+}
+
+/* Texts that end in start states, with room for one token: all are counted, the first is written, and what is behind the room stays. */
+static void count(void) {
+    const char *texts[] = {"ab\"cd", "ab\"cd\"", "ab\"?", "?"};
+    lrlex_definition d = LRLEX_EMPTY;
+    CHECK(define(&d, "%x S\n%%\n[a-z]+ 'ID'\n\" <+S>;\n<S>\" <-S>;\n<S>[a-z]+ 'TEXT'\n") == LRLEX_OK);
+    for (size_t i = 0; i < 4; i++) {
+        lrlex_token tokens[2] = {{7, 7, 7}, {7, 7, 7}};
+        lrlex_lexed lexed;
+        CHECK(lrlex_lex(&d, bytes(texts[i]), strlen(texts[i]), tokens, 1, &lexed) == LRLEX_OK);
+        CHECK(tokens[0].start == (lexed.count ? 0 : 7) && tokens[0].len == (lexed.count ? 2 : 7) && tokens[1].start == 7 && tokens[1].id == 7);
+        printf("%zu tokens, end %zu in state %zu%s\n", lexed.count, lexed.end, lexed.state, lexed.stopped ? ", stopped" : "");
+    }
+    lrlex_free(&d);
 }
 
 static void refuse(const char *rules) {
@@ -171,6 +186,7 @@ int main(void) {
     lex("abc 123");
     lex("ab ?");
     lex("");
+    count();
     refuse("%x A A\n%%\na+b 'A'\nb 'A'\nc( 'C'\n");
     names();
     ids();
