@@ -281,6 +281,8 @@ def edited_rows():
     yield from EDITED_FILES
 
 
+VERBATIM_AT = "{}:1: Verbatim code not supported\n".format
+
 # Without a word standard input has both texts, with a line `----` between them.
 STANDARD_INPUT = [
     Row("both texts", "", Outcome(LINES), BOTH),
@@ -294,6 +296,8 @@ STANDARD_INPUT = [
     Row("faults", "", failed(MANY_REPORTED), MANY_FAULTS + "\n----\na"),
     Row("other bytes", "", failed("File - is not UTF-8\n"), b"%%\n\xff"),
     Row("other bytes after the line", "", failed("File - is not UTF-8\n"), b"%%\na 'A'\n----\n\xff"),
+    Row("a lexeme of 5 MB", "", Outcome(f"A {'a' * 5_000_000}\n"), f"%%\na+ 'A'\n----\n{'a' * 5_000_000}"),
+    Row("300 faults", "", failed("".join(map(VERBATIM_AT, range(2, 302)))), "%%\n" + " x\n" * 300 + "----\na"),
 ]
 
 # A byte order mark is a character.

@@ -108,8 +108,8 @@ MARKS = [
     ("%x S\n%%\n«<S>a)»\t'A'\n", "Invalid regular expression: unopened group"),
 ]
 
-# Patterns that `regex` refuses, after a list of start states, and why, in its words: one for each kind of error that a rule can have
-# under the default flags.
+# Patterns that `regex` refuses, after a list of start states, and why, in its words: one for each kind of error that a rule can
+# have under the default flags.
 REFUSED = [
     (r"[\A]", "invalid escape sequence found in character class"),
     ("[z-a]", "invalid character class range, the start must be <= the end"),

@@ -219,6 +219,10 @@ FILES = [
 ]
 
 
+# A text that is read one byte a call.
+MANY_READS = Run("many reads", "rules -", [("rules", HEARTS), (STDIN, f"{' ' * 20_000}ab")], "ID ab\n")
+
+
 def broken_writers():
     return [(run, each(run, STDOUT, WRITING)) for run in WRITERS]
 
@@ -312,6 +316,9 @@ class Streams(unittest.TestCase):
 
     def test_texts_that_end_within_a_character(self):
         self.check_runs(cut_readers())
+
+    def test_a_text_that_takes_many_reads(self):
+        self.check_runs([(MANY_READS, [{STDIN: Break(1, NEVER, NOTHING)}])])
 
 
 if __name__ == "__main__":
