@@ -67,6 +67,8 @@ ROWS = [
     ("tokens tokens.l empty", "", Outcome()),
     ("tokens tokens.l stop", "", Outcome('1:1 0..2 ID "ab"\n', STOP, 1)),
     ("tokens --case-insensitive true tokens.l -", "IF", Outcome('1:1 0..2 IF "IF"\n')),
+    # the blank after the start states does nothing
+    ("check --ignore-whitespace true -", "%s S\n%%\na <+S>;\n<S> b 'B'\n", Outcome()),
     ("tokens bad.l input", "", Outcome("", BAD, 1)),
     ("tokens bad.l none", "", Outcome("", BAD, 1)),
     ("tokens tokens.l none", "", Outcome("", MISSING, 2)),

@@ -1,5 +1,5 @@
 -- Parts of a text from its front on.
-use Rattle.std.proofs.Common.{◌≡◌, ℕ, ◌+◌, ◌≤◌, Bool, true, false, List, [], ◌∷◌, ◌++◌, length, take, drop, None, refl, sym, ap, subst, ◌∙◌, arith, append-nil, take-append-drop, IsCharBoundary, IsUtf8}
+use Rattle.std.proofs.Common.{◌≡◌, ℕ, ◌+◌, ◌-◌, ◌≤◌, Bool, true, false, List, [], ◌∷◌, ◌++◌, length, take, drop, None, refl, sym, ap, subst, ◌∙◌, arith, append-nil, take-append-drop, IsCharBoundary, IsUtf8}
 use Rattle.std.specs.Prelude.{encode_utf8_all, not}
 use Rattle.std.specs.Char.{encode_utf8}
 use Rattle.std.specs.List.{before_first}
@@ -7,7 +7,7 @@ use Rattle.std.specs.Str.{chars, NonePass}
 use Rattle.std.specs.Str.Pattern.{MatchBeginsAt}
 use Rattle.std.specs.Fn.{Mut, AlwaysReturns}
 use Rattle.std.proofs.Math.Seq.{take-add}
-use Rattle.std.proofs.lemmas.List.{length-drop, take-take}
+use Rattle.std.proofs.lemmas.List.{length-drop, length-take, drop-take, take-take}
 use Rattle.std.proofs.lemmas.List.Sums.{take_while-cons}
 use Rattle.std.proofs.lemmas.Str.{encodes-chars, encodes_same, IsCharBoundary-from_take, IsUtf8-append, IsUtf8-take}
 use Rattle.lrlex_rules.specs.Escape.{first_char}
@@ -53,3 +53,13 @@ pub front_end : (text : List ℕ) (at : ℕ) (part : List ℕ) → IsUtf8 text �
 front_end text at part u up h e le =
     let front : take (at + length part) text ≡ take at text ++ part = take-add at (length part) text ∙ ap (λ (x : List ℕ). take at text ++ x) (sym e) in
     IsCharBoundary-from_take text (at + length part) u (omega (arith, h.0, le, length-drop at text)) (subst IsUtf8 (sym front) (IsUtf8-append (take at text) part (IsUtf8-take text at u h) up))
+
+-- a front of what is behind a place of a front
+pub front_behind : (text front part : List ℕ) (at : ℕ) → front ≡ take (length front) text → at ≤ length front → part ≡ take (length part) (drop at front) → length part ≤ length (drop at front)
+    → (part ≡ take (length part) (drop at text)) × (length part ≤ length (drop at text))
+front_behind text front part at e le is short =
+    let m = length front - at in
+    let whole : length front ≡ at + m = omega arith in
+    let rest : drop at front ≡ take m (drop at text) = ap (drop at) (e ∙ ap (λ (k : ℕ). take k text) whole) ∙ drop-take at m text in
+    let inside : length part ≤ length (take m (drop at text)) = subst (λ (t : List ℕ). length part ≤ length t) rest short in
+    (is ∙ ap (take (length part)) rest ∙ take-take (length part) m (drop at text) (omega (arith, length-take m (drop at text))), omega (arith, length-take m (drop at text)))

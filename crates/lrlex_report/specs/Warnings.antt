@@ -1,10 +1,10 @@
 -- What a rule text says and its author hardly meant: each kind of warning is a test of a rule or of a start state.
-use Rattle.std.specs.Prelude.{◌≡◌, ◌<◌, ℕ, suc, zero, ◌+◌, ◌-◌, ◌==◌, Bool, true, false, not, ◌&&◌, ◌||◌, if◌then◌else◌, Option, Some, None, option_map, List, [], ◌∷◌, ◌++◌, length, take, drop, slice_get, slice_index, flat_map, codes}
+use Rattle.std.specs.Prelude.{◌≡◌, ◌<◌, ℕ, suc, zero, ◌+◌, ◌-◌, max, ◌==◌, Bool, true, false, not, ◌&&◌, ◌||◌, if◌then◌else◌, Option, Some, None, option_map, List, [], ◌∷◌, ◌++◌, length, take, drop, slice_get, slice_index, flat_map, codes}
 use Rattle.std.specs.Char.{is_ascii_alphabetic}
 use Rattle.std.specs.List.{list_any, slice_index_or, before_last, after_last}
 use Rattle.std.specs.Str.{chars, byte, encode_utf8_all}
 use Rattle.lrlex_base.specs.Classes.{is_line_sep}
-use Rattle.lrlex_base.specs.Spans.{Span, span, as_span}
+use Rattle.lrlex_base.specs.Spans.{Span, span, as_span, Fits}
 use Rattle.lrlex_rules.specs.Definition.{Definition, Rule}
 use Rattle.lrlex_rules.specs.declared.states.StartState.{StartState}
 use Rattle.lrlex_rules.specs.Escape.{is_backslash, begins_escape}
@@ -26,6 +26,10 @@ use Rattle.lrlex_report.specs.declared.warnings.answers.Facts.{Facts}
 -- what a warning says: its kind, and where
 abbrev pub as_told : Warning → WarningKind × Span
 as_told w = (w.kind, as_span w.span)
+
+-- its span is in the text, between characters
+abbrev pub SpanFits : List ℕ → Warning → Type 0
+SpanFits text w = Fits text w.span
 
 -- one warning, where it holds
 abbrev pub when : Bool → WarningKind → Span → List (WarningKind × Span)
@@ -77,7 +81,7 @@ abbrev pub ends_in_target : List StartState → (source : List ℕ) → Bool
 ends_in_target states source =
     list_any is_less source && goes_on (before_last is_less source) && is_target_of states (after_last is_less source)
 
--- the pattern of a rule with a list of start states begins with a blank
+-- the pattern begins with a blank
 abbrev pub begins_blank : List ℕ → Bool
 begins_blank pattern = begins_with (codes " ") pattern || begins_with (codes "\t") pattern
 
@@ -98,8 +102,9 @@ has_unmeant listed (b ∷ c ∷ rest) =
 abbrev pub never_wins : Facts → Bool
 never_wins known = known.is_active && not known.may_win
 
+-- it lists start states, and its pattern begins with a blank that counts
 abbrev pub has_blank_after_states : Rule → Bool
-has_blank_after_states r = not (lists_none r) && begins_blank r.re_str
+has_blank_after_states r = not (lists_none r) && begins_blank r.re_str && not r.config.flags.ignore_whitespace
 
 abbrev pub loses_escape : (source : List ℕ) → Rule → Bool
 loses_escape source r = lists_none r && has_unmeant false source
@@ -141,9 +146,13 @@ abbrev pub state_tests : {S : Type 0} → (S → ℕ) → RuleTable S → ℕ �
 state_tests number t q =
     (NeverEntered, is_never_entered number t.rules.items q) ∷ (NoRules, has_no_rules (definition_by number t) q) ∷ []
 
+-- the nearest part of a text
+abbrev pub near_span : (rules : List ℕ) → Span → Span
+near_span rules x = span (nearest rules x.start) (max (nearest rules x.start) (nearest rules x.end))
+
 -- the warnings of a start state, at its name
-abbrev pub state_warnings : {S : Type 0} → (S → ℕ) → RuleTable S → StartState → List (WarningKind × Span)
-state_warnings number t s = those_that_hold (as_state s).name_span (state_tests number t (as_state s).id)
+abbrev pub state_warnings : {S : Type 0} → (S → ℕ) → RuleTable S → (rules : List ℕ) → StartState → List (WarningKind × Span)
+state_warnings number t rules s = those_that_hold (near_span rules (as_state s).name_span) (state_tests number t (as_state s).id)
 
 -- ---- all warnings
 -- what a definition answers of its rules, by their places
@@ -185,8 +194,8 @@ up_to at zero = []
 up_to at (suc n) = up_to at n ++ at n
 
 -- of each start state
-abbrev pub states_warnings : {S : Type 0} → (S → ℕ) → RuleTable S → List (WarningKind × Span)
-states_warnings number t = flat_map (state_warnings number t) t.start_states.items
+abbrev pub states_warnings : {S : Type 0} → (S → ℕ) → RuleTable S → (rules : List ℕ) → List (WarningKind × Span)
+states_warnings number t rules = flat_map (state_warnings number t rules) t.start_states.items
 
 -- of each rule
 abbrev pub rules_warnings : {S : Type 0} → (S → ℕ) → RuleTable S → Answered → (rules : List ℕ) → List (WarningKind × Span)
@@ -195,4 +204,4 @@ rules_warnings number t a rules = up_to (warnings_at number t a rules) (length t
 -- these are the warnings of a rule text and its definition: of each start state, then of each rule, in order
 abbrev pub AreWarnings : {S : Type 0} → (S → ℕ) → RuleTable S → (rules : List ℕ) → List (WarningKind × Span) → Type 0
 AreWarnings number t rules told =
-    (a : Answered) × AreAnswers number t a × (told ≡ states_warnings number t ++ rules_warnings number t a rules)
+    (a : Answered) × AreAnswers number t a × (told ≡ states_warnings number t rules ++ rules_warnings number t a rules)

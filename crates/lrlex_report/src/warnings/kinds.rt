@@ -1,8 +1,8 @@
 //! The kinds of warnings, and what is said of each.
-ghost use Rattle.std.specs.Prelude.{◌≡◌, ◌++◌, OnOk, map};
-ghost use Rattle.lrlex_base.specs.Spans.{as_span};
+ghost use Rattle.std.specs.Prelude.{◌≡◌, ◌++◌, ℕ, List, All, OnOk, map};
+ghost use Rattle.lrlex_base.specs.Spans.{Fits, as_span};
 ghost use Rattle.lrlex_report.specs.WarningTexts.{warning_message};
-ghost use Rattle.lrlex_report.specs.Warnings.{as_told, when, those_that_hold};
+ghost use Rattle.lrlex_report.specs.Warnings.{as_told, SpanFits, when, those_that_hold};
 
 use lrlex_base::Span;
 use std::alloc::AllocError;
@@ -18,7 +18,8 @@ pub enum WarningKind {
     NoTable,
     /// A rule whose pattern ends in `<T>`, `<+T>` or `<-T>` of a start state T.
     TargetInPattern,
-    /// A rule with a list of start states whose pattern begins with a blank.
+    /// A rule with a list of start states whose pattern begins with a blank. It isn't told where `ignore_whitespace` is set, and the
+    /// blank does nothing.
     BlankAfterStates,
     /// A rule without a list whose pattern has a backslash before a letter that begins no escape.
     LostEscape,
@@ -97,8 +98,10 @@ fn push_when(
     kind: WarningKind,
     span: Span,
 ) -> Result<(), AllocError>
-    ensures { OnOk result (map as_told told.new.items
+    ensures told { OnOk result (map as_told told.new.items
         ≡ map as_told told.old.items ++ when holds kind (as_span span)) }
+    ensures fit { (text : List ℕ) → Fits text span → All (SpanFits text) told.old.items
+        → OnOk result (All (SpanFits text) told.new.items) }
 {
     if holds {
         told.push(Warning { kind, span })?;
@@ -112,8 +115,10 @@ pub(crate) fn push_all(
     tests: &[(WarningKind, bool)],
     span: Span,
 ) -> Result<(), AllocError>
-    ensures { OnOk result (map as_told told.new.items
+    ensures told { OnOk result (map as_told told.new.items
         ≡ map as_told told.old.items ++ those_that_hold (as_span span) tests.now) }
+    ensures fit { (text : List ℕ) → Fits text span → All (SpanFits text) told.old.items
+        → OnOk result (All (SpanFits text) told.new.items) }
 {
     'tests: for test in tests {
         push_when(told, test.1, test.0, span)?;

@@ -1,6 +1,6 @@
 //! What a rule text says and its author hardly meant.
-ghost use Rattle.std.specs.Prelude.{◌≡◌, ◌++◌, IfOk, OnOk, map};
-ghost use Rattle.lrlex_report.specs.Warnings.{as_answered, as_told, states_warnings, rules_warnings, warnings_at, AreWarnings};
+ghost use Rattle.std.specs.Prelude.{◌≡◌, ◌++◌, All, IfOk, OnOk, map};
+ghost use Rattle.lrlex_report.specs.Warnings.{as_answered, as_told, SpanFits, states_warnings, rules_warnings, warnings_at, AreWarnings};
 
 mod answers;
 pub(crate) mod kinds;
@@ -20,13 +20,16 @@ use std::alloc::{AllocError, Global};
 fn push_states<L: LexerTypes>(
     told: &mut Vec<Warning>,
     definition: &LRNonStreamingLexerDef<L>,
+    rules: &str,
 ) -> Result<(), AllocError>
-    ensures { OnOk result (map as_told told.new.items ≡ map as_told told.old.items
-        ++ states_warnings L.StorageT.number definition.now.table) }
+    ensures told { OnOk result (map as_told told.new.items ≡ map as_told told.old.items
+        ++ states_warnings L.StorageT.number definition.now.table rules.now) }
+    ensures fit { All (SpanFits rules.now) told.old.items
+        → OnOk result (All (SpanFits rules.now) told.new.items) }
 {
     let states = definition.iter_start_states().as_slice();
     for state in states {
-        push_state(told, definition, state)?;
+        push_state(told, definition, rules, state)?;
     }
     Ok(())
 }
@@ -39,9 +42,11 @@ fn push_place<L: LexerTypes>(
     answers: &Answers,
     place: usize,
 ) -> Result<(), AllocError>
-    ensures { OnOk result (map as_told told.new.items ≡ map as_told told.old.items
+    ensures told { OnOk result (map as_told told.new.items ≡ map as_told told.old.items
         ++ warnings_at L.StorageT.number definition.now.table (as_answered answers.now)
         rules.now place) }
+    ensures fit { All (SpanFits rules.now) told.old.items
+        → OnOk result (All (SpanFits rules.now) told.new.items) }
 {
     let states = definition.iter_start_states().as_slice();
     match definition.get_rule(place) {
@@ -57,9 +62,11 @@ fn push_rules<L: LexerTypes>(
     rules: &str,
     answers: &Answers,
 ) -> Result<(), AllocError>
-    ensures { OnOk result (map as_told told.new.items ≡ map as_told told.old.items
+    ensures told { OnOk result (map as_told told.new.items ≡ map as_told told.old.items
         ++ rules_warnings L.StorageT.number definition.now.table (as_answered answers.now)
         rules.now) }
+    ensures fit { All (SpanFits rules.now) told.old.items
+        → OnOk result (All (SpanFits rules.now) told.new.items) }
 {
     let count = definition.rules().len();
     'rules: for place in 0..count {
@@ -78,12 +85,13 @@ pub fn warnings_of<L: LexerTypes>(
     rules: &str,
     definition: &LRNonStreamingLexerDef<L>,
 ) -> Result<Vec<Warning>, AllocError>
-    ensures { IfOk result (λ told. AreWarnings L.StorageT.number definition.now.table rules.now
+    ensures told { IfOk result (λ told. AreWarnings L.StorageT.number definition.now.table rules.now
         (map as_told told.items)) }
+    ensures fit { IfOk result (λ told. All (SpanFits rules.now) told.items) }
 {
     let answers = Answers::of(alloc, definition)?;
     let mut told = Vec::new(alloc);
-    push_states(&mut told, definition)?;
+    push_states(&mut told, definition, rules)?;
     push_rules(&mut told, definition, rules, &answers)?;
     Ok(told)
 }

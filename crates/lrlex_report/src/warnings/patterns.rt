@@ -1,5 +1,5 @@
 //! A rule's pattern as the text has it, and what in a pattern is hardly meant.
-ghost use Rattle.std.specs.Prelude.{◌≡◌, ◌+◌, ◌≤◌, length, take};
+ghost use Rattle.std.specs.Prelude.{◌≡◌, ◌+◌, ◌≤◌, IsCharBoundary, length, take};
 ghost use Rattle.lrlex_rules.specs.RuleLine.{target_name};
 ghost use Rattle.lrlex_report.specs.Warnings.{whole_lines_of, line_start, source_of, is_state_name_of, ends_in, goes_on, is_target_of, ends_in_target, begins_blank, is_unmeant, has_unmeant};
 
@@ -21,6 +21,8 @@ pub(crate) fn source_of(rules: &str, name: usize) -> (usize, &str)
     ensures start { result.0 ≡ line_start rules.now name }
     ensures source { result.1.now ≡ source_of rules.now name }
     ensures bound { result.0 + length result.1.now ≤ length rules.now }
+    ensures begin { IsCharBoundary rules.now result.0 }
+    ensures end { IsCharBoundary rules.now (result.0 + length result.1.now) }
 {
     let front = first_bytes(rules, name);
     let start = whole_lines(front).len();

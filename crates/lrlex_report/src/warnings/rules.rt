@@ -1,8 +1,8 @@
 //! The warnings of a rule.
-ghost use Rattle.std.specs.Prelude.{◌≡◌, ◌++◌, OnOk, map};
+ghost use Rattle.std.specs.Prelude.{◌≡◌, ◌++◌, All, OnOk, map};
 ghost use Rattle.lrlex.specs.Active.{lists_none};
 ghost use Rattle.lrlex_rules.specs.RuleParts.{as_rule};
-ghost use Rattle.lrlex_report.specs.Warnings.{as_told, never_wins, has_blank_after_states, loses_escape, has_escape_after_states, rule_warnings};
+ghost use Rattle.lrlex_report.specs.Warnings.{as_told, SpanFits, never_wins, has_blank_after_states, loses_escape, has_escape_after_states, rule_warnings};
 
 use crate::warnings::answers::Facts;
 use crate::warnings::kinds::{Warning, WarningKind, push_all};
@@ -25,11 +25,11 @@ fn lists_none<S: Numbered>(rule: &Rule<S>) -> bool
     rule.start_states().is_empty()
 }
 
-/// Whether the rule lists start states, and its pattern begins with a blank.
+/// Whether the rule lists start states, and its pattern begins with a blank that counts.
 fn has_blank_after_states<S: Numbered>(rule: &Rule<S>) -> bool
     ensures { result ≡ has_blank_after_states (as_rule S.number rule.now) }
 {
-    !lists_none(rule) && begins_blank(rule.re_str())
+    !lists_none(rule) && begins_blank(rule.re_str()) && !rule.config().flags.ignore_whitespace
 }
 
 /// Whether the rule lists no start states, and a backslash of its pattern is dropped that is hardly meant so.
@@ -54,8 +54,10 @@ pub(crate) fn push_rule<S: Numbered>(
     rules: &str,
     rule: &Rule<S>,
 ) -> Result<(), AllocError>
-    ensures { OnOk result (map as_told told.new.items ≡ map as_told told.old.items
+    ensures told { OnOk result (map as_told told.new.items ≡ map as_told told.old.items
         ++ rule_warnings known states.now rules.now (as_rule S.number rule.now)) }
+    ensures fit { All (SpanFits rules.now) told.old.items
+        → OnOk result (All (SpanFits rules.now) told.new.items) }
 {
     let (start, source) = source_of(rules, rule.name_span().start());
     let span = Span::new(start, start + source.len());

@@ -1,13 +1,15 @@
 //! The warnings of a start state.
-ghost use Rattle.std.specs.Prelude.{◌≡◌, ◌++◌, OnOk, map};
+ghost use Rattle.std.specs.Prelude.{◌≡◌, ◌++◌, All, OnOk, map};
+ghost use Rattle.lrlex_base.specs.Spans.{Fits, as_span};
 ghost use Rattle.lrlex_rules.specs.RuleParts.{as_rule};
 ghost use Rattle.lrlex.specs.Never.{enters};
 ghost use Rattle.lrlex.specs.Views.{definition_of};
-ghost use Rattle.lrlex_report.specs.Warnings.{as_told, is_entered, is_never_entered, has_no_rules, state_warnings};
+ghost use Rattle.lrlex_report.specs.Warnings.{as_told, SpanFits, is_entered, is_never_entered, has_no_rules, near_span, state_warnings};
 
+use crate::places::nearest;
 use crate::warnings::kinds::{Warning, WarningKind, push_all};
 use lrlex::{LRNonStreamingLexerDef, LexerDef, LexerTypes, Rule, StartState, StartStateOperation};
-use lrlex_base::Numbered;
+use lrlex_base::{Numbered, Span};
 use std::alloc::AllocError;
 
 /// Whether the rule enters the state with this id.
@@ -42,14 +44,27 @@ fn has_no_rules<L: LexerTypes>(definition: &LRNonStreamingLexerDef<L>, id: usize
     definition.active_rules(id).is_empty()
 }
 
+/// The nearest part of a text.
+fn near_span(rules: &str, span: Span) -> Span
+    ensures value { as_span result ≡ near_span rules.now (as_span span) }
+    ensures fits { Fits rules.now result }
+{
+    let start = nearest(rules, span.start());
+    let end = nearest(rules, span.end());
+    Span::new(start, start.max(end))
+}
+
 /// Adds the warnings of a start state of a definition.
 pub(crate) fn push_state<L: LexerTypes>(
     told: &mut Vec<Warning>,
     definition: &LRNonStreamingLexerDef<L>,
+    rules: &str,
     state: &StartState,
 ) -> Result<(), AllocError>
-    ensures { OnOk result (map as_told told.new.items ≡ map as_told told.old.items
-        ++ state_warnings L.StorageT.number definition.now.table state.now) }
+    ensures told { OnOk result (map as_told told.new.items ≡ map as_told told.old.items
+        ++ state_warnings L.StorageT.number definition.now.table rules.now state.now) }
+    ensures fit { All (SpanFits rules.now) told.old.items
+        → OnOk result (All (SpanFits rules.now) told.new.items) }
 {
     let id = state.id();
     let tests = [
@@ -59,5 +74,5 @@ pub(crate) fn push_state<L: LexerTypes>(
         ),
         (WarningKind::NoRules, has_no_rules(definition, id)),
     ];
-    push_all(told, &tests, state.name_span())
+    push_all(told, &tests, near_span(rules, state.name_span()))
 }

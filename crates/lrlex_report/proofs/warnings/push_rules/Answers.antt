@@ -13,9 +13,12 @@ all_places : (f : ℕ → List (WarningKind × Span)) (old t : List (WarningKind
 all_places f old t n m e h = e ∙ ap (λ (k : ℕ). old ++ up_to f k) h
 
 pub rules-preserved : goal.rules-preserved
-rules-preserved g c = one_more _ _ _ _ c.rules.place c.rules.invariant c.in_ok-push_place.ensures
+rules-preserved g c = record {
+  told = one_more _ _ _ _ c.rules.place c.rules.invariant.told c.in_ok-push_place.ensures.told;
+  fit = λ h. c.in_ok-push_place.ensures.fit (c.rules.invariant.fit h);
+}
 
-pub returns : goal.returns
-returns g c =
+pub returns-clause-told : goal.returns-clause-told
+returns-clause-told g c =
     let same : c.rules.place ≡ length c.rules-count.result.now = omega (arith, c.rules-test.false, c.rules.auto.place-end) in
-    all_places _ _ _ c.rules.place _ c.rules.invariant (same ∙ ap length c.rules-count.ensures)
+    all_places _ _ _ c.rules.place _ c.rules.invariant.told (same ∙ ap length c.rules-count.ensures)
