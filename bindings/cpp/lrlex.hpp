@@ -281,8 +281,10 @@ public:
                 check(call(text.substr(0, end), none, 0, &lexed));
                 see(lexed);
             }
-            const std::size_t likely = (room / 1024 + 1) * (most_ * 5 / 4 + 1);
-            if (likely < room) room = likely;
+            // memory with room for the most so far stays: new memory costs about as much as lexing
+            const std::size_t parts = room / 1024 + 1, likely = parts * (most_ * 5 / 4 + 1);
+            if (parts * (most_ + 1) <= rows.room) room = rows.room;
+            else if (likely < room) room = likely;
         }
         detail::fill(rows, room, lexed, [&](Row *out, std::size_t cap, lrlex_lexed *how) { return call(text, out, cap, how); });
         see(lexed);
