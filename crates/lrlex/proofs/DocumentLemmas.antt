@@ -8,6 +8,8 @@ use Rattle.lrlex_base.specs.LexemeParts.{LexemeParts}
 use Rattle.lrlex_base.specs.Spans.{Fits, Span, span}
 use Rattle.lrlex_base.specs.declared.spans.Span.{Span as TheSpan}
 use Rattle.lrlex_boundaries.specs.Boundaries.{Boundary}
+use Rattle.lrlex_positions.specs.Lines.{AreLinesOf}
+use Rattle.lrlex_positions.specs.declared.lines.Lines.{Lines}
 use Rattle.std.specs.String.{string_bytes}
 use Rattle.lrlex.specs.Searches.{asks_by}
 use Rattle.lrlex.specs.Document.{IsLexedBy, WasEdited, WasLeft}
@@ -63,20 +65,26 @@ module _ (was put : List ℕ) (from to : ℕ) (fits : FitsAt was from to) where
 
 -- ---- what is as it was
 
-still_known : {S X : Type 0} (number : S → ℕ) (seen : X → LexemeParts S) (d : RuleTable S) (breaks breaks' : Breaks) (text text' : List ℕ) (found found' : List (Result X LRLexError))
-    (bounds bounds' : List Boundary) (numbers numbers' : List ℕ) → breaks' ≡ breaks → text' ≡ text → found' ≡ found → bounds' ≡ bounds → numbers' ≡ numbers →
-    AreBreaksOf text breaks × ∥ LooksAhead (definition_by number d) text bounds numbers ∥₁ × ∥ IsRun (definition_by number d) text (items_by number seen found) bounds ∥₁ →
-    AreBreaksOf text' breaks' × ∥ LooksAhead (definition_by number d) text' bounds' numbers' ∥₁ × ∥ IsRun (definition_by number d) text' (items_by number seen found') bounds' ∥₁
-still_known number seen d breaks breaks' text text' found found' bounds bounds' numbers numbers' is_breaks is_text is_found is_bounds is_numbers h = rw (is_breaks, is_text, is_found, is_bounds, is_numbers) h
+still_known : {S X : Type 0} (number : S → ℕ) (seen : X → LexemeParts S) (d : RuleTable S) (breaks breaks' : Breaks) (lines lines' : Lines) (text text' : List ℕ) (found found' : List (Result X LRLexError))
+    (bounds bounds' : List Boundary) (numbers numbers' : List ℕ) → breaks' ≡ breaks → lines' ≡ lines → text' ≡ text → found' ≡ found → bounds' ≡ bounds → numbers' ≡ numbers →
+    AreBreaksOf text breaks × ∥ LooksAhead (definition_by number d) text bounds numbers ∥₁ × ∥ IsRun (definition_by number d) text (items_by number seen found) bounds ∥₁ × AreLinesOf text lines →
+    AreBreaksOf text' breaks' × ∥ LooksAhead (definition_by number d) text' bounds' numbers' ∥₁ × ∥ IsRun (definition_by number d) text' (items_by number seen found') bounds' ∥₁ × AreLinesOf text' lines'
+still_known number seen d breaks breaks' lines lines' text text' found found' bounds bounds' numbers numbers' is_breaks is_lines is_text is_found is_bounds is_numbers h = rw (is_breaks, is_lines, is_text, is_found, is_bounds, is_numbers) h
+
+-- ---- what a text that was lexed is
+
+pub lexed_anew : {S X : Type 0} (number : S → ℕ) (seen : X → LexemeParts S) (d : RuleTable S) (t : LexedText X) (text : List ℕ) → string_bytes t.text ≡ text → AreBreaksOf text t.newlines → AreLinesOf text t.lines
+    → LooksAhead (definition_by number d) text t.lexed.boundaries t.lexed.ahead.items → IsRun (definition_by number d) text (items_by number seen t.lexed.items.items) t.lexed.boundaries → IsLexedBy number seen d t
+lexed_anew number seen d t text is breaks lines looks run = rw is (breaks, ∣ looks ∣₁, ∣ run ∣₁, lines)
 
 -- ---- what an edit leaves, and its refusal
 
 module _ {S X : Type 0} (number : S → ℕ) (seen : X → LexemeParts S) (d : RuleTable S) (removed : Span) (put : List ℕ) (old new : LexedText X) where
   pub still_lexed : {A E : Type 0} (r : Result A E) → OnOk r (WasEdited number seen d removed put old new) → OnErr r (WasLeft old new) → IsLexedBy number seen d old → IsLexedBy number seen d new
-  still_lexed (Ok x) made kept known = (made.breaks, ∣ made.looks ∣₁, ∣ made.run ∣₁)
+  still_lexed (Ok x) made kept known = (made.breaks, ∣ made.looks ∣₁, ∣ made.run ∣₁, made.lines)
   still_lexed (Err e) made kept known =
-      still_known number seen d old.newlines new.newlines (string_bytes old.text) (string_bytes new.text) old.lexed.items.items new.lexed.items.items old.lexed.boundaries new.lexed.boundaries
-      old.lexed.ahead.items new.lexed.ahead.items kept.newlines kept.text kept.found.items kept.found.boundaries kept.found.ahead known
+      still_known number seen d old.newlines new.newlines old.lines new.lines (string_bytes old.text) (string_bytes new.text) old.lexed.items.items new.lexed.items.items old.lexed.boundaries new.lexed.boundaries
+      old.lexed.ahead.items new.lexed.ahead.items kept.newlines kept.lines kept.text kept.found.items kept.found.boundaries kept.found.ahead known
 
   pub edited_laws : {A E : Type 0} (r : Result A E) → OnOk r (WasEdited number seen d removed put old new) →
       OnOk r (HaveLaws (definition_by number d) (string_bytes new.text) (items_by number seen new.lexed.items.items) new.lexed.boundaries)

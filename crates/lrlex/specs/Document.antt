@@ -13,6 +13,7 @@ use Rattle.lrlex.specs.Changes.{HasChanged}
 use Rattle.lrlex.specs.Progress.{HasSame}
 use Rattle.lrlex.specs.Views.{definition_by, items_by}
 use Rattle.lrlex_boundaries.specs.Boundaries.{Boundary}
+use Rattle.lrlex_positions.specs.Lines.{AreLinesOf}
 use Rattle.lrlex.specs.declared.errors.LRLexError.{LRLexError}
 use Rattle.lrlex.specs.declared.definition.rule_table.RuleTable.{RuleTable}
 use Rattle.lrlex.specs.declared.editing.document.LexedText.{LexedText}
@@ -27,17 +28,19 @@ lexed_items t = t.lexed.items.items
 abbrev pub lexed_boundaries : {X : Type 0} → LexedText X → List Boundary
 lexed_boundaries t = t.lexed.boundaries
 
--- the newlines are those of the text, and what was found is what it gives
+-- the newlines and the lines are those of the text, and what was found is what it gives
 abbrev pub IsLexedBy : {S X : Type 0} → (S → ℕ) → (X → LexemeParts S) → RuleTable S → LexedText X → Type 0
 IsLexedBy number seen d t =
     AreBreaksOf (string_bytes t.text) t.newlines
     × ∥ LooksAhead (definition_by number d) (string_bytes t.text) t.lexed.boundaries t.lexed.ahead.items ∥₁
     × ∥ IsRun (definition_by number d) (string_bytes t.text) (items_by number seen t.lexed.items.items) t.lexed.boundaries ∥₁
+    × AreLinesOf (string_bytes t.text) t.lines
 
 -- the bytes of the span gave way to these, what was found is what the text gives now, and this is what that took
 pub record WasEdited {S X : Type 0} (number : S → ℕ) (seen : X → LexemeParts S) (d : RuleTable S) (removed : Span) (put : List ℕ) (old new : LexedText X) : Type 0 where
   pub text : string_bytes new.text ≡ edited (string_bytes old.text) removed put
   pub breaks : AreBreaksOf (string_bytes new.text) new.newlines
+  pub lines : AreLinesOf (string_bytes new.text) new.lines
   pub looks : LooksAhead (definition_by number d) (string_bytes new.text) new.lexed.boundaries new.lexed.ahead.items
   pub run : IsRun (definition_by number d) (string_bytes new.text) (items_by number seen new.lexed.items.items) new.lexed.boundaries
   pub counts : AreCountsOf (definition_by number d) (asks_by d (string_bytes new.text)) old.lexed.boundaries old.lexed.ahead.items removed put (string_bytes new.text) new.lexed.boundaries new.lexed.asked new.lexed.recut
@@ -52,4 +55,5 @@ HasChangedText number seen d removed put old new =
 pub record WasLeft {X : Type 0} (old new : LexedText X) : Type 0 where
   pub text : string_bytes new.text ≡ string_bytes old.text
   pub newlines : new.newlines ≡ old.newlines
+  pub lines : new.lines ≡ old.lines
   pub found : HasSame old.lexed new.lexed

@@ -3,6 +3,7 @@ pub use Rattle.lrlex_base.specs.Spans.{Fits, as_span, span_start, span_end}
 pub use Rattle.lrlex_base.specs.Places.{place_of, line_of, column_of}
 pub use Rattle.lrlex_base.specs.Edits.{edited}
 pub use Rattle.lrlex_positions.specs.Columns.{is_wide, units, width}
+pub use Rattle.lrlex_positions.specs.Lines.{with_newlines, HasPosition, IsInBreak, IsNearestPlace}
 pub use Rattle.lrlex_positions.specs.Positions.{position_of, IsUpTo, IsLastUpTo}
 pub use Rattle.lrlex_base.specs.declared.edits.Edit.{Edit}
 pub use Rattle.lrlex_base.specs.LexemeParts.{LexemeParts}

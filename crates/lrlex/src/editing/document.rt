@@ -15,6 +15,7 @@ ghost use Rattle.lrlex.specs.Changes.{all_new};
 ghost use Rattle.lrlex.specs.Relex.{WasChanged, WasRelexed};
 ghost use Rattle.lrlex.specs.Searches.{asks, asks_by};
 ghost use Rattle.lrlex.specs.Utf16.{utf16_position};
+ghost use Rattle.lrlex_positions.specs.Lines.{AreLinesOf, HasPosition, IsNearestPlace};
 ghost use Rattle.lrlex_positions.specs.Positions.{position_of, IsLastUpTo};
 ghost use Rattle.lrlex.specs.Views.{definition_by, definition_of, items_by};
 ghost use Rattle.lrlex.specs.declared.editing.document.EditError.TheVariants.{DoesNotFit};
@@ -26,9 +27,9 @@ use crate::editing::relex::relex_in_place;
 use crate::errors::LRLexError;
 use crate::lexing::run::{Lexed, end_of, end_state_of, lex};
 use crate::reading::pieces::{Piece, pieces_in, pieces_of};
-use crate::reading::positions::{place_of, position_in, text_of};
+use crate::reading::positions::{place_of, text_of};
 use lrlex_base::{Edit, Lexeme, LexerTypes, NewlineCache, Numbered, Span};
-use lrlex_positions::{PositionEncoding, offset_at};
+use lrlex_positions::{Lines, PositionEncoding, offset_at, position_at};
 use lrlex_rules::StartStateId;
 use std::alloc::{AllocError, Global};
 use std::error::Error;
@@ -98,12 +99,13 @@ fn put_text(text: &mut String, from: usize, to: usize, put: &str)
     let _ = text.replace_range(from..to, put);
 }
 
-/// A text with the places of its newlines and what lexing it gave: a document without its definition. `Document::into_text` gives
+/// A text with the places of its newlines and lines, and what lexing it gave: a document without its definition. `Document::into_text` gives
 /// it and `Document::of_text` takes it, so that a program can keep it beside the definition.
 #[derive(Drop)]
 pub struct LexedText<X> {
     text: String,
     newlines: NewlineCache,
+    lines: Lines,
     lexed: Lexed<X>,
 }
 
@@ -115,6 +117,7 @@ fn lexed_text<S: Numbered, X: Lexeme<S>>(
 ) -> Result<LexedText<X>, AllocError>
     ensures text { IfOk result (λ t. string_bytes t.text ≡ text.now) }
     ensures breaks { IfOk result (λ t. AreBreaksOf text.now t.newlines) }
+    ensures lines { IfOk result (λ t. AreLinesOf text.now t.lines) }
     ensures run { IfOk result (λ t. IsRun (definition_by S.number table.now) text.now
         (items_by S.number X.seen t.lexed.items.items) t.lexed.boundaries) }
     ensures looks { IfOk result (λ t. LooksAhead (definition_by S.number table.now) text.now
@@ -130,6 +133,7 @@ fn lexed_text<S: Numbered, X: Lexeme<S>>(
     Ok(LexedText {
         text: String::from_str(alloc, text)?,
         newlines,
+        lines: Lines::of(alloc, text),
         lexed,
     })
 }
@@ -184,6 +188,8 @@ fn edit_in_place<S: Numbered, X: Lexeme<S>>(
     match relex_in_place(alloc, table, &mut it.lexed, edit, &it.text) {
         Ok((asked, changed)) => {
             it.newlines = newlines;
+            let lines = it.lines.after(alloc, edit, &it.text);
+            it.lines = lines;
             it.lexed.asked = asked;
             it.lexed.recut = changed.pieces.inserted;
             it.lexed.changed = changed;
@@ -221,7 +227,7 @@ fn edit_bytes<S: Numbered, X: Lexeme<S>>(
     }
 }
 
-/// A text that it owns, with its lexemes, its boundaries and the places of its newlines. An edit lexes again what it has to.
+/// A text that it owns, with its lexemes, its boundaries and the places of its newlines and lines. An edit lexes again what it has to.
 #[derive(Drop)]
 pub struct Document<'lexer, L: LexerTypes<LexErrorT = LRLexError>> {
     definition: &'lexer LRNonStreamingLexerDef<L>,
@@ -463,35 +469,38 @@ impl<'lexer, L: LexerTypes<LexErrorT = LRLexError>> Document<'lexer, L> {
     }
 
     /// Line and column of the place before this byte as the Language Server Protocol counts them: both from 0, the column in
-    /// code units of UTF-16. Inside a character it is the place before that, and past the text's end the end.
+    /// code units of UTF-16. A line ends by U+000A, by U+000D and U+000A, or by U+000D alone. Inside a character, or between
+    /// U+000D and U+000A, it is the place before that, and past the text's end the end.
     pub fn position(&self, byte: usize) -> (usize, usize)
-        ensures fits { IsCharBoundary self.now.text byte
+        ensures fits { HasPosition self.now.text byte
             → result ≡ utf16_position self.now.text byte }
-        ensures nearest { (at : ℕ) → IsNearest self.now.text byte at
+        ensures nearest { (at : ℕ) → IsNearestPlace self.now.text byte at
             → result ≡ utf16_position self.now.text at }
     {
         self.position_in(byte, PositionEncoding::Utf16)
     }
 
-    /// Line and column of the place before this byte, both from 0, the column counted as the encoding says. Inside a character
-    /// it is the place before that, and past the text's end the end.
+    /// Line and column of the place before this byte as `position` counts them, but the column as the encoding says. Inside a
+    /// character, or between U+000D and U+000A, it is the place before that, and past the text's end the end.
     pub fn position_in(&self, byte: usize, encoding: PositionEncoding) -> (usize, usize)
-        ensures fits { IsCharBoundary self.now.text byte
+        ensures fits { HasPosition self.now.text byte
             → result ≡ position_of encoding self.now.text byte }
-        ensures nearest { (at : ℕ) → IsNearest self.now.text byte at
+        ensures nearest { (at : ℕ) → IsNearestPlace self.now.text byte at
             → result ≡ position_of encoding self.now.text at }
     {
-        position_in(&self.held.newlines, &self.held.text, byte, encoding)
+        let held = &self.held;
+        position_at(&held.newlines, &held.lines, &held.text, byte, encoding)
     }
 
-    /// The byte of a line and column, both from 0, the column counted as the encoding says: the last place between two
-    /// characters whose position isn't behind that. Past a line's end it is the line's end, past the last line the text's end,
-    /// and inside a character the place before that. It walks over one line at most.
+    /// The byte of a line and column, counted as `position_in` does: the last place whose position isn't behind that. Past a
+    /// line's end it is the place before what ends the line, past the last line the text's end, and inside a character the place
+    /// before that. It walks over one line at most, unless memory ran out for the lines of a text in which U+000D alone ends one.
     pub fn offset_at(&self, position: (usize, usize), encoding: PositionEncoding) -> usize
         ensures last { IsLastUpTo encoding self.now.text position result }
-        ensures inverse { (at : ℕ) → IsCharBoundary self.now.text at →
+        ensures inverse { (at : ℕ) → HasPosition self.now.text at →
             position_of encoding self.now.text at ≡ position → result ≡ at }
     {
-        offset_at(&self.held.newlines, &self.held.text, position, encoding)
+        let held = &self.held;
+        offset_at(&held.newlines, &held.lines, &held.text, position, encoding)
     }
 }

@@ -6,34 +6,41 @@ ghost use Rattle.lrlex_boundaries.specs.Boundaries.{Boundary};
 ghost use Rattle.lrlex.specs.Nearest.{IsNearest};
 ghost use Rattle.lrlex.specs.Reach.{IsRun};
 ghost use Rattle.lrlex.specs.Utf16.{utf16_position};
+ghost use Rattle.lrlex_positions.specs.Lines.{AreLinesOf, HasPosition, IsNearestPlace};
 ghost use Rattle.lrlex_positions.specs.Positions.{position_of, IsLastUpTo};
 ghost use Rattle.lrlex.specs.Views.{definition_of, items_by};
 
 use crate::definition::non_streaming::LRNonStreamingLexerDef;
 use crate::errors::LRLexError;
 use crate::lexing::run::LexRun;
-use crate::reading::positions::{place_of, position_in, text_of};
+use crate::reading::positions::{place_of, text_of};
 use lrlex_base::{Items, Lexer, LexerTypes, NewlineCache, NonStreamingLexer, Span};
-use lrlex_positions::{PositionEncoding, offset_at};
+use lrlex_positions::{Lines, PositionEncoding, offset_at, position_at};
 use std::alloc::{AllocError, Global};
 use std::marker::{Model, PhantomData};
 
-/// A text with the places of its newlines.
+/// A text with the places of its newlines and lines.
 #[derive(Drop)]
 struct Input<'input> {
     text: &'input str,
     newlines: NewlineCache,
+    lines: Lines,
     ghost of_text: { AreBreaksOf text.now newlines },
+    ghost lines_of: { AreLinesOf text.now lines },
 }
 
 impl<'input> Input<'input> {
-    /// The text, with the places of its newlines.
+    /// The text, with the places of its newlines and lines.
     fn new(alloc: Global, text: &'input str) -> Result<Input<'input>, AllocError>
         ensures text { IfOk result (λ input. input.text.now ≡ text.now) }
         ensures utf8 { IsUtf8 text.now }
     {
         let newlines = NewlineCache::from_str(alloc, text)?;
-        Ok(Input { text, newlines })
+        Ok(Input {
+            text,
+            newlines,
+            lines: Lines::of(alloc, text),
+        })
     }
 
     /// Line and column of the place before this byte, both from 1.
@@ -78,8 +85,13 @@ impl<'lexer, 'input, L: LexerTypes<LexErrorT = LRLexError>> LRNonStreamingLexer<
         ensures items { lexer_items result ≡ lexemes.items }
         ensures text { lexer_text result ≡ s.now }
     {
+        let lines = Lines::of(*lexemes.allocator(), s);
         LRNonStreamingLexer {
-            input: Input { text: s, newlines },
+            input: Input {
+                text: s,
+                newlines,
+                lines,
+            },
             lexemes,
             phantom: PhantomData,
         }
@@ -106,36 +118,39 @@ impl<'lexer, 'input, L: LexerTypes<LexErrorT = LRLexError>> LRNonStreamingLexer<
     }
 
     /// Line and column of the place before this byte as the Language Server Protocol counts them: both from 0, the column in
-    /// code units of UTF-16. Inside a character it is the place before that, and past the input's end the end.
+    /// code units of UTF-16. A line ends by U+000A, by U+000D and U+000A, or by U+000D alone. Inside a character, or between
+    /// U+000D and U+000A, it is the place before that, and past the input's end the end.
     pub fn position(&self, byte: usize) -> (usize, usize)
-        ensures fits { IsCharBoundary (lexer_text self.now) byte
+        ensures fits { HasPosition (lexer_text self.now) byte
             → result ≡ utf16_position (lexer_text self.now) byte }
-        ensures nearest { (at : ℕ) → IsNearest (lexer_text self.now) byte at
+        ensures nearest { (at : ℕ) → IsNearestPlace (lexer_text self.now) byte at
             → result ≡ utf16_position (lexer_text self.now) at }
     {
         self.position_in(byte, PositionEncoding::Utf16)
     }
 
-    /// Line and column of the place before this byte, both from 0, the column counted as the encoding says. Inside a character
-    /// it is the place before that, and past the input's end the end.
+    /// Line and column of the place before this byte as `position` counts them, but the column as the encoding says. Inside a
+    /// character, or between U+000D and U+000A, it is the place before that, and past the input's end the end.
     pub fn position_in(&self, byte: usize, encoding: PositionEncoding) -> (usize, usize)
-        ensures fits { IsCharBoundary (lexer_text self.now) byte
+        ensures fits { HasPosition (lexer_text self.now) byte
             → result ≡ position_of encoding (lexer_text self.now) byte }
-        ensures nearest { (at : ℕ) → IsNearest (lexer_text self.now) byte at
+        ensures nearest { (at : ℕ) → IsNearestPlace (lexer_text self.now) byte at
             → result ≡ position_of encoding (lexer_text self.now) at }
     {
-        position_in(&self.input.newlines, self.input.text, byte, encoding)
+        let input = &self.input;
+        position_at(&input.newlines, &input.lines, input.text, byte, encoding)
     }
 
-    /// The byte of a line and column, both from 0, the column counted as the encoding says: the last place between two
-    /// characters whose position isn't behind that. Past a line's end it is the line's end, past the last line the input's end,
-    /// and inside a character the place before that. It walks over one line at most.
+    /// The byte of a line and column, counted as `position_in` does: the last place whose position isn't behind that. Past a
+    /// line's end it is the place before what ends the line, past the last line the input's end, and inside a character the place
+    /// before that. It walks over one line at most, unless memory ran out for the lines of an input in which U+000D alone ends one.
     pub fn offset_at(&self, position: (usize, usize), encoding: PositionEncoding) -> usize
         ensures last { IsLastUpTo encoding (lexer_text self.now) position result }
-        ensures inverse { (at : ℕ) → IsCharBoundary (lexer_text self.now) at →
+        ensures inverse { (at : ℕ) → HasPosition (lexer_text self.now) at →
             position_of encoding (lexer_text self.now) at ≡ position → result ≡ at }
     {
-        offset_at(&self.input.newlines, self.input.text, position, encoding)
+        let input = &self.input;
+        offset_at(&input.newlines, &input.lines, input.text, position, encoding)
     }
 }
 

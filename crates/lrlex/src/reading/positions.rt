@@ -3,10 +3,8 @@ ghost use Rattle.std.specs.Prelude.{◌≡◌, ℕ, [], slice_range, IsCharBound
 ghost use Rattle.lrlex_base.specs.Places.{AreBreaksOf, place_of};
 ghost use Rattle.lrlex_base.specs.Spans.{Fits, span_start, span_end};
 ghost use Rattle.lrlex.specs.Nearest.{IsNearest};
-ghost use Rattle.lrlex_positions.specs.Positions.{position_of};
 
 use lrlex_base::{NewlineCache, Span};
-use lrlex_positions::{PositionEncoding, position_at};
 
 /// The text of the span, or the empty text where the span doesn't fit.
 pub(crate) fn text_of(text: &str, span: Span) -> &str
@@ -29,21 +27,4 @@ pub(crate) fn place_of(newlines: &NewlineCache, text: &str, byte: usize) -> (usi
 {
     let at = text.floor_char_boundary(byte);
     newlines.byte_to_line_num_and_col_num(text, at).unwrap()
-}
-
-/// Line and column of the place before this byte, both from 0, the column counted as the encoding says. Inside a character it is
-/// the place before that, and past the text's end the end.
-pub(crate) fn position_in(
-    newlines: &NewlineCache,
-    text: &str,
-    byte: usize,
-    encoding: PositionEncoding,
-) -> (usize, usize)
-    requires { AreBreaksOf text.now newlines.now }
-    ensures fits { IsCharBoundary text.now byte → result ≡ position_of encoding text.now byte }
-    ensures nearest { (at : ℕ) → IsNearest text.now byte at
-        → result ≡ position_of encoding text.now at }
-{
-    let at = text.floor_char_boundary(byte);
-    position_at(newlines, text, at, encoding)
 }

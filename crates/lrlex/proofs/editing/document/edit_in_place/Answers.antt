@@ -32,6 +32,7 @@ returns-in-Err-clause-kept g c =
     record {
       text = c.put_text-in-Err.ensures.text ∙ ap (λ t. edited t (span from (from + length put)) gone) made ∙ edited_back was put from to here gone gone_is;
       newlines = refl;
+      lines = refl;
       found = c.in-Err.ensures.kept;
     }
 

@@ -1,5 +1,5 @@
 use Rattle.std.proofs.Common.{◌≡◌, ◌∙◌, ap, subst, sym}
-use Rattle.std.specs.Str.{IsCharBoundary}
+use Rattle.lrlex_positions.specs.Lines.{HasPosition}
 use Rattle.lrlex_positions.specs.Positions.{position_of, IsLastUpTo}
 use Rattle.lrlex.specs.Lexer.{Held}
 use Rattle.lrlex.proofs.reading.lexer.LRNonStreamingLexer.offset_at.Goals as goal
@@ -12,4 +12,4 @@ returns-clause-last g c =
 pub returns-clause-inverse : goal.returns-clause-inverse
 returns-clause-inverse g c at fits e =
     let same : c.self.inside.input.text.now ≡ c.args.self.now.text = ap (λ (v : Held _). v.text) c.self.view_is in
-    c.offset_at.ensures.inverse at (subst (λ text. IsCharBoundary text at) (sym same) fits) (ap (λ text. position_of c.args.encoding text at) same ∙ e)
+    c.offset_at.ensures.inverse at (subst (λ text. HasPosition text at) (sym same) fits) (ap (λ text. position_of c.args.encoding text at) same ∙ e)
