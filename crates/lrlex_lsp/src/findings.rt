@@ -104,7 +104,7 @@ fn with_next(text: &str, span: Span) -> Span {
     let (start, end) = (span.start(), span.end());
     let rest = text.get(start..).unwrap_or("");
     match rest.chars().next() {
-        Some(c) if start == end && c != '\n' => Span::new(
+        Some(c) if start == end && c != '\n' && c != '\r' => Span::new(
             start,
             start.saturating_add(c.len_utf8()),
         ),

@@ -67,6 +67,8 @@ struct Row {
     tokens: Tokens,
     /// Line and column where the next piece begins.
     place: (usize, usize),
+    /// Whether that is behind U+000D, which has ended a line.
+    returned: bool,
     /// Line and column where the last token begins.
     last: (usize, usize),
 }
@@ -87,17 +89,39 @@ impl Row {
 
     /// Goes over a part of a line, which has a token unless it is empty or plain. How many tokens that adds.
     fn push_part(&mut self, part: &str, kind: Option<u32>) -> Result<usize, AllocError> {
-        let length = width(self.encoding, part.trim_end_matches('\r'));
+        if part.is_empty() {
+            return Ok(0);
+        }
+        let length = width(self.encoding, part);
         let mut added = 0;
         if let Some(kind) = kind {
-            if length > 0 {
-                self.push(length, kind)?;
-                added = 1;
-            }
+            self.push(length, kind)?;
+            added = 1;
         }
         let (line, column) = self.place;
-        self.place = (line, column.saturating_add(width(self.encoding, part)));
+        self.place = (line, column.saturating_add(length));
+        self.returned = false;
         Ok(added)
+    }
+
+    /// Goes over what U+000A or the piece's end ends, with a token for each line of it that U+000D ends.
+    fn push_lines(&mut self, text: &str, kind: Option<u32>) -> Result<usize, AllocError> {
+        let mut tokens = 0usize;
+        let mut is_first = true;
+        for part in text.split('\r') {
+            if !is_first {
+                self.end_line();
+                self.returned = true;
+            }
+            is_first = false;
+            tokens = tokens.saturating_add(self.push_part(part, kind)?);
+        }
+        Ok(tokens)
+    }
+
+    /// Goes to the next line.
+    fn end_line(&mut self) {
+        self.place = (self.place.0.saturating_add(1), 0);
     }
 
     /// Goes over a piece, with a token for each line of it.
@@ -106,10 +130,13 @@ impl Row {
         let mut is_first = true;
         for part in text.split('\n') {
             if !is_first {
-                self.place = (self.place.0.saturating_add(1), 0);
+                if !self.returned {
+                    self.end_line();
+                }
+                self.returned = false;
             }
             is_first = false;
-            tokens = tokens.saturating_add(self.push_part(part, kind)?);
+            tokens = tokens.saturating_add(self.push_lines(part, kind)?);
         }
         let bytes = text.len();
         self.tokens.pieces.push(Extent { bytes, tokens })?;
@@ -134,6 +161,7 @@ fn tokens_of(
         encoding,
         tokens: Tokens::none(alloc),
         place: document.position_in(begin, encoding),
+        returned: false,
         last,
     };
     for piece in pieces {
