@@ -352,8 +352,9 @@ int lrlex_document_pieces_in(lrlex_document *d, size_t from, size_t to, lrlex_pi
  * and past the text's end the end. LRLEX_OK; LRLEX_MISUSE. */
 int lrlex_document_place(lrlex_document *d, size_t byte, lrlex_place *out);
 
-/* The same place as the Language Server Protocol counts it: line and column from 0, the column in code units of UTF-16.
- * LRLEX_OK; LRLEX_MISUSE. */
+/* Line and column of the place before this byte as the Language Server Protocol counts them: both from 0, the column in code units of
+ * UTF-16. A line ends by U+000A, by U+000D and U+000A, or by U+000D alone. Inside a character, or between U+000D and U+000A, it is the
+ * place before that, and past the text's end the end. LRLEX_OK; LRLEX_MISUSE. */
 int lrlex_document_position(lrlex_document *d, size_t byte, lrlex_place *out);
 
 /* What the columns of a position count. */
@@ -362,12 +363,12 @@ enum {
     LRLEX_UTF16 = 1 /* code units of UTF-16 */
 };
 
-/* The same place, its column counted as `encoding` says. LRLEX_OK; LRLEX_NONE: there is no such encoding; LRLEX_MISUSE. */
+/* The same, its column counted as `encoding` says. LRLEX_OK; LRLEX_NONE: there is no such encoding; LRLEX_MISUSE. */
 int lrlex_document_position_in(lrlex_document *d, size_t byte, uint32_t encoding, lrlex_place *out);
 
 /* The byte of a line and column, both from 0, the column counted as `encoding` says: the inverse of lrlex_document_position_in. Past a
- * line's end it is the line's end, past the last line the text's end, and inside a character the place before that.
- * LRLEX_OK; LRLEX_NONE: there is no such encoding; LRLEX_MISUSE. */
+ * line's end it is the place before what ends the line, past the last line the text's end, and inside a character the place before
+ * that. LRLEX_OK; LRLEX_NONE: there is no such encoding; LRLEX_MISUSE. */
 int lrlex_document_offset_at(lrlex_document *d, size_t line, size_t column, uint32_t encoding, size_t *byte);
 
 #ifdef __cplusplus

@@ -28,7 +28,7 @@ static uint64_t state;
 static unsigned long long texts, built, refused, not_utf8, tokens_seen, edits, scans, offsets;
 
 static const char *const BITS[] = {"%%\n", "%x a\n", "%s b c\n", "<a>", "<+a>", "<-a>", "'X'\n", ";\n", "[a-z]+", "(a|b)*", "\\p{L}", "(?i)", "\\b", "$",
-                                   "^", "{3}", "{1,40}", "\\x41", "\\u{41}", "\xc3\xa9", "\xf0\x9f\x98\x80", "\"", "'", "<*>", "//", "\r\n", "\xe2\x80\xa8",
+                                   "^", "{3}", "{1,40}", "\\x41", "\\u{41}", "\xc3\xa9", "\xf0\x9f\x98\x80", "\"", "'", "<*>", "//", "\r\n", "\r", "\xe2\x80\xa8",
                                    "(?:", "[^", "&&", "\\", "|", "*?", ".", "\n", "\t"};
 
 static size_t below(size_t n) {
@@ -175,14 +175,40 @@ static size_t width_of(uint8_t first, uint32_t encoding) {
     return first < 0x80 ? 1 : first < 0xe0 ? 2 : first < 0xf0 ? 3 : 4;
 }
 
-/* The last place between two characters whose line and column, from 0, aren't behind these. */
+/* Whether a position can tell this byte: it is between two characters, and not between U+000D and U+000A. */
+static int has_position(size_t at) {
+    if (at >= input.len) return at == input.len;
+    return (input.bytes[at] & 0xc0) != 0x80 && !(at > 0 && input.bytes[at - 1] == '\r' && input.bytes[at] == '\n');
+}
+
+/* Goes from the place before a character to the one behind it: U+000A ends a line, and U+000D where no U+000A follows. */
+static void step(lrlex_place *place, size_t at, uint32_t encoding) {
+    const int is_pair = at + 1 < input.len && input.bytes[at + 1] == '\n';
+    if (input.bytes[at] == '\n' || (input.bytes[at] == '\r' && !is_pair)) place->line++, place->column = 0;
+    else if ((input.bytes[at] & 0xc0) != 0x80) place->column += width_of(input.bytes[at], encoding);
+}
+
+/* The last place that has a position, at or before this byte. */
+static size_t nearest(size_t byte) {
+    if (byte > input.len) byte = input.len;
+    while (!has_position(byte)) byte--;
+    return byte;
+}
+
+/* Line and column of that, from 0. */
+static lrlex_place position_of(size_t byte, uint32_t encoding) {
+    lrlex_place it = {0, 0};
+    for (size_t at = 0; at < nearest(byte); at++) step(&it, at, encoding);
+    return it;
+}
+
+/* The last place whose line and column, from 0, aren't behind these. */
 static size_t offset_of(size_t line, size_t column, uint32_t encoding) {
-    size_t at_line = 0, at_column = 0, found = 0;
+    lrlex_place it = {0, 0};
+    size_t found = 0;
     for (size_t at = 0; at <= input.len; at++) {
-        if (at < input.len && (input.bytes[at] & 0xc0) == 0x80) continue;
-        if (at_line < line || (at_line == line && at_column <= column)) found = at;
-        if (at < input.len && input.bytes[at] == '\n') at_line++, at_column = 0;
-        else if (at < input.len) at_column += width_of(input.bytes[at], encoding);
+        if (has_position(at) && (it.line < line || (it.line == line && it.column <= column))) found = at;
+        if (at < input.len) step(&it, at, encoding);
     }
     return found;
 }
@@ -195,10 +221,8 @@ static void check_offsets(lrlex_document *document, size_t from) {
     lrlex_place place;
     LAW(lrlex_document_offset_at(document, line, column, encoding, &byte) == LRLEX_OK && byte == offset_of(line, column, encoding));
     LAW(lrlex_document_position_in(document, from, encoding, &place) == LRLEX_OK);
-    LAW(lrlex_document_offset_at(document, place.line, place.column, encoding, &byte) == LRLEX_OK);
-    if (from > input.len) from = input.len;
-    while (from < input.len && (input.bytes[from] & 0xc0) == 0x80) from--;
-    LAW(byte == from);
+    LAW(place.line == position_of(from, encoding).line && place.column == position_of(from, encoding).column);
+    LAW(lrlex_document_offset_at(document, place.line, place.column, encoding, &byte) == LRLEX_OK && byte == nearest(from));
     offsets++;
 }
 
@@ -223,7 +247,8 @@ static void check_document(lrlex_document *document, lrlex_definition *d) {
     LAW(found == part.count);
     LAW(lrlex_document_place(document, from, &place) == LRLEX_OK);
     LAW(place.line == place_of(from).line && place.column == place_of(from).column);
-    LAW(lrlex_document_position(document, from, &place) == LRLEX_OK && place.line + 1 == place_of(from).line && place.column + 1 >= place_of(from).column);
+    LAW(lrlex_document_position(document, from, &place) == LRLEX_OK);
+    LAW(place.line == position_of(from, LRLEX_UTF16).line && place.column == position_of(from, LRLEX_UTF16).column);
     check_offsets(document, from);
 }
 

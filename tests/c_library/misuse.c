@@ -210,6 +210,9 @@ static void offsets(void) {
         /* empty texts and lines */
         {"", 0, 0, LRLEX_UTF16, 0}, {"", 0, 5, LRLEX_UTF8, 0}, {"", 5, 0, LRLEX_UTF16, 0}, {"\n", 0, 9, LRLEX_UTF16, 0}, {"\n", 1, 9, LRLEX_UTF8, 1},
         {"\n\n", 1, 0, LRLEX_UTF16, 1},
+        /* lines that U+000D ends, with U+000A behind it or alone */
+        {"a\r\nb", 0, 9, LRLEX_UTF16, 1}, {"a\r\nb", 1, 0, LRLEX_UTF16, 3}, {"a\rb", 0, 9, LRLEX_UTF16, 1}, {"a\rb", 1, 0, LRLEX_UTF8, 2},
+        {"\r\r\n", 1, 9, LRLEX_UTF8, 1}, {"\r\r\n", 2, 0, LRLEX_UTF8, 3},
     };
     lrlex_definition d = LRLEX_EMPTY;
     CHECK(define(&d, WORDS) == LRLEX_OK);
@@ -222,12 +225,13 @@ static void offsets(void) {
         CHECK(byte == rows[i].byte);
         CHECK(lrlex_document_offset_at(&document, 0, 0, 2, &byte) == LRLEX_NONE);
         CHECK(lrlex_document_offset_at(&document, 0, 0, UINT32_MAX, &byte) == LRLEX_NONE);
-        /* each place is the inverse of its position */
+        /* each place is the inverse of its position, but that between U+000D and U+000A */
         for (size_t at = 0; at <= strlen(rows[i].text); at++) {
             if (((uint8_t)rows[i].text[at] & 0xc0) == 0x80) continue;
+            const size_t place_at = at > 0 && rows[i].text[at - 1] == '\r' && rows[i].text[at] == '\n' ? at - 1 : at;
             for (uint32_t encoding = LRLEX_UTF8; encoding <= LRLEX_UTF16; encoding++) {
                 CHECK(lrlex_document_position_in(&document, at, encoding, &place) == LRLEX_OK);
-                CHECK(lrlex_document_offset_at(&document, place.line, place.column, encoding, &byte) == LRLEX_OK && byte == at);
+                CHECK(lrlex_document_offset_at(&document, place.line, place.column, encoding, &byte) == LRLEX_OK && byte == place_at);
             }
         }
         lrlex_free(&document);

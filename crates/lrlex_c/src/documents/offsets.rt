@@ -1,6 +1,7 @@
 //! Offsets of a document by their lines and columns.
-ghost use Rattle.std.specs.Prelude.{◌≡◌, ◌≢◌, ◌↔◌, ℕ, pos, None, Some, IfSome, MatchOption, IsCharBoundary};
+ghost use Rattle.std.specs.Prelude.{◌≡◌, ◌≢◌, ◌↔◌, ℕ, pos, None, Some, IfSome, MatchOption};
 ghost use Rattle.lrlex.specs.Document.{lexed_bytes};
+ghost use Rattle.lrlex_positions.specs.Lines.{HasPosition};
 ghost use Rattle.lrlex_positions.specs.Positions.{IsLastUpTo, position_of};
 ghost use Rattle.lrlex_c.specs.Encodings.{encoding_by};
 ghost use Rattle.lrlex_c.specs.Objects.{document_in};
@@ -23,7 +24,7 @@ fn offset_by(
 ) -> Edited
     ensures kept { document_in (Some (Kept result)) ≡ document_in (Some (Kept it)) }
     ensures last { IsLastUpTo encoding (lexed_bytes it.text) position byte.new }
-    ensures inverse { (at : ℕ) → IsCharBoundary (lexed_bytes it.text) at →
+    ensures inverse { (at : ℕ) → HasPosition (lexed_bytes it.text) at →
         position_of encoding (lexed_bytes it.text) at ≡ position → byte.new ≡ at }
 {
     let Edited { definition, text } = it;
@@ -40,7 +41,7 @@ fn offset_of(it: Edited, position: (usize, usize), encoding: u32, byte: &mut usi
     ensures answer { MatchOption (encoding_by encoding) (result.1 ≡ pos 5)
         (λ e. (result.1 ≡ pos 0) × IsLastUpTo e (lexed_bytes it.text) position byte.new) }
     ensures inverse { IfSome (encoding_by encoding) (λ e. (at : ℕ)
-        → IsCharBoundary (lexed_bytes it.text) at
+        → HasPosition (lexed_bytes it.text) at
         → position_of e (lexed_bytes it.text) at ≡ position → byte.new ≡ at) }
 {
     match encoding_of(encoding) {
@@ -62,14 +63,15 @@ fn offset_in(
         (encoding_by encoding) (result ≡ pos 5) (λ e. (result ≡ pos 0)
         × IsLastUpTo e d.1 (line, column) byte.new)) }
     ensures inverse { IfSome (document_in (Some object.old)) (λ d. IfSome (encoding_by encoding)
-        (λ e. (at : ℕ) → IsCharBoundary d.1 at → position_of e d.1 at ≡ (line, column)
+        (λ e. (at : ℕ) → HasPosition d.1 at → position_of e d.1 at ≡ (line, column)
         → byte.new ≡ at)) }
 {
     with_document!(object, |it| offset_of(it, (line, column), encoding, byte))
 }
 
 /// The byte of a line and column of the document, both from 0, the column counted as the encoding says: 0 is UTF-8, and 1 UTF-16. Past a
-/// line's end it is the line's end, past the last line the text's end, and inside a character the place before that.
+/// line's end it is the place before what ends the line, past the last line the text's end, and inside a character the place before
+/// that. A line ends by U+000A, by U+000D and U+000A, or by U+000D alone.
 #[unsafe(no_mangle)]
 pub extern "C" fn lrlex_document_offset_at(
     alloc: Global,
@@ -85,7 +87,7 @@ pub extern "C" fn lrlex_document_offset_at(
         (encoding_by encoding) (result ≡ pos 5) (λ e. (result ≡ pos 0)
         × IsLastUpTo e d.1 (line, column) byte.new)) }
     ensures inverse { IfSome (document_in handle.old.value) (λ d. IfSome (encoding_by encoding)
-        (λ e. (at : ℕ) → IsCharBoundary d.1 at → position_of e d.1 at ≡ (line, column)
+        (λ e. (at : ℕ) → HasPosition d.1 at → position_of e d.1 at ≡ (line, column)
         → byte.new ≡ at)) }
 {
     with_object!(

@@ -4,9 +4,10 @@ ghost use Rattle.lrlex_base.specs.Places.{place_of};
 ghost use Rattle.lrlex.specs.Document.{lexed_bytes};
 ghost use Rattle.lrlex.specs.Nearest.{IsNearest};
 ghost use Rattle.lrlex.specs.Utf16.{utf16_position};
+ghost use Rattle.lrlex_positions.specs.Lines.{IsNearestPlace};
 ghost use Rattle.lrlex_positions.specs.Positions.{position_of};
 ghost use Rattle.lrlex_c.specs.Buffers.{place_by};
-ghost use Rattle.lrlex_c.specs.Encodings.{encoding_by, shown_at};
+ghost use Rattle.lrlex_c.specs.Encodings.{encoding_by, shown_at, IsPlaceFor};
 ghost use Rattle.lrlex_c.specs.Objects.{document_in};
 ghost use Rattle.lrlex_c.specs.declared.object.Object.TheVariants.{Document as Kept};
 
@@ -32,7 +33,7 @@ pub(crate) fn encoding_of(number: u32) -> Option<PositionEncoding>
 
 /// The position of a byte by this encoding, or, without one, its line and column as people count them.
 fn shown_at(document: &Document<'_>, byte: usize, by: Option<PositionEncoding>) -> Place
-    ensures { (at : ℕ) → IsNearest document.now.text byte at
+    ensures { (at : ℕ) → IsPlaceFor by document.now.text byte at
         → result ≡ shown_at by document.now.text at }
 {
     let (line, column) = match by {
@@ -44,7 +45,7 @@ fn shown_at(document: &Document<'_>, byte: usize, by: Option<PositionEncoding>) 
 
 fn place_of(it: Edited, byte: usize, by: Option<PositionEncoding>, out: &mut Place) -> Edited
     ensures kept { document_in (Some (Kept result)) ≡ document_in (Some (Kept it)) }
-    ensures place { (at : ℕ) → IsNearest (lexed_bytes it.text) byte at
+    ensures place { (at : ℕ) → IsPlaceFor by (lexed_bytes it.text) byte at
         → out.new ≡ shown_at by (lexed_bytes it.text) at }
 {
     let Edited { definition, text } = it;
@@ -58,7 +59,7 @@ fn place_in(object: &mut Object, byte: usize, by: Option<PositionEncoding>, out:
     ensures kept { document_in (Some object.new) ≡ document_in (Some object.old) }
     ensures misused { result ≡ pos 4 ↔ document_in (Some object.old) ≡ None }
     ensures done { IfSome (document_in (Some object.old)) (λ d. (result ≡ pos 0)
-        × ((at : ℕ) → IsNearest d.1 byte at → out.new ≡ shown_at by d.1 at)) }
+        × ((at : ℕ) → IsPlaceFor by d.1 byte at → out.new ≡ shown_at by d.1 at)) }
 {
     with_document!(object, |it| (place_of(it, byte, by, out), OK))
 }
@@ -86,7 +87,8 @@ pub extern "C" fn lrlex_document_place(
 }
 
 /// Line and column of the place before this byte of the document as the Language Server Protocol counts them: both from 0, the column
-/// in code units of UTF-16. Inside a character it is the place before that, and past the text's end the end.
+/// in code units of UTF-16. A line ends by U+000A, by U+000D and U+000A, or by U+000D alone. Inside a character, or between U+000D and
+/// U+000A, it is the place before that, and past the text's end the end.
 #[unsafe(no_mangle)]
 pub extern "C" fn lrlex_document_position(
     alloc: Global,
@@ -97,7 +99,7 @@ pub extern "C" fn lrlex_document_position(
     ensures kept { document_in handle.new.value ≡ document_in handle.old.value }
     ensures misused { result ≡ pos 4 ↔ document_in handle.old.value ≡ None }
     ensures done { IfSome (document_in handle.old.value) (λ d. (result ≡ pos 0)
-        × ((at : ℕ) → IsNearest d.1 byte at → out.new ≡ place_by (utf16_position d.1 at))) }
+        × ((at : ℕ) → IsNearestPlace d.1 byte at → out.new ≡ place_by (utf16_position d.1 at))) }
 {
     with_object!(
         alloc,
@@ -112,7 +114,7 @@ fn position_in(object: &mut Object, byte: usize, encoding: u32, out: &mut Place)
     ensures misused { result ≡ pos 4 ↔ document_in (Some object.old) ≡ None }
     ensures answer { IfSome (document_in (Some object.old)) (λ d. MatchOption
         (encoding_by encoding) (result ≡ pos 5) (λ e. (result ≡ pos 0) × ((at : ℕ)
-        → IsNearest d.1 byte at → out.new ≡ place_by (position_of e d.1 at)))) }
+        → IsNearestPlace d.1 byte at → out.new ≡ place_by (position_of e d.1 at)))) }
 {
     with_document!(object, |it| match encoding_of(encoding) {
         None => (it, NONE),
@@ -120,8 +122,9 @@ fn position_in(object: &mut Object, byte: usize, encoding: u32, out: &mut Place)
     })
 }
 
-/// Line and column of the place before this byte of the document, both from 0, the column counted as the encoding says: 0 is UTF-8, and
-/// 1 UTF-16. Inside a character it is the place before that, and past the text's end the end.
+/// Line and column of the place before this byte of the document as `lrlex_document_position` counts them, but the column as the
+/// encoding says: 0 is UTF-8, and 1 UTF-16. Inside a character, or between U+000D and U+000A, it is the place before that, and past the
+/// text's end the end.
 #[unsafe(no_mangle)]
 pub extern "C" fn lrlex_document_position_in(
     alloc: Global,
@@ -134,7 +137,7 @@ pub extern "C" fn lrlex_document_position_in(
     ensures misused { result ≡ pos 4 ↔ document_in handle.old.value ≡ None }
     ensures answer { IfSome (document_in handle.old.value) (λ d. MatchOption
         (encoding_by encoding) (result ≡ pos 5) (λ e. (result ≡ pos 0) × ((at : ℕ)
-        → IsNearest d.1 byte at → out.new ≡ place_by (position_of e d.1 at)))) }
+        → IsNearestPlace d.1 byte at → out.new ≡ place_by (position_of e d.1 at)))) }
 {
     with_object!(
         alloc,
