@@ -20,6 +20,14 @@ let 'LET'
 [ \\n]+ ;
 """
 
+# U+000D and U+000A in tokens of their own.
+LINES = """%%
+[a-z]+ 'NAME'
+"[^"]*" 'STRING'
+\\r ;
+\\n ;
+"""
+
 FAULTS = "%s here here\n%%\n[a-z]+ 'ID'\n[A-Z] 'ID'\n 'indented'\n( 'OPEN'\n"
 
 NEVER_ENTERED = "no rule enters this start state; name it as the target of a rule"
@@ -228,7 +236,8 @@ class RuleFiles(Session):
         client.begin()
         rows = [
             ("😀b\nc", (0, 1), "x😀b\nc"), ("ab\nc", (0, 99), "abx\nc"), ("ab\nc", (9, 0), "ab\ncx"), ("ab\n", (1, 5), "ab\nx"),
-            ("ab\r\nc", (1, 0), "ab\r\nxc"),
+            ("ab\r\nc", (1, 0), "ab\r\nxc"), ("ab\r\nc", (0, 9), "abx\r\nc"), ("ab\rc", (1, 0), "ab\rxc"), ("ab\rc", (0, 9), "abx\rc"),
+            ("a\r\r\nb", (1, 9), "a\rx\r\nb"), ("a\n\rb", (2, 0), "a\n\rxb"), ("a\r", (1, 0), "a\rx"), ("😀\r😀", (1, 1), "😀\rx😀"),
         ]
         for text, place, wanted in rows:
             with self.subTest(text=text, place=place):
@@ -301,6 +310,56 @@ class Texts(Session):
         self.assertEqual((0, 4, 4, "property"), decoded(after["data"], client.types)[1])
         self.assertEqual(after["data"], client.tokens_since(TEXT, before)["data"])
         self.assertEqual([], client.tokens_since(TEXT, {**client.tokens(TEXT)})["edits"])
+        self.assertEqual(0, client.end())
+
+    def test_ends_of_lines(self):
+        client = self.client("--rules", rules_file(LINES))
+        client.begin()
+        wanted = [(0, 0, 2, "variable"), (1, 0, 1, "variable"), (3, 0, 2, "string"), (4, 0, 2, "string")]
+        for end in ("\n", "\r\n", "\r"):
+            with self.subTest(end=end):
+                told = client.open(TEXT, f'ab{end}c{end}{end}"x{end}y"?d')
+                self.assertEqual([(4, 2, 4, 3)], [spot(it)[:4] for it in told["diagnostics"]])
+                self.assertEqual(wanted, decoded(client.tokens(TEXT)["data"], client.types))
+                self.assertEqual(wanted[1:2], decoded(client.tokens_in(TEXT, (1, 0), (2, 0))["data"], client.types))
+                client.close(TEXT)
+        self.assertEqual(0, client.end())
+
+    def test_lexing_that_stops_where_a_line_ends(self):
+        client = self.client("--rules", rules_file("%%\n[a-z]+ 'NAME'\n"))
+        client.begin()
+        for end in ("\n", "\r\n", "\r"):
+            with self.subTest(end=end):
+                found = client.open(TEXT, f"ab{end}c")["diagnostics"]
+                self.assertEqual([(0, 2, 0, 2)], [spot(it)[:4] for it in found])
+                client.close(TEXT)
+        self.assertEqual(0, client.end())
+
+    def test_edits_of_ends_of_lines(self):
+        client = self.client("--rules", rules_file(LINES))
+        client.begin()
+        rows = [
+            # a text, a change, and the text after it
+            ("a\rb", ranged((1, 0), (1, 0), "\n"), "a\r\nb"), ("a\r\nb?", ranged((0, 1), (1, 0), "\r"), "a\rb?"),
+            ("a\r\nb?", ranged((0, 1), (1, 0), "\n"), "a\nb?"), ("ab?", ranged((0, 1), (0, 1), "\r"), "a\rb?"),
+            ("a\nb\nc?", ranged((0, 1), (0, 1), "\r"), "a\r\nb\nc?"), ("a\rb\rc?", ranged((0, 1), (2, 0), ""), "ac?"),
+            ("\"x\ry\"\r\nb?", ranged((1, 0), (1, 0), "\n"), "\"x\r\ny\"\r\nb?"), ("a\r\"x\"?", ranged((1, 1), (1, 1), "\n"), "a\r\"\nx\"?"),
+            ("a\r\r\nb?", ranged((1, 0), (1, 0), "x"), "a\rx\r\nb?"), ("a\r\nb\r😀?", ranged((2, 0), (2, 2), "c"), "a\r\nb\rc?"),
+        ]
+        other = "file:///texts/b.txt"
+        for text, change, after in rows:
+            with self.subTest(text=text, change=change):
+                client.open(TEXT, text)
+                before = client.tokens(TEXT)
+                told = client.change(TEXT, change)
+                edits = client.tokens_since(TEXT, before)["edits"]
+                fresh = client.open(other, after)
+                data = client.tokens(other)["data"]
+                self.assertEqual(fresh["diagnostics"], told["diagnostics"])
+                self.assertEqual(data, client.tokens(TEXT)["data"])
+                self.assertEqual(data, applied(before["data"], edits))
+                client.close(TEXT)
+                client.close(other)
         self.assertEqual(0, client.end())
 
     def test_tokens_that_changed(self):

@@ -25,8 +25,27 @@ ROWS = [
         [[[0, 2], [0, 1]], [[0, 5], [0, 2]], [0, 2], [2, 5], [2, 5], [5, 5]],
     ),
     (
-        "a return is a character of its line", "a\r\nb\rc", [1, 2, 3, 5, (0, 1), (0, 2), (0, 9), (1, 0), (1, 2)],
-        [[[0, 1]] * 2, [[0, 2]] * 2, [[1, 0]] * 2, [[1, 2]] * 2, [1, 1], [2, 2], [2, 2], [3, 3], [5, 5]],
+        "return and newline", "a\r\nb", [1, 2, 3, (0, 1), (0, 2), (0, 9), (1, 0)],
+        [[[0, 1]] * 2, [[0, 1]] * 2, [[1, 0]] * 2, [1, 1], [1, 1], [1, 1], [3, 3]],
+    ),
+    (
+        "a return alone", "a\rb", [1, 2, 3, (0, 1), (0, 9), (1, 0), (1, 1)],
+        [[[0, 1]] * 2, [[1, 0]] * 2, [[1, 1]] * 2, [1, 1], [1, 1], [2, 2], [3, 3]],
+    ),
+    (
+        "newline and return", "\n\r", [0, 1, 2, (1, 0), (1, 1), (2, 0)],
+        [[[0, 0]] * 2, [[1, 0]] * 2, [[2, 0]] * 2, [1, 1], [1, 1], [2, 2]],
+    ),
+    (
+        "a surrogate pair before each end of a line", "😀\r😀\r\n😀", [4, 5, 9, 10, 11, (0, 1), (0, 2), (0, 9), (1, 2), (1, 4), (1, 9), (2, 1)],
+        [
+            [[0, 4], [0, 2]], [[1, 0]] * 2, [[1, 4], [1, 2]], [[1, 4], [1, 2]], [[2, 0]] * 2,
+            [0, 0], [0, 4], [4, 4], [5, 9], [9, 9], [9, 9], [11, 11],
+        ],
+    ),
+    (
+        "returns before a newline", "\r\r\n", [0, 1, 2, 3, (0, 0), (1, 0), (1, 1), (2, 0)],
+        [[[0, 0]] * 2, [[1, 0]] * 2, [[1, 0]] * 2, [[2, 0]] * 2, [0, 0], [1, 1], [1, 1], [3, 3]],
     ),
 ]
 
@@ -36,10 +55,21 @@ EDITED = [
     ("a newline goes", "ab\ncd", [(2, 3, "")], "abcd"),
     ("a character of two code units comes", "ab\ncd", [(4, 4, "😀")], "ab\nc😀d"),
     ("two lines become three", "ab\ncd", [(1, 4, "x\ny\nz")], "ax\ny\nzd"),
-    ("all goes", "a\nb\n", [(0, 4, "")], ""),
+    ("a return comes", "ab\ncd", [(1, 1, "\r")], "a\rb\ncd"),
+    ("a return goes", "a\rb", [(1, 2, "")], "ab"),
+    ("a newline leaves its return", "a\r\nb", [(2, 3, "")], "a\rb"),
+    ("a newline finds a return", "a\rb", [(2, 2, "\n")], "a\r\nb"),
+    ("a text parts a return and its newline", "a\r\nb", [(2, 2, "x")], "a\rx\nb"),
+    ("a return and its newline come in two edits", "ab", [(1, 1, "\r"), (2, 2, "\n")], "a\r\nb"),
+    ("lines that end by both", "ab", [(1, 1, "\r\n\r\n")], "a\r\n\r\nb"),
+    ("a return before a newline that stays", "a\nb", [(1, 1, "\r")], "a\r\nb"),
+    ("far from a return", "a\rb\ncd", [(5, 5, "x\n")], "a\rb\ncx\nd"),
+    ("a line that a return ends becomes two", "a\rb\rc", [(3, 3, "\r\n😀")], "a\rb\r\n😀\rc"),
+    ("all goes", "a\rb\r", [(0, 4, "")], ""),
+    ("all that newlines end goes", "a\nb\n", [(0, 4, "")], ""),
 ]
 
-PARTS = ["a", "b", "\n", "\r", "\r\n", "é", "❤", "😀", ""]
+PARTS = ["a", "b", "\n", "\r", "\r\n", "é", "❤", "😀", "", "x\r\ry"]
 
 RANDOM, SEED, ASKED = 2_000, 7, 12
 

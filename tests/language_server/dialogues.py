@@ -6,6 +6,7 @@ dialogues differ.
 """
 
 import random
+import re
 import sys
 
 from language_server.client import Client, applied, faults, ranged, rules_file
@@ -15,24 +16,22 @@ RULES = [
     "let 'LET'\n", "[a-z]+ 'NAME'\n", "[0-9]+ 'NUMBER'\n", '"[^"]*" \'STRING\'\n', "[=+;] 'SIGN'\n", "#[^\\n]* ;\n",
     "[ \\n\\r]+ ;\n", "é+ 'ACCENT'\n", "😀 'FACE'\n", "x$ 'LAST'\n", "( 'OPEN'\n", "\\r 'RETURN'\n", "[a-z]+ 'NAME'\n",
 ]
-# No lone \r: the server ends no line by it.
-PARTS = ["let", "é", "😀", "\n", " ", '"', "12", "#", ";", "x", "\r\n", "=", "\t", "ab"]
+PARTS = ["let", "é", "😀", "\n", " ", '"', "12", "#", ";", "x", "\r\n", "\r", "=", "\t", "ab"]
+
+# What ends a line.
+LINE_END = re.compile("\r\n|\n|\r")
 
 # How often each thing is done.
 EDIT, TOKENS, CLOSE, NEW_RULES = 80, 12, 5, 3
 
 
 def lines_of(text):
-    """Where the lines of a text begin and end. A line ends by \\n or \\r\\n."""
-    lines, start, at = [], 0, 0
-    while at < len(text):
-        ended = 2 if text.startswith("\r\n", at) else 1 if text[at] == "\n" else 0
-        if ended:
-            lines.append((start, at))
-            start = at = at + ended
-        else:
-            at += 1
-    return [*lines, (start, at)]
+    """Where the lines of a text begin and end."""
+    lines, start = [], 0
+    for end in LINE_END.finditer(text):
+        lines.append((start, end.start()))
+        start = end.end()
+    return [*lines, (start, len(text))]
 
 
 def columns(text, is_utf8):
@@ -40,9 +39,9 @@ def columns(text, is_utf8):
     return len(text.encode() if is_utf8 else text.encode("utf-16-le")) // (1 if is_utf8 else 2)
 
 
-def position(text, at, is_utf8, ends=lines_of):
+def position(text, at, is_utf8):
     """Line and column of the place before this character. A place within a line's end is no position of the protocol."""
-    for number, (start, end) in enumerate(ends(text)):
+    for number, (start, end) in enumerate(lines_of(text)):
         if start <= at <= end:
             return number, columns(text[start:at], is_utf8)
     return None

@@ -17,7 +17,7 @@ RULES = "%s here here\n%%\n[a-z]+ 'ID'\n[a-z] 'ID'\n 'indented'\n( 'OPEN'\n"
 def session(rules):
     """The bytes of a session: requests too early, no JSON, two documents, edits, tokens, other rules, the end."""
     given = f"file://{rules}"
-    documents = [(URI, "lex", RULES), (OTHER, "text", "let a = 12;\n😀 = \"x\ny\";\n"), (given, "lex", "%%\n[a-z]+ 'WORD'\n")]
+    documents = [(URI, "lex", RULES), (OTHER, "text", "let a = \"1\r2\";\n😀 = \"x\ny\";\n"), (given, "lex", "%%\n[a-z]+ 'WORD'\n")]
     about = {"textDocument": {"uri": OTHER}}
     bodies = [request(1, "textDocument/hover"), b"{nonsense", request(2, "initialize", {"capabilities": {}})]
     for uri, language, text in documents:

@@ -1,6 +1,11 @@
 """Positions of the Language Server Protocol, counted by hand. A text is its bytes; lines and columns count from 0."""
 
+import re
+
 from support.places import is_place
+
+# What ends a line.
+LINE_END = re.compile(rb"\r\n|\n|\r")
 
 UNITS = {"utf-8": ("utf-8", 1), "utf-16": ("utf-16-le", 2)}
 
@@ -14,18 +19,18 @@ def width(part, encoding):
 
 
 def lines_of(data):
-    """Where each line begins, and where it ends without its newline."""
+    """Where each line begins, and where it ends without what ends it."""
     spans, start = [], 0
-    for line in data.split(b"\n"):
-        spans.append((start, start + len(line)))
-        start += len(line) + 1
-    return spans
+    for end in LINE_END.finditer(data):
+        spans.append((start, end.start()))
+        start = end.end()
+    return [*spans, (start, len(data))]
 
 
 def nearest(data, byte):
-    """The nearest place: not past the end, nor inside a character."""
+    """The nearest place that has a position: not past the end, not inside a character, nor inside the end of a line."""
     byte = min(byte, len(data))
-    while not is_place(data, byte):
+    while not is_place(data, byte) or data[max(byte - 1, 0):byte + 1] == b"\r\n":
         byte -= 1
     return byte
 
