@@ -71,6 +71,12 @@ still_known : {S X : Type 0} (number : S → ℕ) (seen : X → LexemeParts S) (
     AreBreaksOf text' breaks' × ∥ LooksAhead (definition_by number d) text' bounds' numbers' ∥₁ × ∥ IsRun (definition_by number d) text' (items_by number seen found') bounds' ∥₁ × AreLinesOf text' lines'
 still_known number seen d breaks breaks' lines lines' text text' found found' bounds bounds' numbers numbers' is_breaks is_lines is_text is_found is_bounds is_numbers h = rw (is_breaks, is_lines, is_text, is_found, is_bounds, is_numbers) h
 
+-- ---- what a text that was lexed is
+
+pub lexed_anew : {S X : Type 0} (number : S → ℕ) (seen : X → LexemeParts S) (d : RuleTable S) (t : LexedText X) (text : List ℕ) → string_bytes t.text ≡ text → AreBreaksOf text t.newlines → AreLinesOf text t.lines
+    → LooksAhead (definition_by number d) text t.lexed.boundaries t.lexed.ahead.items → IsRun (definition_by number d) text (items_by number seen t.lexed.items.items) t.lexed.boundaries → IsLexedBy number seen d t
+lexed_anew number seen d t text is breaks lines looks run = rw is (breaks, ∣ looks ∣₁, ∣ run ∣₁, lines)
+
 -- ---- what an edit leaves, and its refusal
 
 module _ {S X : Type 0} (number : S → ℕ) (seen : X → LexemeParts S) (d : RuleTable S) (removed : Span) (put : List ℕ) (old new : LexedText X) where
