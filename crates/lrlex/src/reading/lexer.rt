@@ -150,7 +150,13 @@ impl<'lexer, 'input, L: LexerTypes<LexErrorT = LRLexError>> LRNonStreamingLexer<
             position_of encoding (lexer_text self.now) at ≡ position → result ≡ at }
     {
         let input = &self.input;
-        offset_at(&input.newlines, &input.lines, input.text, position, encoding)
+        offset_at(
+            &input.newlines,
+            &input.lines,
+            input.text,
+            position,
+            encoding,
+        )
     }
 }
 
