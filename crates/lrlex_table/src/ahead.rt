@@ -36,6 +36,8 @@ pub(crate) struct Ahead {
     looked: usize,
     /// How many of these bytes were passed without a match that was asked for.
     pub(crate) passed: usize,
+    /// How many matches were asked for that weren't the next one found, as where lists take turns.
+    pub(crate) missed: usize,
     /// How many bytes are passed before it is tried again.
     wait: usize,
 }
@@ -57,12 +59,13 @@ impl Ahead {
             bytes: FIRST_BYTES,
             looked: 0,
             passed: 0,
+            missed: 0,
             wait: FIRST_BYTES,
         }
     }
 
     /// Whether a match is left.
-    fn has_more(&self) -> bool {
+    pub(crate) fn has_more(&self) -> bool {
         self.at < self.found.len()
     }
 
@@ -83,10 +86,11 @@ impl Ahead {
             let left = self.end.saturating_sub(self.begin);
             self.passed = self.passed.saturating_add(left);
         }
+        let count = self.found.len();
         self.found.clear();
         self.at = 0;
         if self.looked > 0 {
-            let is_of_use = self.passed <= self.looked / 4;
+            let is_of_use = self.passed <= self.looked / 4 && self.missed <= count / 4;
             self.looked = 0;
             if !is_of_use {
                 self.bytes = FIRST_BYTES;
@@ -152,5 +156,6 @@ impl Ahead {
         self.end = from.saturating_add(self.places[count] as usize);
         self.looked = many;
         self.passed = 0;
+        self.missed = 0;
     }
 }

@@ -131,6 +131,9 @@ impl<'d, 't> DeadEnds<'d, 't> {
         ensures text { self.new.text ≡ self.old.text }
     {
         let text = self.text;
+        if self.ahead.has_more() {
+            self.ahead.missed = self.ahead.missed.saturating_add(1);
+        }
         if self.ahead.list == list {
             self.pass_to(tables, list, place);
         }

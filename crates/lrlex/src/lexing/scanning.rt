@@ -16,7 +16,7 @@ use lrlex_rules::StartStateId;
 use std::alloc::{AllocError, Global};
 
 /// Takes what won at the cursor's place in the state that is on top, whatever its rule is.
-#[inline(never)]
+#[inline(always)]
 pub(crate) fn take_tile<'d, S: Numbered>(
     table: &'d RuleTable<S>,
     text: &str,
@@ -64,7 +64,7 @@ pub(crate) fn take_tile<'d, S: Numbered>(
 }
 
 /// Takes the next step, where no tile was found ahead.
-#[inline(never)]
+#[inline(always)]
 pub(crate) fn seek<'d, S: Numbered>(
     alloc: Global,
     table: &'d RuleTable<S>,

@@ -197,8 +197,8 @@ impl<'d, 't> Searcher<'d, 't> {
     }
 
     /// The rule that wins at the place, from which on the rest of the text stands, among those that are active in the
-    /// state. Out of line, since most tiles are found ahead.
-    #[inline(never)]
+    /// state.
+    #[inline(always)]
     pub(crate) fn winner<S: Numbered>(
         &mut self,
         alloc: Global,
