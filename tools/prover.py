@@ -75,4 +75,4 @@ def built(crate, archive, kept, much=0):
     words = [f"{kit()}/bin/rattle", "build", *words_for(crate.name, crate.needs), "--incremental", kept]
     words += ["--toolchain", f"{kit()}/toolchain", "--backend", "llvm", "--jobs", "2", "-o", archive]
     status, told = processes.run(processes.give_way(words, much), cwd=crate.folder)
-    return told if status else ""
+    return (told or f"it ended with status {status}") if status else ""
