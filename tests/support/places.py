@@ -1,5 +1,10 @@
 """Places, texts and lines of a text, counted by hand. A text is its bytes."""
 
+import re
+
+# What ends a line by the Language Server Protocol.
+LINE_END = re.compile("\r\n|\n|\r")
+
 
 def is_place(data, byte):
     """Whether the byte is in the text or its end, and not inside a character."""
@@ -14,12 +19,16 @@ def fits(data, start, end):
 def counted(data, byte):
     """The place before this byte; inside a character the place before that, and past the text's end the end.
 
-    At first as people count it, line and column from 1, in characters; then from 0, in code units of UTF-16.
+    At first as people count it, line and column from 1, in characters, where U+000A alone ends a line; then as the Language Server
+    Protocol does, from 0, in code units of UTF-16, where U+000D ends a line too, and no place is between it and U+000A.
     """
     before = data[:byte].decode(errors="ignore")
     line = before.count("\n")
     in_line = before[before.rfind("\n") + 1:]
-    return [[line + 1, len(in_line) + 1], [line, len(in_line.encode("utf-16-le")) // 2]]
+    if before.endswith("\r") and data[len(before.encode()):].startswith(b"\n"):
+        before = before[:-1]
+    lines = LINE_END.split(before)
+    return [[line + 1, len(in_line) + 1], [len(lines) - 1, len(lines[-1].encode("utf-16-le")) // 2]]
 
 
 def lines_around(data, start, end):
