@@ -11,13 +11,15 @@ import unittest
 
 from language_server.client import server
 from support import programs
+from support.fault_notes import MARGIN
 
 SCRIPTS = f"{programs.TOP}/tests/language_server"
 
 LSP_MODE = "/usr/share/emacs/site-lisp/elpa-src/lsp-mode-*"
+EGLOT = "/usr/share/emacs/site-lisp/elpa-src/eglot-*"
 
 FAULTS = [
-    "1:9-1:13 Start state already exists", "4:8-4:10 Rule name already exists", "5:1-5:12 Verbatim code not supported",
+    "1:9-1:13 Start state already exists", "4:8-4:10 Rule name already exists", f"5:1-5:12 Verbatim code not supported: {MARGIN}",
     "6:1-6:2 Invalid regular expression: unclosed group",
 ]
 
@@ -26,10 +28,10 @@ NEVER_WINS = "this rule never wins: it matches no byte, or other rules match all
 
 # Edits as one types them, and what is wrong after each: the places in bytes, as neovim counts them.
 STEPS = [
-    ("1s/here here/here there/", ["4:8-4:10 Rule name already exists", "5:1-5:12 Verbatim code not supported",
+    ("1s/here here/here there/", ["4:8-4:10 Rule name already exists", f"5:1-5:12 Verbatim code not supported: {MARGIN}",
                                   "6:1-6:2 Invalid regular expression: unclosed group"]),
-    ("4s/ID/I2/", ["5:1-5:12 Verbatim code not supported", "6:1-6:2 Invalid regular expression: unclosed group"]),
-    ("6s/(/😀()/", ["5:1-5:12 Verbatim code not supported"]),
+    ("4s/ID/I2/", [f"5:1-5:12 Verbatim code not supported: {MARGIN}", "6:1-6:2 Invalid regular expression: unclosed group"]),
+    ("6s/(/😀()/", [f"5:1-5:12 Verbatim code not supported: {MARGIN}"]),
     ("5d", [f"1:4-1:8 {NEVER_ENTERED}", f"1:9-1:14 {NEVER_ENTERED}", f"4:1-4:6 {NEVER_WINS}"]),
     # what a script does is one step to neovim
     ("undo", FAULTS),
@@ -91,6 +93,18 @@ class Editors(unittest.TestCase):
         look = "lua vim.wait(9000, function() return #vim.diagnostic.get(0) > 0 end, 10) print(#vim.diagnostic.get(0))"
         words = ["nvim", "--headless", "-u", init, "-i", "NONE", "-n", "faults.l", "-c", look, "-c", "qa!"]
         self.assertEqual("4", self.run_editor(words, "examples/faults.l").strip())
+
+    def test_settings_of_eglot(self):
+        if not shutil.which("emacs") or not glob.glob(EGLOT):
+            self.skipTest("Emacs or eglot isn't installed")
+        settings = f"{programs.scratch().name}/settings.el"
+        with open(settings, "w", encoding="utf-8") as file:
+            file.write(settings_below("A mode for rule files:") + settings_below("With eglot:"))
+        words = ["emacs", "-Q", "--batch", "-l", f"{SCRIPTS}/eglot.el"]
+        found = sections(self.run_editor(words, "examples/faults.l", SETTINGS=settings))
+        wanted = [f"{place.split(':')[0]}: lrlex: {message}" for place, message in (it.split(" ", 1) for it in FAULTS)]
+        self.assertEqual(wanted, found["opened"])
+        self.assertEqual(wanted[1:], found["after an edit"])
 
     def test_lsp_mode(self):
         if not shutil.which("emacs") or not glob.glob(LSP_MODE):

@@ -17,6 +17,7 @@ STORED = {
     "calc": ("examples/calc.txt", 0),
     "conf": ("tests/examples/conf.in", 0),
     "edit_loop": ("tests/examples/edit_loop.in", 0),
+    "first": ("tests/examples/first.in", 0),
     "json_check": ("tests/examples/json_check.in", 1),
 }
 

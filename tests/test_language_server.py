@@ -30,6 +30,12 @@ LINES = """%%
 
 FAULTS = "%s here here\n%%\n[a-z]+ 'ID'\n[A-Z] 'ID'\n 'indented'\n( 'OPEN'\n"
 
+# What the messages of faults end with.
+NO_MARK = "no line begins with %%; write one before the rules"
+QUOTES = "write it in quotes and without blanks, or ; for no name"
+LIST = "a pattern that begins with < lists start states; write \\< for the character"
+MARGIN = "white space begins the line; write the rule without it, or an empty line"
+
 NEVER_ENTERED = "no rule enters this start state; name it as the target of a rule"
 NEVER_WINS = "this rule never wins: it matches no byte, or other rules match all that it does; put it before them"
 NO_TABLE = "this rule has no table, and is slower: it looks at the next byte, as $ and \\b do, or is too large; leave these out"
@@ -175,7 +181,7 @@ class RuleFiles(Session):
         told = client.open(URI, FAULTS, "lex")
         self.assertEqual((URI, 1), (told["uri"], told["version"]))
         wanted = [
-            (0, 8, "Start state already exists"), (3, 7, "Rule name already exists"), (4, 0, "Verbatim code not supported"),
+            (0, 8, "Start state already exists"), (3, 7, "Rule name already exists"), (4, 0, f"Verbatim code not supported: {MARGIN}"),
             (5, 0, "Invalid regular expression: unclosed group"),
         ]
         self.assertEqual(wanted, [(spot(it)[0], spot(it)[1], spot(it)[4]) for it in told["diagnostics"]])
@@ -188,7 +194,7 @@ class RuleFiles(Session):
         changes = [ranged((4, 0), (4, 1), "0"), ranged((4, 1), (4, 1), " "), ranged((5, 0), (5, 0), "\\")]
         told = client.change(URI, *changes)
         self.assertEqual((4, [NEVER_ENTERED, NEVER_ENTERED]), (told["version"], [it["message"] for it in told["diagnostics"]]))
-        self.assertEqual(["File ends prematurely"], [spot(it)[4] for it in client.change(URI, "")["diagnostics"]])
+        self.assertEqual([f"File ends prematurely: {NO_MARK}"], [spot(it)[4] for it in client.change(URI, "")["diagnostics"]])
         self.assertEqual([], client.close(URI)["diagnostics"])
         self.assertEqual(0, client.end())
 
@@ -198,8 +204,8 @@ class RuleFiles(Session):
         text = "%s one\n%x 1\n%%\n[a-z]+ 'ID'\n[0-9+ 'NUMBER'\n<one,two>x 'X'\ny'Y'\nz Z\n<one w 'W'\n[a-z]* 'ID'\n"
         wanted = [
             (1, 3, 1, 4, "Invalid start state name"), (4, 0, 4, 5, "Invalid regular expression: unclosed character class"),
-            (5, 0, 5, 9, "Start state not known"), (6, 0, 6, 4, "Rule is missing a space"), (7, 2, 7, 3, "Invalid rule name"),
-            (8, 0, 8, 10, "Invalid start state"), (9, 8, 9, 10, "Rule name already exists"),
+            (5, 0, 5, 9, f"Start state not known: {LIST}"), (6, 0, 6, 4, "Rule is missing a space"), (7, 2, 7, 3, f"Invalid rule name: {QUOTES}"),
+            (8, 0, 8, 10, f"Invalid start state: {LIST}"), (9, 8, 9, 10, "Rule name already exists"),
         ]
         self.assertEqual(wanted, sorted(spot(it) for it in client.open(URI, text)["diagnostics"]))
         self.assertEqual(wanted[2:], sorted(spot(it) for it in client.change(URI, ranged((1, 3), (1, 4), "l"), ranged((4, 4), (4, 4), "]"))["diagnostics"]))

@@ -5,6 +5,7 @@ import unittest
 
 from support import replay
 from support.definitions import from_text
+from support.fault_notes import BACKSLASH, BEFORE_RULES, COMMENT, LIST, MARGIN, NO_MARK, QUOTES
 
 # Rule texts, and what is shown of their faults.
 FAULTS = [
@@ -19,16 +20,16 @@ FAULTS = [
         "tokens.l:4:5: Rule name already exists\n4 | 😀c 'AB'\n  |      ^^\n"
         "tokens.l:2:4: first here\n2 | 漢 'AB'\n  |     ^^\n",
     ),
-    ("", "tokens.l:1:1: File ends prematurely\n1 | \n  | ^\n"),
-    ("%x A\n", "tokens.l:2:1: File ends prematurely\n2 | \n  | ^\n"),
+    ("", f"tokens.l:1:1: File ends prematurely: {NO_MARK}\n1 | \n  | ^\n"),
+    ("%x A\n", f"tokens.l:2:1: File ends prematurely: {NO_MARK}\n2 | \n  | ^\n"),
     ("%x INITIAL\n%%\n", "tokens.l:1:4: Start state already exists\n1 | %x INITIAL\n  |    ^^^^^^^\n"),
     ("%%\na) 'A'\n", "tokens.l:2:1: Invalid regular expression: unopened group\n2 | a) 'A'\n  | ^\n"),
-    ("x\n%%\n", "tokens.l:1:1: Unknown declaration\n1 | x\n  | ^\n"),
+    ("x\n%%\n", f"tokens.l:1:1: Unknown declaration: {BEFORE_RULES}\n1 | x\n  | ^\n"),
     (
         "\ufeff%%\na 'A'\n",
         "tokens.l:1:1: Unknown declaration: the text begins with a byte order mark (U+FEFF)\n1 | \ufeff%%\n  | ^\n",
     ),
-    ("\n\ufeff%%\na 'A'\n", "tokens.l:2:1: Unknown declaration\n2 | \ufeff%%\n  | ^\n"),
+    ("\n\ufeff%%\na 'A'\n", f"tokens.l:2:1: Unknown declaration: {BEFORE_RULES}\n2 | \ufeff%%\n  | ^\n"),
 ]
 
 # The rules by which inputs are lexed.
@@ -58,7 +59,7 @@ FILES = [
     (b"a\xc0\xaf 'A'\n", "tokens.l:1:2: not UTF-8, byte 0xC0 at offset 1\n1 | a\n  |  ^\n"),
     (b"\xe6\xbc\xa2\xed\xa0\x80", "tokens.l:1:2: not UTF-8, byte 0xED at offset 3\n1 | 漢\n  |   ^\n"),
     (b"%%\n\ta\x80b\n\xff\n", "tokens.l:2:3: not UTF-8, byte 0x80 at offset 5\n2 | \ta\n  | \t ^\n"),
-    (b"", "tokens.l:1:1: File ends prematurely\n1 | \n  | ^\n"),
+    (b"", f"tokens.l:1:1: File ends prematurely: {NO_MARK}\n1 | \n  | ^\n"),
     (b"%%\n\xe6\xbc\xa2 'A'\n", ""),
 ]
 
@@ -82,20 +83,27 @@ FIRST = [
 
 # Rule texts, with what an editor underlines between « and », and the message.
 MARKS = [
-    ("«»", "File ends prematurely"),
-    ("%x A\n«»", "File ends prematurely"),
+    ("«»", f"File ends prematurely: {NO_MARK}"),
+    ("%x A\n«»", f"File ends prematurely: {NO_MARK}"),
     ("%%\na 'A'\n«%%  int x;»  \n", "Routines not currently supported"),
-    ("«%option yylineno» \n%%\n", "Unknown declaration"),
-    ("  «%s»\t\n%%\n", "Unknown declaration"),
+    ("«%option yylineno» \n%%\n", f"Unknown declaration: {BEFORE_RULES}"),
+    ("  «%s»\t\n%%\n", f"Unknown declaration: {BEFORE_RULES}"),
+    (" «// a comment»\n%%\n", f"Unknown declaration: {COMMENT}"),
+    ("«# a comment»\n%%\n", f"Unknown declaration: {BEFORE_RULES}"),
     ("«\ufeff%%»\na 'A'\n", "Unknown declaration: the text begins with a byte order mark (U+FEFF)"),
     ("%%\n«漢語» \na 'A'\n", "Rule is missing a space"),
-    ("%%\n[a-z]+ «ID»\n", "Invalid rule name"),
-    ("%%\n[a-z]+ «'ID»\t\r\n", "Invalid rule name"),
+    ("%%\n«//comment»\n", f"Rule is missing a space: {COMMENT}"),
+    ("%%\na 'A'\r\n// a «comment»\r\n", f"Invalid rule name: {COMMENT}"),
+    ("%%\n# a «comment»\n", f"Invalid rule name: {QUOTES}"),
+    ("%%\n[a-z]+ «ID»\n", f"Invalid rule name: {QUOTES}"),
+    ("%%\n[a-z]+ «'ID»\t\r\n", f"Invalid rule name: {QUOTES}"),
     ("%x A\n%%\nb «<+B>»'ID'\n", "Start state not known"),
-    ("%x A\n%%\n«<A, B>»b c 'ID'\n", "Start state not known"),
+    ("%x A\n%%\n«<A, B>»b c 'ID'\n", f"Start state not known: {LIST}"),
+    ("%%\n«<->» 'ARROW'\n", f"Start state not known: {LIST}"),
+    ("%%\n«<=\t'LE'»\n", f"Invalid start state: {LIST}"),
     # a list that doesn't end
     ("%%\nb« <+INITIAL'ID'» \n", "Invalid start state"),
-    ("%%\n«<INITIAL b 'ID'»\n", "Invalid start state"),
+    ("%%\n«<INITIAL b 'ID'»\n", f"Invalid start state: {LIST}"),
     ("%x A «1B» C\n%%\n", "Invalid start state name"),
     ("%x A «漢語»\n%%\n", "Invalid start state name"),
     # an empty name between two blanks
@@ -103,9 +111,14 @@ MARKS = [
     ("%x AB «AB» CD AB\n%%\n", "Start state already exists"),
     ("%x «INITIAL»\n%%\n", "Start state already exists"),
     ("%%\na 'AB'\nb '«AB»'\n", "Rule name already exists"),
-    ("%%\n« int x; »\na 'A'\n", "Verbatim code not supported"),
+    ("%%\n« int x; »\na 'A'\n", f"Verbatim code not supported: {MARGIN}"),
+    ("%%\n«\t»\na 'A'\n", f"Verbatim code not supported: {MARGIN}"),
     ("%%\n«(b c»  'A'\n", "Invalid regular expression: unclosed group"),
     ("%x S\n%%\n«<S>a)»\t'A'\n", "Invalid regular expression: unopened group"),
+    ("%%\n«a\\» 'A'\n", f"Invalid regular expression: unclosed group: {BACKSLASH}"),
+    ("%s S\n%%\n«<S>[a\\\\\\»\t'A'  \n", f"Invalid regular expression: unclosed character class: {BACKSLASH}"),
+    ("%%\n«(a\\\\» 'A'\n", "Invalid regular expression: unclosed group"),
+    ("%%\n«(a\\» ;\n", f"Invalid regular expression: unclosed group: {BACKSLASH}"),
 ]
 
 # Patterns that `regex` refuses, after a list of start states, and why, in its words: one for each kind of error that a rule can

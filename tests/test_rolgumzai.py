@@ -12,6 +12,7 @@ import tempfile
 import unittest
 
 from support import programs
+from support.fault_notes import BACKSLASH, BEFORE_RULES, COMMENT, LIST, MARGIN, NO_MARK, QUOTES
 from support.programs import Outcome
 
 PROGRAM = "rolgumzai"
@@ -26,6 +27,7 @@ FILES = {
     "other.l": "%s k k\n%%\n",
     "three.l": "%%\n( 'A'\n) 'B'\n[a-z] C\n",
     "comments.l": "// c\n%%\na 'A'\n",
+    "first.l": "%%\n<= 'LE'\na\\ 'A'\n// a comment\n  b 'B'\n[a-z]+ ID\n",
     "empty": "",
     "latin": b"ab\n\xe9t\xe9",
     "input": "if ifs\n 12 \"a❤\t\"",
@@ -47,6 +49,13 @@ BAD = (
     "bad.l:3:4: Rule name already exists\n3 | b 'A'\n  |    ^\n"
     "bad.l:2:4: first here\n2 | a 'A'\n  |    ^\n"
     "bad.l:4:1: Invalid regular expression: unclosed group\n4 | ( 'B'\n  | ^\n"
+)
+FIRST = (
+    f"first.l:2:1: Invalid start state: {LIST}\n2 | <= 'LE'\n  | ^\n"
+    f"first.l:3:1: Invalid regular expression: unclosed group: {BACKSLASH}\n3 | a\\ 'A'\n  | ^\n"
+    f"first.l:4:6: Invalid rule name: {COMMENT}\n4 | // a comment\n  |      ^\n"
+    f"first.l:5:1: Verbatim code not supported: {MARGIN}\n5 |   b 'B'\n  | ^^^^^^^\n"
+    f"first.l:6:8: Invalid rule name: {QUOTES}\n6 | [a-z]+ ID\n  |        ^\n"
 )
 OTHER = (
     "other.l:1:6: Start state already exists\n1 | %s k k\n  |      ^\n"
@@ -101,22 +110,28 @@ ROWS = [
     (
         "check -",
         "a",
-        Outcome("stdin:1:1: Unknown declaration\n1 | a\n  | ^\nstdin:1:2: File ends prematurely\n1 | a\n  |  ^\n", "", 1),
+        Outcome(
+            f"stdin:1:1: Unknown declaration: {BEFORE_RULES}\n1 | a\n  | ^\n"
+            f"stdin:1:2: File ends prematurely: {NO_MARK}\n1 | a\n  |  ^\n",
+            "",
+            1,
+        ),
     ),
-    ("check empty", "", Outcome("empty:1:1: File ends prematurely\n1 | \n  | ^\n", "", 1)),
+    ("check empty", "", Outcome(f"empty:1:1: File ends prematurely: {NO_MARK}\n1 | \n  | ^\n", "", 1)),
     (
         "check three.l",
         "",
         Outcome(
             "three.l:2:1: Invalid regular expression: unclosed group\n2 | ( 'A'\n  | ^\n"
             "three.l:3:1: Invalid regular expression: unopened group\n3 | ) 'B'\n  | ^\n"
-            "three.l:4:7: Invalid rule name\n4 | [a-z] C\n  |       ^\n",
+            f"three.l:4:7: Invalid rule name: {QUOTES}\n4 | [a-z] C\n  |       ^\n",
             "",
             1,
         ),
     ),
     ("check latin folder", "", Outcome("", LATIN + FOLDER, 2)),
-    ("check comments.l", "", Outcome("comments.l:1:1: Unknown declaration\n1 | // c\n  | ^\n", "", 1)),
+    ("check comments.l", "", Outcome(f"comments.l:1:1: Unknown declaration: {COMMENT}\n1 | // c\n  | ^\n", "", 1)),
+    ("check first.l", "", Outcome(FIRST, "", 1)),
     ("check --allow-wholeline-comments true comments.l", "", Outcome()),
     ("highlight tokens.l -", "if @", Outcome("\x1b[31mif\x1b[0m \x1b[41m@\x1b[0m")),
     (
@@ -201,6 +216,7 @@ IN_PATTERN = "this target is part of the pattern; write no blank between the tar
 BLANK = "the blank after these start states is part of the pattern; leave it out, or write [ ]"
 LOST = "a backslash is dropped here, before a letter that begins no escape; write the letter, or \\x41 in place of \\x{41}"
 WORD = "after start states \\< and \\> are the beginning and the end of a word; write < and > without the backslash"
+SHORTER = "an alternative never matches here: it begins with an earlier one, which is tried first; put the longer one first"
 NEVER_ENTERED = "no rule enters this start state; name it as the target of a rule"
 NO_RULES = "no rule is active in this start state, so lexing stops there; list it before a pattern"
 
@@ -224,6 +240,12 @@ WARNED = [
     ("%%\na\\u{41}b 'A'\n\\q 'Q'\n", [(2, 1, 8, LOST), (3, 1, 2, LOST)]),
     ("%%\n\\x41\\u0042\\n\\\\x\\\" 'A'\n\\< 'LT'\n", []),
     ("%s S\n%%\na <+S>;\n<S>\\< 'LT'\n", [(4, 1, 5, NO_TABLE), (4, 1, 5, WORD)]),
+    ("%%\nint|integer 'INT'\n", [(2, 1, 11, SHORTER)]),
+    ("%%\n(a|b|ab) 'X'\n(?:=|==|!=) ;\n", [(2, 1, 8, SHORTER), (3, 1, 11, SHORTER)]),
+    ("%s S\n%%\na <+S>;\n<S>\\+|\\+= 'P'\nä|ä 'Ä'\n", [(4, 1, 9, SHORTER), (5, 1, 3, SHORTER)]),
+    ("%%\nint|integer|in 'INT'\n", [(2, 1, 14, SHORTER)]),
+    # the longer one first, a letter after a backslash, a class, a repetition, more than a group
+    ("%%\ninteger|int 'INT'\na|\\d 'A'\n[b]|bc 'B'\ne|ef* 'E'\n(g|gh)i 'G'\n(j)|(jk) 'J'\n", []),
     ("%x S T\n%%\na <S>'A'\n", [(1, 4, 1, NO_RULES), (1, 6, 1, NEVER_ENTERED), (1, 6, 1, NO_RULES)]),
     ("%s S\n%%\na <-S>'A'\n", [(1, 4, 1, NEVER_ENTERED)]),
     ("%%\n", [(1, 1, 1, NO_RULES)]),

@@ -2,9 +2,10 @@
 
 rt lib checks a new crate in batches, which it keeps in out/incremental for the next check. A check that keeps nothing shares its
 work better among processors: lrlex_boundaries takes 58 seconds on four in place of 87. So a first build has the kit make the
-library as rt lib does, but keeps nothing. The note that rt leaves beside a library is left too, so that rt takes it for its own.
-A library that was built before, or whose checks have kept something, here or in another copy on this machine, is built by rt lib;
-so is each with a kit that can't do this.
+library as rt lib does, but keeps nothing. The notes that rt leaves are left too: one beside the library, so that rt takes it for
+its own, and one by which rt gives it to other copies on this machine, so that none builds it again. A library that was built
+before, or whose checks have kept something, here or in another copy on this machine, is built by rt lib; so is each with a kit
+that can't do this.
 """
 
 import fcntl
@@ -17,30 +18,30 @@ import sys
 import crates
 import processes
 import prover
+import rooms
 
 
-def kit_library():
-    """The kit's own library of commands, as rt loads it."""
-    loader = importlib.machinery.SourceFileLoader("rtlib", f"{prover.kit()}/bin/rtlib.py")
-    made = importlib.util.module_from_spec(importlib.util.spec_from_loader("rtlib", loader))
-    sys.modules["rtlib"] = made
+def kit_command():
+    """The kit's command rt, with its library of commands as `rtlib`."""
+    loader = importlib.machinery.SourceFileLoader("rt", f"{prover.kit()}/bin/rt")
+    made = importlib.util.module_from_spec(importlib.util.spec_from_loader("rt", loader))
     loader.exec_module(made)
     return made
 
 
-def is_elsewhere(crate, rtlib):
-    """Whether a check in another copy of the repository on this machine has proved the same: rt lib begins with that."""
-    noted = f"{os.path.dirname(rtlib.KIT)}/rattle-kept/work"
-    names = os.listdir(noted) if os.path.isdir(noted) else []
-    return any(crate.stamp() in (rtlib.text_of(f"{noted}/{it}") or "") for it in names if it.startswith(f"{crate.name}."))
+def is_elsewhere(crate, rt):
+    """Whether another copy of the crate on this machine has proved the same, and has kept that: rt lib begins with it."""
+    places = [folder for folder, stamp in rt.places_of(crate) if folder != crate.folder and stamp == crate.stamp()]
+    return any(os.path.isdir(f"{it}/out/{kept}") for it in places for kept in rooms.KEPT)
 
 
 def build(name, jobs):
     """Builds the library, and gives the status of the check. None where rt lib is to do it."""
-    rtlib = kit_library()
+    rt = kit_command()
+    rtlib = rt.rtlib
     crate = rtlib.Crate(f"{crates.TOP}/crates/{name}", crates.TOP, {})
     rlib, stamp, below = os.path.dirname(crate.rlib), crate.stamp(), crate.below()
-    if os.path.exists(f"{rlib}/stamp") or crate.has_kept() or is_elsewhere(crate, rtlib) or not all(it.is_built() for it in below):
+    if os.path.exists(f"{rlib}/stamp") or crate.has_kept() or is_elsewhere(crate, rt) or not all(it.is_built() for it in below):
         return None
     rtlib.guarded()
     # in rt's order, and with others that read the libraries below
@@ -53,6 +54,7 @@ def build(name, jobs):
     if not status and stamp == crate.stamp():
         with open(f"{rlib}/stamp", "w", encoding="utf-8") as it:
             it.write(stamp)
+        rt.offer(crate, stamp)
     return status
 
 

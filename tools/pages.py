@@ -11,8 +11,8 @@ import re
 
 import crates
 
-# The crates that programs of the pages are taken from: the callers, and programs of their family that are there to be shown.
-CALLERS = ("lrlex_doc_",)
+# The crates that programs of the pages are taken from: the callers, and the examples.
+CALLERS = ("lrlex_doc_callers", "lrlex_examples")
 FENCE = re.compile(r"^```(.*)\n((?:(?!```).*\n)*)```", re.M)
 LINK = re.compile(r"\[[^\]\n]*\]\(([^()\s]+)\)")
 QUOTED = re.compile(r"`([^`\n]+)`")
@@ -73,10 +73,10 @@ def lines_of(texts):
 
 
 def not_shown(page):
-    """The lines of the page's programs that are in no crate which programs are taken from."""
-    names = [it for it in crates.read() if it.startswith(CALLERS)]
-    files = [it for name in names for it in found(f"crates/{name}/src/**/*.rt", f"crates/{name}/specs/**/*.antt")]
+    """The lines of the page's programs that are in no crate which programs are taken from. The `main` of a page may be `pub` there."""
+    files = [it for name in CALLERS for it in found(f"crates/{name}/src/**/*.rt", f"crates/{name}/specs/**/*.antt")]
     known = {line for it in files for line in text_of(it).splitlines()}
+    known |= {line.removeprefix("pub ") for line in known if line.startswith("pub fn main(")}
     return [line for line in lines_of(fences(page, "rust", "antt")) if line not in known]
 
 

@@ -5,6 +5,7 @@
       lsp-headerline-breadcrumb-enable nil lsp-diagnostics-provider :none lsp-lens-enable nil lsp-warn-no-matched-clients nil)
 (require 'lsp-mode)
 (require 'lsp-semantic-tokens)
+(require 'lsp-modeline)
 (add-to-list 'lsp-language-id-configuration '(text-mode . "text"))
 (lsp-register-client
  (make-lsp-client :new-connection (lsp-stdio-connection (split-string (getenv "SERVER")))
@@ -16,6 +17,8 @@
 (lsp)
 (defun settle (seconds)
   (let ((end (+ (float-time) seconds))) (while (< (float-time) end) (accept-process-output nil 0.05))))
+(let ((end (+ (float-time) 30)))
+  (while (and (< (float-time) end) (not (lsp-feature? "textDocument/semanticTokens"))) (accept-process-output nil 0.05)))
 (settle 2)
 (message "semantic tokens: %s" (if (lsp-feature? "textDocument/semanticTokens") "yes" "no"))
 (defun show (title)

@@ -37,6 +37,7 @@ pub mod FrontLemmas
 pub mod PutLemmas
 pub mod GoingLemmas
 pub mod AdvanceLemmas
+pub mod PlainLemmas
 pub mod SearchLemmas
 pub mod RestLemmas
 pub mod PieceLemmas

@@ -1,28 +1,15 @@
-//! The rules of a definition, and their names.
-ghost use Rattle.std.specs.Prelude.{◌≡◌, ◌↔◌, length, option_map, slice_get, pos, None, Some, IfSome, MatchOption};
+//! The rules and the start states of a definition.
 ghost use Rattle.std.specs.Option.{option_map_or};
+ghost use Rattle.std.specs.Prelude.{◌≡◌, ◌↔◌, length, option_map, slice_get, pos, None, Some, IfSome, MatchOption};
 ghost use Rattle.lrlex.specs.Ids.{name_of};
-ghost use Rattle.lrlex_c.specs.Buffers.{IsWritten};
-ghost use Rattle.lrlex_c.specs.Infos.{rule_info};
-ghost use Rattle.lrlex_c.specs.Objects.{definition_in};
-ghost use Rattle.lrlex_rules.specs.RuleParts.{as_rule};
+ghost use Rattle.lrlex_handles.specs.Buffers.{IsWritten};
+ghost use Rattle.lrlex_handles.specs.Infos.{rule_info, state_info};
+ghost use Rattle.lrlex_handles.specs.Objects.{definition_in};
 
-use crate::handle::{Handle, with_object};
-use crate::object::Object;
-use crate::status::{MISUSE, NONE, OK};
-use crate::structs::RuleInfo;
-use crate::texts::write_name;
-use lrlex::{LexerDef, Rule};
+use lrlex_handles::handle::Handle;
+use lrlex_handles::structs::{RuleInfo, StateInfo};
+use lrlex_handles::{rules, states};
 use std::alloc::Global;
-
-fn rules_in(object: &Object) -> usize
-    ensures { result ≡ option_map_or (λ d. length d.rules) (definition_in (Some object.now)) 0 }
-{
-    match object {
-        Object::Definition(definition) => definition.rules().len(),
-        _ => 0,
-    }
-}
 
 /// How many rules the definition has.
 #[unsafe(no_mangle)]
@@ -30,20 +17,7 @@ pub extern "C" fn lrlex_rule_count(alloc: Global, handle: &mut Handle) -> usize
     ensures kept { handle.new.value ≡ handle.old.value }
     ensures count { result ≡ option_map_or (λ d. length d.rules) (definition_in handle.old.value) 0 }
 {
-    with_object!(alloc, handle, 0, |object| rules_in(&object))
-}
-
-fn name_in(object: &Object, id: u32, out: &mut [u8], len: &mut usize) -> i32
-    ensures misused { result ≡ pos 4 ↔ definition_in (Some object.now) ≡ None }
-    ensures done { result ≡ pos 0 → IfSome (definition_in (Some object.now))
-        (λ d. IfSome (name_of d.rules id) (λ t. IsWritten t out.old out.new len.new)) }
-    ensures none { result ≡ pos 5 → IfSome (definition_in (Some object.now))
-        (λ d. name_of d.rules id ≡ None) }
-{
-    match object {
-        Object::Definition(definition) => write_name(definition.name_of(id), out, len),
-        _ => MISUSE,
-    }
+    rules::rule_count(alloc, handle)
 }
 
 /// The name of the first rule that has a name and this id. As many bytes are written as there is room for.
@@ -62,48 +36,7 @@ pub extern "C" fn lrlex_name(
     ensures none { result ≡ pos 5 → IfSome (definition_in handle.old.value)
         (λ d. name_of d.rules id ≡ None) }
 {
-    with_object!(
-        alloc,
-        handle,
-        MISUSE,
-        |object| name_in(&object, id, out, len)
-    )
-}
-
-fn info_of(rule: &Rule<u32>) -> RuleInfo
-    ensures { result ≡ rule_info (as_rule (λ n. n) rule.now) }
-{
-    let span = rule.name_span();
-    RuleInfo {
-        name_start: span.start(),
-        name_end: span.end(),
-        name_len: match rule.name() {
-            Some(name) => name.len(),
-            None => 0,
-        },
-        id: rule.tok_id().unwrap_or(0),
-        has_id: rule.tok_id().is_some(),
-        has_name: rule.name().is_some(),
-    }
-}
-
-fn rule_in(object: &Object, index: usize, out: &mut RuleInfo) -> i32
-    ensures misused { result ≡ pos 4 ↔ definition_in (Some object.now) ≡ None }
-    ensures done { result ≡ pos 0 → IfSome (definition_in (Some object.now))
-        (λ d. option_map rule_info (slice_get d.rules index) ≡ Some out.new) }
-    ensures none { result ≡ pos 5 → IfSome (definition_in (Some object.now))
-        (λ d. slice_get d.rules index ≡ None) }
-{
-    match object {
-        Object::Definition(definition) => match definition.rules().get(index) {
-            None => NONE,
-            Some(rule) => {
-                *out = info_of(rule);
-                OK
-            }
-        },
-        _ => MISUSE,
-    }
+    rules::name(alloc, handle, id, out, len)
 }
 
 /// The rule at this index, from 0.
@@ -121,24 +54,7 @@ pub extern "C" fn lrlex_rule_at(
     ensures none { result ≡ pos 5 → IfSome (definition_in handle.old.value)
         (λ d. slice_get d.rules index ≡ None) }
 {
-    with_object!(alloc, handle, MISUSE, |object| rule_in(&object, index, out))
-}
-
-fn rule_name_in(object: &Object, index: usize, out: &mut [u8], len: &mut usize) -> i32
-    ensures misused { result ≡ pos 4 ↔ definition_in (Some object.now) ≡ None }
-    ensures done { result ≡ pos 0 → IfSome (definition_in (Some object.now))
-        (λ d. IfSome (slice_get d.rules index) (λ r. MatchOption r.name ⊥
-        (λ t. IsWritten t out.old out.new len.new))) }
-    ensures none { result ≡ pos 5 → IfSome (definition_in (Some object.now))
-        (λ d. IfSome (slice_get d.rules index) (λ r. r.name ≡ None)) }
-{
-    match object {
-        Object::Definition(definition) => match definition.rules().get(index) {
-            None => NONE,
-            Some(rule) => write_name(rule.name(), out, len),
-        },
-        _ => MISUSE,
-    }
+    rules::rule_at(alloc, handle, index, out)
 }
 
 /// The name of the rule at this index, from 0, if it has one. As many bytes are written as there is room for.
@@ -158,10 +74,53 @@ pub extern "C" fn lrlex_rule_name(
     ensures none { result ≡ pos 5 → IfSome (definition_in handle.old.value)
         (λ d. IfSome (slice_get d.rules index) (λ r. r.name ≡ None)) }
 {
-    with_object!(
-        alloc,
-        handle,
-        MISUSE,
-        |object| rule_name_in(&object, index, out, len)
-    )
+    rules::rule_name(alloc, handle, index, out, len)
+}
+
+/// How many start states the definition has, with `INITIAL`.
+#[unsafe(no_mangle)]
+pub extern "C" fn lrlex_state_count(alloc: Global, handle: &mut Handle) -> usize
+    ensures kept { handle.new.value ≡ handle.old.value }
+    ensures count { result ≡ option_map_or (λ d. length d.states) (definition_in handle.old.value)
+        0 }
+{
+    states::state_count(alloc, handle)
+}
+
+/// The start state at this index, from 0.
+#[unsafe(no_mangle)]
+pub extern "C" fn lrlex_state_at(
+    alloc: Global,
+    handle: &mut Handle,
+    index: usize,
+    out: &mut StateInfo,
+) -> i32
+    ensures kept { handle.new.value ≡ handle.old.value }
+    ensures misused { result ≡ pos 4 ↔ definition_in handle.old.value ≡ None }
+    ensures done { result ≡ pos 0 → IfSome (definition_in handle.old.value)
+        (λ d. option_map state_info (slice_get d.states index) ≡ Some out.new) }
+    ensures none { result ≡ pos 5 → IfSome (definition_in handle.old.value)
+        (λ d. slice_get d.states index ≡ None) }
+{
+    states::state_at(alloc, handle, index, out)
+}
+
+/// The name of the start state at this index, from 0. As many bytes are written as there is room for.
+#[unsafe(no_mangle)]
+pub extern "C" fn lrlex_state_name(
+    alloc: Global,
+    handle: &mut Handle,
+    index: usize,
+    out: &mut [u8],
+    len: &mut usize,
+) -> i32
+    ensures kept { handle.new.value ≡ handle.old.value }
+    ensures misused { result ≡ pos 4 ↔ definition_in handle.old.value ≡ None }
+    ensures done { result ≡ pos 0 → IfSome (definition_in handle.old.value)
+        (λ d. IfSome (slice_get d.states index)
+        (λ s. IsWritten s.name out.old out.new len.new)) }
+    ensures none { result ≡ pos 5 → IfSome (definition_in handle.old.value)
+        (λ d. slice_get d.states index ≡ None) }
+{
+    states::state_name(alloc, handle, index, out, len)
 }

@@ -12,7 +12,7 @@ pub fn definition_of(rt: &HostRuntime, rules: &str) -> io::Result<Option<Definit
     match Definition::from_str(rt.alloc(), rules)? {
         Ok(definition) => Ok(Some(definition)),
         Err(_) => {
-            eprintln!(rt; "The rules have faults")?;
+            rt.eprintln("The rules have faults")?;
             Ok(None)
         }
     }

@@ -3,7 +3,7 @@ use clap::Command;
 use std::alloc::{AllocError, Global};
 
 /// The examples: what each is called, and what it does.
-const EXAMPLES: [(&str, &str); 4] = [
+const EXAMPLES: [(&str, &str); 5] = [
     (
         "calc",
         "Works out each line of standard input: whole numbers, + - * / and parentheses",
@@ -15,6 +15,10 @@ const EXAMPLES: [(&str, &str); 4] = [
     (
         "edit_loop",
         "Lexes a text again after each edit. Standard input: the text, a line ----, and a line FROM TO PUT an edit",
+    ),
+    (
+        "first",
+        "Prints the place, the name and the text of each word and number of standard input",
     ),
     (
         "json_check",

@@ -1,115 +1,117 @@
-//! What is told of what was found of a document.
-use crate::findings::{Finding, Weight, findings_of};
-use crate::json::Json;
+//! What is told of a document.
+use crate::findings::push_findings;
+use crate::json::quoted;
 use crate::languages::Types;
-use crate::messages::begin_notification;
 use crate::opened::Opened;
-use lrlex::{Document, LexFlags, PositionEncoding, Span};
+use crate::started::Given;
+use lrlex::{Document, PositionEncoding, Span};
 use std::alloc::{AllocError, Global};
+use std::fmt::Write;
 
-/// A text with its places, and what diagnostics of it name.
+/// How a finding is told.
 #[derive(Clone, Copy)]
-struct Place<'p, 'd> {
-    uri: &'p str,
+pub(crate) enum Weight {
+    Fault,
+    Warning,
+    /// A warning of what does nothing, which editors fade.
+    Unnecessary,
+    /// What could be better.
+    Hint,
+}
+
+/// What is found of a part of a text.
+#[derive(Clone, Copy)]
+pub(crate) struct Finding<'m> {
+    pub(crate) weight: Weight,
+    pub(crate) span: Span,
+    pub(crate) message: &'m str,
+    /// Where something that is declared again stands first.
+    pub(crate) first: Option<Span>,
+}
+
+/// The notification of what is found of a document, to which one finding after the other is added.
+#[derive(Drop)]
+pub(crate) struct Report<'p, 'd> {
+    alloc: Global,
     document: &'p Document<'d, Types>,
     encoding: PositionEncoding,
+    /// The document's URI as JSON has it.
+    uri: &'p str,
+    text: String,
+    /// What stands before the next finding.
+    before: &'static str,
+    is_faulty: bool,
 }
 
-/// The number that the protocol has for how a finding is told (`DiagnosticSeverity`).
-fn severity(weight: Weight) -> &'static str {
-    match weight {
-        Weight::Fault => "1",
-        Weight::Warning | Weight::Unnecessary => "2",
-        Weight::Hint => "4",
+impl Weight {
+    /// The number that the protocol has for it (`DiagnosticSeverity`), and what follows the message.
+    fn told(self) -> (&'static str, &'static str) {
+        match self {
+            Weight::Fault => ("1", ""),
+            Weight::Warning => ("2", ""),
+            Weight::Unnecessary => ("2", ",\"tags\":[1]"),
+            Weight::Hint => ("4", ""),
+        }
     }
 }
 
-impl Place<'_, '_> {
-    /// Adds the position of a byte.
-    fn put_position(&self, json: &mut Json, byte: usize) {
-        let (line, column) = self.document.position_in(byte, self.encoding);
-        json.open("{");
-        json.member("line");
-        json.number(line);
-        json.member("character");
-        json.number(column);
-        json.close("}");
+impl<'p, 'd> Report<'p, 'd> {
+    /// Adds the range of a span, and what stands before it.
+    fn push_range(&mut self, before: &str, span: Span) -> Result<(), AllocError> {
+        let (line, column) = self.document.position_in(span.start(), self.encoding);
+        let (end_line, end_column) = self.document.position_in(span.end(), self.encoding);
+        write!(
+            self.text,
+            "{before}\"range\":{{\"start\":{{\"line\":{line},\"character\":{column}}},\
+            \"end\":{{\"line\":{end_line},\"character\":{end_column}}}}}"
+        )
     }
 
-    /// Adds the range of a span.
-    fn put_range(&self, json: &mut Json, span: Span) {
-        json.open("{");
-        json.member("start");
-        self.put_position(json, span.start());
-        json.member("end");
-        self.put_position(json, span.end());
-        json.close("}");
+    /// Adds how a finding is told, and its message as JSON has it.
+    fn push_message(&mut self, weight: Weight, message: &str) -> Result<(), AllocError> {
+        let (severity, tags) = weight.told();
+        write!(
+            self.text,
+            ",\"severity\":{severity},\"source\":\"lrlex\",\"message\":{message}{tags}"
+        )
     }
 
     /// Adds where something that is declared again stands first. `INITIAL`, which no text declares, has an empty span.
-    fn put_first(&self, json: &mut Json, span: Span) {
+    fn push_first(&mut self, span: Span) -> Result<(), AllocError> {
         if span.len() == 0 {
-            return;
+            return Ok(());
         }
-        json.member("relatedInformation");
-        json.open("[");
-        json.open("{");
-        json.member("location");
-        json.open("{");
-        json.member("uri");
-        json.text(self.uri);
-        json.member("range");
-        self.put_range(json, span);
-        json.close("}");
-        json.member("message");
-        json.text("first here");
-        json.close("}");
-        json.close("]");
+        self.text
+            .push_str(",\"relatedInformation\":[{\"location\":{\"uri\":")?;
+        self.text.push_str(self.uri)?;
+        self.push_range(",", span)?;
+        self.text.push_str("},\"message\":\"first here\"}]")
     }
 
     /// Adds a finding.
-    fn put_finding(&self, json: &mut Json, finding: &Finding) {
-        json.open("{");
-        json.member("range");
-        self.put_range(json, finding.span);
-        json.member("severity");
-        json.put(severity(finding.weight));
-        json.member("source");
-        json.text("lrlex");
-        json.member("message");
-        json.text(&finding.message);
-        if finding.weight == Weight::Unnecessary {
-            json.member("tags");
-            json.put("[1]");
-        }
+    pub(crate) fn push(&mut self, finding: Finding<'_>) -> Result<(), AllocError> {
+        let message = quoted(self.alloc, finding.message)?;
+        self.push_range(self.before, finding.span)?;
+        self.push_message(finding.weight, &message)?;
         if let Some(first) = finding.first {
-            self.put_first(json, first);
+            self.push_first(first)?;
         }
-        json.close("}");
+        self.before = ",{";
+        self.is_faulty = self.is_faulty || matches!(finding.weight, Weight::Fault);
+        self.text.push_str("}")
     }
 }
 
-/// Begins what is told of a document, up to the list of diagnostics.
-fn begin_told(alloc: Global, uri: &str, version: Option<usize>) -> Json {
-    let mut json = begin_notification(alloc, "textDocument/publishDiagnostics");
-    json.open("{");
-    json.member("uri");
-    json.text(uri);
+/// Begins what is told of a document, up to the list of diagnostics. The URI is as JSON has it.
+fn begin_told(alloc: Global, uri: &str, version: Option<usize>) -> Result<String, AllocError> {
+    let mut text = format!(in alloc;
+        "{{\"jsonrpc\":\"2.0\",\"method\":\"textDocument/publishDiagnostics\",\"params\":{{\"uri\":{uri}"
+    )?;
     if let Some(version) = version {
-        json.member("version");
-        json.number(version);
+        write!(text, ",\"version\":{version}")?;
     }
-    json.member("diagnostics");
-    json.open("[");
-    json
-}
-
-/// Ends it.
-fn end_told(mut json: Json) -> Result<String, AllocError> {
-    json.close("]");
-    json.close("}");
-    json.close("}");
-    json.done()
+    text.push_str(",\"diagnostics\":[")?;
+    Ok(text)
 }
 
 /// The notification of all that was found of a document, and whether it has a fault.
@@ -118,24 +120,27 @@ pub(crate) fn told_of(
     uri: &str,
     opened: &Opened<'_>,
     encoding: PositionEncoding,
-    flags: LexFlags,
+    given: Given<'_>,
 ) -> Result<(String, bool), AllocError> {
-    let place = Place {
-        uri,
+    let uri = quoted(alloc, uri)?;
+    let mut report = Report {
+        alloc,
         document: &opened.document,
         encoding,
+        uri: &uri,
+        text: begin_told(alloc, &uri, opened.version)?,
+        before: "{",
+        is_faulty: false,
     };
-    let findings = findings_of(alloc, &opened.document, opened.role, flags)?;
-    let mut json = begin_told(alloc, uri, opened.version);
-    let mut is_faulty = false;
-    for finding in &findings {
-        place.put_finding(&mut json, finding);
-        is_faulty = is_faulty || finding.weight == Weight::Fault;
-    }
-    Ok((end_told(json)?, is_faulty))
+    push_findings(alloc, &mut report, &opened.document, opened.role, given)?;
+    report.text.push_str("]}}")?;
+    Ok((report.text, report.is_faulty))
 }
 
 /// The notification that nothing is told of a document any more.
 pub(crate) fn nothing_of(alloc: Global, uri: &str) -> Result<String, AllocError> {
-    end_told(begin_told(alloc, uri, None))
+    let uri = quoted(alloc, uri)?;
+    let mut text = begin_told(alloc, &uri, None)?;
+    text.push_str("]}}")?;
+    Ok(text)
 }

@@ -1,35 +1,16 @@
 //! What is found of a document: the faults of a rule text or what its author hardly meant, or where lexing stops.
+use crate::diagnostics::{Finding, Report, Weight};
 use crate::languages::{Definition, Types};
 use crate::opened::Role;
+use crate::started::Given;
 use lrlex::{Document, LexBuildError, LexError, LexFlags, Span, Spanned};
 use lrlex_report::{WarningKind, fault_message, fault_range, stop_message_in, warnings_of};
 use std::alloc::{AllocError, Global};
 
-/// How a finding is told.
-#[derive(Clone, Copy, PartialEq, Eq)]
-pub(crate) enum Weight {
-    Fault,
-    Warning,
-    /// A warning of what does nothing, which editors fade.
-    Unnecessary,
-    /// What could be better.
-    Hint,
-}
-
-/// What is found of a part of a text.
-#[derive(Drop)]
-pub(crate) struct Finding {
-    pub(crate) weight: Weight,
-    pub(crate) span: Span,
-    pub(crate) message: String,
-    /// Where something that is declared again stands first.
-    pub(crate) first: Option<Span>,
-}
-
 /// Adds a fault of a rule text: that of a duplicate at each place but the first.
 fn push_fault(
     alloc: Global,
-    found: &mut Vec<Finding>,
+    report: &mut Report<'_, '_>,
     rules: &str,
     fault: &LexBuildError,
 ) -> Result<(), AllocError> {
@@ -37,21 +18,19 @@ fn push_fault(
     let Some((first, others)) = fault.spans().split_first() else {
         return Ok(());
     };
-    for other in others {
-        found.push(Finding {
-            weight: Weight::Fault,
-            span: *other,
-            message: message.clone()?,
-            first: Some(*first),
-        })?;
-    }
+    let mut finding = Finding {
+        weight: Weight::Fault,
+        span: fault_range(rules, fault),
+        message: &message,
+        first: None,
+    };
     if others.is_empty() {
-        found.push(Finding {
-            weight: Weight::Fault,
-            span: fault_range(rules, fault),
-            message,
-            first: None,
-        })?;
+        return report.push(finding);
+    }
+    finding.first = Some(*first);
+    for other in others {
+        finding.span = *other;
+        report.push(finding)?;
     }
     Ok(())
 }
@@ -65,38 +44,54 @@ fn weight_of(kind: WarningKind) -> Weight {
     }
 }
 
-/// Adds what the author of a rule text without faults hardly meant.
+/// Adds the warnings of a rule text and its definition.
 fn push_warnings(
     alloc: Global,
-    found: &mut Vec<Finding>,
+    report: &mut Report<'_, '_>,
     rules: &str,
-    flags: LexFlags,
+    definition: &Definition,
 ) -> Result<(), AllocError> {
-    let Ok(definition) = Definition::new_with_options(alloc, rules, flags)? else {
-        return Ok(());
-    };
-    for warning in &warnings_of(alloc, rules, &definition)? {
-        found.push(Finding {
+    for warning in &warnings_of(alloc, rules, definition)? {
+        report.push(Finding {
             weight: weight_of(warning.kind()),
             span: warning.span(),
-            message: String::from_str(alloc, warning.kind().message())?,
+            message: warning.kind().message(),
             first: None,
         })?;
     }
     Ok(())
 }
 
-/// What is found of a rule text: all its faults, or else its warnings.
-fn of_rules(alloc: Global, rules: &str, flags: LexFlags) -> Result<Vec<Finding>, AllocError> {
-    let mut found = Vec::new(alloc);
-    let faults = Definition::all_faults(alloc, rules, flags)?;
-    for fault in &faults {
-        push_fault(alloc, &mut found, rules, fault)?;
+/// Adds all faults of a rule text.
+fn push_faults(
+    alloc: Global,
+    report: &mut Report<'_, '_>,
+    rules: &str,
+    flags: LexFlags,
+) -> Result<(), AllocError> {
+    for fault in &Definition::all_faults(alloc, rules, flags)? {
+        push_fault(alloc, report, rules, fault)?;
     }
-    if faults.is_empty() {
-        push_warnings(alloc, &mut found, rules, flags)?;
+    Ok(())
+}
+
+/// Adds what is found of a rule text: all its faults, or else its warnings. A text that a language was read from is not read
+/// again.
+fn push_rules(
+    alloc: Global,
+    report: &mut Report<'_, '_>,
+    rules: &str,
+    given: Given<'_>,
+) -> Result<(), AllocError> {
+    if let Some(language) = given.language {
+        if language.is_of(rules, given.flags) {
+            return push_warnings(alloc, report, rules, language.definition());
+        }
     }
-    Ok(found)
+    match Definition::new_with_options(alloc, rules, given.flags)? {
+        Ok(definition) => push_warnings(alloc, report, rules, &definition),
+        Err(_) => push_faults(alloc, report, rules, given.flags),
+    }
 }
 
 /// The span with the character after it, if it is empty and its line goes on.
@@ -112,31 +107,36 @@ fn with_next(text: &str, span: Span) -> Span {
     }
 }
 
-/// Where lexing stops, if it does before the text's end.
-fn of_text(alloc: Global, document: &Document<'_, Types>) -> Result<Vec<Finding>, AllocError> {
-    let mut found = Vec::new(alloc);
-    if let Some(Err(error)) = document.items().last() {
-        let text = document.text();
-        found.push(Finding {
-            weight: Weight::Fault,
-            span: with_next(text, error.span()),
-            message: stop_message_in(alloc, document.definition(), text, error)?,
-            first: None,
-        })?;
-    }
-    Ok(found)
+/// Adds where lexing stops, if it does before the text's end.
+fn push_stop(
+    alloc: Global,
+    report: &mut Report<'_, '_>,
+    document: &Document<'_, Types>,
+) -> Result<(), AllocError> {
+    let Some(Err(error)) = document.items().last() else {
+        return Ok(());
+    };
+    let text = document.text();
+    let message = stop_message_in(alloc, document.definition(), text, error)?;
+    report.push(Finding {
+        weight: Weight::Fault,
+        span: with_next(text, error.span()),
+        message: &message,
+        first: None,
+    })
 }
 
-/// What is found of a document.
-pub(crate) fn findings_of(
+/// Adds what is found of a document.
+pub(crate) fn push_findings(
     alloc: Global,
+    report: &mut Report<'_, '_>,
     document: &Document<'_, Types>,
     role: Role,
-    flags: LexFlags,
-) -> Result<Vec<Finding>, AllocError> {
+    given: Given<'_>,
+) -> Result<(), AllocError> {
     match role {
-        Role::Rules => of_rules(alloc, document.text(), flags),
-        Role::Text => of_text(alloc, document),
-        Role::Unlexed => Ok(Vec::new(alloc)),
+        Role::Rules => push_rules(alloc, report, document.text(), given),
+        Role::Text => push_stop(alloc, report, document),
+        Role::Unlexed => Ok(()),
     }
 }

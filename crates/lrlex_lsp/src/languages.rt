@@ -2,7 +2,7 @@
 use crate::guesses::guessed;
 use crate::token_types::type_named;
 use lrlex::{
-    DefaultLexerTypes, LRNonStreamingLexerDef, LexBuildError, LexFlags, LexerDef, Piece,
+    DefaultLexerTypes, LRNonStreamingLexerDef, LexBuildError, LexFlags, Piece, Rule,
     UNSPECIFIED_LEX_FLAGS,
 };
 use std::alloc::{AllocError, Global};
@@ -47,10 +47,12 @@ enum Shown {
     Guessed,
 }
 
-/// A definition, with what the pieces of each rule are shown as.
+/// A definition with the rule text and the flags that it was read from, and what the pieces of each rule are shown as.
 #[derive(Drop)]
 pub struct Language {
     definition: Definition,
+    rules: String,
+    flags: LexFlags,
     shown: Vec<Shown>,
 }
 
@@ -68,48 +70,81 @@ impl From<AllocError> for LanguageFault {
     }
 }
 
-/// What the map says of a name. A name that isn't a token type's is shown as plain text.
-fn shown_by(map: &[(String, String)], name: &str) -> Shown {
-    for (named, kind) in map {
+/// What rules are shown as, by their names.
+#[derive(Clone, Copy)]
+enum Map<'m> {
+    /// Names and types.
+    Pairs(&'m [(String, String)]),
+    /// Words `NAME=TOKENTYPE` with a blank between two.
+    Words(&'m str),
+}
+
+/// What a rule is shown as by the name of a token type. What isn't one stands for plain text.
+fn shown_as(kind: &str) -> Shown {
+    match type_named(kind) {
+        Some(number) => Shown::As(number),
+        None => Shown::Plain,
+    }
+}
+
+/// What pairs say of a name.
+fn shown_by_pairs(pairs: &[(String, String)], name: &str) -> Shown {
+    for (named, kind) in pairs {
         if named.as_str() == name {
-            return match type_named(kind) {
-                Some(number) => Shown::As(number),
-                None => Shown::Plain,
-            };
+            return shown_as(kind);
         }
     }
     Shown::Guessed
 }
 
-/// What the rules of a definition are shown as.
-fn shown_of(
-    alloc: Global,
-    definition: &Definition,
-    map: &[(String, String)],
-) -> Result<Vec<Shown>, AllocError> {
+/// What words say of a name.
+fn shown_by_words(words: &str, name: &str) -> Shown {
+    for word in words.split(' ') {
+        if let Some((named, kind)) = word.split_once('=') {
+            if named == name {
+                return shown_as(kind);
+            }
+        }
+    }
+    Shown::Guessed
+}
+
+impl Map<'_> {
+    /// What it says of a rule.
+    fn shown(self, rule: &Rule<u32>) -> Shown {
+        match (rule.name(), self) {
+            (Some(name), Map::Pairs(pairs)) => shown_by_pairs(pairs, name),
+            (Some(name), Map::Words(words)) => shown_by_words(words, name),
+            (None, _) => Shown::Guessed,
+        }
+    }
+}
+
+/// What these rules are shown as.
+fn shown_of(alloc: Global, rules: &[Rule<u32>], map: Map<'_>) -> Result<Vec<Shown>, AllocError> {
     let mut shown = Vec::new(alloc);
-    for rule in definition.iter_rules() {
-        let how = match rule.name() {
-            Some(name) => shown_by(map, name),
-            None => Shown::Guessed,
-        };
-        shown.push(how)?;
+    for rule in rules {
+        shown.push(map.shown(rule))?;
     }
     Ok(shown)
 }
 
-/// The pairs of words `NAME=TOKENTYPE` with a blank between two.
-fn pairs(alloc: Global, words: &str) -> Result<Vec<(String, String)>, AllocError> {
-    let mut map = Vec::new(alloc);
-    for word in words.split(' ') {
-        if let Some((name, kind)) = word.split_once('=') {
-            map.push((
-                String::from_str(alloc, name)?,
-                String::from_str(alloc, kind)?,
-            ))?;
-        }
+/// The language of a rule text.
+fn read(
+    alloc: Global,
+    rules: &str,
+    flags: LexFlags,
+    map: Map<'_>,
+) -> Result<Language, LanguageFault> {
+    match Definition::new_with_options(alloc, rules, flags)? {
+        Ok(definition) => Ok(Language {
+            shown: shown_of(alloc, definition.rules(), map)?,
+            rules: String::from_str(alloc, rules)?,
+            definition,
+            flags,
+        }),
+        Err(faults) => Err(LanguageFault::Rules(faults)),
     }
-    Ok(map)
 }
 
 impl Language {
@@ -121,24 +156,23 @@ impl Language {
         flags: LexFlags,
         map: &[(String, String)],
     ) -> Result<Language, LanguageFault> {
-        match Definition::new_with_options(alloc, rules, flags)? {
-            Ok(definition) => {
-                let shown = shown_of(alloc, &definition, map)?;
-                Ok(Language { definition, shown })
-            }
-            Err(faults) => Err(LanguageFault::Rules(faults)),
-        }
+        read(alloc, rules, flags, Map::Pairs(map))
     }
 
     /// The language of rule files.
     pub fn of_rules(alloc: Global) -> Result<Language, LanguageFault> {
-        let map = pairs(alloc, TYPES_OF_RULES)?;
-        Language::from_rules(alloc, RULES_OF_RULES, UNSPECIFIED_LEX_FLAGS, map.as_slice())
+        let map = Map::Words(TYPES_OF_RULES);
+        read(alloc, RULES_OF_RULES, UNSPECIFIED_LEX_FLAGS, map)
     }
 
     /// The definition that texts of the language are lexed by.
     pub fn definition(&self) -> &Definition {
         &self.definition
+    }
+
+    /// Whether it was read from this rule text with these flags.
+    pub(crate) fn is_of(&self, rules: &str, flags: LexFlags) -> bool {
+        self.rules.as_str() == rules && self.flags == flags
     }
 
     /// The number of the token type that a piece is shown as; None where it is plain.

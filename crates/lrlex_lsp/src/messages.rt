@@ -2,7 +2,6 @@
 ghost use Rattle.serde_json.specs.View.{view};
 ghost use Rattle.lrlex_lsp.specs.Messages.{IsCallOf};
 
-use crate::json::Json;
 use serde_json::Value;
 use std::alloc::{AllocError, Global};
 
@@ -75,39 +74,9 @@ pub(crate) fn call_of(message: &Value) -> Call<'_>
     }
 }
 
-/// Begins a message.
-fn begin(alloc: Global) -> Json {
-    let mut json = Json::new(alloc);
-    json.open("{");
-    json.member("jsonrpc");
-    json.put("\"2.0\"");
-    json
-}
-
-/// Begins an answer.
-fn begin_answer(alloc: Global, id: Option<&Value>) -> Json {
-    let mut json = begin(alloc);
-    json.member("id");
-    match id {
-        Some(id) => json.value(id),
-        None => json.put("null"),
-    }
-    json
-}
-
-/// An answer up to its result, which is to follow, and then a bracket.
-pub(crate) fn begin_result(alloc: Global, id: &Value) -> Json {
-    let mut json = begin_answer(alloc, Some(id));
-    json.member("result");
-    json
-}
-
 /// An answer whose result is this text.
 pub(crate) fn answer(alloc: Global, id: &Value, outcome: &str) -> Result<String, AllocError> {
-    let mut json = begin_result(alloc, id);
-    json.put(outcome);
-    json.close("}");
-    json.done()
+    format!(in alloc; "{{\"jsonrpc\":\"2.0\",\"id\":{id},\"result\":{outcome}}}")
 }
 
 /// An answer that refuses a request.
@@ -116,47 +85,25 @@ pub(crate) fn refusal(
     id: Option<&Value>,
     fault: Fault,
 ) -> Result<String, AllocError> {
-    let mut json = begin_answer(alloc, id);
-    json.member("error");
-    json.open("{");
-    json.member("code");
-    json.put(fault.code);
-    json.member("message");
-    json.text(fault.message);
-    json.close("}");
-    json.close("}");
-    json.done()
+    let (code, message) = (fault.code, fault.message);
+    match id {
+        Some(id) => format!(in alloc;
+            "{{\"jsonrpc\":\"2.0\",\"id\":{id},\"error\":{{\"code\":{code},\"message\":\"{message}\"}}}}"
+        ),
+        None => format!(in alloc;
+            "{{\"jsonrpc\":\"2.0\",\"id\":null,\"error\":{{\"code\":{code},\"message\":\"{message}\"}}}}"
+        ),
+    }
 }
 
-/// A notification up to its parameters, which are to follow, and then a bracket.
-pub(crate) fn begin_notification(alloc: Global, method: &str) -> Json {
-    let mut json = begin(alloc);
-    json.member("method");
-    json.text(method);
-    json.member("params");
-    json
-}
-
-/// A message for the client's log, as a warning.
-pub(crate) fn warning(alloc: Global, message: &str) -> Result<String, AllocError> {
-    let mut json = begin_notification(alloc, "window/logMessage");
-    json.open("{");
-    json.member("type");
-    json.put("2");
-    json.member("message");
-    json.text(message);
-    json.close("}");
-    json.close("}");
-    json.done()
+/// A message for the client's log, as a warning. The text is as JSON has it.
+pub(crate) fn warning(alloc: Global, text: &str) -> Result<String, AllocError> {
+    format!(in alloc;
+        "{{\"jsonrpc\":\"2.0\",\"method\":\"window/logMessage\",\"params\":{{\"type\":2,\"message\":\"{text}\"}}}}"
+    )
 }
 
 /// A request of the server's own, without parameters.
 pub(crate) fn request(alloc: Global, id: usize, method: &str) -> Result<String, AllocError> {
-    let mut json = begin(alloc);
-    json.member("id");
-    json.number(id);
-    json.member("method");
-    json.text(method);
-    json.close("}");
-    json.done()
+    format!(in alloc; "{{\"jsonrpc\":\"2.0\",\"id\":{id},\"method\":\"{method}\"}}")
 }

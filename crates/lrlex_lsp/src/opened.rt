@@ -3,17 +3,18 @@ ghost use Rattle.std.specs.Prelude.{◌≡◌, IfOk};
 ghost use Rattle.lrlex_lsp.specs.Changes.{replaced};
 
 use crate::changes::{NumberEdit, joined};
-use crate::json::Json;
+use crate::json::push_numbers;
 use crate::languages::{Language, Types};
-use crate::messages::begin_result;
 use crate::renewal::Part;
-use crate::tokens::{Tokens, all_tokens, tokens_in};
+use crate::started::Kept;
+use crate::tokens::{Tokens, tokens_in};
 use lrlex::{Change, Document, PositionEncoding};
 use serde_json::Value;
 use std::alloc::{AllocError, Global};
+use std::fmt::Write;
 
 /// What a document is to the server.
-#[derive(Clone, Copy, PartialEq, Eq)]
+#[derive(Clone, Copy)]
 pub(crate) enum Role {
     /// A rule file.
     Rules,
@@ -66,6 +67,16 @@ impl<'d> Opened<'d> {
         })
     }
 
+    /// The document of this URI, without what it is lexed by.
+    pub(crate) fn kept(&self, alloc: Global, uri: &str) -> Result<Kept, AllocError> {
+        Ok(Kept {
+            uri: String::from_str(alloc, uri)?,
+            is_rules: matches!(self.role, Role::Rules),
+            text: String::from_str(alloc, self.document.text())?,
+            version: self.version,
+        })
+    }
+
     /// Notes which pieces the last edit changed.
     pub(crate) fn note_edit(&mut self) {
         let last = self.document.changed().pieces;
@@ -75,11 +86,17 @@ impl<'d> Opened<'d> {
         };
     }
 
-    /// The tokens of the whole text.
-    fn all(&self, alloc: Global, encoding: PositionEncoding) -> Result<Tokens, AllocError> {
+    /// The tokens of the pieces that have a byte in `bytes.0..bytes.1`, after a token at the place `last`.
+    fn tokens_in(
+        &self,
+        alloc: Global,
+        encoding: PositionEncoding,
+        bytes: (usize, usize),
+        last: (usize, usize),
+    ) -> Result<Tokens, AllocError> {
         match self.role {
             Role::Unlexed => Ok(Tokens::none(alloc)),
-            _ => all_tokens(alloc, self.language, &self.document, encoding),
+            _ => tokens_in(alloc, self.language, &self.document, encoding, bytes, last),
         }
     }
 
@@ -91,35 +108,23 @@ impl<'d> Opened<'d> {
         part: Part,
     ) -> Result<Tokens, AllocError> {
         let end = self.document.end().saturating_sub(part.behind);
-        match self.role {
-            Role::Unlexed => Ok(Tokens::none(alloc)),
-            _ => tokens_in(
-                alloc,
-                self.language,
-                &self.document,
-                encoding,
-                (part.begin(), end),
-                part.last,
-            ),
-        }
+        self.tokens_in(alloc, encoding, (part.begin(), end), part.last)
     }
 
     /// Adds the edit that makes the tokens as they are now of those that were told last, if these aren't the same, and takes the
     /// new ones for told.
-    fn put_edits(
+    fn push_edits(
         &mut self,
         alloc: Global,
         encoding: PositionEncoding,
-        json: &mut Json,
+        out: &mut String,
     ) -> Result<(), AllocError> {
-        json.open("[");
         if let Some(change) = self.since {
             let part = self.told.part(change);
             let new = self.renewed(alloc, encoding, part)?;
-            put_edit(json, self.told.renew(alloc, part, &new)?);
+            push_edit(out, self.told.renew(alloc, part, &new)?)?;
             self.since = None;
         }
-        json.close("]");
         Ok(())
     }
 
@@ -129,15 +134,14 @@ impl<'d> Opened<'d> {
         alloc: Global,
         asked: Asked<'_>,
     ) -> Result<String, AllocError> {
-        self.told = self.all(alloc, asked.encoding)?;
+        let end = self.document.text().len();
+        self.told = self.tokens_in(alloc, asked.encoding, (0, end), (0, 0))?;
         self.answer = Some(asked.answer);
         self.since = None;
-        let mut json = begin_tokens(alloc, asked)?;
-        json.member("data");
-        json.numbers(&self.told.numbers);
-        json.close("}");
-        json.close("}");
-        json.done()
+        let mut out = begin_tokens(alloc, asked, "data")?;
+        push_numbers(&mut out, &self.told.numbers)?;
+        out.push_str("]}}")?;
+        Ok(out)
     }
 
     /// The answer with what has changed of the tokens since the answer of this number, or, where that wasn't the last one, with all.
@@ -152,12 +156,23 @@ impl<'d> Opened<'d> {
             return self.answer_full(alloc, asked);
         }
         self.answer = Some(asked.answer);
-        let mut json = begin_tokens(alloc, asked)?;
-        json.member("edits");
-        self.put_edits(alloc, asked.encoding, &mut json)?;
-        json.close("}");
-        json.close("}");
-        json.done()
+        let mut out = begin_tokens(alloc, asked, "edits")?;
+        self.push_edits(alloc, asked.encoding, &mut out)?;
+        out.push_str("]}}")?;
+        Ok(out)
+    }
+
+    /// The tokens of a range.
+    fn in_range(
+        &self,
+        alloc: Global,
+        encoding: PositionEncoding,
+        range: ((usize, usize), (usize, usize)),
+    ) -> Result<Tokens, AllocError> {
+        let document = &self.document;
+        let from = document.offset_at(range.0, encoding);
+        let to = document.offset_at(range.1, encoding);
+        self.tokens_in(alloc, encoding, (from, to), (0, 0))
     }
 
     /// The answer with the tokens of a range.
@@ -167,51 +182,35 @@ impl<'d> Opened<'d> {
         asked: Asked<'_>,
         range: ((usize, usize), (usize, usize)),
     ) -> Result<String, AllocError> {
-        let document = &self.document;
-        let from = document.offset_at(range.0, asked.encoding);
-        let to = document.offset_at(range.1, asked.encoding);
-        let tokens = match self.role {
-            Role::Unlexed => Tokens::none(alloc),
-            _ => tokens_in(
-                alloc,
-                self.language,
-                document,
-                asked.encoding,
-                (from, to),
-                (0, 0),
-            )?,
-        };
-        let mut json = begin_result(alloc, asked.id);
-        json.open("{");
-        json.member("data");
-        json.numbers(&tokens.numbers);
-        json.close("}");
-        json.close("}");
-        json.done()
+        let tokens = self.in_range(alloc, asked.encoding, range)?;
+        let id = asked.id;
+        let mut out = format!(in alloc;
+            "{{\"jsonrpc\":\"2.0\",\"id\":{id},\"result\":{{\"data\":["
+        )?;
+        push_numbers(&mut out, &tokens.numbers)?;
+        out.push_str("]}}")?;
+        Ok(out)
     }
 }
 
-/// Begins an answer that later ones are told against.
-fn begin_tokens(alloc: Global, asked: Asked<'_>) -> Result<Json, AllocError> {
-    let answer = asked.answer;
-    let number = format!(in alloc; "{answer}")?;
-    let mut json = begin_result(alloc, asked.id);
-    json.open("{");
-    json.member("resultId");
-    json.text(&number);
-    Ok(json)
+/// Begins an answer that later ones are told against, up to its list of this name.
+fn begin_tokens(alloc: Global, asked: Asked<'_>, name: &str) -> Result<String, AllocError> {
+    let (id, answer) = (asked.id, asked.answer);
+    format!(in alloc;
+        "{{\"jsonrpc\":\"2.0\",\"id\":{id},\"result\":{{\"resultId\":\"{answer}\",\"{name}\":["
+    )
 }
 
 /// Adds an edit, unless it leaves all as it is.
-fn put_edit(json: &mut Json, edit: NumberEdit<'_>) {
-    if edit.removed > 0 || !edit.put.is_empty() {
-        json.open("{");
-        json.member("start");
-        json.number(edit.start);
-        json.member("deleteCount");
-        json.number(edit.removed);
-        json.member("data");
-        json.numbers(edit.put);
-        json.close("}");
+fn push_edit(out: &mut String, edit: NumberEdit<'_>) -> Result<(), AllocError> {
+    let (start, removed) = (edit.start, edit.removed);
+    if removed == 0 && edit.put.is_empty() {
+        return Ok(());
     }
+    write!(
+        out,
+        "{{\"start\":{start},\"deleteCount\":{removed},\"data\":["
+    )?;
+    push_numbers(out, edit.put)?;
+    out.push_str("]}")
 }

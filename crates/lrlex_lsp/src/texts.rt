@@ -3,6 +3,7 @@ ghost use Rattle.std.specs.Prelude.{◌≡◌, ◌<◌, ◌+◌, ◌^◌};
 
 use crate::diagnostics::{nothing_of, told_of};
 use crate::edits::make_change;
+use crate::languages::Language;
 use crate::messages::request;
 use crate::opened::{Opened, Role};
 use crate::started::{Counts, Given, Kept, Next};
@@ -71,15 +72,20 @@ impl<'d> Texts<'d> {
     pub(crate) fn close(self) -> Result<Vec<Kept>, AllocError> {
         let mut all = Vec::new(self.alloc);
         for (uri, opened) in self.open.iter() {
-            let kept = Kept {
-                uri: uri.clone()?,
-                is_rules: opened.role == Role::Rules,
-                text: String::from_str(self.alloc, opened.document.text())?,
-                version: opened.version,
-            };
-            all.push(kept)?;
+            all.push(opened.kept(self.alloc, uri)?)?;
         }
         Ok(all)
+    }
+
+    /// What a document is, and what it is lexed by.
+    fn role_of(&self, uri: &str, is_rules: bool) -> Result<(Role, &'d Language), AllocError> {
+        if is_rules || is_same_file(self.alloc, uri, self.given.uri)? {
+            return Ok((Role::Rules, self.given.own));
+        }
+        match self.given.language {
+            Some(given) => Ok((Role::Text, given)),
+            None => Ok((Role::Unlexed, self.given.own)),
+        }
     }
 
     /// Opens a document.
@@ -90,15 +96,10 @@ impl<'d> Texts<'d> {
         text: &str,
         version: Option<usize>,
     ) -> Result<(), AllocError> {
-        let is_given = is_same_file(self.alloc, uri, self.given.uri)?;
-        let (role, language) = match self.given.language {
-            _ if is_rules || is_given => (Role::Rules, self.given.own),
-            Some(given) => (Role::Text, given),
-            None => (Role::Unlexed, self.given.own),
-        };
+        let (role, language) = self.role_of(uri, is_rules)?;
+        let name = String::from_str(self.alloc, uri)?;
         let opened = Opened::new(self.alloc, role, language, text, version)?;
-        self.open
-            .insert(String::from_str(self.alloc, uri)?, opened)?;
+        self.open.insert(name, opened)?;
         Ok(())
     }
 
@@ -145,7 +146,7 @@ impl<'d> Texts<'d> {
         let Some(opened) = self.open.get(uri) else {
             return Ok(false);
         };
-        let (body, has_faults) = told_of(self.alloc, uri, opened, self.encoding, self.given.flags)?;
+        let (body, has_faults) = told_of(self.alloc, uri, opened, self.encoding, self.given)?;
         told.push(body)?;
         Ok(!has_faults)
     }

@@ -35,17 +35,7 @@ pub fn is_token_type(name: &str) -> bool {
     type_named(name).is_some()
 }
 
-/// The token types as a list of JSON.
+/// The token types as a list of JSON has them, without its brackets and outer quotes.
 pub(crate) fn legend(alloc: Global) -> Result<String, AllocError> {
-    let mut text = String::from_str(alloc, "[")?;
-    for known in TOKEN_TYPES.split(' ') {
-        if text.len() > 1 {
-            text.push_str(",")?;
-        }
-        text.push_str("\"")?;
-        text.push_str(known)?;
-        text.push_str("\"")?;
-    }
-    text.push_str("]")?;
-    Ok(text)
+    TOKEN_TYPES.replace(alloc, ' ', "\",\"")
 }

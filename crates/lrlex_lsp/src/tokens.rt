@@ -170,24 +170,6 @@ fn tokens_of(
     Ok(row.tokens)
 }
 
-/// The tokens of the whole document.
-pub(crate) fn all_tokens(
-    alloc: Global,
-    language: &Language,
-    document: &Document<'_, Types>,
-    encoding: PositionEncoding,
-) -> Result<Tokens, AllocError> {
-    let pieces = document.pieces(alloc)?;
-    tokens_of(
-        alloc,
-        language,
-        document,
-        encoding,
-        pieces.as_slice(),
-        (0, 0),
-    )
-}
-
 /// The tokens of the pieces that have a byte in `bytes.0..bytes.1`, after a token at the place `last`.
 pub(crate) fn tokens_in(
     alloc: Global,

@@ -4,9 +4,8 @@ use Rattle.lrlex_base.specs.Spans.{as_span, span_start, span_end}
 use Rattle.lrlex_base.specs.declared.spans.Span.{Span}
 use Rattle.lrlex_rules.specs.LexBuildError.{message, kind_text, fault_kind, fault_spans}
 use Rattle.lrlex_rules.specs.declared.faults.LexErrorKind.{LexErrorKind}
-use Rattle.lrlex_rules.specs.declared.faults.LexErrorKind.TheVariants.{UnknownDeclaration}
 use Rattle.lrlex_rules.specs.declared.faults.LexBuildError.{LexBuildError}
-use Rattle.lrlex_report.specs.Encoding.{mark_note}
+use Rattle.lrlex_report.specs.Notes.{fault_note}
 use Rattle.lrlex_report.specs.PlaceTexts.{place_text}
 
 -- the text begins with `front`
@@ -16,18 +15,6 @@ BeginsWith front text = (rest : List ℕ) × (text ≡ front ++ rest)
 -- the message of the kind; where `regex` refuses the pattern, its reason follows
 abbrev pub IsMessageOf : LexErrorKind → List ℕ → Type 0
 IsMessageOf kind text = MatchOption (kind_text kind) (BeginsWith (message kind ++ codes ": ") text) (λ known. text ≡ known)
-
--- what the message of an unknown declaration ends with: it names a byte order mark if the text begins with one
-abbrev pub first_note : (rules : List ℕ) → List Span → List ℕ
-first_note rules [] = []
-first_note rules (x ∷ xs) = mark_note rules (span_start x)
-
-abbrev pub kind_note : (rules : List ℕ) → List Span → LexErrorKind → List ℕ
-kind_note rules xs UnknownDeclaration = first_note rules xs
-kind_note rules xs _ = []
-
-abbrev pub fault_note : (rules : List ℕ) → LexBuildError → List ℕ
-fault_note rules e = kind_note rules (fault_spans e) (fault_kind e)
 
 -- the message at each of these places
 abbrev pub at_each : (file rules said : List ℕ) → List Span → List ℕ
@@ -45,7 +32,7 @@ places_text file rules said (x ∷ []) = place_text file rules (as_span x) said
 places_text file rules said (x ∷ y ∷ ys) =
     at_each file rules said (y ∷ ys) ++ first_text file rules x
 
--- what is wrong, without its places
+-- what is wrong, without its places: the message, and the mistake that it usually comes of
 abbrev pub IsFaultMessage : (rules : List ℕ) → LexBuildError → List ℕ → Type 0
 IsFaultMessage rules e text = (said : List ℕ) × IsMessageOf (fault_kind e) said × (text ≡ said ++ fault_note rules e)
 

@@ -1,7 +1,9 @@
+pub mod Alternatives
 pub mod Carets
 pub mod Encoding
 pub mod FaultRanges
 pub mod FaultTexts
+pub mod Notes
 pub mod PlaceTexts
 pub mod Reasons
 pub mod StopTexts

@@ -4,7 +4,7 @@ use Rattle.lrlex_report.specs.PlaceTexts.{place_text}
 use Rattle.lrlex_report.specs.Warnings.{as_told}
 use Rattle.lrlex_report.specs.declared.warnings.kinds.Warning.{Warning}
 use Rattle.lrlex_report.specs.declared.warnings.kinds.WarningKind.{WarningKind}
-use Rattle.lrlex_report.specs.declared.warnings.kinds.WarningKind.TheVariants.{NeverWins, NeverActive, NoTable, TargetInPattern, BlankAfterStates, LostEscape, EscapeAfterStates, NeverEntered, NoRules}
+use Rattle.lrlex_report.specs.declared.warnings.kinds.WarningKind.TheVariants.{NeverWins, NeverActive, NoTable, TargetInPattern, BlankAfterStates, LostEscape, EscapeAfterStates, LostAlternative, NeverEntered, NoRules}
 
 -- what is unusual, why, and what to write in its place
 abbrev pub warning_message : WarningKind → List ℕ
@@ -15,6 +15,7 @@ warning_message TargetInPattern = codes "this target is part of the pattern; wri
 warning_message BlankAfterStates = codes "the blank after these start states is part of the pattern; leave it out, or write [ ]"
 warning_message LostEscape = codes "a backslash is dropped here, before a letter that begins no escape; write the letter, or \\x41 in place of \\x{41}"
 warning_message EscapeAfterStates = codes "after start states \\< and \\> are the beginning and the end of a word; write < and > without the backslash"
+warning_message LostAlternative = codes "an alternative never matches here: it begins with an earlier one, which is tried first; put the longer one first"
 warning_message NeverEntered = codes "no rule enters this start state; name it as the target of a rule"
 warning_message NoRules = codes "no rule is active in this start state, so lexing stops there; list it before a pattern"
 

@@ -15,10 +15,11 @@ use Rattle.lrlex.specs.Active.{active_places, is_state, lists_none}
 use Rattle.lrlex.specs.Never.{NeverWinsAnywhere, WinsAtNoRow, enters, is_active_somewhere, is_asked_somewhere}
 use Rattle.lrlex.specs.Views.{definition_by}
 use Rattle.lrlex.specs.declared.definition.rule_table.RuleTable.{RuleTable}
+use Rattle.lrlex_report.specs.Alternatives.{loses_word}
 use Rattle.lrlex_report.specs.FaultRanges.{before_blank}
 use Rattle.lrlex_report.specs.PlaceTexts.{nearest}
 use Rattle.lrlex_report.specs.declared.warnings.kinds.WarningKind.{WarningKind}
-use Rattle.lrlex_report.specs.declared.warnings.kinds.WarningKind.TheVariants.{NeverWins, NeverActive, NoTable, TargetInPattern, BlankAfterStates, LostEscape, EscapeAfterStates, NeverEntered, NoRules}
+use Rattle.lrlex_report.specs.declared.warnings.kinds.WarningKind.TheVariants.{NeverWins, NeverActive, NoTable, TargetInPattern, BlankAfterStates, LostEscape, EscapeAfterStates, LostAlternative, NeverEntered, NoRules}
 use Rattle.lrlex_report.specs.declared.warnings.kinds.Warning.{Warning}
 use Rattle.lrlex_report.specs.declared.warnings.answers.Answers.{Answers}
 use Rattle.lrlex_report.specs.declared.warnings.answers.Facts.{Facts}
@@ -98,6 +99,15 @@ has_unmeant listed (b ∷ []) = false
 has_unmeant listed (b ∷ c ∷ rest) =
     if is_backslash b then is_unmeant listed c rest || has_unmeant listed rest else has_unmeant listed (c ∷ rest)
 
+-- a pattern without the group that it is, `(..)` or `(?:..)`, if it is one
+abbrev pub in_group : List ℕ → List ℕ
+in_group inside = if begins_with (codes "?:") inside then drop 2 inside else inside
+
+abbrev pub ungrouped : List ℕ → List ℕ
+ungrouped pattern =
+    let rest = drop 1 pattern in
+    if begins_with (codes "(") pattern && ends_in (byte ")") rest then in_group (take (length rest - 1) rest) else pattern
+
 -- it is active, and never wins
 abbrev pub never_wins : Facts → Bool
 never_wins known = known.is_active && not known.may_win
@@ -112,6 +122,10 @@ loses_escape source r = lists_none r && has_unmeant false source
 abbrev pub has_escape_after_states : Rule → Bool
 has_escape_after_states r = not (lists_none r) && has_unmeant true r.re_str
 
+-- its pattern is words, perhaps in a group, and one of them begins with an earlier one
+abbrev pub loses_alternative : Rule → Bool
+loses_alternative r = loses_word (ungrouped r.re_str)
+
 -- the tests of a rule of which this is known, and what they answer
 abbrev pub rule_tests : Facts → List StartState → (source : List ℕ) → Rule → List (WarningKind × Bool)
 rule_tests known states source r =
@@ -122,6 +136,7 @@ rule_tests known states source r =
     ∷ (BlankAfterStates, has_blank_after_states r)
     ∷ (LostEscape, loses_escape source r)
     ∷ (EscapeAfterStates, has_escape_after_states r)
+    ∷ (LostAlternative, loses_alternative r)
     ∷ []
 
 -- the warnings of the rule, at its pattern

@@ -1,9 +1,9 @@
 //! The errors of a rule text, as people read them.
 ghost use Rattle.std.specs.Prelude.{◌≡◌, ◌++◌, IfOk, OnOk, string_bytes};
 ghost use Rattle.lrlex_rules.specs.LexBuildError.{fault_kind, fault_spans};
-ghost use Rattle.lrlex_report.specs.FaultTexts.{IsMessageOf, fault_note, at_each, first_text, places_text, IsFaultMessage, IsFaultText, AreFaultTexts};
+ghost use Rattle.lrlex_report.specs.FaultTexts.{IsMessageOf, at_each, first_text, places_text, IsFaultMessage, IsFaultText, AreFaultTexts};
 
-use crate::encoding::mark_note;
+use crate::notes::fault_note;
 use crate::places::Source;
 use lrlex_base::{Span, Spanned};
 use lrlex_rules::{LexBuildError, LexErrorKind};
@@ -34,18 +34,8 @@ fn message_of(alloc: Global, fault: &LexBuildError) -> Result<String, AllocError
     }
 }
 
-/// What the message of an error ends with: it names the byte order mark if that is the unknown declaration, and else is empty.
-fn fault_note(rules: &str, fault: &LexBuildError) -> &'static str
-    ensures { result.now ≡ fault_note rules.now fault.now }
-{
-    match (fault.kind(), fault.spans().first()) {
-        (LexErrorKind::UnknownDeclaration, Some(first)) => mark_note(rules, first.start()),
-        _ => "",
-    }
-}
-
 /// What is wrong with a rule text, in one line, without its places: the kind's message. The reason follows where `regex` refuses
-/// a pattern, and a byte order mark is named where that is the unknown declaration. `rules` is the text that has the error.
+/// a pattern, and then the mistake that such an error usually comes of, with what to write. `rules` is the text that has the error.
 pub fn fault_message(
     alloc: Global,
     rules: &str,

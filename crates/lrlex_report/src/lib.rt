@@ -5,6 +5,7 @@
 mod carets;
 mod encoding;
 mod faults;
+mod notes;
 mod places;
 mod ranges;
 mod reasons;

@@ -11,7 +11,7 @@ use lrlex_base::{Span, Spanned, is_blank, is_line_sep, is_white_space};
 use lrlex_rules::{LexBuildError, LexErrorKind};
 
 /// The text up to the end of its first line.
-fn first_line(text: &str) -> &str
+pub(crate) fn first_line(text: &str) -> &str
     ensures value { result.now ≡ first_line text.now }
     ensures front { result.now ≡ take (length result.now) text.now }
     ensures bound { length result.now ≤ length text.now }
@@ -110,7 +110,7 @@ fn or_first_char<'t>(line: &'t str, part: &'t str) -> &'t str
 }
 
 /// The span at which the message of a fault is shown.
-fn told_span(fault: &LexBuildError) -> Span
+pub(crate) fn told_span(fault: &LexBuildError) -> Span
     ensures { as_span result ≡ told_span (fault_spans fault.now) }
 {
     match fault.spans() {

@@ -1,5 +1,5 @@
 -- Where marks cut, patterns win.
-use Rattle.std.proofs.Common.{◌≡◌, zero, suc, ℕ, ◌+◌, ◌-◌, ◌<◌, ◌≤◌, true, List, All, [], ◌∷◌, ◌++◌, length, take, drop, get_or, IsUtf8, Option, Some, None, Result, Ok, Err, is_some, slice_get, slice_index_or, refl, sym, ap, ◌∙◌, subst, inl, inr, arith, true≢false, add-one}
+use Rattle.std.proofs.Common.{◌≡◌, zero, suc, ℕ, ◌+◌, ◌-◌, ◌<◌, ◌≤◌, true, List, All, [], ◌∷◌, ◌++◌, length, take, drop, get_or, IsUtf8, Option, Some, None, Result, Ok, Err, is_some, slice_get, slice_index_or, refl, sym, ap, ◌∙◌, subst, inl, inr, arith, true≢false}
 use Rattle.std.specs.Prelude.{IsCharBoundary, IfOk, IfSome}
 use Rattle.std.proofs.lemmas.Bool.{cases_lt}
 use Rattle.std.proofs.lemmas.List.{append-nil, drop_all, take_all, length-drop, get_or_past, get_or_read}
@@ -10,7 +10,7 @@ use Rattle.lrlex_table.specs.Cell.{wins_at}
 use Rattle.lrlex_table.specs.Table.{next_rows, IsLongest}
 use Rattle.lrlex_table.specs.Reach.{IsText, IsDecidedBy}
 use Rattle.lrlex_table.specs.Tables.{is_among, is_tabled, patterns_at, AreTablesOf, IsBestAmong, IsPartOf}
-use Rattle.lrlex_table.specs.Chain.{base_of, row_at, IsChainOf, NamesWinners, IsChainOfAll, IsCut, IsWonBy}
+use Rattle.lrlex_table.specs.Chain.{base_of, row_at, IsChainOf, NamesWinners, IsChainOfAll, IsCut, IsWonBy, end_of, row_of, begin_of}
 use Rattle.lrlex_table.specs.Ahead.{nothing, end_at, won_at, start_at, IsFoundIn, IsWonAt, AreWonIn, AreAheadIn}
 use Rattle.lrlex_table.specs.declared.chain.Chain.{Chain}
 use Rattle.lrlex_table.specs.declared.marks.Found.{Found}
@@ -104,12 +104,13 @@ module _ (ts : Tables) (c : Chain) (all : IsChainOfAll ts.parts.items ts.asked.i
         λ w won. chain_is.1 r w (within r cut.3) (ap (λ q. slice_index_or t.wins.items q None) (sym cut.2) ∙ won),
       )
 
-  cut_at : (k : ℕ) → k < length a.found.items → ((ps : List Re) → AreTablesOf ps ts → IsCharBoundary text (from + get_or is.places k 0)) →
-      (get_or is.places k 0 < get_or is.places (k + 1) 0) × IsWonAt ts text (from + get_or is.places k 0) (get_or c.wins.items (get_or is.rows k 0) 0) (get_or is.places (k + 1) 0 - get_or is.places k 0)
+  cut_at : (k : ℕ) → k < length a.found.items → ((ps : List Re) → AreTablesOf ps ts → IsCharBoundary text (from + begin_of 0 is.marks k)) →
+      (begin_of 0 is.marks k < end_of is.marks k) × IsWonAt ts text (from + begin_of 0 is.marks k) (get_or c.wins.items (row_of is.marks k) 0) (end_of is.marks k - begin_of 0 is.marks k)
   cut_at k lt bounds =
-      let p = get_or is.places k 0 in
-      let n = get_or is.places (k + 1) 0 - p in
-      let m = is.marks the.0.table chain_is.0 k lt in
+      let p = begin_of 0 is.marks k in
+      let r = row_of is.marks k in
+      let n = end_of is.marks k - p in
+      let m = is.cut the.0.table chain_is.0 k lt in
       let rest = length-drop (from + p) text in (
         m.0,
         (
@@ -117,33 +118,32 @@ module _ (ts : Tables) (c : Chain) (all : IsChainOfAll ts.parts.items ts.asked.i
           all.1,
           omega (arith, m.1.1, rest),
           bounds,
-          to_all (λ q. IsWonBy q (drop (from + p) text) (get_or c.wins.items (get_or is.rows k 0) 0) n) ts.parts.items the.0 the.1 (cut_won (drop (from + p) text) n (get_or is.rows k 0) m.1),
+          to_all (λ q. IsWonBy q (drop (from + p) text) (get_or c.wins.items r 0) n) ts.parts.items the.0 the.1 (cut_won (drop (from + p) text) n r m.1),
         ),
       )
 
-  bound_at : (k : ℕ) → k < length a.found.items → (ps : List Re) → AreTablesOf ps ts → IsCharBoundary text (from + get_or is.places k 0)
+  bound_at : (k : ℕ) → k < length a.found.items → (ps : List Re) → AreTablesOf ps ts → IsCharBoundary text (from + begin_of 0 is.marks k)
   bound_at zero lt ps are =
-      let same : from ≡ from + get_or is.places 0 0 = omega (arith, is.first) in
+      let same : from ≡ from + 0 = omega arith in
       subst (IsCharBoundary text) same begins
   bound_at (suc k) lt ps are =
-      let p = get_or is.places k 0 in
+      let p = begin_of 0 is.marks k in
       let cut = cut_at k (omega (arith, lt)) (bound_at k (omega (arith, lt))) in
-      let n = get_or is.places (k + 1) 0 - p in
-      let best = won_best ts text bytes utf8 (from + p) (get_or c.wins.items (get_or is.rows k 0) 0) n cut.1 ps are in
-      let same : from + p + n ≡ from + get_or is.places (k + 1) 0 = omega (arith, cut.0) in
-      subst (λ i. IsCharBoundary text (from + get_or is.places i 0)) (add-one k)
-      (subst (IsCharBoundary text) same (IsCharBoundary-from_rest text (from + p) n (omega (arith, cut.1.2)) best.1.cuts))
+      let n = end_of is.marks k - p in
+      let best = won_best ts text bytes utf8 (from + p) (get_or c.wins.items (row_of is.marks k) 0) n cut.1 ps are in
+      let same : from + p + n ≡ from + end_of is.marks k = omega (arith, cut.0) in
+      subst (IsCharBoundary text) same (IsCharBoundary-from_rest text (from + p) n (omega (arith, cut.1.2)) best.1.cuts)
 
   -- each begins where the mark before it is
-  starts : (k : ℕ) → k < length a.found.items → start_at a.found.items k ≡ get_or is.places k 0
-  starts zero lt = sym is.first
-  starts (suc k) lt = (is.named k (omega (arith, lt))).0 ∙ ap (λ i. get_or is.places i 0) (add-one k)
+  starts : (k : ℕ) → k < length a.found.items → start_at a.found.items k ≡ begin_of 0 is.marks k
+  starts zero lt = refl
+  starts (suc k) lt = (is.named k (omega (arith, lt))).0
 
   pub found_won : AreWonIn ts text a.from a.found.items
   found_won k lt =
-      let p = get_or is.places k 0 in
-      let end = get_or is.places (k + 1) 0 in
-      let w = get_or c.wins.items (get_or is.rows k 0) 0 in
+      let p = begin_of 0 is.marks k in
+      let end = end_of is.marks k in
+      let w = get_or c.wins.items (row_of is.marks k) 0 in
       let named = is.named k lt in
       let first = starts k lt in
       let cut = cut_at k lt (bound_at k lt) in

@@ -6,9 +6,10 @@ use Rattle.std.proofs.lemmas.List.{length-drop, get_or-drop}
 use Rattle.lrlex_table.specs.Cell.{wins_at}
 use Rattle.lrlex_table.specs.Table.{next_rows, next_of, EndsInRow}
 use Rattle.lrlex_table.specs.Reach.{row_after}
-use Rattle.lrlex_table.specs.Chain.{base_of, GoesTo, IsCut, AreMarksOf}
+use Rattle.lrlex_table.specs.Chain.{base_of, GoesTo, IsCut, no_mark, end_of, row_of, begin_of, IsCutAt, AreMarksOf, AreJoined}
 use Rattle.lrlex_table.specs.declared.table.Table.{Table}
 use Rattle.lrlex_table.specs.declared.chain.Chain.{Chain}
+use Rattle.lrlex_table.specs.declared.marks.Mark.{Mark}
 use Rattle.lrlex_table.proofs.CellLemmas.{some_of, none_of}
 use Rattle.lrlex_table.proofs.WalkLemmas.{Stands, stands_start, stands_marked, stands_unmarked, stands_dead}
 use Rattle.lrlex_table.proofs.DeadEndLemmas.{row_next}
@@ -70,8 +71,10 @@ pub record IsOnWay (t : Table) (c : Chain) (text : List ℕ) (from p at row : �
   pub stands_for : base_of c row ≡ row_after (next_rows t) t.start (take (at - p) (drop (from + p) text))
 
 -- at the beginning
-pub on_way_first : (t : Table) (c : Chain) (text : List ℕ) (from row : ℕ) → base_of c row ≡ t.start → IsOnWay t c text from 0 0 row
-on_way_first t c text from row is = record { behind = omega arith; stands_for = is }
+pub on_way_first : (t : Table) (c : Chain) (text : List ℕ) (from p row : ℕ) → base_of c row ≡ t.start → IsOnWay t c text from p p row
+on_way_first t c text from p row is =
+    let none : 0 ≡ p - p = omega arith in
+    record { behind = omega arith; stands_for = is ∙ ap (λ i. row_after (next_rows t) t.start (take i (drop (from + p) text))) none }
 
 module _ (t : Table) (c : Chain) (text : List ℕ) (from : ℕ) where
   byte_at : (p at : ℕ) → p ≤ at → from + at < length text → slice_get (drop (from + p) text) (at - p) ≡ Some (get_or text (from + at) 0)
@@ -130,36 +133,93 @@ module _ (t : Table) (c : Chain) (text : List ℕ) (from : ℕ) where
       ) in
       (some, cut)
 
-  -- marks stay, where what is behind them is written
-  pub kept_marks : (places rows : List ℕ) (count x y : ℕ) → AreMarksOf t c text from places rows count → AreMarksOf t c text from (set places (count + 1) x) (set rows count y) count
-  kept_marks places rows count x y marks k lt =
-      let p = get_or-set_other places (count + 1) k x 0 (λ e. absurd (omega (arith, e))) in
-      let q = get_or-set_other places (count + 1) (k + 1) x 0 (λ e. absurd (omega (arith, e))) in
-      let r = get_or-set_other rows count k y 0 (λ e. absurd (omega (arith, e))) in
-      let m = marks k lt in (
-        omega (arith, m.0),
-        subst (λ i. IsCut t (drop (from + i) text) (get_or (set places (count + 1) x) (k + 1) 0 - i) (base_of c (get_or (set rows count y) k 0))) (sym p)
-            (subst (λ i. IsCut t (drop (from + get_or places k 0) text) (i - get_or places k 0) (base_of c (get_or (set rows count y) k 0))) (sym q)
-            (subst (λ i. IsCut t (drop (from + get_or places k 0) text) (get_or places (k + 1) 0 - get_or places k 0) (base_of c i)) (sym r) m.1)),
-      )
+  -- the same by equal numbers
+  cut_as : (p e r q f s : ℕ) → q ≡ p → f ≡ e → s ≡ r → IsCutAt t c text from p e r → IsCutAt t c text from q f s
+  cut_as p e r q f s begin end row is =
+      subst (λ x. IsCutAt t c text from x f s) (sym begin) (subst (λ x. IsCutAt t c text from p x s) (sym end) (subst (λ x. IsCutAt t c text from p e x) (sym row) is))
+
+  -- what is written behind a mark changes none
+  kept_mark : (marks : List Mark) (count : ℕ) (m : Mark) (k : ℕ) → k < count → get_or (set marks count m) k no_mark ≡ get_or marks k no_mark
+  kept_mark marks count m k lt = get_or-set_other marks count k m no_mark (λ e. absurd (omega (arith, e, lt)))
+
+  kept_begin : (first : ℕ) (marks : List Mark) (count : ℕ) (m : Mark) (k : ℕ) → k ≤ count → begin_of first (set marks count m) k ≡ begin_of first marks k
+  kept_begin first marks count m zero le = refl
+  kept_begin first marks count m (suc k) le = ap (λ (x : Mark). x.end) (kept_mark marks count m k (omega (arith, le)))
+
+  kept_marks : (first : ℕ) (marks : List Mark) (count : ℕ) (m : Mark) → AreMarksOf t c text from first marks count → AreMarksOf t c text from first (set marks count m) count
+  kept_marks first marks count m are k lt =
+      let same = kept_mark marks count m k lt in
+      cut_as (begin_of first marks k) (end_of marks k) (row_of marks k) _ _ _ (kept_begin first marks count m k (omega (arith, lt))) (ap (λ (x : Mark). x.end) same) (ap (λ (x : Mark). x.row) same) (are k lt)
 
   -- and one more
-  pub more_marks : (places rows : List ℕ) (count at row : ℕ) → AreMarksOf t c text from places rows count → count + 1 < length places → count < length rows →
-      (get_or places count 0 < at) × IsCut t (drop (from + get_or places count 0) text) (at - get_or places count 0) (base_of c row) →
-      AreMarksOf t c text from (set places (count + 1) at) (set rows count row) (count + 1)
-  more_marks places rows count at row marks inside also cut k lt = elim (cases_lt k count) [
-    | inl before ↦ kept_marks places rows count at row marks k before
+  more_marks : (first : ℕ) (marks : List Mark) (count : ℕ) (m : Mark) → AreMarksOf t c text from first marks count → count < length marks →
+      IsCutAt t c text from (begin_of first marks count) m.end m.row → AreMarksOf t c text from first (set marks count m) (count + 1)
+  more_marks first marks count m are room cut k lt = elim (cases_lt k count) [
+    | inl before ↦ kept_marks first marks count m are k before
     | inr last ↦
         let is : k ≡ count = omega arith in
-        let p = get_or-set_other places (count + 1) count at 0 (λ e. absurd (omega (arith, e))) in
-        let q = get_or-set_same places (count + 1) at 0 inside in
-        let r = get_or-set_same rows count row 0 also in
-        subst (λ i. (get_or (set places (count + 1) at) i 0 < get_or (set places (count + 1) at) (i + 1) 0)
-        × IsCut t (drop (from + get_or (set places (count + 1) at) i 0) text) (get_or (set places (count + 1) at) (i + 1) 0 - get_or (set places (count + 1) at) i 0)
-        (base_of c (get_or (set rows count row) i 0))) (sym is) (
-          omega (arith, cut.0, p, q),
-          subst (λ i. IsCut t (drop (from + i) text) (get_or (set places (count + 1) at) (count + 1) 0 - i) (base_of c (get_or (set rows count row) count 0))) (sym p)
-              (subst (λ i. IsCut t (drop (from + get_or places count 0) text) (i - get_or places count 0) (base_of c (get_or (set rows count row) count 0))) (sym q)
-              (subst (λ i. IsCut t (drop (from + get_or places count 0) text) (at - get_or places count 0) (base_of c i)) (sym r) cut.1)),
-        )
+        let same = get_or-set_same marks count m no_mark room in
+        subst (λ i. IsCutAt t c text from (begin_of first (set marks count m) i) (end_of (set marks count m) i) (row_of (set marks count m) i)) (sym is)
+        (cut_as (begin_of first marks count) m.end m.row _ _ _ (kept_begin first marks count m count (omega arith)) (ap (λ (x : Mark). x.end) same) (ap (λ (x : Mark). x.row) same) cut)
   ]
+
+  -- where the next one begins
+  next_begin : (first : ℕ) (marks : List Mark) (count : ℕ) (m : Mark) → count < length marks → begin_of first (set marks count m) (count + 1) ≡ m.end
+  next_begin first marks count m room =
+      subst (λ i. begin_of first (set marks count m) i ≡ m.end) (sym (add-one count)) (ap (λ (x : Mark). x.end) (get_or-set_same marks count m no_mark room))
+
+  -- a lane's marks, and where its walk has come to at `at`
+  abbrev pub IsLane : ℕ → List Mark → ℕ → ℕ → ℕ → Type 0
+  IsLane first marks count at row = AreMarksOf t c text from first marks count × IsOnWay t c text from (begin_of first marks count) at row
+
+  -- a lane goes one byte further
+  pub passes : (first : ℕ) (marks : List Mark) (count at row to more : ℕ) → IsLane first marks count at row → from + at < length text → count < length marks →
+      GoesTo t c row (get_or text (from + at) 0) to → (c.fresh ≤ to → more ≡ 1) → (to < c.fresh → more ≡ 0) →
+      IsLane first (set marks count (record { row = row; end = at })) (count + more) (at + 1) to
+  passes first marks count at row to more lane here room goes one none =
+      let m : Mark = record { row = row; end = at } in
+      let p = begin_of first marks count in
+      elim (cases_lt to c.fresh) [
+        | inl lt ↦
+            let same : count ≡ count + more = omega (arith, none lt) in
+            let stays = kept_begin first marks count m count (omega arith) in
+            subst (λ n. IsLane first (set marks count m) n (at + 1) to) same
+            (kept_marks first marks count m lane.0, subst (λ q. IsOnWay t c text from q (at + 1) to) (sym stays) (goes_on p at row to lane.1 here (goes.0 lt)))
+        | inr ge ↦
+            let same : count + 1 ≡ count + more = omega (arith, one ge) in
+            let is_there = next_begin first marks count m room in
+            subst (λ n. IsLane first (set marks count m) n (at + 1) to) same
+            (more_marks first marks count m lane.0 room (cuts p at row to lane.1 here goes ge), subst (λ q. IsOnWay t c text from q (at + 1) to) (sym is_there) (begins at to here (goes.1 ge).2))
+      ]
+
+  -- marks of two lanes that meet
+  module _ (first : List Mark) (count apart : ℕ) (second : List Mark) (others : ℕ) (marks : List Mark) (total : ℕ) (j : AreJoined first count apart second others marks total) where
+    begin_before : (k : ℕ) → k ≤ j.kept → begin_of 0 marks k ≡ begin_of 0 first k
+    begin_before zero le = refl
+    begin_before (suc k) le = ap (λ (x : Mark). x.end) (j.before k (omega (arith, le)))
+
+    begin_behind : (k : ℕ) → k < j.taken → begin_of 0 marks (j.kept + k) ≡ begin_of apart second (j.passed + k)
+    begin_behind zero lt =
+        let none : j.kept + 0 ≡ j.kept = omega arith in
+        let also : j.passed ≡ j.passed + 0 = omega arith in
+        ap (begin_of 0 marks) none ∙ begin_before j.kept (omega arith) ∙ j.meet lt ∙ ap (begin_of apart second) also
+    begin_behind (suc k) lt =
+        let one : j.kept + suc k ≡ suc (j.kept + k) = omega arith in
+        let also : suc (j.passed + k) ≡ j.passed + suc k = omega arith in
+        ap (begin_of 0 marks) one ∙ ap (λ (x : Mark). x.end) (j.behind k (omega (arith, lt))) ∙ ap (begin_of apart second) also
+
+    pub joined_marks : AreMarksOf t c text from 0 first count → AreMarksOf t c text from apart second others → AreMarksOf t c text from 0 marks total
+    joined_marks are also k lt = elim (cases_lt k j.kept) [
+      | inl before ↦
+          let same = j.before k before in
+          cut_as (begin_of 0 first k) (end_of first k) (row_of first k) _ _ _ (begin_before k (omega (arith, before))) (ap (λ (x : Mark). x.end) same) (ap (λ (x : Mark). x.row) same)
+          (are k (omega (arith, before, j.of_first)))
+      | inr behind ↦
+          let n = k - j.kept in
+          let is : j.kept + n ≡ k = omega arith in
+          let some : n < j.taken = omega (arith, lt, j.all) in
+          let same = j.behind n some in
+          subst (λ i. IsCutAt t c text from (begin_of 0 marks i) (end_of marks i) (row_of marks i)) is
+          (cut_as (begin_of apart second (j.passed + n)) (end_of second (j.passed + n)) (row_of second (j.passed + n)) _ _ _ (begin_behind n some) (ap (λ (x : Mark). x.end) same)
+          (ap (λ (x : Mark). x.row) same) (also (j.passed + n) (omega (arith, some, j.of_second))))
+    ]

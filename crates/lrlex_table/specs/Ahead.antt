@@ -2,11 +2,12 @@
 use Rattle.std.specs.Prelude.{◌≡◌, ℕ, zero, suc, ◌+◌, ◌-◌, ◌<◌, List, All, [], length, drop, Some, slice_get, slice_index_or, IsCharBoundary}
 use Rattle.regex.specs.Patterns.{Re}
 use Rattle.lrlex_table.specs.Tables.{AreTablesOf}
-use Rattle.lrlex_table.specs.Chain.{IsChainOf, IsWonBy, AreMarksOf}
+use Rattle.lrlex_table.specs.Chain.{IsChainOf, IsWonBy, end_of, row_of, AreMarksOf}
 use Rattle.lrlex_table.specs.declared.table.Table.{Table}
 use Rattle.lrlex_table.specs.declared.chain.Chain.{Chain}
 use Rattle.lrlex_table.specs.declared.tables.Tables.{Tables}
 use Rattle.lrlex_table.specs.declared.marks.Found.{Found}
+use Rattle.lrlex_table.specs.declared.marks.Mark.{Mark}
 use Rattle.lrlex_table.specs.declared.ahead.Ahead.{Ahead}
 
 abbrev pub nothing : Found
@@ -25,22 +26,20 @@ start_at found zero = 0
 start_at found (suc k) = end_at found k
 
 -- the matches end at the marks, each with the pattern that the chain has for its row
-abbrev pub AreNamed : Chain → List ℕ → List ℕ → List Found → Type 0
-AreNamed c places rows found =
+abbrev pub AreNamed : Chain → List Mark → List Found → Type 0
+AreNamed c marks found =
     (k : ℕ) → k < length found →
-    (end_at found k ≡ slice_index_or places (k + 1) 0)
-    × (won_at found k ≡ slice_index_or c.wins.items (slice_index_or rows k 0) 0)
+    (end_at found k ≡ end_of marks k)
+    × (won_at found k ≡ slice_index_or c.wins.items (row_of marks k) 0)
 
 -- in the text from `from` on, marks of the chain were found, and none of the matches between them is passed
 pub record IsFoundIn (c : Chain) (text : List ℕ) (from : ℕ) (a : Ahead) : Type 0 where
-  pub places : List ℕ
-  pub rows : List ℕ
+  pub marks : List Mark
   pub all : a.at ≡ 0
   pub from_is : a.from ≡ from
   pub begin : 0 < length a.found.items → a.begin ≡ from
-  pub first : slice_index_or places 0 0 ≡ 0
-  pub named : AreNamed c places rows a.found.items
-  pub marks : (t : Table) → IsChainOf t c → AreMarksOf t c text from places rows (length a.found.items)
+  pub named : AreNamed c marks a.found.items
+  pub cut : (t : Table) → IsChainOf t c → AreMarksOf t c text from 0 marks (length a.found.items)
 
 -- each pattern of the list is in its only table, and at this place of the text pattern k wins with n bytes, which the byte behind them decides
 abbrev pub IsWonAt : Tables → List ℕ → ℕ → ℕ → ℕ → Type 0

@@ -1,11 +1,12 @@
 -- The chain of a table (Chain): its walk goes on behind a match, with the next one.
-use Rattle.std.specs.Prelude.{◌≡◌, ◌≢◌, ℕ, ◌+◌, ◌-◌, ◌<◌, ◌≤◌, true, List, All, [], length, take, drop, Some, None, slice_get, slice_index_or}
+use Rattle.std.specs.Prelude.{◌≡◌, ◌≢◌, ℕ, zero, suc, ◌+◌, ◌-◌, ◌<◌, ◌≤◌, true, List, All, [], length, take, drop, Some, None, slice_get, slice_index_or}
 use Rattle.lrlex_table.specs.Cell.{wins_at}
 use Rattle.lrlex_table.specs.Table.{next_rows, next_of}
 use Rattle.lrlex_table.specs.Reach.{row_after}
 use Rattle.lrlex_table.specs.declared.table.Table.{Table}
 use Rattle.lrlex_table.specs.declared.chain.Chain.{Chain}
 use Rattle.lrlex_table.specs.declared.merged_tables.Part.{Part}
+use Rattle.lrlex_table.specs.declared.marks.Mark.{Mark}
 
 -- the chain's row behind row r on byte b
 abbrev pub row_behind : List ℕ → List ℕ → ℕ → ℕ → ℕ
@@ -60,9 +61,39 @@ IsWonBy p text k n =
     IsCut p.table text n (row_at p.table text n)
     × ((w : ℕ) → slice_index_or p.table.wins.items (row_at p.table text n) None ≡ Some w → k ≡ slice_index_or p.patterns.items w 0)
 
--- In the text from `from` on, the marks cut: a match begins at each of the first `count` and ends at the next, in the row that is noted for it.
-abbrev pub AreMarksOf : Table → Chain → List ℕ → ℕ → List ℕ → List ℕ → ℕ → Type 0
-AreMarksOf t c text from places rows count =
-    (k : ℕ) → k < count →
-    (slice_index_or places k 0 < slice_index_or places (k + 1) 0)
-    × IsCut t (drop (from + slice_index_or places k 0) text) (slice_index_or places (k + 1) 0 - slice_index_or places k 0) (base_of c (slice_index_or rows k 0))
+abbrev pub no_mark : Mark
+no_mark = record { row = 0; end = 0 }
+
+-- where match k ends, and the chain's row there
+abbrev pub end_of : List Mark → ℕ → ℕ
+end_of marks k = (slice_index_or marks k no_mark).end
+
+abbrev pub row_of : List Mark → ℕ → ℕ
+row_of marks k = (slice_index_or marks k no_mark).row
+
+-- where match k begins: the first at its place, each other where the one before it ends
+abbrev pub begin_of : ℕ → List Mark → ℕ → ℕ
+begin_of first marks zero = first
+begin_of first marks (suc k) = end_of marks k
+
+-- in the text from `from` on, a match begins at p and is cut at e, in row r of the chain
+abbrev pub IsCutAt : Table → Chain → List ℕ → ℕ → ℕ → ℕ → ℕ → Type 0
+IsCutAt t c text from p e r = (p < e) × IsCut t (drop (from + p) text) (e - p) (base_of c r)
+
+-- In the text from `from` on, the marks cut: the first match begins at `first`, and each of `count` ends at its mark, in the row that is noted there.
+abbrev pub AreMarksOf : Table → Chain → List ℕ → ℕ → ℕ → List Mark → ℕ → Type 0
+AreMarksOf t c text from first marks count =
+    (k : ℕ) → k < count → IsCutAt t c text from (begin_of first marks k) (end_of marks k) (row_of marks k)
+
+-- The marks are some of the first lane's, and then some of the second's, which begins at `apart`. Where there are any of these, a match of
+-- both lanes begins where they do.
+pub record AreJoined (first : List Mark) (count apart : ℕ) (second : List Mark) (others : ℕ) (marks : List Mark) (total : ℕ) : Type 0 where
+  pub kept : ℕ
+  pub passed : ℕ
+  pub taken : ℕ
+  pub all : total ≡ kept + taken
+  pub of_first : kept ≤ count
+  pub of_second : passed + taken ≤ others
+  pub meet : 0 < taken → begin_of 0 first kept ≡ begin_of apart second passed
+  pub before : (k : ℕ) → k < kept → slice_index_or marks k no_mark ≡ slice_index_or first k no_mark
+  pub behind : (k : ℕ) → k < taken → slice_index_or marks (kept + k) no_mark ≡ slice_index_or second (passed + k) no_mark

@@ -1,10 +1,9 @@
 //! Matches that were found ahead, one behind the other, and where it is worth while to look for more.
 ghost use Rattle.std.specs.Prelude.{◌≡◌, ◌+◌, ◌<◌, ◌≤◌, [], length, true};
-ghost use Rattle.lrlex_table.specs.Chain.{IsChainOf, AreMarksOf};
 ghost use Rattle.lrlex_table.specs.Ahead.{IsFoundIn};
 
 use crate::chain::Chain;
-use crate::marks::{Found, MOST_BYTES};
+use crate::marks::{Found, MOST_BYTES, Mark};
 use std::alloc::Global;
 
 /// How many bytes are looked at ahead at first.
@@ -28,8 +27,9 @@ pub(crate) struct Ahead {
     pub(crate) found: Vec<Found>,
     /// Where the last match ends that was found.
     end: usize,
-    places: Vec<u16>,
-    rows: Vec<u16>,
+    marks: Vec<Mark>,
+    /// Those of the second lane.
+    more: Vec<Mark>,
     /// How many bytes are looked at the next time: more each time, so long as most of what was found is of use.
     bytes: usize,
     /// How many bytes were looked at last, until it is known whether that was of use.
@@ -54,8 +54,8 @@ impl Ahead {
             at: 0,
             found: Vec::new(alloc),
             end: 0,
-            places: Vec::new(alloc),
-            rows: Vec::new(alloc),
+            marks: Vec::new(alloc),
+            more: Vec::new(alloc),
             bytes: FIRST_BYTES,
             looked: 0,
             passed: 0,
@@ -128,10 +128,11 @@ impl Ahead {
     {
         self.found.clear();
         self.at = 0;
-        if self.places.len() >= bytes + 2 && self.rows.len() >= bytes + 2 {
+        if self.marks.len() > bytes && self.more.len() > bytes {
             return true;
         }
-        self.places.resize(bytes + 2, 0).is_ok() && self.rows.resize(bytes + 2, 0).is_ok()
+        let none = Mark { row: 0, end: 0 };
+        self.marks.resize(bytes + 1, none).is_ok() && self.more.resize(bytes + 1, none).is_ok()
     }
 
     /// Looks for matches in the text from this place on.
@@ -144,16 +145,16 @@ impl Ahead {
         let many = self.bytes.min(text.len() - from).min(MOST_BYTES);
         self.from = from;
         self.begin = from.saturating_add(many);
-        if !self.has_room(many) || many + 1 >= self.places.len() || many >= self.rows.len() {
+        if !self.has_room(many) || many >= self.marks.len() || many >= self.more.len() {
             return;
         }
-        let count = chain.mark(text, from, many, &mut self.places, &mut self.rows);
+        let count = chain.mark_in_lanes(text, from, many, &mut self.marks, &mut self.more);
         if count == 0 || self.found.reserve(count).is_err() {
             return;
         }
-        chain.name(&self.places, &self.rows, count, &mut self.found);
+        chain.name(&self.marks, count, &mut self.found);
         self.begin = from;
-        self.end = from.saturating_add(self.places[count] as usize);
+        self.end = from.saturating_add(self.marks[count - 1].end as usize);
         self.looked = many;
         self.passed = 0;
         self.missed = 0;

@@ -12,8 +12,9 @@ pub struct Chain {
     pub(crate) bases: Vec<u16>,
     /// For each row the place in the list of the pattern that wins there, if one does.
     pub(crate) wins: Vec<u16>,
-    pub(crate) fresh: u16,
-    pub(crate) start: u16,
+    /// As wide as a row in a walk is, so that nothing is widened there at each byte.
+    pub(crate) fresh: usize,
+    pub(crate) start: usize,
     ghost bytes: { length columns.items ≡ 256 },
     ghost within: { All (λ c. c + length bases.items ≤ length cells.items) columns.items },
     ghost lead: { All (λ r. r < length bases.items) cells.items },
@@ -50,11 +51,11 @@ impl Chain {
         columns: Vec<u32>,
         bases: Vec<u16>,
         wins: Vec<u16>,
-        fresh: u16,
-        start: u16,
+        fresh: usize,
+        start: usize,
     ) -> Option<Chain> {
         let rows = bases.len();
-        if columns.len() != 256 || rows >= 65536 || start as usize >= rows {
+        if columns.len() != 256 || rows >= 65536 || start >= rows {
             return None;
         }
         if !are_columns(&columns, rows, cells.len()) || !are_rows(&cells, rows) {

@@ -163,7 +163,14 @@ pub(crate) fn chain_of(
     let links = links_of(alloc, table)?;
     let (cells, columns) = links.cells(alloc, table, &firsts)?;
     let wins = links.wins(alloc, part)?;
-    let made = Chain::of_parts(cells, columns, links.bases, wins, rows as u16, table.start);
+    let made = Chain::of_parts(
+        cells,
+        columns,
+        links.bases,
+        wins,
+        rows,
+        table.start as usize,
+    );
     let Some(chain) = made else {
         return Ok(None);
     };

@@ -41,10 +41,10 @@ impl Table {
 impl Chain {
     /// The table's row for which the row stands.
     #[inline(always)]
-    pub(crate) fn base_of(&self, row: u16) -> u16
+    pub(crate) fn base_of(&self, row: usize) -> u16
         ensures { result ≡ base_of self.now row }
     {
-        match self.bases.get(row as usize) {
+        match self.bases.get(row) {
             Some(base) => *base,
             None => 0,
         }
@@ -57,8 +57,8 @@ impl Chain {
         ensures { result ≡ true → GoesTo table.now self.now row byte
             (row_behind self.now.cells.items self.now.columns.items row byte) }
     {
-        let to = next(&self.cells, &self.columns, self.bases.len(), row, byte) as u16;
-        let base = self.base_of(row as u16);
+        let to = next(&self.cells, &self.columns, self.bases.len(), row, byte);
+        let base = self.base_of(row);
         let on = table.next_of(base, byte);
         let stands_for = self.base_of(to);
         if to < self.fresh {

@@ -12,6 +12,7 @@ mod dead_ends;
 mod determinize;
 mod hash;
 mod index;
+mod lanes;
 mod looking;
 mod marking;
 mod marks;

@@ -1,5 +1,5 @@
 //! The walk through a chain, which finds many matches in a row without a branch that depends on the text.
-ghost use Rattle.std.specs.Prelude.{◌≡◌, ◌+◌, ◌<◌, ◌≤◌, All, length, vec_len, vec_capacity, slice_index_or};
+ghost use Rattle.std.specs.Prelude.{◌≡◌, ◌+◌, ◌<◌, ◌≤◌, All, length, vec_len, vec_capacity};
 ghost use Rattle.lrlex_table.specs.Ahead.{AreNamed};
 ghost use Rattle.lrlex_table.specs.Chain.{row_behind, IsChainOf, AreMarksOf};
 ghost use Rattle.lrlex_table.specs.declared.table.Table.{Table};
@@ -8,6 +8,13 @@ use crate::chain::Chain;
 
 /// The most bytes in which marks are looked for at once.
 pub(crate) const MOST_BYTES: usize = 8192;
+
+/// Where a match ends, and the row of the chain in which it does.
+#[derive(Clone, Copy)]
+pub(crate) struct Mark {
+    pub(crate) row: u16,
+    pub(crate) end: u16,
+}
 
 /// A match that was found ahead: the place in the list of the pattern that wins, and where the match ends.
 #[derive(Clone, Copy)]
@@ -33,7 +40,7 @@ pub(crate) fn next(cells: &[u16], columns: &[u32], rows: usize, row: usize, byte
 
 /// One where a match begins at the row, and else nothing.
 #[inline(always)]
-fn begun(row: usize, fresh: usize) -> usize
+pub(crate) fn begun(row: usize, fresh: usize) -> usize
     ensures one { fresh ≤ row → result ≡ 1 }
     ensures none { row < fresh → result ≡ 0 }
 {
@@ -41,64 +48,54 @@ fn begun(row: usize, fresh: usize) -> usize
 }
 
 impl Chain {
-    /// Marks where matches begin and end in so many bytes of the text from `from` on: the first begins there, and each other
-    /// where the one before it ends. For each match its row is noted. Returns how many matches were found. What the lists have
-    /// after these is left over.
+    /// Marks where matches end in so many bytes of the text from `from` on: the first begins there, and each other where the one
+    /// before it ends. Returns how many matches were found. What the list has after these is left over.
     #[inline(never)]
-    pub(crate) fn mark(
-        &self,
-        text: &[u8],
-        from: usize,
-        many: usize,
-        places: &mut [u16],
-        rows: &mut [u16],
-    ) -> usize
+    pub(crate) fn mark(&self, text: &[u8], from: usize, many: usize, marks: &mut [Mark]) -> usize
         requires inside { from + many ≤ length text.now }
         requires short { many ≤ 8192 }
-        requires places { many + 1 < length places.old }
-        requires rows { many < length rows.old }
+        requires room { many < length marks.old }
         ensures count { result ≤ many }
-        ensures places { length places.new ≡ length places.old }
-        ensures rows { length rows.new ≡ length rows.old }
-        ensures first { slice_index_or places.new 0 0 ≡ 0 }
+        ensures room { length marks.new ≡ length marks.old }
         ensures marks { (t : Table) → IsChainOf t self.now →
-            AreMarksOf t self.now text.now from places.new rows.new result }
+            AreMarksOf t self.now text.now from 0 marks.new result }
     {
         let cells = self.cells.as_slice();
         let columns = self.columns.as_slice();
         let height = self.bases.len();
-        let fresh = self.fresh as usize;
-        let mut row = self.start as usize;
+        let fresh = self.fresh;
+        let mut row = self.start;
         let mut count = 0usize;
-        places[0] = 0;
         'bytes: for at in 0..many {
             let behind = next(cells, columns, height, row, text[from + at]);
-            places[count + 1] = at as u16;
-            rows[count] = row as u16;
+            marks[count] = Mark {
+                row: row as u16,
+                end: at as u16,
+            };
             count += begun(behind, fresh);
             row = behind;
         }
         count
     }
 
-    /// The matches between the first marks, so many that each has a mark behind it. They take the place of those in the list.
+    /// The matches of the first marks. They take the place of those in the list.
     #[inline(always)]
-    pub(crate) fn name(&self, places: &[u16], rows: &[u16], count: usize, found: &mut Vec<Found>)
-        requires places { count < length places.now }
-        requires rows { count ≤ length rows.now }
+    pub(crate) fn name(&self, marks: &[Mark], count: usize, found: &mut Vec<Found>)
+        requires marks { count ≤ length marks.now }
         requires room { count ≤ vec_capacity found.old }
         ensures count { length found.new.items ≡ count }
-        ensures named { AreNamed self.now places.now rows.now found.new.items }
+        ensures named { AreNamed self.now marks.now found.new.items }
     {
         found.clear();
         'matches: for at in 0..count {
-            let pattern = match self.wins.get(rows[at] as usize) {
+            let mark = marks[at];
+            let pattern = match self.wins.get(mark.row as usize) {
                 Some(pattern) => *pattern,
                 None => 0,
             };
             found.push_reserved(Found {
                 pattern,
-                end: places[at + 1],
+                end: mark.end,
             });
         }
     }

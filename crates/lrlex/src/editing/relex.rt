@@ -14,7 +14,7 @@ ghost use Rattle.lrlex.specs.Searches.{asks_by};
 ghost use Rattle.lrlex.specs.LexRun.{IsRunOf, HasItemLaws};
 ghost use Rattle.lrlex.specs.Changes.{HasChanged};
 ghost use Rattle.lrlex.specs.Relex.{AreCountsOf, WasRelexed};
-ghost use Rattle.lrlex.specs.Views.{definition_by, items_by, item_of};
+ghost use Rattle.lrlex.specs.Views.{definition_by, definition_of, items_by, item_of};
 ghost use Rattle.lrlex.specs.Progress.{HasRecut, HasSame, IsEditOf, HasReplacedTail, HasReplacedMiddle, TellsMeeting};
 
 use crate::definition::rule_table::RuleTable;
@@ -382,6 +382,8 @@ pub(crate) fn relex_in_place<S: Numbered, X: Lexeme<S>>(
         (asks_by table.now new.now) lexed.old.boundaries lexed.old.ahead.items
         (as_span edit.now.removed) edit.now.put.now new.now lexed.new.boundaries n.0
         n.1.pieces.inserted) }
+    ensures stateless { is_state (definition_by S.number table.now) 0 ≡ false →
+        IfOk result (λ n. n.1.pieces.inserted ≡ 0) }
     ensures changed { IfOk result (λ n. (known : IsEditOf S.number X.seen table.now
         lexed.old.items.items lexed.old.boundaries lexed.old.ahead.items edit.now.removed
         edit.now.put.now new.now)
@@ -460,6 +462,8 @@ fn relexed<S: Numbered, X: Lexeme<S>>(
     ensures counts { IfOk result (λ r. AreCountsOf (definition_by S.number table.now)
         (asks_by table.now new.now) old.now.boundaries old.now.ahead.items
         (as_span edit.now.removed) edit.now.put.now new.now r.boundaries r.asked r.recut) }
+    ensures stateless { is_state (definition_by S.number table.now) 0 ≡ false →
+        IfOk result (λ r. r.recut ≡ 0) }
 {
     let mut lexed = old.copied(alloc)?;
     let (asked, changed) = relex_in_place(alloc, table, &mut lexed, edit, new)?;
@@ -489,6 +493,8 @@ impl<'lexer, L: LexerTypes<LexErrorT = LRLexError>> LexRun<'lexer, '_, L> {
         ensures text { IfOk result (λ r. r.text ≡ new.now) }
         ensures counts { IfOk result (WasRelexed L.StorageT.number self.now.boundaries
             self.now.ahead (as_span edit.now.removed) edit.now.put.now) }
+        ensures stateless { is_state (definition_of L.StorageT.number self.now.definition) 0 ≡ false →
+            IfOk result (λ r. r.recut ≡ 0) }
     {
         let lexed = relexed(alloc, &self.definition.table, &self.lexed, edit, new)?;
         Ok(LexRun {

@@ -16,8 +16,9 @@ use crate::definition::non_streaming::LRNonStreamingLexerDef;
 use crate::definition::rule_table::RuleTable;
 use crate::editing::changes::Changed;
 use crate::errors::LRLexError;
+use crate::lexing::plain::{Pace, ids_of, take_ahead, take_next};
 use crate::lexing::stack::top_of;
-use crate::lexing::step::{Progress, advance, begin, push_error};
+use crate::lexing::step::{Progress, begin, push_error};
 use crate::lexing::winner::Searcher;
 use lrlex_base::{Lexeme, LexerTypes, Numbered};
 use lrlex_boundaries::Boundaries;
@@ -310,8 +311,29 @@ pub(crate) fn lex<S: Numbered, X: Lexeme<S>>(
     let mut searcher = Searcher::new(alloc, table, text)?;
     let mut progress = begin(alloc, text)?;
     let mut rules = table.rules_in(0);
+    let mut pace = Pace::new();
+    let ids = ids_of(alloc, &table.kinds, S::of_count(0))?;
     'tiles: while progress.place < text.len() {
-        if !advance(alloc, table, text, &mut rules, &mut searcher, &mut progress)? {
+        table.enter(&mut rules, top_of(progress.stack.as_slice()));
+        let next = take_ahead(
+            table,
+            &ids,
+            text,
+            rules,
+            &mut searcher,
+            &mut progress,
+            &mut pace,
+        )?;
+        let goes_on = take_next(
+            alloc,
+            table,
+            text,
+            &mut rules,
+            &mut searcher,
+            next,
+            &mut progress,
+        )?;
+        if !goes_on {
             return Ok(finished(progress));
         }
     }

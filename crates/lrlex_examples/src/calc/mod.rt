@@ -26,7 +26,7 @@ fn serve_line(
         Err(Failure::Wrong { place, why }) => {
             let at = begin.saturating_add(place);
             let shown = place_text(rt.alloc(), "stdin", text, Span::new(at, at), why)?;
-            print!(rt; "{shown}")
+            rt.print(shown.as_str())
         }
         Err(Failure::Memory) => Err(io::Error::from(AllocError)),
     }
@@ -52,16 +52,21 @@ fn serve_lines(rt: &HostRuntime, definition: &Definition, text: &str) -> io::Res
     Ok(())
 }
 
-/// Works out each line of standard input.
-pub fn serve(rt: &HostRuntime) -> io::Result<ExitCode> {
-    let Some(mut definition) = definition_of(rt, RULES)? else {
-        return Ok(ExitCode::FAILURE);
-    };
-    if !give_ids(rt.alloc(), &mut definition)? {
-        eprintln!(rt; "The rules and the grammar differ")?;
+/// Works out each line of standard input, once the rules have the grammar's ids.
+fn serve_input(rt: &HostRuntime, definition: &mut Definition) -> io::Result<ExitCode> {
+    if !give_ids(rt.alloc(), definition)? {
+        rt.eprintln("The rules and the grammar differ")?;
         return Ok(ExitCode::FAILURE);
     }
     let text = io::read_to_string(rt.alloc(), rt.reader())?;
-    serve_lines(rt, &definition, text.as_str())?;
+    serve_lines(rt, definition, text.as_str())?;
     Ok(ExitCode::SUCCESS)
+}
+
+/// Works out each line of standard input.
+pub fn serve(rt: &HostRuntime) -> io::Result<ExitCode> {
+    match definition_of(rt, RULES)? {
+        Some(mut definition) => serve_input(rt, &mut definition),
+        None => Ok(ExitCode::FAILURE),
+    }
 }

@@ -4,7 +4,7 @@
 mod reader;
 mod states;
 
-use crate::rules::definition_of;
+use crate::rules::{Definition, definition_of};
 use reader::{Fault, read};
 use states::RULES;
 use std::io;
@@ -18,18 +18,28 @@ fn show_fault(rt: &HostRuntime, fault: &Fault) -> io::Result<ExitCode> {
     Ok(ExitCode::FAILURE)
 }
 
-/// Prints the entries of standard input.
-pub fn serve(rt: &HostRuntime) -> io::Result<ExitCode> {
-    let Some(definition) = definition_of(rt, RULES)? else {
-        return Ok(ExitCode::FAILURE);
-    };
-    let mut text = io::read_to_string(rt.alloc(), rt.reader())?;
-    // A value ends with its line, the last one too.
-    text.push('\n')?;
-    let (entries, fault) = read(rt.alloc(), &definition, text.as_str())?;
-    print!(rt; "{entries}")?;
+/// Prints the entries of a configuration.
+fn show(rt: &HostRuntime, definition: &Definition, text: &str) -> io::Result<ExitCode> {
+    let (entries, fault) = read(rt.alloc(), definition, text)?;
+    rt.print(entries.as_str())?;
     match fault {
         Some(fault) => show_fault(rt, &fault),
         None => Ok(ExitCode::SUCCESS),
+    }
+}
+
+/// Prints the entries of standard input.
+fn show_input(rt: &HostRuntime, definition: &Definition) -> io::Result<ExitCode> {
+    let mut text = io::read_to_string(rt.alloc(), rt.reader())?;
+    // A value ends with its line, the last one too.
+    text.push('\n')?;
+    show(rt, definition, text.as_str())
+}
+
+/// Prints the entries of standard input.
+pub fn serve(rt: &HostRuntime) -> io::Result<ExitCode> {
+    match definition_of(rt, RULES)? {
+        Some(definition) => show_input(rt, &definition),
+        None => Ok(ExitCode::FAILURE),
     }
 }

@@ -59,11 +59,16 @@ fn edit(rt: &HostRuntime, definition: &Definition, input: &str) -> io::Result<()
 }
 
 /// Edits the text of standard input.
-pub fn serve(rt: &HostRuntime) -> io::Result<ExitCode> {
-    let Some(definition) = definition_of(rt, RULES)? else {
-        return Ok(ExitCode::FAILURE);
-    };
+fn edit_input(rt: &HostRuntime, definition: &Definition) -> io::Result<ExitCode> {
     let input = io::read_to_string(rt.alloc(), rt.reader())?;
-    edit(rt, &definition, input.as_str())?;
+    edit(rt, definition, input.as_str())?;
     Ok(ExitCode::SUCCESS)
+}
+
+/// Edits the text of standard input.
+pub fn serve(rt: &HostRuntime) -> io::Result<ExitCode> {
+    match definition_of(rt, RULES)? {
+        Some(definition) => edit_input(rt, &definition),
+        None => Ok(ExitCode::FAILURE),
+    }
 }

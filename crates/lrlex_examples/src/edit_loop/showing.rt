@@ -39,5 +39,5 @@ pub fn show(rt: &HostRuntime, document: &Document<'_, Types>) -> io::Result<()> 
 
 /// Why nothing was edited.
 pub fn show_refused(rt: &HostRuntime, why: &str) -> io::Result<()> {
-    println!(rt; "{why}")
+    rt.println(why)
 }

@@ -3,7 +3,7 @@
 mod reader;
 mod tokens;
 
-use crate::rules::definition_of;
+use crate::rules::{Definition, definition_of};
 use lrlex_report::{bad_byte_text, place_text};
 use reader::{Fault, fault_of};
 use std::alloc::{AllocError, Global};
@@ -25,21 +25,26 @@ fn message_of(alloc: Global, fault: &Fault<'_>) -> Result<String, AllocError> {
 fn show(rt: &HostRuntime, text: &str, fault: &Fault<'_>) -> io::Result<ExitCode> {
     let message = message_of(rt.alloc(), fault)?;
     let shown = place_text(rt.alloc(), "stdin", text, fault.span, &message)?;
-    print!(rt; "{shown}")?;
+    rt.print(shown.as_str())?;
     Ok(ExitCode::FAILURE)
+}
+
+/// Says whether the text is JSON by the definition of its tokens, or where it isn't.
+fn judge_by(rt: &HostRuntime, definition: &Definition, text: &str) -> io::Result<ExitCode> {
+    match fault_of(rt.alloc(), definition, text)? {
+        Some(fault) => show(rt, text, &fault),
+        None => {
+            rt.println("ok")?;
+            Ok(ExitCode::SUCCESS)
+        }
+    }
 }
 
 /// Says whether the text is JSON, or where it isn't.
 fn judge(rt: &HostRuntime, text: &str) -> io::Result<ExitCode> {
-    let Some(definition) = definition_of(rt, RULES)? else {
-        return Ok(ExitCode::FAILURE);
-    };
-    match fault_of(rt.alloc(), &definition, text)? {
-        Some(fault) => show(rt, text, &fault),
-        None => {
-            println!(rt; "ok")?;
-            Ok(ExitCode::SUCCESS)
-        }
+    match definition_of(rt, RULES)? {
+        Some(definition) => judge_by(rt, &definition, text),
+        None => Ok(ExitCode::FAILURE),
     }
 }
 
@@ -49,7 +54,7 @@ pub fn serve(rt: &HostRuntime) -> io::Result<ExitCode> {
     rt.reader().read_to_end(&mut bytes)?;
     match bad_byte_text(rt.alloc(), "stdin", &bytes)? {
         Some(shown) => {
-            print!(rt; "{shown}")?;
+            rt.print(shown.as_str())?;
             Ok(ExitCode::FAILURE)
         }
         None => judge(rt, str::from_utf8(&bytes).unwrap()),

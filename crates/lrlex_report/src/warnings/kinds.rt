@@ -25,6 +25,9 @@ pub enum WarningKind {
     LostEscape,
     /// A rule with a list whose pattern has `\<` or `\>`.
     EscapeAfterStates,
+    /// A rule whose pattern is words that `|` parts, perhaps in a group, one of which begins with an earlier one, so that it never
+    /// matches. It is told of patterns of at most 4,096 bytes.
+    LostAlternative,
     /// A start state other than `INITIAL` that no rule enters.
     NeverEntered,
     /// A start state that no rule is active in.
@@ -64,6 +67,9 @@ impl WarningKind {
             }
             WarningKind::EscapeAfterStates => {
                 "after start states \\< and \\> are the beginning and the end of a word; write < and > without the backslash"
+            }
+            WarningKind::LostAlternative => {
+                "an alternative never matches here: it begins with an earlier one, which is tried first; put the longer one first"
             }
             WarningKind::NeverEntered => {
                 "no rule enters this start state; name it as the target of a rule"

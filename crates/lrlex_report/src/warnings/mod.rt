@@ -2,9 +2,10 @@
 ghost use Rattle.std.specs.Prelude.{◌≡◌, ◌++◌, All, IfOk, OnOk, map};
 ghost use Rattle.lrlex_report.specs.Warnings.{as_answered, as_told, SpanFits, states_warnings, rules_warnings, warnings_at, AreWarnings};
 
+mod alternatives;
 mod answers;
 pub(crate) mod kinds;
-mod patterns;
+pub(crate) mod patterns;
 mod rules;
 mod states;
 pub(crate) mod texts;

@@ -1,7 +1,7 @@
 //! A rule's pattern as the text has it, and what in a pattern is hardly meant.
 ghost use Rattle.std.specs.Prelude.{◌≡◌, ◌+◌, ◌≤◌, IsCharBoundary, length, take};
 ghost use Rattle.lrlex_rules.specs.RuleLine.{target_name};
-ghost use Rattle.lrlex_report.specs.Warnings.{whole_lines_of, line_start, source_of, is_state_name_of, ends_in, goes_on, is_target_of, ends_in_target, begins_blank, is_unmeant, has_unmeant};
+ghost use Rattle.lrlex_report.specs.Warnings.{whole_lines_of, line_start, source_of, is_state_name_of, ends_in, goes_on, is_target_of, ends_in_target, begins_blank, is_unmeant, has_unmeant, in_group, ungrouped};
 
 use crate::ranges::{before_blank, first_bytes, trim_end};
 use lrlex::StartState;
@@ -134,4 +134,29 @@ pub(crate) fn has_unmeant(listed: bool, pattern: &[u8]) -> bool
         rest = after;
     }
     false
+}
+
+/// What is in a group, after the mark of one that captures nothing.
+fn in_group(inside: &str) -> &str
+    ensures { result.now ≡ in_group inside.now }
+{
+    if inside.starts_with("?:") {
+        &inside[2..]
+    } else {
+        inside
+    }
+}
+
+/// A pattern without the group that it is, `(..)` or `(?:..)`, if it is one.
+pub(crate) fn ungrouped(pattern: &str) -> &str
+    ensures { result.now ≡ ungrouped pattern.now }
+{
+    let Some(rest) = pattern.strip_prefix('(') else {
+        return pattern;
+    };
+    if ends_in(b')', rest) {
+        in_group(&rest[..rest.len() - 1])
+    } else {
+        pattern
+    }
 }

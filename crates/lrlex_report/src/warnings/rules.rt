@@ -2,11 +2,12 @@
 ghost use Rattle.std.specs.Prelude.{◌≡◌, ◌++◌, All, OnOk, map};
 ghost use Rattle.lrlex.specs.Active.{lists_none};
 ghost use Rattle.lrlex_rules.specs.RuleParts.{as_rule};
-ghost use Rattle.lrlex_report.specs.Warnings.{as_told, SpanFits, never_wins, has_blank_after_states, loses_escape, has_escape_after_states, rule_warnings};
+ghost use Rattle.lrlex_report.specs.Warnings.{as_told, SpanFits, never_wins, has_blank_after_states, loses_escape, has_escape_after_states, loses_alternative, rule_warnings};
 
+use crate::warnings::alternatives::loses_word;
 use crate::warnings::answers::Facts;
 use crate::warnings::kinds::{Warning, WarningKind, push_all};
-use crate::warnings::patterns::{begins_blank, ends_in_target, has_unmeant, source_of};
+use crate::warnings::patterns::{begins_blank, ends_in_target, has_unmeant, source_of, ungrouped};
 use lrlex::{Rule, StartState};
 use lrlex_base::{Numbered, Span};
 use std::alloc::AllocError;
@@ -46,6 +47,13 @@ fn has_escape_after_states<S: Numbered>(rule: &Rule<S>) -> bool
     !lists_none(rule) && has_unmeant(true, rule.re_str().as_bytes())
 }
 
+/// Whether the rule's pattern is words, perhaps in a group, and one of them begins with an earlier one.
+fn loses_alternative<S: Numbered>(rule: &Rule<S>) -> bool
+    ensures { result ≡ loses_alternative (as_rule S.number rule.now) }
+{
+    loses_word(ungrouped(rule.re_str()))
+}
+
 /// Adds the warnings of a rule of which this is known, where these are the start states of its text.
 pub(crate) fn push_rule<S: Numbered>(
     told: &mut Vec<Warning>,
@@ -72,6 +80,7 @@ pub(crate) fn push_rule<S: Numbered>(
             WarningKind::EscapeAfterStates,
             has_escape_after_states(rule),
         ),
+        (WarningKind::LostAlternative, loses_alternative(rule)),
     ];
     push_all(told, &tests, span)
 }

@@ -1,5 +1,6 @@
 use Rattle.std.proofs.Common.{◌≡◌, ◌^◌, ◌<◌, ◌≤◌, ◌-◌, true, length, drop, sym, ap, ap₂, subst, ◌∙◌, arith}
 use Rattle.std.proofs.lemmas.Option.{none-some}
+use Rattle.std.proofs.lemmas.Bool.{true≢false}
 use Rattle.lrlex.specs.Active.{is_state}
 use Rattle.lrlex.specs.Progress.{HasRecut, HasReplacedTail, HasReplacedMiddle}
 use Rattle.lrlex.specs.Views.{definition_by}
@@ -224,3 +225,13 @@ returns-in_ok-last-in-Some-clause-changed g c known =
     let of_tiles : c.between-tiles_between.result ≡ change a.index (j - a.index) (length a.progress.boundaries - 1) = c.between-tiles_between.ensures ∙ ap (change a.index (j - a.index)) cut in
     told (definition_by number table) known.text new (as_span removed) put (items_by number seen found) (items_by number seen c.replace_middle.new.items.items) olds c.replace_middle.new.boundaries of_items of_tiles
     (between_changed number seen table found olds numbers removed put new known initial is_text a h j m c.replace_middle.new.items.items c.replace_middle.new.boundaries c.replace_middle.new.ahead.items is small last ends.0 ends.1 ends.2)
+
+-- without a state 0 no tile is cut
+pub returns-then-not-is_state-clause-stateless : goal.returns-then-not-is_state-clause-stateless
+returns-then-not-is_state-clause-stateless g c _ = ap (λ (x : Changed). x.pieces.inserted) c.none.ensures
+
+pub returns-in_ok-replace_tail-in-None-clause-stateless : goal.returns-in_ok-replace_tail-in-None-clause-stateless
+returns-in_ok-replace_tail-in-None-clause-stateless g c none = absurd (true≢false (sym (sym c.is_state.ensures ∙ c.if-not-is_state.false) ∙ none))
+
+pub returns-in_ok-last-in-Some-clause-stateless : goal.returns-in_ok-last-in-Some-clause-stateless
+returns-in_ok-last-in-Some-clause-stateless g c none = absurd (true≢false (sym (sym c.is_state.ensures ∙ c.if-not-is_state.false) ∙ none))

@@ -4,11 +4,13 @@ use Rattle.lrlex.specs.Tiling.{Done}
 use Rattle.lrlex.specs.Lookahead.{LooksAhead}
 use Rattle.lrlex.specs.Reach.{IsRun, searches}
 use Rattle.lrlex.specs.Searcher.{AreOf}
-use Rattle.lrlex.specs.Progress.{IsUnderWay, no_front}
+use Rattle.lrlex.specs.Progress.{no_front}
 use Rattle.lrlex.specs.Views.{definition_by, items_by}
-use Rattle.lrlex.proofs.FrontLemmas.{some_now}
 use Rattle.lrlex.proofs.BegunLemmas.{begun, begun_looking}
-use Rattle.lrlex.proofs.ReachLemmas.{ended, nothing_left, asked_now, few_searches, run_of, length_now}
+use Rattle.lrlex_boundaries.specs.Entries.{plain, AreEntries}
+use Rattle.lrlex.specs.Active.{is_state}
+use Rattle.lrlex.specs.Tiling.{top}
+use Rattle.lrlex.proofs.ReachLemmas.{entries_now, top_is_state, ended, nothing_left, asked_now, few_searches, run_of, length_now}
 use Rattle.lrlex.specs.Searches.{asks_by}
 use Rattle.lrlex.proofs.SearchLemmas.{asks_nowhere, more_asked, all_asked, next_asked}
 use Rattle.lrlex.proofs.lexing.run.lex.Goals as goal
@@ -28,27 +30,22 @@ tiles-init g c =
 
 pub tiles-preserved : goal.tiles-preserved
 tiles-preserved g c =
-    let u : IsUnderWay (definition_by g.S.Numbered.number c.args.table.now) g.S.Numbered.number g.X.Lexeme.seen c.args.text.now no_front c.tiles.progress = record {
-      boundary = c.tiles.invariant.boundary;
-      some = some_now (definition_by g.S.Numbered.number c.args.table.now) c.args.text.now c.tiles.progress.place c.tiles.progress.stack.items (items_by g.S.Numbered.number g.X.Lexeme.seen c.tiles.progress.items.items) c.tiles.progress.boundaries c.tiles.progress.asked c.tiles.invariant.reached;
-      reached = c.tiles.invariant.reached;
-      looked = c.tiles.invariant.looked;
-    } in
-    let on : c.in_ok-advance.field-0 ≡ true = c.if-not-branch.false in
-    let p = c.tiles.progress in
+    let u = c.in_ok-next.ensures.running.under_way in
+    let on : c.in_ok-goes_on.goes_on ≡ true = c.if-not-goes_on.false in
+    let p = c.take_ahead.new.progress in
     let d = definition_by g.S.Numbered.number c.args.table.now in
     let found = items_by g.S.Numbered.number g.X.Lexeme.seen p.items.items in
-    let r = c.tiles.invariant.reached in
-    let some : 0 < length p.boundaries = omega (arith, length_now d c.args.text.now p.place p.stack.items found p.boundaries p.asked r) in
-    let more = (c.in_ok-advance.ensures.goes_on on no_front u).more in
+    let r = u.reached in
+    let some = u.some in
+    let more = (c.in_ok-goes_on.ensures.goes_on on no_front u).more in
     record {
-      rules = c.in_ok-advance.ensures.held.0;
-      searcher = c.in_ok-advance.ensures.held.1;
-      boundary = (c.in_ok-advance.ensures.goes_on on no_front u).under_way.boundary;
-      reached = (c.in_ok-advance.ensures.goes_on on no_front u).under_way.reached;
-      looked = (c.in_ok-advance.ensures.goes_on on no_front u).under_way.looked;
-      exact = next_asked c.args.table.now c.args.text.now d p.place p.stack.items found p.boundaries p.asked r 0 some c.tiles.invariant.exact c.advance.new.progress.asked more.0 c.advance.new.progress.boundaries
-          c.tiles-test.true (c.in_ok-advance.ensures.asked no_front u).exact more.1;
+      rules = c.in_ok-goes_on.ensures.held.0;
+      searcher = c.in_ok-goes_on.ensures.held.1;
+      boundary = (c.in_ok-goes_on.ensures.goes_on on no_front u).under_way.boundary;
+      reached = (c.in_ok-goes_on.ensures.goes_on on no_front u).under_way.reached;
+      looked = (c.in_ok-goes_on.ensures.goes_on on no_front u).under_way.looked;
+      exact = next_asked c.args.table.now c.args.text.now d p.place p.stack.items found p.boundaries p.asked r 0 some c.in_ok-next.ensures.running.exact c.take_next.new.progress.asked more.0 c.take_next.new.progress.boundaries
+          c.in_ok-next.ensures.inside (c.in_ok-goes_on.ensures.asked no_front u).exact more.1;
     }
 
 pub returns-clause-run : goal.returns-clause-run
@@ -76,39 +73,26 @@ returns-clause-asked g c =
     subst (λ ms. c.finished-2.result.asked ≤ searches d c.args.text.now ms) (sym c.finished-2.ensures.boundaries)
     (omega (arith, c.finished-2.ensures.asked, asked_now d c.args.text.now p.place p.stack.items (items_by g.S.Numbered.number g.X.Lexeme.seen p.items.items) p.boundaries p.asked c.tiles.invariant.reached))
 
-pub returns-then-not-branch-clause-run : goal.returns-then-not-branch-clause-run
-returns-then-not-branch-clause-run g c =
-    let u : IsUnderWay (definition_by g.S.Numbered.number c.args.table.now) g.S.Numbered.number g.X.Lexeme.seen c.args.text.now no_front c.tiles.progress = record {
-      boundary = c.tiles.invariant.boundary;
-      some = some_now (definition_by g.S.Numbered.number c.args.table.now) c.args.text.now c.tiles.progress.place c.tiles.progress.stack.items (items_by g.S.Numbered.number g.X.Lexeme.seen c.tiles.progress.items.items) c.tiles.progress.boundaries c.tiles.progress.asked c.tiles.invariant.reached;
-      reached = c.tiles.invariant.reached;
-      looked = c.tiles.invariant.looked;
-    } in
+pub returns-then-not-goes_on-clause-run : goal.returns-then-not-goes_on-clause-run
+returns-then-not-goes_on-clause-run g c =
+    let u = c.in_ok-next.ensures.running.under_way in
     let d = definition_by g.S.Numbered.number c.args.table.now in
-    let p = c.advance.new.progress in
-    let off : c.in_ok-advance.field-0 ≡ false = c.if-not-branch.true in
+    let p = c.take_next.new.progress in
+    let off : c.in_ok-goes_on.goes_on ≡ false = c.if-not-goes_on.true in
     subst (λ xs. IsRun d c.args.text.now (items_by g.S.Numbered.number g.X.Lexeme.seen xs) c.finished.result.boundaries) (sym c.finished.ensures.items)
     (subst (IsRun d c.args.text.now (items_by g.S.Numbered.number g.X.Lexeme.seen p.items.items)) (sym c.finished.ensures.boundaries)
-    (run_of d c.args.text.now (items_by g.S.Numbered.number g.X.Lexeme.seen p.items.items) p.boundaries c.tiles.invariant.reached.initial (c.in_ok-advance.ensures.ends off no_front u).lexed))
+    (run_of d c.args.text.now (items_by g.S.Numbered.number g.X.Lexeme.seen p.items.items) p.boundaries u.reached.initial (c.in_ok-goes_on.ensures.ends off no_front u).lexed))
 
-pub returns-then-not-branch-clause-few : goal.returns-then-not-branch-clause-few
-returns-then-not-branch-clause-few g c =
-    let u : IsUnderWay (definition_by g.S.Numbered.number c.args.table.now) g.S.Numbered.number g.X.Lexeme.seen c.args.text.now no_front c.tiles.progress = record {
-      boundary = c.tiles.invariant.boundary;
-      some = some_now (definition_by g.S.Numbered.number c.args.table.now) c.args.text.now c.tiles.progress.place c.tiles.progress.stack.items (items_by g.S.Numbered.number g.X.Lexeme.seen c.tiles.progress.items.items) c.tiles.progress.boundaries c.tiles.progress.asked c.tiles.invariant.reached;
-      reached = c.tiles.invariant.reached;
-      looked = c.tiles.invariant.looked;
-    } in
+pub returns-then-not-goes_on-clause-few : goal.returns-then-not-goes_on-clause-few
+returns-then-not-goes_on-clause-few g c =
+    let u = c.in_ok-next.ensures.running.under_way in
     let d = definition_by g.S.Numbered.number c.args.table.now in
-    let off : c.in_ok-advance.field-0 ≡ false = c.if-not-branch.true in
-    few_searches d c.args.text.now c.tiles.progress.boundaries c.finished.result.boundaries c.advance.new.progress.asked c.finished.result.asked
-    (c.in_ok-advance.ensures.asked no_front u).few c.finished.ensures.asked (c.finished.ensures.boundaries ∙ (c.in_ok-advance.ensures.ends off no_front u).same)
+    let off : c.in_ok-goes_on.goes_on ≡ false = c.if-not-goes_on.true in
+    few_searches d c.args.text.now c.take_ahead.new.progress.boundaries c.finished.result.boundaries c.take_next.new.progress.asked c.finished.result.asked
+    (c.in_ok-goes_on.ensures.asked no_front u).few c.finished.ensures.asked (c.finished.ensures.boundaries ∙ (c.in_ok-goes_on.ensures.ends off no_front u).same)
 
-pub advance-requires-clause-rules : goal.advance-requires-clause-rules
-advance-requires-clause-rules g c = c.tiles.invariant.rules
-
-pub advance-requires-clause-searcher : goal.advance-requires-clause-searcher
-advance-requires-clause-searcher g c = c.tiles.invariant.searcher
+pub take_next-requires-clause-rules : goal.take_next-requires-clause-rules
+take_next-requires-clause-rules g c = c.enter.ensures.rules
 
 pub returns-clause-exact : goal.returns-clause-exact
 returns-clause-exact g c =
@@ -120,67 +104,42 @@ returns-clause-exact g c =
     c.finished-2.ensures.asked ∙ all_asked c.args.table.now c.args.text.now d p.place p.stack.items found p.boundaries p.asked r 0 some c.tiles.invariant.exact c.tiles-test.false
     ∙ ap (asks_by c.args.table.now c.args.text.now) (sym c.finished-2.ensures.boundaries)
 
-pub returns-then-not-branch-clause-exact : goal.returns-then-not-branch-clause-exact
-returns-then-not-branch-clause-exact g c =
-    let u : IsUnderWay (definition_by g.S.Numbered.number c.args.table.now) g.S.Numbered.number g.X.Lexeme.seen c.args.text.now no_front c.tiles.progress = record {
-      boundary = c.tiles.invariant.boundary;
-      some = some_now (definition_by g.S.Numbered.number c.args.table.now) c.args.text.now c.tiles.progress.place c.tiles.progress.stack.items (items_by g.S.Numbered.number g.X.Lexeme.seen c.tiles.progress.items.items) c.tiles.progress.boundaries c.tiles.progress.asked c.tiles.invariant.reached;
-      reached = c.tiles.invariant.reached;
-      looked = c.tiles.invariant.looked;
-    } in
-    let p = c.tiles.progress in
+pub returns-then-not-goes_on-clause-exact : goal.returns-then-not-goes_on-clause-exact
+returns-then-not-goes_on-clause-exact g c =
+    let u = c.in_ok-next.ensures.running.under_way in
+    let p = c.take_ahead.new.progress in
     let d = definition_by g.S.Numbered.number c.args.table.now in
     let found = items_by g.S.Numbered.number g.X.Lexeme.seen p.items.items in
-    let r = c.tiles.invariant.reached in
-    let some : 0 < length p.boundaries = omega (arith, length_now d c.args.text.now p.place p.stack.items found p.boundaries p.asked r) in
+    let r = u.reached in
+    let some = u.some in
     c.finished.ensures.asked
-    ∙ more_asked c.args.table.now c.args.text.now d p.place p.stack.items found p.boundaries p.asked r 0 some c.tiles.invariant.exact c.advance.new.progress.asked c.tiles-test.true (c.in_ok-advance.ensures.asked no_front u).exact
-    ∙ ap (asks_by c.args.table.now c.args.text.now) (sym (c.finished.ensures.boundaries ∙ (c.in_ok-advance.ensures.ends c.if-not-branch.true no_front u).same))
+    ∙ more_asked c.args.table.now c.args.text.now d p.place p.stack.items found p.boundaries p.asked r 0 some c.in_ok-next.ensures.running.exact c.take_next.new.progress.asked c.in_ok-next.ensures.inside (c.in_ok-goes_on.ensures.asked no_front u).exact
+    ∙ ap (asks_by c.args.table.now c.args.text.now) (sym (c.finished.ensures.boundaries ∙ (c.in_ok-goes_on.ensures.ends c.if-not-goes_on.true no_front u).same))
 
-pub advance-requires-clause-under_way : goal.advance-requires-clause-under_way
-advance-requires-clause-under_way g c =
-    let u : IsUnderWay (definition_by g.S.Numbered.number c.args.table.now) g.S.Numbered.number g.X.Lexeme.seen c.args.text.now no_front c.tiles.progress = record {
-      boundary = c.tiles.invariant.boundary;
-      some = some_now (definition_by g.S.Numbered.number c.args.table.now) c.args.text.now c.tiles.progress.place c.tiles.progress.stack.items (items_by g.S.Numbered.number g.X.Lexeme.seen c.tiles.progress.items.items) c.tiles.progress.boundaries c.tiles.progress.asked c.tiles.invariant.reached;
-      reached = c.tiles.invariant.reached;
-      looked = c.tiles.invariant.looked;
-    } in
+pub take_next-requires-clause-under_way : goal.take_next-requires-clause-under_way
+take_next-requires-clause-under_way g c =
+    let u = c.in_ok-next.ensures.running.under_way in
     (no_front, u)
 
-pub returns-then-not-branch-clause-asked : goal.returns-then-not-branch-clause-asked
-returns-then-not-branch-clause-asked g c =
-    let u : IsUnderWay (definition_by g.S.Numbered.number c.args.table.now) g.S.Numbered.number g.X.Lexeme.seen c.args.text.now no_front c.tiles.progress = record {
-      boundary = c.tiles.invariant.boundary;
-      some = some_now (definition_by g.S.Numbered.number c.args.table.now) c.args.text.now c.tiles.progress.place c.tiles.progress.stack.items (items_by g.S.Numbered.number g.X.Lexeme.seen c.tiles.progress.items.items) c.tiles.progress.boundaries c.tiles.progress.asked c.tiles.invariant.reached;
-      reached = c.tiles.invariant.reached;
-      looked = c.tiles.invariant.looked;
-    } in
+pub returns-then-not-goes_on-clause-asked : goal.returns-then-not-goes_on-clause-asked
+returns-then-not-goes_on-clause-asked g c =
+    let u = c.in_ok-next.ensures.running.under_way in
     let d = definition_by g.S.Numbered.number c.args.table.now in
-    subst (λ ms. c.finished.result.asked ≤ searches d c.args.text.now ms) (sym (c.finished.ensures.boundaries ∙ (c.in_ok-advance.ensures.ends c.if-not-branch.true no_front u).same))
-    (omega (arith, c.finished.ensures.asked, (c.in_ok-advance.ensures.asked no_front u).few))
+    subst (λ ms. c.finished.result.asked ≤ searches d c.args.text.now ms) (sym (c.finished.ensures.boundaries ∙ (c.in_ok-goes_on.ensures.ends c.if-not-goes_on.true no_front u).same))
+    (omega (arith, c.finished.ensures.asked, (c.in_ok-goes_on.ensures.asked no_front u).few))
 
 pub tiles-smaller : goal.tiles-smaller
 tiles-smaller g c =
-    let u : IsUnderWay (definition_by g.S.Numbered.number c.args.table.now) g.S.Numbered.number g.X.Lexeme.seen c.args.text.now no_front c.tiles.progress = record {
-      boundary = c.tiles.invariant.boundary;
-      some = some_now (definition_by g.S.Numbered.number c.args.table.now) c.args.text.now c.tiles.progress.place c.tiles.progress.stack.items (items_by g.S.Numbered.number g.X.Lexeme.seen c.tiles.progress.items.items) c.tiles.progress.boundaries c.tiles.progress.asked c.tiles.invariant.reached;
-      reached = c.tiles.invariant.reached;
-      looked = c.tiles.invariant.looked;
-    } in
-    omega (arith, (c.in_ok-advance.ensures.goes_on c.if-not-branch.false no_front u).grows, c.tiles-test.true)
+    let u = c.in_ok-next.ensures.running.under_way in
+    omega (arith, (c.in_ok-goes_on.ensures.goes_on c.if-not-goes_on.false no_front u).grows, c.in_ok-next.ensures.onward, c.tiles-test.true)
 
-pub returns-then-not-branch-clause-looks : goal.returns-then-not-branch-clause-looks
-returns-then-not-branch-clause-looks g c =
-    let u : IsUnderWay (definition_by g.S.Numbered.number c.args.table.now) g.S.Numbered.number g.X.Lexeme.seen c.args.text.now no_front c.tiles.progress = record {
-      boundary = c.tiles.invariant.boundary;
-      some = some_now (definition_by g.S.Numbered.number c.args.table.now) c.args.text.now c.tiles.progress.place c.tiles.progress.stack.items (items_by g.S.Numbered.number g.X.Lexeme.seen c.tiles.progress.items.items) c.tiles.progress.boundaries c.tiles.progress.asked c.tiles.invariant.reached;
-      reached = c.tiles.invariant.reached;
-      looked = c.tiles.invariant.looked;
-    } in
+pub returns-then-not-goes_on-clause-looks : goal.returns-then-not-goes_on-clause-looks
+returns-then-not-goes_on-clause-looks g c =
+    let u = c.in_ok-next.ensures.running.under_way in
     let d = definition_by g.S.Numbered.number c.args.table.now in
-    let e = c.in_ok-advance.ensures.ends c.if-not-branch.true no_front u in
+    let e = c.in_ok-goes_on.ensures.ends c.if-not-goes_on.true no_front u in
     subst (λ ns. LooksAhead d c.args.text.now c.finished.result.boundaries ns) (sym (c.finished.ensures.ahead ∙ e.ahead))
-    (subst (λ ms. LooksAhead d c.args.text.now ms c.tiles.progress.ahead.items) (sym (c.finished.ensures.boundaries ∙ e.same)) c.tiles.invariant.looked.looks)
+    (subst (λ ms. LooksAhead d c.args.text.now ms c.take_ahead.new.progress.ahead.items) (sym (c.finished.ensures.boundaries ∙ e.same)) u.looked.looks)
 
 pub returns-clause-looks : goal.returns-clause-looks
 returns-clause-looks g c =
@@ -194,3 +153,16 @@ returns-then-not-is_state-clause-run g c =
 
 pub returns-then-not-is_state-clause-looks : goal.returns-then-not-is_state-clause-looks
 returns-then-not-is_state-clause-looks g c = c.stateless.ensures.looks (definition_by g.S.Numbered.number c.args.table.now) c.args.text.now
+
+pub top_of-requires : goal.top_of-requires
+top_of-requires g c =
+    let p = c.tiles.progress in
+    subst AreEntries (sym c.as_slice.ensures.value)
+    (entries_now (definition_by g.S.Numbered.number c.args.table.now) c.args.text.now p.place p.stack.items (items_by g.S.Numbered.number g.X.Lexeme.seen p.items.items) p.boundaries p.asked c.tiles.invariant.reached)
+
+pub enter-requires-clause-id : goal.enter-requires-clause-id
+enter-requires-clause-id g c =
+    let d = definition_by g.S.Numbered.number c.args.table.now in
+    let stack = plain c.tiles.progress.stack.items in
+    let on_top : c.top_of.result ≡ top stack = c.top_of.ensures ∙ ap (λ s. top (plain s)) c.as_slice.ensures.value in
+    subst (λ q. is_state d q ≡ true) (sym on_top) (top_is_state d stack c.tiles.invariant.reached.states c.tiles.invariant.reached.some)

@@ -6,5 +6,5 @@ abbrev pub invariant-matches : goal.invariant-matches
 invariant-matches l = record {
   len : length l.found.items ≡ l.at;
   room : vec_capacity l.found ≡ vec_capacity l.initial.found;
-  named : AreNamed l.self l.places l.rows l.found.items;
+  named : AreNamed l.self l.marks l.found.items;
 }

@@ -1,0 +1,18 @@
+-- A run that takes tiles of plain rules, many at a time.
+use Rattle.std.specs.Prelude.{◌≡◌, ℕ, ◌-◌, List, Option, length, is_some, slice_range, if◌then◌else◌}
+use Rattle.lrlex_base.specs.LexemeParts.{LexemeParts}
+use Rattle.lrlex.specs.Progress.{IsUnderWay, no_front}
+use Rattle.lrlex.specs.Searches.{asks_by}
+use Rattle.lrlex.specs.Views.{definition_by}
+use Rattle.lrlex.specs.declared.definition.kinds.Kind.{Kind}
+use Rattle.lrlex.specs.declared.definition.rule_table.RuleTable.{RuleTable}
+use Rattle.lrlex.specs.declared.lexing.step.Progress.{Progress}
+
+-- the id of the kind, or the other one where it has none
+abbrev pub id_or : {S : Type 0} → Option S → Kind S → Option S
+id_or other k = if is_some k.id then k.id else other
+
+-- a run from the text's front on stands at its place, and made as many searches as its boundaries ask for
+pub record IsRunning {S X : Type 0} (number : S → ℕ) (seen : X → LexemeParts S) (d : RuleTable S) (text : List ℕ) (p : Progress X) : Type 0 where
+  pub under_way : IsUnderWay (definition_by number d) number seen text no_front p
+  pub exact : p.asked ≡ asks_by d text (slice_range p.boundaries 0 (length p.boundaries - 1))

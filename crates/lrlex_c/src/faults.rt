@@ -1,0 +1,93 @@
+//! The errors of a refused rule text.
+ghost use Rattle.std.specs.Option.{option_map_or};
+ghost use Rattle.std.specs.Prelude.{◌≡◌, ◌↔◌, length, pos, None, Some, IfSome};
+ghost use Rattle.lrlex_rules.specs.LexBuildError.{fault_kind, kind_text};
+ghost use Rattle.lrlex_report.specs.FaultTexts.{AreFaultTexts};
+ghost use Rattle.lrlex_handles.specs.Buffers.{IsReport, IsWritten};
+ghost use Rattle.lrlex_handles.specs.Faults.{fault_at, fault_span_at};
+ghost use Rattle.lrlex_handles.specs.Objects.{fault_in, refusal_in};
+
+use lrlex_handles::handle::Handle;
+use lrlex_handles::structs::{Fault, FaultSpan};
+use lrlex_handles::{error_texts, errors};
+use std::alloc::Global;
+
+/// How many errors the handle has.
+#[unsafe(no_mangle)]
+pub extern "C" fn lrlex_fault_count(alloc: Global, handle: &mut Handle) -> usize
+    ensures kept { handle.new.value ≡ handle.old.value }
+    ensures count { result ≡ option_map_or (λ r. length r.1) (refusal_in handle.old.value) 0 }
+{
+    errors::fault_count(alloc, handle)
+}
+
+/// The error at this index, from 0.
+#[unsafe(no_mangle)]
+pub extern "C" fn lrlex_fault_at(
+    alloc: Global,
+    handle: &mut Handle,
+    index: usize,
+    out: &mut Fault,
+) -> i32
+    ensures kept { handle.new.value ≡ handle.old.value }
+    ensures misused { result ≡ pos 4 ↔ refusal_in handle.old.value ≡ None }
+    ensures done { result ≡ pos 0 → Some out.new ≡ fault_at (refusal_in handle.old.value) index }
+    ensures none { result ≡ pos 5 → fault_at (refusal_in handle.old.value) index ≡ None }
+{
+    errors::fault_at(alloc, handle, index, out)
+}
+
+/// A span of the error at this index, both from 0.
+#[unsafe(no_mangle)]
+pub extern "C" fn lrlex_fault_span_at(
+    alloc: Global,
+    handle: &mut Handle,
+    index: usize,
+    span: usize,
+    out: &mut FaultSpan,
+) -> i32
+    ensures kept { handle.new.value ≡ handle.old.value }
+    ensures misused { result ≡ pos 4 ↔ refusal_in handle.old.value ≡ None }
+    ensures done { result ≡ pos 0 → Some out.new
+        ≡ fault_span_at (refusal_in handle.old.value) index span }
+    ensures none { result ≡ pos 5 → fault_span_at (refusal_in handle.old.value) index span
+        ≡ None }
+{
+    errors::fault_span_at(alloc, handle, index, span, out)
+}
+
+/// What the error at this index is, in English, without a full stop. As many bytes are written as there is room for.
+#[unsafe(no_mangle)]
+pub extern "C" fn lrlex_fault_text(
+    alloc: Global,
+    handle: &mut Handle,
+    index: usize,
+    out: &mut [u8],
+    len: &mut usize,
+) -> i32
+    ensures kept { handle.new.value ≡ handle.old.value }
+    ensures misused { result ≡ pos 4 ↔ refusal_in handle.old.value ≡ None }
+    ensures done { result ≡ pos 0 → IfSome (fault_in handle.old.value index)
+        (λ e. IfSome (kind_text (fault_kind e)) (λ t. IsWritten t out.old out.new len.new)) }
+    ensures none { result ≡ pos 5 → fault_in handle.old.value index ≡ None }
+{
+    error_texts::fault_text(alloc, handle, index, out, len)
+}
+
+/// The report of all errors, each with its line and carets. `file` is the file name that it shows. As many bytes are written as there
+/// is room for.
+#[unsafe(no_mangle)]
+pub extern "C" fn lrlex_fault_report(
+    alloc: Global,
+    handle: &mut Handle,
+    file: &[u8],
+    out: &mut [u8],
+    len: &mut usize,
+) -> i32
+    ensures kept { handle.new.value ≡ handle.old.value }
+    ensures misused { result ≡ pos 4 ↔ refusal_in handle.old.value ≡ None }
+    ensures done { result ≡ pos 0 → IfSome (refusal_in handle.old.value)
+        (λ r. IsReport (λ t. AreFaultTexts file.now r.0 r.1 t) out.old out.new len.new) }
+{
+    error_texts::fault_report(alloc, handle, file, out, len)
+}

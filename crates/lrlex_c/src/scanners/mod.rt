@@ -1,3 +1,0 @@
-//! Scanners: texts whose tiles are pulled.
-pub(crate) mod making;
-pub(crate) mod stepping;

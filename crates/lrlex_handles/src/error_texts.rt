@@ -1,0 +1,108 @@
+//! What the errors of a refused rule text are, for people.
+ghost use Rattle.std.specs.Prelude.{◌≡◌, ◌↔◌, string_bytes, pos, None, Some, IfOk, IfSome};
+ghost use Rattle.lrlex_rules.specs.LexBuildError.{fault_kind, kind_text};
+ghost use Rattle.lrlex_report.specs.FaultTexts.{AreFaultTexts};
+ghost use Rattle.lrlex_handles.specs.Buffers.{IsReport, IsWritten};
+ghost use Rattle.lrlex_handles.specs.Objects.{fault_in, refusal_in};
+
+use crate::handle::{Handle, with_object};
+use crate::object::{Object, Refusal};
+use crate::status::{MISUSE, NO_MEMORY, NONE, NOT_UTF8, OK};
+use crate::texts::write_text;
+use lrlex::{LexBuildError, Spanned};
+use lrlex_report::faults_text;
+use std::alloc::{AllocError, Global};
+use std::str;
+
+/// What the error is. Its words are those of `regex` where that refuses a pattern.
+fn message_of(alloc: Global, fault: &LexBuildError) -> Result<String, AllocError>
+    ensures { IfOk result (λ s. IfSome (kind_text (fault_kind fault.now))
+        (λ t. string_bytes s ≡ t)) }
+{
+    format!(in alloc; "{fault}")
+}
+
+fn text_in(alloc: Global, object: &Object, index: usize, out: &mut [u8], len: &mut usize) -> i32
+    ensures misused { result ≡ pos 4 ↔ refusal_in (Some object.now) ≡ None }
+    ensures done { result ≡ pos 0 → IfSome (fault_in (Some object.now) index)
+        (λ e. IfSome (kind_text (fault_kind e)) (λ t. IsWritten t out.old out.new len.new)) }
+    ensures none { result ≡ pos 5 → fault_in (Some object.now) index ≡ None }
+{
+    match object {
+        Object::Refusal(refusal) => match refusal.faults.get(index) {
+            None => NONE,
+            Some(fault) => match message_of(alloc, fault) {
+                Err(_) => NO_MEMORY,
+                Ok(text) => {
+                    write_text(&text, out, len);
+                    OK
+                }
+            },
+        },
+        _ => MISUSE,
+    }
+}
+
+/// What the error at this index is, in English, without a full stop. As many bytes are written as there is room for.
+pub fn fault_text(
+    alloc: Global,
+    handle: &mut Handle,
+    index: usize,
+    out: &mut [u8],
+    len: &mut usize,
+) -> i32
+    ensures kept { handle.new.value ≡ handle.old.value }
+    ensures misused { result ≡ pos 4 ↔ refusal_in handle.old.value ≡ None }
+    ensures done { result ≡ pos 0 → IfSome (fault_in handle.old.value index)
+        (λ e. IfSome (kind_text (fault_kind e)) (λ t. IsWritten t out.old out.new len.new)) }
+    ensures none { result ≡ pos 5 → fault_in handle.old.value index ≡ None }
+{
+    with_object!(
+        alloc,
+        handle,
+        MISUSE,
+        |object| text_in(alloc, &object, index, out, len)
+    )
+}
+
+fn report_in(alloc: Global, object: &Object, file: &[u8], out: &mut [u8], len: &mut usize) -> i32
+    ensures misused { result ≡ pos 4 ↔ refusal_in (Some object.now) ≡ None }
+    ensures done { result ≡ pos 0 → IfSome (refusal_in (Some object.now))
+        (λ r. IsReport (λ t. AreFaultTexts file.now r.0 r.1 t) out.old out.new len.new) }
+{
+    match object {
+        Object::Refusal(refusal) => match str::from_utf8(file) {
+            Err(_) => NOT_UTF8,
+            Ok(file) => match faults_text(alloc, file, &refusal.rules, &refusal.faults) {
+                Err(_) => NO_MEMORY,
+                Ok(text) => {
+                    write_text(&text, out, len);
+                    OK
+                }
+            },
+        },
+        _ => MISUSE,
+    }
+}
+
+/// The report of all errors, each with its line and carets. `file` is the file name that it shows. As many bytes are written as there
+/// is room for.
+pub fn fault_report(
+    alloc: Global,
+    handle: &mut Handle,
+    file: &[u8],
+    out: &mut [u8],
+    len: &mut usize,
+) -> i32
+    ensures kept { handle.new.value ≡ handle.old.value }
+    ensures misused { result ≡ pos 4 ↔ refusal_in handle.old.value ≡ None }
+    ensures done { result ≡ pos 0 → IfSome (refusal_in handle.old.value)
+        (λ r. IsReport (λ t. AreFaultTexts file.now r.0 r.1 t) out.old out.new len.new) }
+{
+    with_object!(
+        alloc,
+        handle,
+        MISUSE,
+        |object| report_in(alloc, &object, file, out, len)
+    )
+}

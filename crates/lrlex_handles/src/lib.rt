@@ -1,0 +1,22 @@
+//! What the C library does, for handles that a caller holds: definitions, the errors of rule texts, lexing, documents, and scanners.
+#![tactic(auto)]
+
+pub mod definitions;
+pub mod documents;
+pub mod error_texts;
+pub mod errors;
+mod filling;
+pub mod handle;
+pub mod ids;
+pub mod lexing;
+mod loose;
+mod object;
+pub mod places;
+pub mod rules;
+pub mod scanners;
+pub mod states;
+mod status;
+pub mod stops;
+pub mod structs;
+mod taking;
+mod texts;

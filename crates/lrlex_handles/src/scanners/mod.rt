@@ -1,0 +1,3 @@
+//! Scanners: texts whose tiles are pulled.
+pub mod making;
+pub mod stepping;

@@ -1,0 +1,130 @@
+//! What the message of a fault ends with: the mistake that it usually comes of, and what to write.
+ghost use Rattle.std.specs.Prelude.{◌≡◌};
+ghost use Rattle.std.specs.List.{list_any};
+ghost use Rattle.lrlex_base.specs.Classes.{is_blank};
+ghost use Rattle.lrlex_rules.specs.Escape.{ends_in_escape};
+ghost use Rattle.lrlex_rules.specs.Text.{trim_end};
+ghost use Rattle.lrlex_report.specs.Notes.{text_from, or_note, comment_note, declaration_note, name_note, list_note, escape_note, kind_note, fault_note};
+
+use crate::encoding::mark_note;
+use crate::places::nearest;
+use crate::ranges::{before_blank, first_line, told_span, trim_end};
+use crate::warnings::patterns::source_of;
+use lrlex_rules::{LexBuildError, LexErrorKind};
+
+/// The text from a place on.
+fn text_from(rules: &str, at: usize) -> &str
+    ensures { result.now ≡ text_from rules.now at }
+{
+    &rules[nearest(rules, at)..]
+}
+
+/// The first note, unless it is empty.
+fn or_note(first: &'static str, second: &'static str) -> &'static str
+    ensures { result.now ≡ or_note first.now second.now }
+{
+    if first.is_empty() { second } else { first }
+}
+
+/// Names the flag that makes a line of `//` a comment, if the text begins with `//`.
+fn comment_note(text: &str) -> &'static str
+    ensures { result.now ≡ comment_note text.now }
+{
+    if text.starts_with("//") {
+        ": a line that begins with // is a comment only with the flag allow_wholeline_comments"
+    } else {
+        ""
+    }
+}
+
+/// Why the line at this place declares nothing: it begins with a byte order mark, is a comment, or is another line.
+fn declaration_note(rules: &str, at: usize) -> &'static str
+    ensures { result.now ≡ declaration_note rules.now at }
+{
+    let other = or_note(
+        comment_note(text_from(rules, at)),
+        ": a line before %% is %s or %x with names of start states; rules come after it",
+    );
+    or_note(mark_note(rules, at), other)
+}
+
+/// What to write in place of the name at this place, or that its line is a comment.
+fn name_note(rules: &str, at: usize) -> &'static str
+    ensures { result.now ≡ name_note rules.now at }
+{
+    let (_, pattern) = source_of(rules, at);
+    or_note(
+        comment_note(pattern),
+        ": write it in quotes and without blanks, or ; for no name",
+    )
+}
+
+/// Whether a text has a blank before the white space at its end.
+fn has_blank(line: &str) -> bool
+    ensures { result ≡ list_any is_blank (trim_end line.now) }
+{
+    let text = trim_end(line);
+    text.as_bytes().iter().any(|b| *b == b' ' || *b == b'\t')
+}
+
+/// How to write a `<`, if a pattern that begins with one begins this line. A target, which may begin with `<` too, has no blank
+/// after it.
+fn list_note(line: &str) -> &'static str
+    ensures { result.now ≡ list_note line.now }
+{
+    if line.starts_with("<") && has_blank(line) {
+        ": a pattern that begins with < lists start states; write \\< for the character"
+    } else {
+        ""
+    }
+}
+
+/// Whether a text ends in an odd number of backslashes.
+fn ends_in_escape(text: &str) -> bool
+    ensures { result ≡ ends_in_escape text.now }
+{
+    let mut escaped = false;
+    for b in text.as_bytes() {
+        escaped = *b == b'\\' && !escaped;
+    }
+    escaped
+}
+
+/// Tells that the pattern of this line ends in a backslash, if it does.
+fn escape_note(line: &str) -> &'static str
+    ensures { result.now ≡ escape_note line.now }
+{
+    if ends_in_escape(before_blank(trim_end(line))) {
+        ": the pattern ends in a backslash; write [ ] for a blank, \\\\ for a backslash"
+    } else {
+        ""
+    }
+}
+
+/// What the message of a fault of this kind at this place ends with. `rules` is the text that has the fault.
+fn kind_note(rules: &str, at: usize, kind: &LexErrorKind) -> &'static str
+    ensures { result.now ≡ kind_note rules.now at kind.now }
+{
+    match kind {
+        LexErrorKind::PrematureEnd => ": no line begins with %%; write one before the rules",
+        LexErrorKind::UnknownDeclaration => declaration_note(rules, at),
+        LexErrorKind::MissingSpace => comment_note(text_from(rules, at)),
+        LexErrorKind::InvalidName => name_note(rules, at),
+        LexErrorKind::UnknownStartState | LexErrorKind::InvalidStartState => {
+            list_note(first_line(text_from(rules, at)))
+        }
+        LexErrorKind::RegexError(_) => escape_note(first_line(text_from(rules, at))),
+        LexErrorKind::VerbatimNotSupported => {
+            ": white space begins the line; write the rule without it, or an empty line"
+        }
+        _ => "",
+    }
+}
+
+/// What the message of a fault ends with: the mistake that it usually comes of, and what to write. Empty where there is nothing to
+/// say. `rules` is the text that has the fault.
+pub(crate) fn fault_note(rules: &str, fault: &LexBuildError) -> &'static str
+    ensures { result.now ≡ fault_note rules.now fault.now }
+{
+    kind_note(rules, told_span(fault).start(), fault.kind())
+}
