@@ -5,6 +5,7 @@ ghost use Rattle.lrlex_table.specs.Ahead.{IsFoundIn};
 use crate::chain::Chain;
 use crate::marks::{Found, MOST_BYTES, Mark};
 use std::alloc::Global;
+use std::mem;
 
 /// How many bytes are looked at ahead at first.
 const FIRST_BYTES: usize = 256;
@@ -20,6 +21,7 @@ const MOST_WAIT: usize = 65_536;
 /// in proportion to the text: what is behind the last match that was found is part of the next one.
 #[derive(Drop)]
 pub(crate) struct Ahead {
+    alloc: Global,
     pub(crate) list: usize,
     pub(crate) from: usize,
     pub(crate) begin: usize,
@@ -48,6 +50,7 @@ impl Ahead {
         ensures { result.found.items ≡ [] }
     {
         Ahead {
+            alloc,
             list: usize::MAX,
             from: 0,
             begin: 0,
@@ -152,7 +155,8 @@ impl Ahead {
         if count == 0 || self.found.reserve(count).is_err() {
             return;
         }
-        chain.name(&self.marks, count, &mut self.found);
+        let found = mem::replace(&mut self.found, Vec::new(self.alloc));
+        self.found = chain.name(&self.marks, count, found);
         self.begin = from;
         self.end = from.saturating_add(self.marks[count - 1].end as usize);
         self.looked = many;

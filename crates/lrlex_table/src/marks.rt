@@ -43,6 +43,7 @@ pub(crate) fn next(cells: &[u16], columns: &[u32], rows: usize, row: usize, byte
 pub(crate) fn begun(row: usize, fresh: usize) -> usize
     ensures one { fresh ≤ row → result ≡ 1 }
     ensures none { row < fresh → result ≡ 0 }
+    ensures most { result ≤ 1 }
 {
     (row >= fresh) as usize
 }
@@ -78,18 +79,20 @@ impl Chain {
         count
     }
 
-    /// The matches of the first marks. They take the place of those in the list.
+    /// The matches of the first marks, in the list that is handed in, without those that it has. It is handed in whole, so that its length
+    /// needn't be written at each match.
     #[inline(always)]
-    pub(crate) fn name(&self, marks: &[Mark], count: usize, found: &mut Vec<Found>)
+    pub(crate) fn name(&self, marks: &[Mark], count: usize, mut found: Vec<Found>) -> Vec<Found>
         requires marks { count ≤ length marks.now }
-        requires room { count ≤ vec_capacity found.old }
-        ensures count { length found.new.items ≡ count }
-        ensures named { AreNamed self.now marks.now found.new.items }
+        requires room { count ≤ vec_capacity found }
+        ensures count { length result.items ≡ count }
+        ensures named { AreNamed self.now marks.now result.items }
     {
         found.clear();
+        let wins = self.wins.as_slice();
         'matches: for at in 0..count {
             let mark = marks[at];
-            let pattern = match self.wins.get(mark.row as usize) {
+            let pattern = match wins.get(mark.row as usize) {
                 Some(pattern) => *pattern,
                 None => 0,
             };
@@ -98,5 +101,6 @@ impl Chain {
                 end: mark.end,
             });
         }
+        found
     }
 }
