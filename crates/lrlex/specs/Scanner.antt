@@ -84,11 +84,12 @@ pub record IsStand (d : Definition) (text : List ℕ) (place : ℕ) (stack : Lis
   pub some : 0 < length (plain stack)
   pub room : length (plain stack) + length text < 2 ^ 64 + place
 
--- It stands where it can, and what finds winners is of the definition and the text.
+-- It stands where it can, its rules are those of the state on top, and what finds winners is of the definition and the text.
 pub record IsCursorOf {S : Type 0} (number : S → ℕ) (table : RuleTable S) (text : List ℕ) (c : Cursor) : Type 0 where
   pub stands : IsStand (definition_by number table) text c.place c.stack.items
   pub initial : is_state (definition_by number table) 0 ≡ true
   pub rules : AreOf number table c.rules.state c.rules
+  pub state : c.rules.state ≡ top (plain c.stack.items)
   pub searcher : IsSearcherOf table text c.searcher
 
 -- the same of what there may be

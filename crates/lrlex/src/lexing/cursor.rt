@@ -5,12 +5,13 @@ ghost use Rattle.lrlex.specs.Scanner.{IsCursorOf, IsStand, at_front, scanned_by,
 ghost use Rattle.lrlex.specs.Views.{definition_by};
 
 use crate::definition::rule_table::{RuleTable, StateRules};
+use crate::lexing::stack::top_of;
 use crate::lexing::winner::Searcher;
 use lrlex_base::Numbered;
 use lrlex_boundaries::room::copied;
 use std::alloc::{AllocError, Global};
 
-/// Where a scanner stands, the rules of the start state that it was in last, and what finds winners.
+/// Where a scanner stands, the rules of the start state on top of its stack, and what finds winners.
 #[derive(Drop)]
 pub(crate) struct Cursor<'d, 't> {
     pub(crate) place: usize,
@@ -67,8 +68,8 @@ pub(crate) fn cursor_at<'d, 't, S: Numbered>(
     let searcher = Searcher::new(alloc, table, text)?;
     Ok(Cursor {
         place: at.place,
+        rules: table.rules_in(top_of(&stack)),
         stack,
-        rules: table.rules_in(0),
         searcher,
     })
 }

@@ -11,7 +11,7 @@ ghost use Rattle.lrlex.specs.Views.{definition_by, item_of};
 use crate::definition::kinds::Kind;
 use crate::definition::rule_table::{RuleTable, StateRules};
 use crate::errors::LRLexError;
-use crate::lexing::step::{Progress, advance, capped};
+use crate::lexing::step::{Progress, advance};
 use crate::lexing::taking::take_scan;
 use crate::lexing::winner::{Scan, Searcher, Tile};
 use lrlex_base::{Lexeme, Numbered};
@@ -61,32 +61,35 @@ fn store_lexeme<S: Numbered, X: Lexeme<S>>(
     }
 }
 
-/// Enters the next boundary, with the same stack, behind a tile of so many bytes. The byte behind it decided it. There is room for its number.
+/// Enters the next boundary, with the same stack, behind a tile of so many bytes. The byte behind it decided it, and no tile before it looked
+/// farther. There is room for its number.
 #[inline(always)]
 #[tactic(auto, unfolding(crate::specs::Tiling::stack_after))]
 fn pass<X: Copy>(progress: &mut Progress<X>, len: usize) -> Result<(), AllocError>
     requires place { progress.old.place + len < 2 ^ 64 }
+    requires near { progress.old.lookahead ≤ 1 }
     requires entries { AreEntries progress.old.stack.items }
     requires last { last_entries progress.old.boundaries ≡ progress.old.stack.items }
     requires room { vec_len progress.old.ahead < vec_capacity progress.old.ahead }
     ensures entered { OnOk result (HasEntered progress.old progress.new None (progress.old.place + len)
         (max progress.old.lookahead (len + 1) - len)) }
+    ensures near { progress.new.lookahead ≡ 1 }
     ensures items { (vec_len progress.new.items ≡ vec_len progress.old.items)
         × (vec_capacity progress.new.items ≡ vec_capacity progress.old.items) }
     ensures numbers { (vec_len progress.new.ahead ≡ vec_len progress.old.ahead + 1)
         × (vec_capacity progress.new.ahead ≡ vec_capacity progress.old.ahead) }
 {
     let place = progress.place + len;
-    let lookahead = progress.lookahead.saturating_sub(len).max(1);
     progress.place = place;
-    progress.lookahead = lookahead;
-    progress.ahead.push_reserved(capped(lookahead));
+    progress.lookahead = 1;
+    progress.ahead.push_reserved(1);
     progress.boundaries.repeat(place)?;
     Ok(())
 }
 
 /// Takes the tiles that were found ahead, one behind the other, so long as their rules are plain. Answers the one behind them, if it was found ahead
-/// as well. Room is made once for all. Out of line, so that the loop has the registers for itself.
+/// as well. Room is made once for all. None is taken where a tile before them looked past the byte at the place. Out of line, so that the loop has
+/// the registers for itself.
 #[inline(never)]
 fn take_plain<S: Numbered, X: Lexeme<S>>(
     table: &RuleTable<S>,
@@ -111,6 +114,9 @@ fn take_plain<S: Numbered, X: Lexeme<S>>(
     ensures tile { IfOk result (λ next. IfSome next (IsFoundAt S.number table.now
         rules.entry.state text.now progress.new.place)) }
 {
+    if progress.lookahead > 1 {
+        return Ok(None);
+    }
     let most = MOST_TILES.min(text.len() - progress.place);
     progress.items.reserve(most)?;
     progress.ahead.reserve(most)?;

@@ -66,7 +66,6 @@ fn next_step<'d, S: Numbered>(
     ensures stayed { OnErr result (StayedAt cursor.old cursor.new) }
 {
     let place = cursor.place;
-    table.enter(&mut cursor.rules, top_of(&cursor.stack));
     if let Some(tile) = cursor.searcher.ahead(table, cursor.rules, place) {
         let kind = table.kinds[tile.rule];
         if kind.plain {

@@ -1,15 +1,14 @@
 //! A scanner's step where its tile wasn't found ahead, or its rule isn't plain.
 ghost use Rattle.std.specs.Prelude.{◌≡◌, ◌<◌, length, drop, vec_len, IfOk, IfSome, MatchOption, OnErr, IsCharBoundary};
-ghost use Rattle.lrlex_boundaries.specs.Entries.{plain};
 ghost use Rattle.lrlex.specs.Scanner.{IsCursorOf, IsStep, StayedAt, after_step, scanned_by};
-ghost use Rattle.lrlex.specs.Tiling.{IsStuck, Wins, top};
+ghost use Rattle.lrlex.specs.Tiling.{IsStuck, Wins};
 ghost use Rattle.lrlex.specs.Views.{definition_by};
 
 use crate::definition::active::{lacks_id, lexeme_id};
 use crate::definition::rule_table::RuleTable;
 use crate::lexing::cursor::Cursor;
 use crate::lexing::scanner::{ScanEnd, ScannedTile, Step};
-use crate::lexing::stack::step;
+use crate::lexing::stack::{step, top_of};
 use crate::lexing::winner::Tile;
 use lrlex_base::{Numbered, Span};
 use lrlex_rules::StartStateId;
@@ -24,7 +23,6 @@ pub(crate) fn take_tile<'d, S: Numbered>(
     winner: Option<Tile>,
 ) -> Result<Step<S>, AllocError>
     requires cursor { IsCursorOf S.number table.now text.now cursor.old }
-    requires state { cursor.old.rules.state ≡ top (plain cursor.old.stack.items) }
     requires some { cursor.old.place < length text.now }
     requires winner { MatchOption winner
         (IsStuck (definition_by S.number table.now) cursor.old.rules.state
@@ -59,6 +57,7 @@ pub(crate) fn take_tile<'d, S: Numbered>(
         return Ok(Step::End(ScanEnd::NoTarget(found)));
     }
     step(&mut cursor.stack, rule.target_state())?;
+    table.enter(&mut cursor.rules, top_of(&cursor.stack));
     cursor.place = place + tile.len;
     Ok(Step::Tile(found))
 }
@@ -72,7 +71,6 @@ pub(crate) fn seek<'d, S: Numbered>(
     cursor: &mut Cursor<'d, '_>,
 ) -> Result<Step<S>, AllocError>
     requires cursor { IsCursorOf S.number table.now text.now cursor.old }
-    requires state { cursor.old.rules.state ≡ top (plain cursor.old.stack.items) }
     ensures cursor { IsCursorOf S.number table.now text.now cursor.new }
     ensures step { IfOk result (IsStep S.number
         (scanned_by (definition_by S.number table.now) text.now cursor.old)) }

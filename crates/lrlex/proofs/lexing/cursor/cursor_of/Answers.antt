@@ -2,6 +2,7 @@ use Rattle.std.proofs.Common.{◌≡◌, ◌+◌, ◌<◌, [], ◌∷◌, ◌++�
 use Rattle.std.proofs.lemmas.Str.{IsCharBoundary-start}
 use Rattle.lrlex_boundaries.specs.Entries.{plain, AreEntries}
 use Rattle.lrlex.specs.Searcher.{AreOf}
+use Rattle.lrlex.specs.Tiling.{top}
 use Rattle.lrlex.specs.Views.{definition_by}
 use Rattle.lrlex.proofs.EntryLemmas.{entries-one}
 use Rattle.lrlex.proofs.ReachLemmas.{AreStates, one_state}
@@ -22,5 +23,6 @@ returns-clause-cursor g c =
       };
       initial = c.requires;
       rules = subst (λ q. AreOf g.S.Numbered.number c.args.table.now q c.rules_in.result) (sym c.rules_in.ensures.state) c.rules_in.ensures.rules;
+      state = c.rules_in.ensures.state ∙ ap (λ xs. top (plain xs)) (sym is);
       searcher = c.in_ok-searcher.ensures;
     }

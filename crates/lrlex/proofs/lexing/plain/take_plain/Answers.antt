@@ -112,6 +112,7 @@ tiles-preserved g c =
       };
       state = on_top ∙ ap top (sym (e.moved ∙ stays (plain p.stack.items) None refl));
       inside = omega (arith, e.place, at.within);
+      near = omega (arith, c.in_ok-pass.ensures.near);
       onward = omega (arith, e.place, c.tiles.invariant.onward);
       items_room = omega (arith, c.in_ok-pass.ensures.items.0, c.in_ok-pass.ensures.items.1, c.store_lexeme.ensures.len, c.store_lexeme.ensures.capacity, c.tiles.invariant.items_room, c.tiles-test.true);
       numbers_room = omega (arith, c.in_ok-pass.ensures.numbers.0, c.in_ok-pass.ensures.numbers.1, c.tiles.invariant.numbers_room, c.tiles-test.true);

@@ -12,6 +12,7 @@ invariant-tiles g l = record {
   running : IsRunning g.S.Numbered.number g.X.Lexeme.seen l.table l.text l.progress;
   state : l.rules.state ≡ top (plain l.progress.stack.items);
   inside : l.progress.place < length l.text;
+  near : l.progress.lookahead ≤ 1;
   onward : l.fn.progress.place ≤ l.progress.place;
   items_room : vec_len l.progress.items + (l.most - l.step) ≤ vec_capacity l.progress.items;
   numbers_room : vec_len l.progress.ahead + (l.most - l.step) ≤ vec_capacity l.progress.ahead;

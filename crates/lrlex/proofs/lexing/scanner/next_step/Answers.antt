@@ -16,7 +16,7 @@ index-kind-requires g c =
     let table = c.args.table.now in
     let p = c.args.cursor.now in
     let tile = c.in-Some.tile in
-    let at : IsFoundAt g.S.Numbered.number table c.enter.new.rules.state c.args.text.now p.place tile = c.in-Some.ensures.tile c.args.text.now c.requires.searcher in
+    let at : IsFoundAt g.S.Numbered.number table p.rules.state c.args.text.now p.place tile = c.in-Some.ensures.tile c.args.text.now c.requires.searcher in
     omega (arith, at.rule, kinds_len table, table.kinds.ok.0)
 
 pub returns-then-kind-clause-cursor : goal.returns-then-kind-clause-cursor
@@ -24,7 +24,7 @@ returns-then-kind-clause-cursor g c =
     let table = c.args.table.now in
     let p = c.args.cursor.now in
     let tile = c.in-Some.tile in
-    let at : IsFoundAt g.S.Numbered.number table c.enter.new.rules.state c.args.text.now p.place tile = c.in-Some.ensures.tile c.args.text.now c.requires.searcher in
+    let at : IsFoundAt g.S.Numbered.number table p.rules.state c.args.text.now p.place tile = c.in-Some.ensures.tile c.args.text.now c.requires.searcher in
     record {
       stands = record {
         boundary = IsCharBoundary-from_rest c.args.text.now p.place tile.len c.requires.stands.boundary.0 at.cuts;
@@ -34,7 +34,8 @@ returns-then-kind-clause-cursor g c =
         room = omega (arith, c.requires.stands.room);
       };
       initial = c.requires.initial;
-      rules = c.enter.ensures.rules;
+      rules = c.requires.rules;
+      state = c.requires.state;
       searcher = c.in-Some.ensures.searcher c.args.text.now c.requires.searcher;
     }
 
@@ -43,10 +44,10 @@ returns-then-kind-clause-step g c =
     let table = c.args.table.now in
     let p = c.args.cursor.now in
     let tile = c.in-Some.tile in
-    let at : IsFoundAt g.S.Numbered.number table c.enter.new.rules.state c.args.text.now p.place tile = c.in-Some.ensures.tile c.args.text.now c.requires.searcher in
+    let at : IsFoundAt g.S.Numbered.number table p.rules.state c.args.text.now p.place tile = c.in-Some.ensures.tile c.args.text.now c.requires.searcher in
     let d = definition_by g.S.Numbered.number table in
     let t : Tile = record { rule = tile.rule; len = tile.len } in
-    let on_top : c.enter.new.rules.state ≡ top (plain p.stack.items) = c.enter.ensures.state ∙ c.top_of.ensures ∙ ap (λ s. top (plain s)) c.deref.ensures.value in
+    let on_top : p.rules.state ≡ top (plain p.stack.items) = c.requires.state in
     let kind = c.index-kind.result.now in
     let rule = plain_rule g.S.Numbered.number table tile.rule kind at.rule c.index-kind.ensures c.if-kind.true in
     let target = no_target_at g.S.Numbered.number table tile.rule kind at.rule c.index-kind.ensures c.if-kind.true in (
@@ -68,7 +69,7 @@ returns-then-kind-clause-moved g c =
     let table = c.args.table.now in
     let p = c.args.cursor.now in
     let tile = c.in-Some.tile in
-    let at : IsFoundAt g.S.Numbered.number table c.enter.new.rules.state c.args.text.now p.place tile = c.in-Some.ensures.tile c.args.text.now c.requires.searcher in
+    let at : IsFoundAt g.S.Numbered.number table p.rules.state c.args.text.now p.place tile = c.in-Some.ensures.tile c.args.text.now c.requires.searcher in
     let d = definition_by g.S.Numbered.number table in
     let stack = plain p.stack.items in
     let target = no_target_at g.S.Numbered.number table tile.rule c.index-kind.result.now at.rule c.index-kind.ensures c.if-kind.true in
@@ -79,6 +80,7 @@ pub take_tile-requires-clause-cursor : goal.take_tile-requires-clause-cursor
 take_tile-requires-clause-cursor g c = record {
   stands = c.requires.stands;
   initial = c.requires.initial;
-  rules = c.enter.ensures.rules;
+  rules = c.requires.rules;
+  state = c.requires.state;
   searcher = c.in-Some.ensures.searcher c.args.text.now c.requires.searcher;
 }

@@ -3,12 +3,12 @@ use Rattle.std.proofs.lemmas.Str.{IsCharBoundary-from_rest}
 use Rattle.lrlex_base.specs.Spans.{span}
 use Rattle.lrlex_boundaries.specs.Entries.{plain, AreEntries}
 use Rattle.lrlex_rules.specs.Definition.{Rule}
-use Rattle.lrlex.specs.Active.{lacks_id, lacks_target, lexeme_id, rule_at}
+use Rattle.lrlex.specs.Active.{is_state, lacks_id, lacks_target, lexeme_id, rule_at}
 use Rattle.lrlex.specs.Scanner.{IsCursorOf, IsTileAt, Scanned}
 use Rattle.lrlex.specs.Searcher.{AreOf}
 use Rattle.lrlex.specs.Tiling.{Tile, IsTaken, IsWinner, stack_after, top}
 use Rattle.lrlex.specs.Views.{definition_by}
-use Rattle.lrlex.proofs.ReachLemmas.{AreStates, IsSound, sound_after, wins_at}
+use Rattle.lrlex.proofs.ReachLemmas.{AreStates, IsSound, sound_after, top_is_state, wins_at}
 use Rattle.lrlex.proofs.ViewLemmas.{rule_read}
 use Rattle.lrlex.proofs.lexing.scanning.take_tile.Goals as goal
 
@@ -17,6 +17,7 @@ returns-then-lacks_id-clause-cursor g c = record {
   stands = c.requires.cursor.stands;
   initial = c.requires.cursor.initial;
   rules = c.requires.cursor.rules;
+  state = c.requires.cursor.state;
   searcher = c.requires.cursor.searcher;
 }
 
@@ -25,6 +26,7 @@ returns-then-lacks_target-clause-cursor g c = record {
   stands = c.requires.cursor.stands;
   initial = c.requires.cursor.initial;
   rules = c.requires.cursor.rules;
+  state = c.requires.cursor.state;
   searcher = c.requires.cursor.searcher;
 }
 
@@ -42,6 +44,7 @@ returns-in_err-step-clause-cursor g c =
       };
       initial = c.requires.cursor.initial;
       rules = c.requires.cursor.rules;
+      state = c.requires.cursor.state ∙ ap (λ xs. top (plain xs)) (sym same);
       searcher = c.requires.cursor.searcher;
     }
 
@@ -52,7 +55,7 @@ returns-then-lacks_id-clause-step g c =
     let t : Tile = record { rule = c.in-Some.tile.rule; len = c.in-Some.tile.len } in
     let within : t.rule < length c.args.table.now.rules.items = omega (arith, c.args.table.now.rules.ok.0, (rw c.in-Some.is at c.requires.tile).1) in
     let rule_is = rule_read g.S.Numbered.number c.args.table.now t.rule c.index-rule.result.now within c.index-rule.ensures in
-    let wins = wins_at d c.args.cursor.now.rules.state stack (drop c.args.cursor.now.place c.args.text.now) (drop c.args.cursor.now.place c.args.text.now) t c.requires.state refl (rw c.in-Some.is at c.requires.winner) in
+    let wins = wins_at d c.args.cursor.now.rules.state stack (drop c.args.cursor.now.place c.args.text.now) (drop c.args.cursor.now.place c.args.text.now) t c.requires.cursor.state refl (rw c.in-Some.is at c.requires.winner) in
     (t, refl, wins, ap lacks_id rule_is ∙ sym c.if-lacks_id.ensures)
 
 pub returns-then-lacks_target-clause-step : goal.returns-then-lacks_target-clause-step
@@ -62,7 +65,7 @@ returns-then-lacks_target-clause-step g c =
     let t : Tile = record { rule = c.in-Some.tile.rule; len = c.in-Some.tile.len } in
     let within : t.rule < length c.args.table.now.rules.items = omega (arith, c.args.table.now.rules.ok.0, (rw c.in-Some.is at c.requires.tile).1) in
     let rule_is = rule_read g.S.Numbered.number c.args.table.now t.rule c.index-rule.result.now within c.index-rule.ensures in
-    let wins = wins_at d c.args.cursor.now.rules.state stack (drop c.args.cursor.now.place c.args.text.now) (drop c.args.cursor.now.place c.args.text.now) t c.requires.state refl (rw c.in-Some.is at c.requires.winner) in (
+    let wins = wins_at d c.args.cursor.now.rules.state stack (drop c.args.cursor.now.place c.args.text.now) (drop c.args.cursor.now.place c.args.text.now) t c.requires.cursor.state refl (rw c.in-Some.is at c.requires.winner) in (
       t,
       record {
         rule = refl;
@@ -79,7 +82,7 @@ returns-clause-step g c =
     let t : Tile = record { rule = c.in-Some.tile.rule; len = c.in-Some.tile.len } in
     let within : t.rule < length c.args.table.now.rules.items = omega (arith, c.args.table.now.rules.ok.0, (rw c.in-Some.is at c.requires.tile).1) in
     let rule_is = rule_read g.S.Numbered.number c.args.table.now t.rule c.index-rule.result.now within c.index-rule.ensures in
-    let wins = wins_at d c.args.cursor.now.rules.state stack (drop c.args.cursor.now.place c.args.text.now) (drop c.args.cursor.now.place c.args.text.now) t c.requires.state refl (rw c.in-Some.is at c.requires.winner) in (
+    let wins = wins_at d c.args.cursor.now.rules.state stack (drop c.args.cursor.now.place c.args.text.now) (drop c.args.cursor.now.place c.args.text.now) t c.requires.cursor.state refl (rw c.in-Some.is at c.requires.winner) in (
       t,
       record {
         rule = refl;
@@ -113,7 +116,7 @@ returns-clause-cursor g c =
     let t : Tile = record { rule = c.in-Some.tile.rule; len = c.in-Some.tile.len } in
     let within : t.rule < length c.args.table.now.rules.items = omega (arith, c.args.table.now.rules.ok.0, (rw c.in-Some.is at c.requires.tile).1) in
     let rule_is = rule_read g.S.Numbered.number c.args.table.now t.rule c.index-rule.result.now within c.index-rule.ensures in
-    let wins = wins_at d c.args.cursor.now.rules.state stack (drop place text) (drop place text) t c.requires.state refl (rw c.in-Some.is at c.requires.winner) in
+    let wins = wins_at d c.args.cursor.now.rules.state stack (drop place text) (drop place text) t c.requires.cursor.state refl (rw c.in-Some.is at c.requires.winner) in
     let has_target : lacks_target d (rule_at d t.rule) ≡ false = ap (lacks_target d) rule_is ∙ sym c.if-lacks_target.ensures in
     let moved : plain c.step.new.entries.items ≡ stack_after stack (rule_at d t.rule).target =
     c.in_ok-step.ensures.moved ∙ ap (stack_after stack) c.target_state.ensures ∙ sym (ap (λ (x : Rule). stack_after stack x.target) rule_is) in
@@ -128,6 +131,22 @@ returns-clause-cursor g c =
         room = omega (arith, sound.deep, ap length moved, c.requires.cursor.stands.room, wins.some);
       };
       initial = c.requires.cursor.initial;
-      rules = c.requires.cursor.rules;
+      rules = c.enter.ensures.rules;
+      state = c.enter.ensures.state ∙ c.top_of.ensures ∙ ap (λ s. top (plain s)) c.deref.ensures.value;
       searcher = c.requires.cursor.searcher;
     }
+
+pub enter-requires-clause-id : goal.enter-requires-clause-id
+enter-requires-clause-id g c =
+    let d = definition_by g.S.Numbered.number c.args.table.now in
+    let stack = plain c.args.cursor.now.stack.items in
+    let k = c.in-Some.tile.rule in
+    let within : k < length c.args.table.now.rules.items = omega (arith, c.args.table.now.rules.ok.0, (rw c.in-Some.is at c.requires.tile).1) in
+    let rule_is = rule_read g.S.Numbered.number c.args.table.now k c.index-rule.result.now within c.index-rule.ensures in
+    let has_target : lacks_target d (rule_at d k) ≡ false = ap (lacks_target d) rule_is ∙ sym c.if-lacks_target.ensures in
+    let moved : plain c.step.new.entries.items ≡ stack_after stack (rule_at d k).target =
+    c.in_ok-step.ensures.moved ∙ ap (stack_after stack) c.target_state.ensures ∙ sym (ap (λ (x : Rule). stack_after stack x.target) rule_is) in
+    let sound : IsSound d stack (stack_after stack (rule_at d k).target) = sound_after d stack (rule_at d k).target c.requires.cursor.initial c.requires.cursor.stands.states c.requires.cursor.stands.some has_target in
+    let on_top : c.top_of.result ≡ top (plain c.step.new.entries.items) = c.top_of.ensures ∙ ap (λ s. top (plain s)) c.deref.ensures.value in
+    subst (λ q. is_state d q ≡ true) (sym on_top)
+    (top_is_state d (plain c.step.new.entries.items) (subst (AreStates d) (sym moved) sound.states) (omega (arith, sound.some, ap length moved)))
