@@ -100,25 +100,24 @@ fn join(first: &mut [Mark], count: usize, apart: usize, second: &[Mark], others:
 }
 
 impl Chain {
-    /// Marks where matches end as `mark` does, in two lanes side by side of so many pairs of bytes each: one from `from` on, and one that
-    /// begins `apart` bytes later. Neither waits for the other, so both take little longer than one. Returns how many matches were found
-    /// in each.
+    /// Marks where matches end as `mark` does, in two lanes side by side of so many bytes each: one from `from` on, and one that begins
+    /// `apart` bytes later. Neither waits for the other, so both take little longer than one. Returns how many matches were found in each.
     #[inline(never)]
     pub(crate) fn mark_both(
         &self,
         text: &[u8],
         from: usize,
         apart: usize,
-        pairs: usize,
+        many: usize,
         first: &mut [Mark],
         second: &mut [Mark],
     ) -> (usize, usize)
-        requires inside { from + apart + (pairs + pairs) ≤ length text.now }
-        requires short { apart + (pairs + pairs) ≤ 8192 }
-        requires room_first { pairs + pairs < length first.old }
-        requires room_second { pairs + pairs < length second.old }
-        ensures count { result.0 ≤ pairs + pairs }
-        ensures others { result.1 ≤ pairs + pairs }
+        requires inside { from + apart + many ≤ length text.now }
+        requires short { apart + many ≤ 8192 }
+        requires room_first { many < length first.old }
+        requires room_second { many < length second.old }
+        ensures count { result.0 ≤ many }
+        ensures others { result.1 ≤ many }
         ensures room_first { length first.new ≡ length first.old }
         ensures room_second { length second.new ≡ length second.old }
         ensures first { (t : Table) → IsChainOf t self.now →
@@ -134,33 +133,22 @@ impl Chain {
         let mut count = 0usize;
         let mut other = self.start;
         let mut others = 0usize;
-        'pairs: for pair in 0..pairs {
-            let at = pair + pair;
-            let later = apart + at;
+        'bytes: for at in 0..many {
             let behind = next(cells, columns, height, row, text[from + at]);
             first[count] = Mark {
                 row: row as u16,
                 end: at as u16,
             };
             count += begun(behind, fresh);
+            row = behind;
+            let later = apart + at;
             let after = next(cells, columns, height, other, text[from + later]);
             second[others] = Mark {
                 row: other as u16,
                 end: later as u16,
             };
             others += begun(after, fresh);
-            row = next(cells, columns, height, behind, text[from + at + 1]);
-            first[count] = Mark {
-                row: behind as u16,
-                end: (at + 1) as u16,
-            };
-            count += begun(row, fresh);
-            other = next(cells, columns, height, after, text[from + later + 1]);
-            second[others] = Mark {
-                row: after as u16,
-                end: (later + 1) as u16,
-            };
-            others += begun(other, fresh);
+            other = after;
         }
         (count, others)
     }
@@ -188,7 +176,7 @@ impl Chain {
         let Some(apart) = second_start(text, from, many) else {
             return self.mark(text, from, many, marks);
         };
-        let (count, others) = self.mark_both(text, from, apart, (many - apart) / 2, marks, more);
+        let (count, others) = self.mark_both(text, from, apart, many - apart, marks, more);
         join(marks, count, apart, more, others)
     }
 }

@@ -43,7 +43,6 @@ pub(crate) fn next(cells: &[u16], columns: &[u32], rows: usize, row: usize, byte
 pub(crate) fn begun(row: usize, fresh: usize) -> usize
     ensures one { fresh ≤ row → result ≡ 1 }
     ensures none { row < fresh → result ≡ 0 }
-    ensures most { result ≤ 1 }
 {
     (row >= fresh) as usize
 }
