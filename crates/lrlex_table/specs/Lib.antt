@@ -2,6 +2,7 @@ pub mod Cell
 pub mod Step
 pub mod Table
 pub mod Reach
+pub mod Rows
 pub mod Determinizer
 pub mod ProductBuilder
 pub mod Source

@@ -48,6 +48,7 @@ impl Budget {
     /// Gives back so many rows, which are no longer held.
     pub fn free_rows(&mut self, rows: usize)
         ensures left { self.old.rows + rows < 2 ^ 64 → self.new.rows ≡ self.old.rows + rows }
+        ensures most { self.new.rows ≤ self.old.rows + rows }
         ensures work { self.new.work ≡ self.old.work }
     {
         self.rows = self.rows.saturating_add(rows);
@@ -84,6 +85,7 @@ impl Budget {
     pub fn put_back(&mut self, aside: Budget)
         ensures rows { self.old.rows + aside.rows < 2 ^ 64 →
             self.new.rows ≡ self.old.rows + aside.rows }
+        ensures most { self.new.rows ≤ self.old.rows + aside.rows }
         ensures work { self.old.work + aside.work < 2 ^ 64 →
             self.new.work ≡ self.old.work + aside.work }
     {

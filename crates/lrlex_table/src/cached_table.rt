@@ -1,7 +1,8 @@
 //! The table of one pattern, which is built at most once and handed out to each list of patterns that has the pattern.
-ghost use Rattle.std.specs.Prelude.{◌≡◌, true, false, List, None, IfOk, IfSome};
+ghost use Rattle.std.specs.Prelude.{◌≡◌, ◌+◌, ◌≤◌, true, false, List, None, IfOk, IfSome};
 ghost use Rattle.regex.specs.Patterns.{Re};
 ghost use Rattle.lrlex_table.specs.Table.{IsTableOf};
+ghost use Rattle.lrlex_table.specs.Rows.{table_rows};
 
 use crate::budget::Budget;
 use crate::table::Table;
@@ -65,6 +66,9 @@ impl CachedTable {
             IfOk result (λ o. IfSome o (IsTableOf ps)) }
         ensures kept { (ps : List Re) → IfSome self.old.table (IsTableOf ps) →
             IfSome self.new.table (IsTableOf ps) }
+        ensures paid { IfOk result (λ o.
+            table_rows self.new.table + table_rows o + budget.new.rows
+            ≤ table_rows self.old.table + budget.old.rows) }
     {
         self.lists = self.lists.saturating_sub(1);
         if self.lists == 0 {

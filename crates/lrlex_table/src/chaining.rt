@@ -1,5 +1,6 @@
 //! Builds the chain of a table. What comes out is checked, so nothing has to be shown of how it is built.
-ghost use Rattle.std.specs.Prelude.{◌≡◌, IfOk, IfSome, map};
+ghost use Rattle.std.specs.Prelude.{◌≡◌, ◌+◌, ◌≤◌, IfOk, OnOk, IfSome, map};
+ghost use Rattle.lrlex_table.specs.Rows.{chain_rows, tables_rows, rows_held};
 ghost use Rattle.lrlex_table.specs.Chain.{IsChainOf, NamesWinners, IsChainOfAll};
 
 use crate::budget::Budget;
@@ -143,13 +144,16 @@ impl Links {
     }
 }
 
-/// The chain of the part. None where its table has too many rows, or the budget is spent.
+/// The chain of the part, paid from the budget: a row for each 256 cells. None where its table has too many rows, and where the
+/// budget is spent.
 pub(crate) fn chain_of(
     alloc: Global,
     part: &Part,
     budget: &mut Budget,
 ) -> Result<Option<Chain>, AllocError>
-    ensures { IfOk result (λ o. IfSome o (λ c. IsChainOf part.now.table c × NamesWinners part.now c)) }
+    ensures chain { IfOk result (λ o.
+        IfSome o (λ c. IsChainOf part.now.table c × NamesWinners part.now c)) }
+    ensures paid { IfOk result (λ o. chain_rows o + budget.new.rows ≤ budget.old.rows) }
 {
     let table = &part.table;
     let rows = table.rows();
@@ -174,7 +178,10 @@ pub(crate) fn chain_of(
     let Some(chain) = made else {
         return Ok(None);
     };
-    budget.pay_rows(chain.cells.len().div_ceil(256));
+    let held = chain.cells.len().div_ceil(256);
+    if held > budget.rows() || !budget.pay_rows(held) {
+        return Ok(None);
+    }
     if chain.is_of(table, &firsts) && chain.names_winners(part) {
         Ok(Some(chain))
     } else {
@@ -185,7 +192,9 @@ pub(crate) fn chain_of(
 impl Tables {
     /// The chain of the only table, where each pattern is in it and the budget pays for the chain.
     fn chain_for(&self, alloc: Global, budget: &mut Budget) -> Result<Option<Chain>, AllocError>
-        ensures { IfOk result (λ o. IfSome o (IsChainOfAll self.now.parts.items self.now.asked.items)) }
+        ensures chain { IfOk result (λ o.
+            IfSome o (IsChainOfAll self.now.parts.items self.now.asked.items)) }
+        ensures paid { IfOk result (λ o. chain_rows o + budget.new.rows ≤ budget.old.rows) }
     {
         if self.asked.len() > 0 {
             return Ok(None);
@@ -200,6 +209,8 @@ impl Tables {
     fn add_chain(&mut self, alloc: Global, budget: &mut Budget) -> Result<(), AllocError>
         ensures parts { self.new.parts ≡ self.old.parts }
         ensures asked { self.new.asked ≡ self.old.asked }
+        ensures paid { OnOk result (tables_rows self.new + budget.new.rows
+            ≤ tables_rows self.old + budget.old.rows) }
     {
         let made = self.chain_for(alloc, budget)?;
         self.chain = made;
@@ -215,6 +226,8 @@ pub fn add_chains(
 ) -> Result<(), AllocError>
     ensures parts { map (λ t. t.parts) lists.new ≡ map (λ t. t.parts) lists.old }
     ensures asked { map (λ t. t.asked) lists.new ≡ map (λ t. t.asked) lists.old }
+    ensures paid { OnOk result (rows_held lists.new + budget.new.rows
+        ≤ rows_held lists.old + budget.old.rows) }
 {
     'lists: for index in 0..lists.len() {
         lists[index].add_chain(alloc, budget)?;

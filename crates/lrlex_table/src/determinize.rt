@@ -353,6 +353,7 @@ impl Determinizer {
             IsTrue b → IsFilledBelow dfa.now.nfa self.new (vec_len self.new.rows)) }
         ensures paid { IfOk result (λ b.
             IsTrue b → vec_len self.new.wins + budget.new.rows ≤ budget.old.rows) }
+        ensures less { budget.new.rows ≤ budget.old.rows }
     {
         'rows: for row in 0..most {
             if row as usize == self.rows.len() {
@@ -384,6 +385,7 @@ pub fn determinize(
         IfOk result (λ o. IfSome o (IsTableOf (re ∷ []))) }
     ensures paid { IfOk result (λ o.
         IfSome o (λ t. vec_len t.wins + budget.new.rows ≤ budget.old.rows)) }
+    ensures less { budget.new.rows ≤ budget.old.rows }
 {
     if !asks_for_starts(&dfa.nfa) {
         return Ok(None);

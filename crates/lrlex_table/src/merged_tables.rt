@@ -3,6 +3,7 @@ ghost use Rattle.std.specs.Prelude.{◌≡◌, ℕ, Bool, ◌||◌, ◌+◌, ◌
 ghost use Rattle.regex.specs.Patterns.{Re};
 ghost use Rattle.lrlex_table.specs.Table.{pattern_at, EndsInRowOf, IsTableOf};
 ghost use Rattle.lrlex_table.specs.Reach.{IsDecidedBy};
+ghost use Rattle.lrlex_table.specs.Rows.{table_rows, part_rows, cached_rows, tables_rows};
 ghost use Rattle.lrlex_table.specs.Tables.{AreRising, AreCached, rows_of, is_among, is_tabled, patterns_at, IsPartOf, AreParts, Covers, ArePartsOf, AreTablesOf, IsBelow, IsLongestOf, IsBestAmong, IsWinnerAmong, IsTableScanOf};
 
 use crate::budget::Budget;
@@ -40,6 +41,7 @@ fn join(alloc: Global, a: &Part, b: &Part, budget: &mut Budget) -> Result<Option
         IfOk result (λ o. IfSome o (IsPartOf ps lo hi)) }
     ensures patterns { IfOk result (λ o.
         IfSome o (λ p. p.patterns.items ≡ a.now.patterns.items ++ b.now.patterns.items)) }
+    ensures paid { IfOk result (λ o. part_rows o + budget.new.rows ≤ budget.old.rows) }
 {
     let Some(last) = a.patterns.last() else {
         return Ok(None)
@@ -79,6 +81,8 @@ fn put(
         AreParts ps lo hi parts.old.items → IsPartOf ps lo hi part →
         OnOk result (AreParts ps lo hi parts.new.items) }
     ensures covers { OnOk result (Covers parts.new.items (part ∷ parts.old.items)) }
+    ensures paid { OnOk result (rows_of parts.new.items + budget.new.rows
+        ≤ rows_of parts.old.items + vec_len part.table.wins + budget.old.rows) }
 {
     'parts: for at in 0..parts.len() {
         let joined = join(alloc, &parts[at], &part, budget)?;
@@ -104,6 +108,8 @@ fn hand_out_at(
         IfOk result (λ o. IfSome o (IsTableOf (pattern place ∷ []))) }
     ensures kept { (pattern : ℕ → Re) → AreCached pattern cache.old →
         OnOk result (AreCached pattern cache.new) }
+    ensures paid { IfOk result (λ o. cached_rows cache.new + table_rows o + budget.new.rows
+        ≤ cached_rows cache.old + budget.old.rows) }
 {
     if place < cache.len() {
         cache[place].hand_out(alloc, budget)
@@ -125,6 +131,8 @@ fn alone(
         IfOk result (λ t. ArePartsOf ps index (index + 1) t.parts.items t.asked.items) }
     ensures kept { (pattern : ℕ → Re) → AreCached pattern cache.old →
         OnOk result (AreCached pattern cache.new) }
+    ensures paid { IfOk result (λ t. cached_rows cache.new + tables_rows t + budget.new.rows
+        ≤ cached_rows cache.old + budget.old.rows) }
 {
     let mut parts = Vec::new(alloc);
     let mut asked = Vec::new(alloc);
@@ -151,10 +159,12 @@ pub fn joined_tables(
     right: Tables,
     budget: &mut Budget,
 ) -> Result<Tables, AllocError>
-    ensures { (ps : List Re) (lo middle hi : ℕ) →
+    ensures tables { (ps : List Re) (lo middle hi : ℕ) →
         ArePartsOf ps lo middle left.parts.items left.asked.items →
         ArePartsOf ps middle hi right.parts.items right.asked.items →
         IfOk result (λ t. ArePartsOf ps lo hi t.parts.items t.asked.items) }
+    ensures paid { IfOk result (λ t. tables_rows t + budget.new.rows
+        ≤ tables_rows left + tables_rows right + budget.old.rows) }
 {
     let mut parts = left.parts;
     let mut asked = left.asked;
@@ -226,6 +236,8 @@ pub fn tables_between(
         IfOk result (λ t. ArePartsOf (map pattern places.now) from to t.parts.items t.asked.items) }
     ensures kept { (pattern : ℕ → Re) → AreCached pattern cache.old →
         OnOk result (AreCached pattern cache.new) }
+    ensures paid { IfOk result (λ t. cached_rows cache.new + tables_rows t + budget.new.rows
+        ≤ cached_rows cache.old + budget.old.rows) }
 {
     if to - from == 1 {
         return alone(alloc, cache, places[from], from, budget);
@@ -338,7 +350,8 @@ impl Part {
 impl Tables {
     /// No tables: `regex` matches each of so many patterns.
     pub fn none(alloc: Global, patterns: usize) -> Result<Tables, AllocError>
-        ensures { (ps : List Re) → length ps ≡ patterns → IfOk result (AreTablesOf ps) }
+        ensures tables { (ps : List Re) → length ps ≡ patterns → IfOk result (AreTablesOf ps) }
+        ensures rows { IfOk result (λ t. tables_rows t ≡ 0) }
     {
         let mut asked = Vec::new(alloc);
         'patterns: for place in 0..patterns {

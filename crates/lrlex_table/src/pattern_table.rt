@@ -1,6 +1,7 @@
 //! Builds the table of one pattern: reads the pattern, compiles its NFA and determinizes that.
-ghost use Rattle.std.specs.Prelude.{[], ◌∷◌, IfOk, IfSome};
+ghost use Rattle.std.specs.Prelude.{[], ◌∷◌, ◌+◌, ◌≤◌, IfOk, IfSome};
 ghost use Rattle.lrlex_table.specs.Table.{IsTableOf};
+ghost use Rattle.lrlex_table.specs.Rows.{table_rows};
 ghost use Rattle.lrlex_table.specs.Source.{source_pattern};
 
 use crate::budget::Budget;
@@ -33,7 +34,8 @@ pub fn table_of(
     source: Source<'_>,
     budget: &mut Budget,
 ) -> Result<Option<Table>, AllocError>
-    ensures { IfOk result (λ o. IfSome o (IsTableOf (source_pattern source.entry ∷ []))) }
+    ensures table { IfOk result (λ o. IfSome o (IsTableOf (source_pattern source.entry ∷ []))) }
+    ensures paid { IfOk result (λ o. table_rows o + budget.new.rows ≤ budget.old.rows) }
 {
     let bytes = source.regex.as_str().len();
     let reading = bytes

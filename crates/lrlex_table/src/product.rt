@@ -3,6 +3,7 @@
 ghost use Rattle.std.specs.Prelude.{◌≡◌, ◌≢◌, ◌+◌, ◌-◌, ◌*◌, ◌<◌, ◌≤◌, ◌++◌, List, length, vec_len, IsTrue, IfOk, IfSome, None, Some};
 ghost use Rattle.regex.specs.Patterns.{Re};
 ghost use Rattle.lrlex_table.specs.Table.{next_of, IsTableOf};
+ghost use Rattle.lrlex_table.specs.Rows.{table_rows};
 ghost use Rattle.lrlex_table.specs.ProductBuilder.{first_win, pair_at, AreEqualCells, HasPairOf, IsProductBelow};
 
 use crate::budget::Budget;
@@ -179,6 +180,9 @@ impl ProductBuilder {
         requires filled { IsProductBelow a.now b.now shift self.old 0 }
         ensures filled { IfOk result (λ t.
             IsTrue t → IsProductBelow a.now b.now shift self.new (vec_len self.new.rows)) }
+        ensures paid { IfOk result (λ t.
+            IsTrue t → vec_len self.new.wins + budget.new.rows ≤ budget.old.rows) }
+        ensures less { budget.new.rows ≤ budget.old.rows }
     {
         'rows: for row in 0..most {
             if row as usize == self.rows.len() {
@@ -205,8 +209,10 @@ pub fn product(
     most: u16,
     budget: &mut Budget,
 ) -> Result<Option<Table>, AllocError>
-    ensures { (ps qs : List Re) → IsTableOf ps a.now → IsTableOf qs b.now → shift ≡ length ps →
+    ensures table { (ps qs : List Re) →
+        IsTableOf ps a.now → IsTableOf qs b.now → shift ≡ length ps →
         IfOk result (λ o. IfSome o (IsTableOf (ps ++ qs))) }
+    ensures paid { IfOk result (λ o. table_rows o + budget.new.rows ≤ budget.old.rows) }
 {
     let made = ProductBuilder::new(alloc, a, b, shift)?;
     let Some(mut builder) = made else {

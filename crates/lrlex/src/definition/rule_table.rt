@@ -1,7 +1,8 @@
-ghost use Rattle.std.specs.Prelude.{◌≡◌, ◌<◌, All, length, map, true, IsTrue};
+ghost use Rattle.std.specs.Prelude.{◌≡◌, ◌<◌, ◌≤◌, All, length, map, true, IsTrue};
 ghost use Rattle.lrlex.specs.Active.{active_places, is_state, lacks_target};
 ghost use Rattle.lrlex_rules.specs.RuleParts.{as_rule, as_state};
 ghost use Rattle.lrlex.specs.StateTables.{AreServed, ArePlaced, list_in};
+ghost use Rattle.lrlex_table.specs.Rows.{rows_held};
 ghost use Rattle.lrlex.specs.Ids.{HaveDistinctIds};
 ghost use Rattle.lrlex.specs.Kinds.{kind_of};
 
@@ -68,6 +69,7 @@ impl<S: Copy> RuleTable<S> {
         ensures rules { IfOk result (λ t. t.rules ≡ rules) }
         ensures states { IfOk result (λ t. t.start_states ≡ start_states) }
         ensures flags { IfOk result (λ t. t.flags ≡ flags) }
+        ensures paid { IfOk result (λ t. rows_held t.tables.items ≤ budget.rows) }
     {
         let placed = are_placed(&start_states);
         let (lists, list_at) = lists_for(alloc, &start_states, placed, &rules)?;
@@ -105,6 +107,7 @@ impl<S: Numbered> RuleTable<S> {
         ensures rules { IfOk result (λ t. t.rules ≡ rules) }
         ensures states { IfOk result (λ t. t.start_states ≡ start_states) }
         ensures flags { IfOk result (λ t. t.flags ≡ flags) }
+        ensures paid { IfOk result (λ t. rows_held t.tables.items ≤ budget.rows) }
     {
         let own_ids = have_own_ids(&rules);
         RuleTable::of_parts(alloc, start_states, rules, flags, own_ids, budget)
@@ -126,6 +129,8 @@ impl<S: Numbered> RuleTable<S> {
             (λ t. IsLawful text.now (definition_by S.number t))) }
         ensures initial { IfOk result (λ built. IfOk built
             (λ t. is_state (definition_by S.number t) 0 ≡ true)) }
+        ensures paid { IfOk result (λ built. IfOk built
+            (λ t. rows_held t.tables.items ≤ budget.rows)) }
     {
         match parse_rule_file::<S>(alloc, text, flags)? {
             Ok(file) => {
@@ -142,7 +147,8 @@ impl<S: Numbered> RuleTable<S> {
 
     /// A table with these rules, start states and flags, with tables that cost no more than this.
     pub(crate) fn within(self, alloc: Global, budget: Budget) -> Result<Self, AllocError>
-        ensures { IfOk result (λ t. definition_by S.number t ≡ definition_by S.number self) }
+        ensures same { IfOk result (λ t. definition_by S.number t ≡ definition_by S.number self) }
+        ensures paid { IfOk result (λ t. rows_held t.tables.items ≤ budget.rows) }
     {
         let RuleTable {
             rules,

@@ -1,7 +1,8 @@
 //! The tables of each list of rules.
-ghost use Rattle.std.specs.Prelude.{◌≡◌, ◌<◌, ◌≤◌, ◌^◌, ℕ, List, All, [], ◌∷◌, map, length, IfOk, OnOk, IfSome};
+ghost use Rattle.std.specs.Prelude.{◌≡◌, ◌+◌, ◌<◌, ◌≤◌, ◌^◌, ℕ, List, All, [], ◌∷◌, map, length, IfOk, OnOk, IfSome};
 ghost use Rattle.regex.specs.Patterns.{Re};
 ghost use Rattle.lrlex_table.specs.Table.{IsTableOf};
+ghost use Rattle.lrlex_table.specs.Rows.{table_rows, cached_rows, tables_rows, rows_held};
 ghost use Rattle.lrlex_table.specs.Tables.{AreCached, ArePartsOf, AreTablesOf};
 ghost use Rattle.lrlex_rules.specs.RuleParts.{as_rule};
 ghost use Rattle.lrlex_rules.specs.Patterns.{pattern_of};
@@ -22,8 +23,9 @@ fn table_alone<S>(
     rule: &Rule<S>,
     budget: &mut Budget,
 ) -> Result<Option<Table>, AllocError>
-    ensures { IfOk result (λ o. IfSome o (IsTableOf
+    ensures table { IfOk result (λ o. IfSome o (IsTableOf
         (pattern_of (as_rule (λ _. 0) rule.now) ∷ []))) }
+    ensures paid { IfOk result (λ o. table_rows o + budget.new.rows ≤ budget.old.rows) }
 {
     let source = Source {
         regex: rule.regex(),
@@ -41,8 +43,10 @@ fn try_single<S>(
     singles: &mut [CachedTable],
     budget: &mut Budget,
 ) -> Result<(), AllocError>
-    ensures { AreCached (pattern_in (map (as_rule (λ _. 0)) rules.now)) singles.old →
+    ensures cached { AreCached (pattern_in (map (as_rule (λ _. 0)) rules.now)) singles.old →
         OnOk result (AreCached (pattern_in (map (as_rule (λ _. 0)) rules.now)) singles.new) }
+    ensures paid { OnOk result (cached_rows singles.new + budget.new.rows
+        ≤ cached_rows singles.old + budget.old.rows) }
 {
     if place < rules.len() && place < singles.len() && !singles[place].is_tried() {
         let table = table_alone(alloc, &rules[place], budget)?;
@@ -59,8 +63,10 @@ fn try_singles<S>(
     singles: &mut [CachedTable],
     budget: &mut Budget,
 ) -> Result<(), AllocError>
-    ensures { AreCached (pattern_in (map (as_rule (λ _. 0)) rules.now)) singles.old →
+    ensures cached { AreCached (pattern_in (map (as_rule (λ _. 0)) rules.now)) singles.old →
         OnOk result (AreCached (pattern_in (map (as_rule (λ _. 0)) rules.now)) singles.new) }
+    ensures paid { OnOk result (cached_rows singles.new + budget.new.rows
+        ≤ cached_rows singles.old + budget.old.rows) }
 {
     'places: for place in places {
         try_single(alloc, rules, *place, singles, budget)?;
@@ -90,6 +96,8 @@ fn tables_from<S>(
         from to t.parts.items t.asked.items) }
     ensures kept { AreCached (pattern_in (map (as_rule (λ _. 0)) rules.now)) singles.old →
         OnOk result (AreCached (pattern_in (map (as_rule (λ _. 0)) rules.now)) singles.new) }
+    ensures paid { IfOk result (λ t. cached_rows singles.new + tables_rows t + budget.new.rows
+        ≤ cached_rows singles.old + budget.old.rows) }
 {
     if to - from <= RULES_AT_ONCE {
         let joining = budget.set_aside();
@@ -115,6 +123,8 @@ fn tables_on<S>(
         IfOk result (AreTablesOf (patterns_on (map (as_rule (λ _. 0)) rules.now) places.now)) }
     ensures kept { AreCached (pattern_in (map (as_rule (λ _. 0)) rules.now)) singles.old →
         OnOk result (AreCached (pattern_in (map (as_rule (λ _. 0)) rules.now)) singles.new) }
+    ensures paid { IfOk result (λ t. cached_rows singles.new + tables_rows t + budget.new.rows
+        ≤ cached_rows singles.old + budget.old.rows) }
 {
     let looking = places.len().saturating_mul(WORK_OF_A_RULE);
     if places.is_empty() || !budget.pay_work(looking) {
@@ -138,7 +148,8 @@ fn lists_with(alloc: Global, rules: usize, lists: &[Vec<usize>]) -> Result<Vec<u
 
 /// Room for the table of each rule alone, which is in so many lists.
 fn singles_in(alloc: Global, lists: &[usize]) -> Result<Vec<CachedTable>, AllocError>
-    ensures { (pattern : ℕ → Re) → IfOk result (λ singles. AreCached pattern singles.items) }
+    ensures cached { (pattern : ℕ → Re) → IfOk result (λ singles. AreCached pattern singles.items) }
+    ensures rows { IfOk result (λ singles. cached_rows singles.items ≡ 0) }
 {
     let mut singles = Vec::with_capacity(alloc, lists.len())?;
     'lists: for count in lists {
@@ -157,6 +168,7 @@ pub(crate) fn tables_for<S>(
     ensures served { IfOk result (λ tables. AreServed rules.now (map (λ v. v.items) lists.now)
         tables.items) }
     ensures each { IfOk result (λ tables. length tables.items ≡ length lists.now) }
+    ensures paid { IfOk result (λ tables. rows_held tables.items ≤ budget.rows) }
 {
     let counts = lists_with(alloc, rules.len(), lists)?;
     let mut singles = singles_in(alloc, &counts)?;

@@ -15,4 +15,4 @@ pub returns-clause-tables : goal.returns-clause-tables
 returns-clause-tables t c pattern cached =
     let left = c.in_ok-left.ensures.tables pattern cached in
     let right = c.in_ok-right.ensures.tables pattern (c.in_ok-left.ensures.kept pattern cached) in
-    c.joined_tables.ensures (map pattern c.args.places.now) _ _ _ left right
+    c.joined_tables.ensures.tables (map pattern c.args.places.now) _ _ _ left right

@@ -19,7 +19,7 @@ returns-clause-part c ps lo hi left right =
     let first : slice_get ys 0 ≡ Some y = ap (λ l. slice_get l 0) (sym c.deref-2.ensures.value) ∙ sym c.in-Some-first.ensures.value in
     let some = slice_get_within xs (length xs - 1) z last in
     let other = slice_get_within ys 0 y first in
-    let made = c.in_ok-made.ensures (map f xs) (map f ys) left.table right.table (omega (arith, c.in-Ok.ensures.1, c.len.ensures, a.patterns.ok.0, length-map xs f)) in
+    let made = c.in_ok-made.ensures.table (map f xs) (map f ys) left.table right.table (omega (arith, c.in-Ok.ensures.1, c.len.ensures, a.patterns.ok.0, length-map xs f)) in
     let patterns : c.extend_from_slice.new.self.items ≡ xs ++ ys =
     c.in_ok-extend_from_slice.ensures.items ∙ ap (λ l. l ++ c.deref-4.result.now) (c.in_ok-patterns.ensures.items ∙ c.deref-3.ensures.value) ∙ ap (λ l. xs ++ l) c.deref-4.ensures.value in
     part_joined ps lo hi a b (record { table = c.in-Some-made.table; patterns = c.extend_from_slice.new.self }) left right (omega (arith, some)) other

@@ -1,6 +1,8 @@
-use Rattle.std.proofs.Common.{◌≡◌, ◌∷◌, [], ◌++◌, List, length, refl, sym, ap, subst, ◌∙◌, append_assoc, append-nil, arith}
+use Rattle.std.proofs.Common.{◌≡◌, ◌∷◌, [], ◌++◌, List, length, vec_len, refl, sym, ap, subst, ◌∙◌, append_assoc, append-nil, arith}
+use Rattle.std.proofs.lemmas.List.Sums.{sum_by_push}
 use Rattle.std.specs.Vec.Iter.{into_iter_items}
-use Rattle.lrlex_table.specs.Tables.{IsPartOf, ArePartsOf}
+use Rattle.lrlex_table.specs.declared.merged_tables.Part.{Part}
+use Rattle.lrlex_table.specs.Tables.{rows_of, IsPartOf, ArePartsOf}
 use Rattle.lrlex_table.proofs.PartLemmas.{Neither, neither_more, all_at, parts_wider, parts_both, rising_bounds}
 use Rattle.lrlex_table.proofs.merged_tables.joined_tables.Goals as goal
 
@@ -24,10 +26,23 @@ parts-preserved c =
       omega arith,
       λ ps lo hi left right. c.in_ok-put.ensures.parts ps lo hi (inv.3 ps lo hi left right) (all_at (IsPartOf ps lo hi) c.args.right.parts.items at.yielded rest x right whole),
       neither_more c.put.new.parts.items at.parts.items c.args.left.parts.items at.yielded x c.in_ok-put.ensures.covers inv.4,
+      omega (arith, inv.5, c.in_ok-put.ensures.paid, sum_by_push (λ (p : Part). vec_len p.table.wins) at.yielded x),
     )
 
-pub returns : goal.returns
-returns c ps lo middle hi left right =
+-- all of them were gone through
+all_yielded : (yielded rest all : List Part) → length rest ≡ 0 → yielded ++ rest ≡ all → yielded ≡ all
+all_yielded yielded [] all none whole = sym (append-nil yielded) ∙ whole
+all_yielded yielded (x ∷ rest) all none whole = absurd (omega arith)
+
+pub returns-clause-paid : goal.returns-clause-paid
+returns-clause-paid c =
+    let at = c.parts in
+    let inv = at.invariant in
+    let all = all_yielded at.yielded (into_iter_items at.part-iterator) c.args.right.parts.items (sym inv.2 ∙ c.in-None.ensures.steps.0) (inv.1 ∙ c.into_iter-part-iterator.ensures.into_iter_gives.0) in
+    omega (arith, inv.5, ap rows_of all)
+
+pub returns-clause-tables : goal.returns-clause-tables
+returns-clause-tables c ps lo middle hi left right =
     let at = c.parts in
     let inv = at.invariant in
     let none = c.in-None.ensures.steps in

@@ -1,8 +1,11 @@
 use Rattle.std.proofs.Common.{rules, ◌≡◌, [], map, length, option_map, refl, sym, ap, ◌∙◌, subst, arith}
+use Rattle.std.proofs.lemmas.Grind.{common_steps}
+use Rattle.std.proofs.lemmas.List.Sums.{sum_by_push}
 use Rattle.std.proofs.lemmas.List.{length-map, length_push}
 use Rattle.std.proofs.lemmas.Option.{slice_get-map, slice_get_read, get_or_from_slice_get}
 use Rattle.lrlex_rules.specs.RuleParts.{as_rule}
 use Rattle.lrlex.specs.StateTables.{AreServed, list_in, patterns_on, pattern_in}
+use Rattle.lrlex_table.specs.Rows.{cached_rows, tables_rows, rows_held}
 use Rattle.lrlex_table.specs.Tables.{AreCached, AreTablesOf}
 use Rattle.lrlex_table.specs.declared.tables.Tables.{Tables}
 use Rattle.lrlex_table.proofs.AheadLemmas.{written_back}
@@ -13,7 +16,8 @@ pub lists-init : goal.lists-init
 lists-init g c = record {
   made = search rules;
   served = search rules;
-  single = c.in_ok-singles.ensures (pattern_in (map (as_rule (λ _. 0)) c.args.rules.now));
+  paid = grind (arith, common_steps);
+  single = c.in_ok-singles.ensures.cached (pattern_in (map (as_rule (λ _. 0)) c.args.rules.now));
 }
 
 pub lists-preserved : goal.lists-preserved
@@ -36,6 +40,16 @@ lists-preserved g c =
     record {
       made = omega (arith, ap length c.in_ok-push.ensures.items, length_push tables t, inv.made);
       served = subst (AreServed c.args.rules.now lists) (sym c.in_ok-push.ensures.items) (served_more c.args.rules.now lists tables t inv.served made);
+      paid =
+          omega (
+            arith,
+            sum_by_push tables_rows tables t,
+            ap rows_held c.in_ok-push.ensures.items,
+            ap cached_rows (written_back c.tables_on.new.singles c.lists.singles.items c.lists.singles.len (omega (arith, c.lists.singles.ok.0)) (c.tables_on.auto.singles ∙ ap length c.deref_mut.ensures.value)),
+            ap cached_rows c.deref_mut.ensures.value,
+            inv.paid,
+            c.in_ok-made.ensures.paid,
+          );
       single = single_back pattern c.tables_on.new.singles c.lists.singles.items _ (c.in_ok-made.ensures.kept single) inv.single;
     }
 
@@ -51,6 +65,16 @@ returns-clause-served g c =
     let len : length new ≡ length old = sym (length-map new (λ (t : Tables). t.parts)) ∙ ap length parts ∙ length-map old (λ (t : Tables). t.parts) in
     let same = written_back new old c.lists.tables.len (omega (arith, c.lists.tables.ok.0)) len in
     subst (AreServed rules lists) (sym same) (served_alike rules lists old new parts asked c.lists.invariant.served)
+
+pub returns-clause-paid : goal.returns-clause-paid
+returns-clause-paid g c =
+    let old = c.lists.tables.items in
+    let new = c.add_chains.new.lists in
+    let was = c.as_mut_slice.ensures.value in
+    let parts = c.add_chains.ensures.parts ∙ ap (map (λ (t : Tables). t.parts)) was in
+    let len : length new ≡ length old = sym (length-map new (λ (t : Tables). t.parts)) ∙ ap length parts ∙ length-map old (λ (t : Tables). t.parts) in
+    let same = written_back new old c.lists.tables.len (omega (arith, c.lists.tables.ok.0)) len in
+    omega (arith, ap rows_held same, ap rows_held was, c.in_ok-add_chains.ensures.paid, c.lists.invariant.paid)
 
 pub returns-clause-each : goal.returns-clause-each
 returns-clause-each g c =

@@ -6,8 +6,8 @@ use Rattle.lrlex.specs.StateTables.{pattern_in}
 use Rattle.lrlex.proofs.TableLemmas.{single_set, pattern_in_at}
 use Rattle.lrlex.proofs.definition.state_tables.try_single.Goals as goal
 
-pub returns-in_ok-table : goal.returns-in_ok-table
-returns-in_ok-table g c single =
+pub returns-in_ok-table-clause-cached : goal.returns-in_ok-table-clause-cached
+returns-in_ok-table-clause-cached g c single =
     let rules = c.args.rules.now in
     let i = c.args.place in
     let r = c.index-rules-place.result in
@@ -15,4 +15,4 @@ returns-in_ok-table g c single =
     let own = pattern_in_at rules i r (slice_get_read rules (length rules) i r refl c.if-place-rules.true c.index-rules-place.is) in
     single_set pattern c.args.singles.now i c.tried.new.self single c.if-place-singles.true
     (subst (λ o. IfSome o (IsTableOf (pattern i ∷ []))) (sym c.tried.ensures.table)
-    (subst (λ re. IfSome c.in_ok-table.table (IsTableOf (re ∷ []))) (sym own) c.in_ok-table.ensures))
+    (subst (λ re. IfSome c.in_ok-table.table (IsTableOf (re ∷ []))) (sym own) c.in_ok-table.ensures.table))
