@@ -5,6 +5,7 @@ the middle and at the end, what tokens take, and the memory after. Where `lrlex_
 """
 
 import os
+import re
 import sys
 import time
 
@@ -58,11 +59,11 @@ def main():
     """Times all."""
     rules, path = sys.argv[1:3]
     keys = int(sys.argv[3]) if len(sys.argv) > 3 else 1000
-    with open(path, encoding="utf-8") as file:
+    with open(path, encoding="utf-8", newline="") as file:
         text = file.read()
     text = (text * (MEGABYTE // len(text) + 1))[:MEGABYTE]
-    text = text[:text.rfind("\n") + 1]
-    lines = text.count("\n")
+    ends = [found.end() for found in re.finditer("\r\n|\n|\r", text)]
+    text, lines = text[:ends[-1]], len(ends)
     uri = "file:///texts/big.txt"
     with Client("--rules", rules) as client:
         client.begin()
