@@ -3,10 +3,11 @@
 A crate's must-fail/GATE.md and MORE.md have them: below a heading with the edit's name is, in backquotes, the path of the
 function whose contract it breaks (GATE.md alone), and then the edit as rt reads one, lines file, old and new.
 
-By function, as the gate tries those of GATE.md: the crate is copied, all its edits are made there, and the prover must refuse
-each of these functions at a goal of its own. One check does for all: what the others change is their bodies, and a function is
-proved by the contracts of those that it calls. In the gate a crate's edits are tried once rt ci has proved the libraries below
-it, with what processor time rt ci leaves; where not all are refused then, they are tried once more when rt ci has ended.
+By function, as the gate tries those of GATE.md: the crate is copied, all its edits are made there, the other functions are left
+unproved (holes.py), and the prover must refuse each of these functions at a goal of its own. One check does for all: what an edit
+changes is a body, and a function is proved by the contracts of those that it calls. In the gate a crate's edits are tried once
+rt ci has proved the libraries below it, with what processor time rt ci leaves; where not all are refused then, they are tried once
+more when rt ci has ended.
 
 By rt, as ./dev edits tries those of both files: rt must-fail checks the whole crate with each edit in turn.
 """
@@ -18,6 +19,7 @@ import shutil
 import sys
 
 import crates
+import holes
 import processes
 import prover
 import rooms
@@ -77,7 +79,7 @@ def judged(edit, why, told):
     verdict = re.search(rf"^fn {re.escape(f'{crate}::{function}')}: (.*)$", told, re.M)
     if not verdict:
         return False, f"{label}: FAILED, it didn't reach the prover:\n{told[-2000:]}"
-    if verdict.group(1).startswith("proved"):
+    if verdict.group(1).startswith(("proved", "no holes", "depends on a hole")):
         return False, f"{label}: FAILED, {function} is still proved with it"
     goal = goal_of(function, verdict.group(1), told)
     if not goal:
@@ -94,7 +96,8 @@ def tried(edits, listed, much=0):
     with processes.scratch("edits") as folder:
         rooms.copy_sources(listed[crate].folder, folder)
         whys = [changed(folder, changes) for *_, changes in edits]
-        more = [word for it in functions for word in ("--only", it)]
+        holes.leave_unproved(folder, crate, functions)
+        more = ["--allow-holes", *[word for it in functions for word in ("--only", it)]]
         told = prover.checked(folder, crate, listed[crate].needs, more, much)
     return [judged(edit, why, told) for edit, why in zip(edits, whys)]
 
