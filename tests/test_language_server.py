@@ -38,10 +38,10 @@ MARGIN = "white space begins the line; write the rule without it, or an empty li
 
 NEVER_ENTERED = "no rule enters this start state; name it as the target of a rule"
 NEVER_WINS = "this rule never wins: it matches no byte, or other rules match all that it does; put it before them"
-NO_TABLE = "this rule has no table, and is slower: it looks at the next byte, as $ and \\b do, or is too large; leave these out"
+LOOKS = "this rule has no table, and is slower: $, \\b and \\z look at what is beside the match; leave them out"
 LOST = "a backslash is dropped here, before a letter that begins no escape; write the letter, or \\x41 in place of \\x{41}"
 # The severity of a warning, and its tags: 2 a warning, 4 a hint; tag 1 is that of what does nothing.
-WEIGHTS = {NEVER_WINS: (2, [1]), NO_TABLE: (4, None), LOST: (2, None)}
+WEIGHTS = {NEVER_WINS: (2, [1]), LOOKS: (4, None), LOST: (2, None)}
 
 # How much the gate tries. The long runs are `python3 -m language_server.dialogues` and LRLEX_LONG=1.
 IS_LONG = bool(os.environ.get("LRLEX_LONG"))
@@ -216,7 +216,7 @@ class RuleFiles(Session):
         client.begin()
         rows = [
             ("[a-z]+ 'ID'\nif 'IF'\n", [(2, 0, 2, 2, NEVER_WINS)]), ("if 'IF'\n[a-z]+ 'ID'\n", []), ("() 'NONE'\n", [(1, 0, 1, 2, NEVER_WINS)]),
-            ("😀\\q 'Q'\na$ 'A'\n", [(1, 0, 1, 4, LOST), (2, 0, 2, 2, NO_TABLE)]),
+            ("😀\\q 'Q'\na$ 'A'\n", [(1, 0, 1, 4, LOST), (2, 0, 2, 2, LOOKS)]),
             ("[a-z]+ 'ID'\nif 'IF'\n( 'OPEN'\n", [(3, 0, 3, 1, "Invalid regular expression: unclosed group")]),
         ]
         for rules, wanted in rows:

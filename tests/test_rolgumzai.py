@@ -211,7 +211,8 @@ ROWS = [
 ]
 
 NEVER_WINS = "this rule never wins: it matches no byte, or other rules match all that it does; put it before them"
-NO_TABLE = "this rule has no table, and is slower: it looks at the next byte, as $ and \\b do, or is too large; leave these out"
+LOOKS = "this rule has no table, and is slower: $, \\b and \\z look at what is beside the match; leave them out"
+NO_TABLE = "this rule has no table, and is slower: its table would be too large; repeat fewer times, or part the pattern"
 IN_PATTERN = "this target is part of the pattern; write no blank between the target and the name"
 BLANK = "the blank after these start states is part of the pattern; leave it out, or write [ ]"
 LOST = "a backslash is dropped here, before a letter that begins no escape; write the letter, or \\x41 in place of \\x{41}"
@@ -227,7 +228,10 @@ WARNED = [
     ("%%\n[a-z]+ 'ID'\r\nif ;\r\n", [(3, 1, 2, NEVER_WINS)]),
     ("%%\n[a-z]+ 'ID'\nx* 'X'\n", [(3, 1, 2, NEVER_WINS)]),
     ("%s S\n%%\na <+S>;\n<S>a <-S>;\n", [(4, 1, 4, NEVER_WINS)]),
-    ("%%\na$ 'A'\n[a-z]+ 'ID'\n", [(2, 1, 2, NO_TABLE)]),
+    ("%%\na$ 'A'\n[a-z]+ 'ID'\n", [(2, 1, 2, LOOKS)]),
+    ("%%\na\\b 'A'\n", [(2, 1, 3, LOOKS)]),
+    ("%%\n[ab]{3000} 'A'\n", [(2, 1, 10, NO_TABLE)]),
+    ("%%\n[$]{3000} 'A'\n\\${3000} 'B'\n", [(2, 1, 9, NO_TABLE), (3, 1, 8, NO_TABLE)]),
     (
         "%x COMMENT\n%%\n/\\* <+COMMENT> ;\n<COMMENT>\\*/ <-COMMENT>;\n",
         [(1, 4, 7, NEVER_ENTERED), (3, 1, 14, IN_PATTERN)],
@@ -239,7 +243,7 @@ WARNED = [
     ("%%\n\\x{41} 'A'\n", [(2, 1, 6, LOST)]),
     ("%%\na\\u{41}b 'A'\n\\q 'Q'\n", [(2, 1, 8, LOST), (3, 1, 2, LOST)]),
     ("%%\n\\x41\\u0042\\n\\\\x\\\" 'A'\n\\< 'LT'\n", []),
-    ("%s S\n%%\na <+S>;\n<S>\\< 'LT'\n", [(4, 1, 5, NO_TABLE), (4, 1, 5, WORD)]),
+    ("%s S\n%%\na <+S>;\n<S>\\< 'LT'\n", [(4, 1, 5, LOOKS), (4, 1, 5, WORD)]),
     ("%%\nint|integer 'INT'\n", [(2, 1, 11, SHORTER)]),
     ("%%\n(a|b|ab) 'X'\n(?:=|==|!=) ;\n", [(2, 1, 8, SHORTER), (3, 1, 11, SHORTER)]),
     ("%s S\n%%\na <+S>;\n<S>\\+|\\+= 'P'\nä|ä 'Ä'\n", [(4, 1, 9, SHORTER), (5, 1, 3, SHORTER)]),

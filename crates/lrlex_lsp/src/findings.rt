@@ -39,7 +39,7 @@ fn push_fault(
 fn weight_of(kind: WarningKind) -> Weight {
     match kind {
         WarningKind::NeverWins | WarningKind::NeverActive => Weight::Unnecessary,
-        WarningKind::NoTable => Weight::Hint,
+        WarningKind::LooksAround | WarningKind::NoTable => Weight::Hint,
         _ => Weight::Warning,
     }
 }

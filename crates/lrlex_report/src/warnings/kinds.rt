@@ -14,7 +14,10 @@ pub enum WarningKind {
     NeverWins,
     /// A rule that is active in no start state. No rule that was read from a text is so.
     NeverActive,
-    /// A rule without a table, so that `regex` matches it at each place.
+    /// A rule without a table, so that `regex` matches it at each place: its pattern has `$`, `\b`, `\B`, `\z`, `\<` or `\>`,
+    /// which look at what is beside the match.
+    LooksAround,
+    /// A rule without a table, so that `regex` matches it at each place: its table would be too large.
     NoTable,
     /// A rule whose pattern ends in `<T>`, `<+T>` or `<-T>` of a start state T.
     TargetInPattern,
@@ -53,8 +56,11 @@ impl WarningKind {
             WarningKind::NeverActive => {
                 "this rule is active in no start state; list one that is declared"
             }
+            WarningKind::LooksAround => {
+                "this rule has no table, and is slower: $, \\b and \\z look at what is beside the match; leave them out"
+            }
             WarningKind::NoTable => {
-                "this rule has no table, and is slower: it looks at the next byte, as $ and \\b do, or is too large; leave these out"
+                "this rule has no table, and is slower: its table would be too large; repeat fewer times, or part the pattern"
             }
             WarningKind::TargetInPattern => {
                 "this target is part of the pattern; write no blank between the target and the name"

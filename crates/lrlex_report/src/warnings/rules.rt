@@ -2,12 +2,14 @@
 ghost use Rattle.std.specs.Prelude.{◌≡◌, ◌++◌, All, OnOk, map};
 ghost use Rattle.lrlex.specs.Active.{lists_none};
 ghost use Rattle.lrlex_rules.specs.RuleParts.{as_rule};
-ghost use Rattle.lrlex_report.specs.Warnings.{as_told, SpanFits, never_wins, has_blank_after_states, loses_escape, has_escape_after_states, loses_alternative, rule_warnings};
+ghost use Rattle.lrlex_report.specs.Warnings.{as_told, SpanFits, never_wins, has_no_table_but_looks, has_no_table, has_blank_after_states, loses_escape, has_escape_after_states, loses_alternative, rule_warnings};
 
 use crate::warnings::alternatives::loses_word;
 use crate::warnings::answers::Facts;
 use crate::warnings::kinds::{Warning, WarningKind, push_all};
-use crate::warnings::patterns::{begins_blank, ends_in_target, has_unmeant, source_of, ungrouped};
+use crate::warnings::patterns::{
+    begins_blank, ends_in_target, has_unmeant, looks_around, source_of, ungrouped,
+};
 use lrlex::{Rule, StartState};
 use lrlex_base::{Numbered, Span};
 use std::alloc::AllocError;
@@ -17,6 +19,20 @@ fn never_wins(known: Facts) -> bool
     ensures { result ≡ never_wins known }
 {
     known.is_active && !known.may_win
+}
+
+/// Whether the rule has no table, since its pattern looks at what is beside the match.
+fn has_no_table_but_looks<S: Numbered>(known: Facts, rule: &Rule<S>) -> bool
+    ensures { result ≡ has_no_table_but_looks known (as_rule S.number rule.now) }
+{
+    known.is_asked && looks_around(rule.re_str().as_bytes())
+}
+
+/// Whether the rule has no table, and not for that.
+fn has_no_table<S: Numbered>(known: Facts, rule: &Rule<S>) -> bool
+    ensures { result ≡ has_no_table known (as_rule S.number rule.now) }
+{
+    known.is_asked && !looks_around(rule.re_str().as_bytes())
 }
 
 /// Whether the rule lists no start states.
@@ -72,7 +88,11 @@ pub(crate) fn push_rule<S: Numbered>(
     let tests = [
         (WarningKind::NeverWins, never_wins(known)),
         (WarningKind::NeverActive, !known.is_active),
-        (WarningKind::NoTable, known.is_asked),
+        (
+            WarningKind::LooksAround,
+            has_no_table_but_looks(known, rule),
+        ),
+        (WarningKind::NoTable, has_no_table(known, rule)),
         (WarningKind::TargetInPattern, ends_in_target(states, source)),
         (WarningKind::BlankAfterStates, has_blank_after_states(rule)),
         (WarningKind::LostEscape, loses_escape(source, rule)),
