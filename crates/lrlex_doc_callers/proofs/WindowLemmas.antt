@@ -1,14 +1,19 @@
--- What a window shows of a document.
-use Rattle.std.proofs.Common.{◌≡◌, ℕ, ◌+◌, ◌<◌, ◌≤◌, List, [], ◌∷◌, ◌++◌, length, map, take, get_or, sym, ap, ◌∙◌, arith, suc, slice_range}
+-- What a window shows of a document, and what is shown of a whole run.
+use Rattle.std.proofs.Common.{◌≡◌, ℕ, ◌+◌, ◌<◌, ◌≤◌, List, [], ◌∷◌, ◌++◌, length, map, take, get_or, sym, ap, ◌∙◌, arith, suc, slice_range, inl, inr}
 use Rattle.std.specs.Borrow.{Bor}
 use Rattle.std.specs.List.{concat}
+use Rattle.std.proofs.lemmas.Bool.{cases_Bool}
 use Rattle.std.proofs.lemmas.List.{map-append, take_all}
 use Rattle.std.proofs.Math.Seq.{take-suc}
 use Rattle.lrlex.specs.Boundaries.{Boundary, boundary_at}
-use Rattle.lrlex.specs.Pieces.{ArePiecesIn, joined}
+use Rattle.lrlex.specs.Active.{is_state}
+use Rattle.lrlex.specs.LexRun.{end_of}
+use Rattle.lrlex.specs.Pieces.{ArePieces, ArePiecesIn, ArePiecesOfRun, joined}
+use Rattle.lrlex.specs.Reach.{IsLexed, IsRun}
+use Rattle.lrlex.specs.Tiling.{Item}
 use Rattle.lrlex.specs.Words.{Definition}
 use Rattle.lrlex.specs.declared.reading.pieces.Piece.{Piece}
-use Rattle.lrlex_doc_callers.specs.Lexing.{ShowPart, shown}
+use Rattle.lrlex_doc_callers.specs.Lexing.{ShowPart, joined_parts, shown}
 
 -- these words show these pieces
 abbrev pub ShowsPieces : List (Bor (List ℕ) × Bor (List ℕ)) → List Piece → Type 0
@@ -37,3 +42,17 @@ shows_part d text bounds from to words pieces are part k le shows = record {
   text_is = ap concat (shows ∙ ap (map (λ (p : Piece). p.text.now)) (take_all k pieces le)) ∙ part;
   exactly = are.exactly;
 }
+
+-- ---- a whole run
+-- What `piece_laws` says of the pieces of a run.
+abbrev pub SaysText : Type 0
+SaysText = (d : Definition) (text : List ℕ) (found : List Item) (bounds : List Boundary) (h : IsLexed d text found bounds) (pieces : List Piece)
+    → ArePieces d text bounds pieces → ArePiecesOfRun d text found bounds h pieces
+
+pub shows_run : (d : Definition) (text : List ℕ) (found : List Item) (bounds : List Boundary) (words : List (Bor (List ℕ) × Bor (List ℕ))) (pieces : List Piece) → SaysText → IsRun d text found bounds →
+    ArePieces d text bounds pieces → (k : ℕ) → length pieces ≤ k → ShowsPieces words (take k pieces) → joined_parts (map shown words) ≡ take (end_of bounds) text
+shows_run d text found bounds words pieces says run are k le shows =
+    ap concat (shows ∙ ap (map (λ (p : Piece). p.text.now)) (take_all k pieces le)) ∙ elim (cases_Bool (is_state d 0)) [
+      | inl is ↦ (says d text found bounds (run.lexed is) pieces are).text_is
+      | inr lacks ↦ ap joined (are.stateless lacks) ∙ sym (ap (λ (b : List Boundary). take (end_of b) text) (run.stateless lacks).boundaries_are)
+    ]

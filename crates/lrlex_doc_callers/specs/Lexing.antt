@@ -36,10 +36,14 @@ abbrev pub text_after : List ℕ → List Edit → List ℕ
 text_after text [] = text
 text_after text (e ∷ es) = text_after (edited text (as_span e.removed) e.put.now) es
 
+-- the texts of these parts, one behind the other
+abbrev pub joined_parts : List (List ℕ × List ℕ) → List ℕ
+joined_parts parts = concat (map (λ (part : List ℕ × List ℕ). part.1) parts)
+
 -- Joined, these parts are the text between two boundaries of a run: those before and behind the tiles that have a byte in from..to.
 pub record ShowPart (text : List ℕ) (bounds : List Boundary) (from to : ℕ) (parts : List (List ℕ × List ℕ)) : Type 0 where
   pub first : ℕ
   pub many : ℕ
-  pub text_is : concat (map (λ (part : List ℕ × List ℕ). part.1) parts) ≡ slice_range text (boundary_at bounds first).place (boundary_at bounds (first + many)).place
+  pub text_is : joined_parts parts ≡ slice_range text (boundary_at bounds first).place (boundary_at bounds (first + many)).place
   pub exactly : (k : ℕ) → k + 1 < length bounds →
       HasByteIn from to (boundary_at bounds k).place (boundary_at bounds (k + 1)).place ↔ ((first ≤ k) × (k < first + many))

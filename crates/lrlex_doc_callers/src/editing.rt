@@ -1,11 +1,32 @@
 //! For a highlighter and an editor, at the usual types.
-ghost use Rattle.std.specs.Prelude.{IfOk, map};
-ghost use Rattle.lrlex_doc_callers.specs.Lexing.{ShowPart, shown};
+ghost use Rattle.std.specs.Prelude.{◌≡◌, IfOk, map, take};
+ghost use Rattle.lrlex.specs.LexRun.{end_of};
+ghost use Rattle.lrlex_doc_callers.specs.Lexing.{ShowPart, shown, joined_parts};
 
 use lrlex::{
-    Change, DefaultLexerTypes, Document, EditError, LRNonStreamingLexerDef, Lexeme, piece_laws,
+    Change, DefaultLexerTypes, Document, EditError, LRNonStreamingLexerDef, LexRun, Lexeme,
+    piece_laws,
 };
 use std::alloc::{AllocError, Global};
+
+/// The whole text of a run as it was cut, up to the run's end: each piece with the name of its rule, or "" where that has none.
+/// Joined, they are the text up to there.
+pub fn cut_up<'d, 't>(
+    alloc: Global,
+    run: &LexRun<'d, 't, DefaultLexerTypes<u32>>,
+) -> Result<Vec<(&'d str, &'t str)>, AllocError>
+    ensures { IfOk result (λ parts. joined_parts (map shown parts.items)
+        ≡ take (end_of run.now.boundaries) run.now.text) }
+{
+    run.laws();
+    piece_laws();
+    let pieces = run.pieces(alloc)?;
+    let mut parts = Vec::new(alloc);
+    for piece in &pieces {
+        parts.push((piece.name.unwrap_or(""), piece.text))?;
+    }
+    Ok(parts)
+}
 
 /// The whole text as it was cut: each piece with the name of its rule, or "" where that has none.
 pub fn highlighted<'d, 't>(
@@ -14,11 +35,7 @@ pub fn highlighted<'d, 't>(
     text: &'t str,
 ) -> Result<Vec<(&'d str, &'t str)>, AllocError> {
     let run = definition.run(alloc, text)?;
-    let mut parts = Vec::new(alloc);
-    for piece in &run.pieces(alloc)? {
-        parts.push((piece.name.unwrap_or(""), piece.text))?;
-    }
-    Ok(parts)
+    cut_up(alloc, &run)
 }
 
 /// Puts what was typed at a byte of the document. Line and column after it.
