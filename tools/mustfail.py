@@ -28,6 +28,8 @@ EDIT = re.compile(r"^## (\S+)\n\n`(\S+)`[^\n]*\n\n```\n((?:file: .*\nold: .*\nne
 # How much the edits leave processor time to rt ci.
 BESIDE = 19
 LEFT = re.compile(r"`search` did not prove `([^`]+)`")
+# What is said of a proof that names what isn't there. The function may be right.
+NOT_OF_A_GOAL = r": (?:module |\d+ declarations? that depends? on )"
 
 
 def edits_of(crate):
@@ -64,7 +66,7 @@ def changed(folder, changes):
 def goal_of(function, verdict, told):
     """The goal of the function that isn't proved, as the prover tells it; none where it tells none."""
     answers = re.escape(f"./proofs/{function.replace('::', '/')}/")
-    found = re.search(rf"^{answers}\S+:\d+:\d+: error.*$", told, re.M)
+    found = re.search(rf"^{answers}\S+:\d+:\d+: error(?!{NOT_OF_A_GOAL}).*$", told, re.M)
     if not found and (left := LEFT.search(verdict)):
         found = re.search(rf"^note: src/\S+:\d+:\d+: .*\(`{re.escape(left.group(1))}`\).*$", told, re.M)
     return found.group(0).removeprefix("note: ")[:160] if found else ""
