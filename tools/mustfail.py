@@ -7,7 +7,8 @@ By function, as the gate tries those of GATE.md: the crate is copied, all its ed
 unproved (holes.py), and the prover must refuse each of these functions at a goal of its own. One check does for all: what an edit
 changes is a body, and a function is proved by the contracts of those that it calls. In the gate a crate's edits are tried once
 rt ci has proved the libraries below it, with what processor time rt ci leaves; where not all are refused then, they are tried once
-more when rt ci has ended.
+more when rt ci has ended. Unedited (--unedited), each of these functions must be accepted: no edit is refused for what is left
+unproved.
 
 By rt, as ./dev edits tries those of both files: rt must-fail checks the whole crate with each edit in turn.
 """
@@ -28,6 +29,7 @@ EDIT = re.compile(r"^## (\S+)\n\n`(\S+)`[^\n]*\n\n```\n((?:file: .*\nold: .*\nne
 # How much the edits leave processor time to rt ci.
 BESIDE = 19
 LEFT = re.compile(r"`search` did not prove `([^`]+)`")
+ACCEPTED = ("proved", "no holes", "depends on a hole")
 # What is said of a proof that names what isn't there. The function may be right.
 NOT_OF_A_GOAL = r": (?:module |\d+ declarations? that depends? on )"
 
@@ -74,14 +76,17 @@ def goal_of(function, verdict, told):
 
 def judged(edit, why, told):
     """Whether the edit is refused, and what to say: why it couldn't be made, or by what the prover told."""
-    crate, name, function, _ = edit
+    crate, name, function, changes = edit
     label = f"edit {crate}/{name}"
     if why:
         return False, f"{label}: FAILED, {why}"
     verdict = re.search(rf"^fn {re.escape(f'{crate}::{function}')}: (.*)$", told, re.M)
     if not verdict:
         return False, f"{label}: FAILED, it didn't reach the prover:\n{told[-2000:]}"
-    if verdict.group(1).startswith(("proved", "no holes", "depends on a hole")):
+    is_accepted = verdict.group(1).startswith(ACCEPTED)
+    if not changes:
+        return is_accepted, f"{label}: {'accepted without it, as it must be' if is_accepted else f'FAILED without it: {verdict.group(1)}'}"
+    if is_accepted:
         return False, f"{label}: FAILED, {function} is still proved with it"
     goal = goal_of(function, verdict.group(1), told)
     if not goal:
@@ -114,10 +119,15 @@ def tried_beside(edits, listed, proofs):
     return tried(edits, listed)
 
 
-def by_function(names=(), proofs=None):
-    """Tries the edits of GATE.md of these crates, or of all, and gives for each whether it is refused and what to say."""
+def by_function(names=(), proofs=None, is_unedited=False):
+    """Tries the edits of GATE.md of these crates, or of all, and gives for each whether it is refused and what to say.
+
+    Unedited it makes none of them: then each function must be accepted, so that none is refused for what is left unproved.
+    """
     listed = crates.read()
     groups = [edits_of(it) for it in crates.with_below(listed, listed) if not names or it in names]
+    if is_unedited:
+        groups = [[(*edit, []) for *edit, _ in edits] for edits in groups]
     groups = [edits for edits in groups if edits]
     if not proofs:
         groups.sort(key=len, reverse=True)
@@ -170,8 +180,8 @@ def by_rt(crate, listed):
         return processes.ended(child)
 
 
-def main(names=(), is_of_gate=False):
-    """Tries the edits of these crates, or of all. The status is 0 where each is refused."""
+def main(names=(), is_of_gate=False, is_unedited=False):
+    """Tries the edits of these crates, or of all. The status is 0 where each is refused, or, unedited, where none is."""
     listed = crates.read()
     if unknown := [it for it in names if it not in listed]:
         print(f"edits: crates.txt has no {unknown[0]}", file=sys.stderr)
@@ -189,9 +199,9 @@ def main(names=(), is_of_gate=False):
     if lost := prover.lacking([one for it in wanted for one in crates.below(it, listed)]):
         print(f"edits: the library {lost} isn't built from its sources: ./dev build {lost}", file=sys.stderr)
         return 1
-    refused = failed = 0
-    for is_refused, said in by_function(names):
+    passed = failed = 0
+    for is_as_it_must_be, said in by_function(names, is_unedited=is_unedited):
         print(said, flush=True)
-        refused, failed = refused + is_refused, failed + (not is_refused)
-    print(f"edits: {refused} refused, {failed} failed")
-    return 1 if failed or not refused else 0
+        passed, failed = passed + is_as_it_must_be, failed + (not is_as_it_must_be)
+    print(f"edits: {passed} {'accepted' if is_unedited else 'refused'}, {failed} failed")
+    return 1 if failed or not passed else 0
