@@ -303,8 +303,9 @@ impl<'d, 't> DeadEnds<'d, 't> {
     }
 
     /// Which pattern of the list wins at this place of the text among those that have a table, as `Tables::winner` returns it for
-    /// the rest of the text. All such calls for a text together take time in proportion to the text. A scan that went far in vain
-    /// is made once more, to keep the dead ends, and each later walk stops at the first that is known.
+    /// the rest of the text. A scan that went far in vain is made once more, to keep the dead ends, and each later walk stops at the
+    /// first that is known. So all such calls for a text together take time in proportion to the text, so long as dead ends can be
+    /// kept: there are fewer than the text has bytes, memory isn't refused, and no two have one hash. No contract says so.
     #[inline(always)]
     pub fn winner_at(&mut self, tables: &Tables, list: usize, place: usize, rest: &str) -> TableScan
         requires tables { slice_get self.old.lists.now list ≡ Some tables.now }
