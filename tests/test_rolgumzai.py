@@ -211,8 +211,11 @@ ROWS = [
 ]
 
 NEVER_WINS = "this rule never wins: it matches no byte, or other rules match all that it does; put it before them"
-LOOKS = "this rule has no table, and is slower: $, \\b and \\z look at what is beside the match; leave them out"
-NO_TABLE = "this rule has no table, and is slower: its table would be too large; repeat fewer times, or part the pattern"
+LOOKS = "this rule has no table, and is slower: $, \\b, \\z and a ^ within it look at what is beside the match; leave them out"
+NO_TABLE = (
+    "this rule has no table, and is slower: its table, or all tables together, would be too large; repeat fewer times, "
+    "or part the pattern"
+)
 IN_PATTERN = "this target is part of the pattern; write no blank between the target and the name"
 BLANK = "the blank after these start states is part of the pattern; leave it out, or write [ ]"
 LOST = "a backslash is dropped here, before a letter that begins no escape; write the letter, or \\x41 in place of \\x{41}"
@@ -232,6 +235,16 @@ WARNED = [
     ("%%\na\\b 'A'\n", [(2, 1, 3, LOOKS)]),
     ("%%\n[ab]{3000} 'A'\n", [(2, 1, 10, NO_TABLE)]),
     ("%%\n[$]{3000} 'A'\n\\${3000} 'B'\n", [(2, 1, 9, NO_TABLE), (3, 1, 8, NO_TABLE)]),
+    # one such rule has a table, and of eight only the first
+    ("%%\n[a-z]{1900}0 'N0'\n", []),
+    (
+        "%%\n" + "".join(f"[a-z]{{1900}}{k} 'N{k}'\n" for k in range(8)),
+        [(line, 1, 12, NO_TABLE) for line in range(3, 10)],
+    ),
+    # a class within a class, and `]` as the first character of one
+    ("%%\n[[:alpha:]$]{3000} 'A'\n[]$]{3000} 'B'\n[^]$]{3000} 'C'\n", [(2, 1, 18, NO_TABLE), (3, 1, 10, NO_TABLE), (4, 1, 11, NO_TABLE)]),
+    ("%%\n[^^]a$ 'A'\n[[b]]b$ 'B'\n", [(2, 1, 6, LOOKS), (3, 1, 7, LOOKS)]),
+    ("%%\na^b 'A'\n^a 'B'\n(^c|^d)e 'C'\n", [(2, 1, 3, LOOKS)]),
     (
         "%x COMMENT\n%%\n/\\* <+COMMENT> ;\n<COMMENT>\\*/ <-COMMENT>;\n",
         [(1, 4, 7, NEVER_ENTERED), (3, 1, 14, IN_PATTERN)],

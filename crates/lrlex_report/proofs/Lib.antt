@@ -1,6 +1,6 @@
 pub mod CaretLemmas
 pub mod FaultLemmas
-pub mod PatternLemmas
+pub mod LookLemmas
 pub mod PlaceLemmas
 pub mod RangeLemmas
 pub mod StateLemmas

@@ -3,6 +3,7 @@ pub mod Carets
 pub mod Encoding
 pub mod FaultRanges
 pub mod FaultTexts
+pub mod Looks
 pub mod Notes
 pub mod PlaceTexts
 pub mod Reasons

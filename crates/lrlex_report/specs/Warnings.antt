@@ -17,6 +17,7 @@ use Rattle.lrlex.specs.Views.{definition_by}
 use Rattle.lrlex.specs.declared.definition.rule_table.RuleTable.{RuleTable}
 use Rattle.lrlex_report.specs.Alternatives.{loses_word}
 use Rattle.lrlex_report.specs.FaultRanges.{before_blank}
+use Rattle.lrlex_report.specs.Looks.{at_beginning, looks_around}
 use Rattle.lrlex_report.specs.PlaceTexts.{nearest}
 use Rattle.lrlex_report.specs.declared.warnings.kinds.WarningKind.{WarningKind}
 use Rattle.lrlex_report.specs.declared.warnings.kinds.WarningKind.TheVariants.{NeverWins, NeverActive, LooksAround, NoTable, TargetInPattern, BlankAfterStates, LostEscape, EscapeAfterStates, LostAlternative, NeverEntered, NoRules}
@@ -99,28 +100,6 @@ has_unmeant listed (b ∷ []) = false
 has_unmeant listed (b ∷ c ∷ rest) =
     if is_backslash b then is_unmeant listed c rest || has_unmeant listed rest else has_unmeant listed (c ∷ rest)
 
--- `$`, outside a class of characters
-abbrev pub is_end : (inside : Bool) → ℕ → Bool
-is_end inside b = not inside && (b == byte "$")
-
--- an escape of this letter, outside a class of characters, looks at what is beside the match: at the edge of a word, or at the
--- end of the text
-abbrev pub is_edge : (inside : Bool) → ℕ → Bool
-is_edge true c = false
-is_edge false c = (c == byte "b") || ((c == byte "B") || ((c == byte "z") || ((c == byte "<") || (c == byte ">"))))
-
--- a class of characters is open after this byte
-abbrev pub is_inside : (inside : Bool) → ℕ → Bool
-is_inside inside b = if b == byte "[" then true else if b == byte "]" then false else inside
-
--- the pattern has `$`, or such an escape
-abbrev pub looks_around : (inside : Bool) → List ℕ → Bool
-looks_around inside [] = false
-looks_around inside (b ∷ []) = is_end inside b
-looks_around inside (b ∷ c ∷ rest) =
-    if is_backslash b then is_edge inside c || looks_around inside rest
-    else is_end inside b || looks_around (is_inside inside b) (c ∷ rest)
-
 -- a pattern without the group that it is, `(..)` or `(?:..)`, if it is one
 abbrev pub in_group : List ℕ → List ℕ
 in_group inside = if begins_with (codes "?:") inside then drop 2 inside else inside
@@ -136,11 +115,11 @@ never_wins known = known.is_active && not known.may_win
 
 -- it has no table, since its pattern looks at what is beside the match
 abbrev pub has_no_table_but_looks : Facts → Rule → Bool
-has_no_table_but_looks known r = known.is_asked && looks_around false r.re_str
+has_no_table_but_looks known r = known.is_asked && looks_around at_beginning r.re_str
 
 -- it has no table, and not for that
 abbrev pub has_no_table : Facts → Rule → Bool
-has_no_table known r = known.is_asked && not (looks_around false r.re_str)
+has_no_table known r = known.is_asked && not (looks_around at_beginning r.re_str)
 
 -- it lists start states, and its pattern begins with a blank that counts
 abbrev pub has_blank_after_states : Rule → Bool

@@ -14,10 +14,11 @@ pub enum WarningKind {
     NeverWins,
     /// A rule that is active in no start state. No rule that was read from a text is so.
     NeverActive,
-    /// A rule without a table, so that `regex` matches it at each place: its pattern has `$`, `\b`, `\B`, `\z`, `\<` or `\>`,
-    /// which look at what is beside the match.
+    /// A rule without a table, so that `regex` matches it at each place: its pattern has `$`, `\b`, `\B`, `\z`, `\<`, `\>` or a
+    /// `^` within it, which look at what is beside the match.
     LooksAround,
-    /// A rule without a table, so that `regex` matches it at each place: its table would be too large.
+    /// A rule without a table, so that `regex` matches it at each place: its table would be too large, or leave no room for those
+    /// of other rules.
     NoTable,
     /// A rule whose pattern ends in `<T>`, `<+T>` or `<-T>` of a start state T.
     TargetInPattern,
@@ -57,10 +58,10 @@ impl WarningKind {
                 "this rule is active in no start state; list one that is declared"
             }
             WarningKind::LooksAround => {
-                "this rule has no table, and is slower: $, \\b and \\z look at what is beside the match; leave them out"
+                "this rule has no table, and is slower: $, \\b, \\z and a ^ within it look at what is beside the match; leave them out"
             }
             WarningKind::NoTable => {
-                "this rule has no table, and is slower: its table would be too large; repeat fewer times, or part the pattern"
+                "this rule has no table, and is slower: its table, or all tables together, would be too large; repeat fewer times, or part the pattern"
             }
             WarningKind::TargetInPattern => {
                 "this target is part of the pattern; write no blank between the target and the name"

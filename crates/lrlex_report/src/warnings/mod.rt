@@ -5,6 +5,7 @@ ghost use Rattle.lrlex_report.specs.Warnings.{as_answered, as_told, SpanFits, st
 mod alternatives;
 mod answers;
 pub(crate) mod kinds;
+pub(crate) mod looks;
 pub(crate) mod patterns;
 mod rules;
 mod states;

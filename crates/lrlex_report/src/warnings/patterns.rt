@@ -1,7 +1,7 @@
 //! A rule's pattern as the text has it, and what in a pattern is hardly meant.
 ghost use Rattle.std.specs.Prelude.{◌≡◌, ◌+◌, ◌≤◌, false, IsCharBoundary, length, take};
 ghost use Rattle.lrlex_rules.specs.RuleLine.{target_name};
-ghost use Rattle.lrlex_report.specs.Warnings.{whole_lines_of, line_start, source_of, is_state_name_of, ends_in, goes_on, is_target_of, ends_in_target, begins_blank, is_unmeant, has_unmeant, is_end, is_edge, is_inside, looks_around, in_group, ungrouped};
+ghost use Rattle.lrlex_report.specs.Warnings.{whole_lines_of, line_start, source_of, is_state_name_of, ends_in, goes_on, is_target_of, ends_in_target, begins_blank, is_unmeant, has_unmeant, in_group, ungrouped};
 
 use crate::ranges::{before_blank, first_bytes, trim_end};
 use lrlex::StartState;
@@ -134,64 +134,6 @@ pub(crate) fn has_unmeant(listed: bool, pattern: &[u8]) -> bool
         rest = after;
     }
     false
-}
-
-/// Whether this is `$`, outside a class of characters.
-fn is_end(inside: bool, b: u8) -> bool
-    ensures { result ≡ is_end inside b }
-{
-    !inside && b == b'$'
-}
-
-/// Whether an escape of this letter, outside a class of characters, looks at what is beside the match: at the edge of a word, or
-/// at the end of the text.
-fn is_edge(inside: bool, c: u8) -> bool
-    ensures { result ≡ is_edge inside c }
-{
-    if inside {
-        return false;
-    }
-    match c {
-        b'b' | b'B' | b'z' | b'<' | b'>' => true,
-        _ => false,
-    }
-}
-
-/// Whether a class of characters is open after this byte.
-fn is_inside(inside: bool, b: u8) -> bool
-    ensures { result ≡ is_inside inside b }
-{
-    match b {
-        b'[' => true,
-        b']' => false,
-        _ => inside,
-    }
-}
-
-/// Whether a pattern looks at what is beside the match: it has `$`, or such an escape, outside classes of characters.
-pub(crate) fn looks_around(pattern: &[u8]) -> bool
-    ensures { result ≡ looks_around false pattern.now }
-{
-    let mut inside = false;
-    let mut rest = pattern;
-    while let [b, c, after @ ..] = rest {
-        if *b != b'\\' {
-            if is_end(inside, *b) {
-                return true;
-            }
-            inside = is_inside(inside, *b);
-            rest = &rest[1..];
-            continue;
-        }
-        if is_edge(inside, *c) {
-            return true;
-        }
-        rest = after;
-    }
-    match rest {
-        [b] => is_end(inside, *b),
-        _ => false,
-    }
 }
 
 /// What is in a group, after the mark of one that captures nothing.
