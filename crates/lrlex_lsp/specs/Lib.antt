@@ -2,4 +2,6 @@ pub mod Changes
 pub mod Edits
 pub mod Framing
 pub mod Messages
+pub mod Rows
+pub mod Shown
 pub mod Tokens

@@ -1,4 +1,6 @@
 //! What a text is lexed by, and what its pieces are shown as.
+ghost use Rattle.lrlex_lsp.specs.Shown.{IsShownAs};
+
 use crate::guesses::guessed;
 use crate::token_types::type_named;
 use lrlex::{
@@ -176,7 +178,9 @@ impl Language {
     }
 
     /// The number of the token type that a piece is shown as; None where it is plain.
-    pub fn kind_of(&self, piece: &Piece<'_, '_>) -> Option<u32> {
+    pub fn kind_of(&self, piece: &Piece<'_, '_>) -> Option<u32>
+        ensures { IsShownAs self.now piece.now result }
+    {
         match self.shown.get(piece.rule) {
             Some(Shown::As(kind)) => Some(*kind),
             Some(Shown::Plain) => None,
