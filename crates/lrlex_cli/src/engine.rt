@@ -12,9 +12,9 @@ ghost use Rattle.lrlex.specs.Views.{definition_of, item_of, items_by};
 ghost use Rattle.lrlex_cli.specs.FaultLines.{fault_lines};
 
 use crate::fault_lines::fault_lines;
-use crate::lines::lines;
+use crate::lines::write_lines;
 use crate::messages::{CANNOT_WRITE, OUT_OF_MEMORY};
-use crate::writing::write_bytes;
+use crate::writing::{ROOM, write_bytes};
 use lrlex::{LRLexError, LRNonStreamingLexerDef, LexBuildError, LexFlags};
 use lrlex_base::{Edit, LexerTypes};
 use std::alloc::{AllocError, Global};
@@ -88,9 +88,9 @@ fn write_items<L: LexerTypes<LexErrorT = LRLexError>, W: Write>(
         (items_by L.StorageT.number L.LexemeT.seen items.now))
         (list_any (λ item. is_err item) items.now) }
 {
-    let text = lines::<L>(alloc, definition, input, items)?;
+    let mut waiting = Vec::with_capacity(alloc, ROOM)?;
     let stopped = has_error(items);
-    if let Err(fault) = write_bytes(out, text.as_slice()) {
+    if let Err(fault) = write_lines::<L, W>(out, &mut waiting, definition, input, items) {
         return Err(EngineFault::Write(fault));
     }
     if stopped {
@@ -135,7 +135,7 @@ fn write_relexed<L: LexerTypes<LexErrorT = LRLexError>, W: Write>(
 /// Builds a lexer from the rule text, lexes the input and writes a line for each item, which ends with U+000A.
 /// The line of a lexeme is its rule's name, a blank and the matched text. The line of an error is the text that it displays.
 ///
-/// The lines are all made before the first is written. After an error of the writer nothing is tried again.
+/// All memory is asked for before the first line is written. After an error of the writer nothing is tried again.
 pub fn run<L: LexerTypes<LexErrorT = LRLexError>, W: Write>(
     alloc: Global,
     rules: &str,
