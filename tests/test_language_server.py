@@ -38,7 +38,7 @@ MARGIN = "white space begins the line; write the rule without it, or an empty li
 
 NEVER_ENTERED = "no rule enters this start state; name it as the target of a rule"
 NEVER_WINS = "this rule never wins: it matches no byte, or other rules match all that it does; put it before them"
-LOOKS = "this rule has no table, and is slower: $, \\b and \\z look at what is beside the match; leave them out"
+LOOKS = "this rule has no table, and is slower: $, \\b, \\z and a ^ within it look at what is beside the match; leave them out"
 LOST = "a backslash is dropped here, before a letter that begins no escape; write the letter, or \\x41 in place of \\x{41}"
 # The severity of a warning, and its tags: 2 a warning, 4 a hint; tag 1 is that of what does nothing.
 WEIGHTS = {NEVER_WINS: (2, [1]), LOOKS: (4, None), LOST: (2, None)}
