@@ -1,5 +1,5 @@
 //! The lines that the program writes for the items of a run.
-ghost use Rattle.std.specs.Prelude.{◌≡◌, [], ◌∷◌, ◌++◌, All, map};
+ghost use Rattle.std.specs.Prelude.{◌≡◌, [], ◌∷◌, ◌++◌, All, false, map, true};
 ghost use Rattle.lrlex.specs.Errors.{stop_text};
 ghost use Rattle.lrlex.specs.ItemLaws.{FitsText};
 ghost use Rattle.lrlex.specs.Views.{definition_of, item_of};
@@ -13,7 +13,41 @@ use lrlex_base::{LexError, Lexeme, LexerTypes};
 use std::io;
 use std::io::Write;
 
+/// Whether there was room for the line behind those that wait, so that it waits too. No memory is asked for.
+#[inline(always)]
+fn line_waits(waiting: &mut Vec<u8>, name: &[u8], matched: &[u8]) -> bool
+    ensures added { result ≡ true → waiting.new.items ≡ waiting.old.items
+        ++ (name.now ++ 32 ∷ (matched.now ++ 10 ∷ [])) }
+    ensures same { result ≡ false → waiting.new.items ≡ waiting.old.items }
+{
+    let room = waiting.capacity() - waiting.len();
+    if name.len() >= room || matched.len() + 2 > room - name.len() {
+        return false;
+    }
+    let _ = waiting.extend_from_slice(name);
+    let _ = waiting.push(b' ');
+    let _ = waiting.extend_from_slice(matched);
+    let _ = waiting.push(b'\n');
+    true
+}
+
+/// Passes on the line of a lexeme, where there is no room for it to wait: its rule's name, a blank and the matched text.
+#[inline(never)]
+fn pass_parts<W: Write>(
+    out: &mut W,
+    waiting: &mut Vec<u8>,
+    name: &[u8],
+    matched: &[u8],
+) -> io::Result<()>
+    ensures { Passes (W.contents out.old) (W.contents out.new) result
+        (waiting.old.items ++ (name.now ++ 32 ∷ (matched.now ++ 10 ∷ []))) waiting.new.items }
+{
+    pass_both(out, waiting, name, b" ")?;
+    pass_both(out, waiting, matched, b"\n")
+}
+
 /// Passes on the line of a lexeme: its rule's name, a blank and the matched text.
+#[inline(always)]
 fn pass_lexeme<W: Write>(
     out: &mut W,
     waiting: &mut Vec<u8>,
@@ -23,8 +57,10 @@ fn pass_lexeme<W: Write>(
     ensures { Passes (W.contents out.old) (W.contents out.new) result
         (waiting.old.items ++ (name.now ++ 32 ∷ (matched.now ++ 10 ∷ []))) waiting.new.items }
 {
-    pass_both(out, waiting, name.as_bytes(), b" ")?;
-    pass_both(out, waiting, matched.as_bytes(), b"\n")
+    if line_waits(waiting, name.as_bytes(), matched.as_bytes()) {
+        return Ok(());
+    }
+    pass_parts(out, waiting, name.as_bytes(), matched.as_bytes())
 }
 
 /// Passes on the line of an error at this byte: the text that it displays.
