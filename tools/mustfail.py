@@ -30,8 +30,8 @@ EDIT = re.compile(r"^## (\S+)\n\n`(\S+)`[^\n]*\n\n```\n((?:file: .*\nold: .*\nne
 BESIDE = 19
 LEFT = re.compile(r"`search` did not prove `([^`]+)`")
 ACCEPTED = ("proved", "no holes", "depends on a hole")
-# What is said of a proof that names what isn't there. The function may be right.
-NOT_OF_A_GOAL = r": (?:module |\d+ declarations? that depends? on )"
+# What is said of a proof that names what isn't there, as a step that the edit takes away. The function may be right.
+NOT_OF_A_GOAL = re.compile(r": error: (?:\d+ declarations? that depends? on |.*\b(?:module|record) .* has no )")
 
 
 def edits_of(crate):
@@ -68,10 +68,11 @@ def changed(folder, changes):
 def goal_of(function, verdict, told):
     """The goal of the function that isn't proved, as the prover tells it; none where it tells none."""
     answers = re.escape(f"./proofs/{function.replace('::', '/')}/")
-    found = re.search(rf"^{answers}\S+:\d+:\d+: error(?!{NOT_OF_A_GOAL}).*$", told, re.M)
+    errors = re.findall(rf"^{answers}\S+:\d+:\d+: error.*$", told, re.M)
+    found = [it for it in errors if not NOT_OF_A_GOAL.search(it)]
     if not found and (left := LEFT.search(verdict)):
-        found = re.search(rf"^note: src/\S+:\d+:\d+: .*\(`{re.escape(left.group(1))}`\).*$", told, re.M)
-    return found.group(0).removeprefix("note: ")[:160] if found else ""
+        found = re.findall(rf"^note: src/\S+:\d+:\d+: .*\(`{re.escape(left.group(1))}`\).*$", told, re.M)
+    return found[0].removeprefix("note: ")[:160] if found else ""
 
 
 def judged(edit, why, told):
