@@ -334,6 +334,19 @@ TEXTS = [
 ]
 
 
+# How long words are, whose lines fill the 65,536 bytes that wait to be written, nearly or more. A line has four bytes more.
+LENGTHS = [[65_531], [65_532], [65_533], [1, 65_527], [1, 65_528], [1, 70_000, 1], [40_000, 40_000], [9] * 20_000]
+
+
+def long_rows():
+    """Words of each of these lengths, and the same before what stops lexing."""
+    for lengths in LENGTHS:
+        name, text = f"{len(lengths)} words, {sum(lengths)} bytes", " ".join("a" * it for it in lengths)
+        lines = "".join(f"ID {it}\n" for it in text.split())
+        yield Row(name, "words -", Outcome(lines), text)
+        yield Row(f"{name}, and a stop", "words -", stopped(lines, len(text) + 1), f"{text} !")
+
+
 class Program(unittest.TestCase):
     """What the program does with its words, its files and its standard input."""
 
@@ -354,6 +367,9 @@ class Program(unittest.TestCase):
 
     def test_edits(self):
         check_rows(self, edited_rows(), FILES)
+
+    def test_lines_past_what_waits(self):
+        check_rows(self, long_rows(), FILES)
 
     def test_both_texts_in_standard_input(self):
         check_rows(self, STANDARD_INPUT, FILES)
