@@ -13,6 +13,8 @@ pub mod NfaLemmas
 pub mod LongestLemmas
 pub mod PartLemmas
 pub mod DeadEndLemmas
+pub mod WorkLemmas
+pub mod KnownLemmas
 pub mod WinnerLemmas
 pub mod NeverLemmas
 pub mod ForCallers

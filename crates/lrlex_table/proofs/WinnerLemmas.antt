@@ -1,5 +1,5 @@
 -- The best match among the patterns of several tables.
-use Rattle.std.proofs.Common.{◌≡◌, ℕ, ◌+◌, ◌<◌, ◌≤◌, ◌⊎◌, ◌||◌, Bool, true, false, List, All, [], ◌∷◌, length, map, take, get_or, IsUtf8, Option, Some, None, refl, sym, ap, ◌∙◌, subst, inl, inr, arith}
+use Rattle.std.proofs.Common.{◌≡◌, ℕ, ◌+◌, ◌<◌, ◌≤◌, ◌⊎◌, ◌||◌, Bool, true, false, List, All, [], ◌∷◌, length, map, take, get_or, IsUtf8, Option, Some, None, IfSome, refl, sym, ap, ◌∙◌, subst, inl, inr, arith}
 use Rattle.std.proofs.lemmas.Bool.{cases_lt}
 use Rattle.std.proofs.lemmas.List.{length-map, get_or-map}
 use Rattle.std.proofs.lemmas.List.Elements.{All-get_or}
@@ -10,7 +10,7 @@ use Rattle.lrlex_matching.specs.Matching.{match_length}
 use Rattle.lrlex_table.specs.Table.{pattern_at, IsLongest, NoneMatches}
 use Rattle.lrlex_table.specs.declared.merged_tables.Part.{Part}
 use Rattle.lrlex_table.specs.declared.tables.Tables.{Tables}
-use Rattle.lrlex_table.specs.Tables.{is_among, is_tabled, AreRising, ArePartsOf, AreTablesOf, IsPartOf, IsBestAmong, IsWinnerAmong, IsDecidedAmong, IsTableScanOf}
+use Rattle.lrlex_table.specs.Tables.{is_among, is_tabled, patterns_at, AreRising, ArePartsOf, AreTablesOf, IsPartOf, IsLongestOf, IsBestAmong, IsWinnerAmong, IsDecidedAmong, IsTableScanOf}
 use Rattle.lrlex_table.specs.Reach.{IsDecidedBy}
 use Rattle.lrlex_table.specs.declared.walk.TableScan.{TableScan}
 use Rattle.lrlex_table.specs.declared.walk.PatternMatch.{PatternMatch}
@@ -144,7 +144,7 @@ decided_all ps parts asked text n are none is =
     is other also same k lt
     (tabled_or_not (is_tabled parts k) (λ bare. sym (ap (λ xs. is_among xs k) none) ∙ are.each k (omega arith) lt bare)))
 
-pub scan_start : (ps : List Re) (among : ℕ → Bool) (text : List ℕ) → ((j : ℕ) → among j ≡ true → ⊥) → IsUtf8 text → IsTableScanOf ps among text (record { winner = None; reach = 0 })
+pub scan_start : (ps : List Re) (among : ℕ → Bool) (text : List ℕ) → ((j : ℕ) → among j ≡ true → ⊥) → IsUtf8 text → IsTableScanOf ps among text (record { winner = None; reach = 0; looked = 0 })
 scan_start ps among text none utf8 = record {
   winner = best_start ps among text none utf8;
   decided = λ other also same k lt this. absurd (none k this);
@@ -169,3 +169,8 @@ only_part ps t part text s only are sees =
     scan_of_fewer ps (is_among part.patterns.items) (is_tabled t.parts.items) text s
     (λ k some. either_false (is_among part.patterns.items k) (subst (λ xs. is_tabled xs k ≡ true) only some))
     (sees (All-get_or (IsPartOf ps 0 (length ps)) (part ∷ []) 0 part (omega arith) (subst (All (IsPartOf ps 0 (length ps))) only are.are)))
+
+-- the winner among the patterns at these places is one of them
+pub among_places : (ps : List Re) (places text : List ℕ) (found : Option PatternMatch) → IsLongestOf (patterns_at ps places) text found → IfSome found (λ t. t.pattern < length places)
+among_places ps places text None is = tt
+among_places ps places text (Some t) is = subst (λ n. t.pattern < n) (length-map places (λ k. pattern_at ps k)) is.within

@@ -7,7 +7,9 @@ pub mod Determinizer
 pub mod ProductBuilder
 pub mod Source
 pub mod Tables
+pub mod Work
 pub mod Never
 pub mod Chain
 pub mod Ahead
 pub mod DeadEnds
+pub mod Looking

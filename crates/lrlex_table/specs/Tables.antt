@@ -1,5 +1,5 @@
 -- The tables of a list of patterns (Tables): each serves some of the patterns, and `regex` matches those without a table.
-use Rattle.std.specs.Prelude.{◌≡◌, ℕ, ◌+◌, ◌<◌, ◌≤◌, Bool, true, false, ◌==◌, List, All, [], ◌∷◌, length, map, Option, Some, vec_len, IfSome, IsCharBoundary, MatchOption, slice_get}
+use Rattle.std.specs.Prelude.{◌≡◌, ℕ, ◌+◌, ◌<◌, ◌≤◌, Bool, true, false, ◌==◌, List, All, [], ◌∷◌, length, map, Option, Some, option_map, unwrap_or, vec_len, IfSome, IsCharBoundary, MatchOption, slice_get}
 use Rattle.std.specs.List.{list_any, sum_by}
 use Rattle.regex.specs.Patterns.{Re}
 use Rattle.lrlex_matching.specs.Matching.{match_length}
@@ -62,6 +62,10 @@ AreTablesOf ps t = ArePartsOf ps 0 (length ps) t.parts.items t.asked.items
 -- the match is as long as the other at least, and where it isn't longer, its pattern isn't a later one
 abbrev pub IsNoWorse : PatternMatch → PatternMatch → Type 0
 IsNoWorse found other = (other.len ≤ found.len) × (other.len ≡ found.len → found.pattern ≤ other.pattern)
+
+-- how many bytes the match has, 0 where there is none
+abbrev pub len_of : Option PatternMatch → ℕ
+len_of found = unwrap_or (option_map (λ t. t.len) found) 0
 
 -- the match, where there is one, has fewer bytes than this
 abbrev pub IsBelow : ℕ → Option PatternMatch → Type 0

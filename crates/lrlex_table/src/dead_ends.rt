@@ -1,14 +1,15 @@
 //! Dead ends of a text: rows and places from which a walk goes on in vain. A later walk that comes to one stops there.
-ghost use Rattle.std.specs.Prelude.{◌≡◌, ℕ, ◌+◌, ◌<◌, ◌≤◌, List, All, length, drop, Some, IfSome, MatchOption, slice_get, true, []};
+ghost use Rattle.std.specs.Prelude.{◌≡◌, ◌≢◌, ℕ, ◌+◌, ◌-◌, ◌*◌, ◌^◌, ◌<◌, ◌≤◌, min, List, length, drop, Some, None, IfSome, MatchOption, slice_get, vec_len, true, false, [], IsCharBoundary};
+ghost use Rattle.std.specs.HashMap.{hash_map_len};
 ghost use Rattle.regex.specs.Patterns.{Re};
 ghost use Rattle.lrlex_table.specs.Table.{EndsInRowOf};
 ghost use Rattle.lrlex_table.specs.Reach.{IsDecidedBy};
-ghost use Rattle.lrlex_table.specs.Tables.{is_among, is_tabled, IsPartOf, AreTablesOf, IsBestAmong, IsTableScanOf};
+ghost use Rattle.lrlex_table.specs.Tables.{is_among, is_tabled, IsPartOf, AreTablesOf, IsBestAmong, IsTableScanOf, len_of};
+ghost use Rattle.lrlex_table.specs.Work.{cells, reach_of, IsLook};
 ghost use Rattle.lrlex_table.specs.Ahead.{AreAheadIn};
-ghost use Rattle.lrlex_table.specs.DeadEnds.{table_at, IsVain, IsVainPast, IsDeadEndIn};
+ghost use Rattle.lrlex_table.specs.DeadEnds.{table_at, more_of, AreDeadEndsIn, AreUpTo, HasNoneFrom, IsDeadEndIn, IsDue, IsStop, IsVainPast};
 
 use crate::ahead::Ahead;
-use crate::hash::hash_with;
 use crate::merged_tables::{Part, combined};
 use crate::table::{MARK, Table, row_of};
 use crate::tables::Tables;
@@ -35,28 +36,23 @@ pub struct DeadEnd {
 pub struct DeadEnds<'d, 't> {
     pub(crate) lists: &'d [Tables],
     pub(crate) text: &'t str,
-    ends: Vec<DeadEnd>,
-    /// For the hash of a dead end the place of one in `ends`. Several may share a hash, so it is compared before it is used.
-    known: HashMap<u64, usize>,
+    /// How many bytes are read from a dead end on, by its list, part, row and place.
+    pub(crate) known: HashMap<(usize, usize, u16, usize), usize>,
     /// No dead end is after this place.
-    known_to: usize,
+    pub(crate) known_to: usize,
+    /// Whether a dead end was forgotten for want of memory.
+    pub(crate) forgot: bool,
+    /// How many cells walks have looked at. It stays at the greatest number, once it is there.
+    pub(crate) looked: usize,
     pub(crate) ahead: Ahead,
-    ghost right: { All (IsDeadEndIn lists.now text.now) ends.items },
+    ghost right: { AreDeadEndsIn lists.now text.now known },
+    ghost up_to: { AreUpTo known_to known },
     ghost marked: { AreAheadIn lists.now text.now ahead },
-}
-
-/// The hash of a dead end.
-fn hash_of(list: usize, part: usize, row: u16, place: usize) -> u64 {
-    let mut hash = 0u64;
-    for word in [list as u64, part as u64, row as u64, place as u64] {
-        hash = hash_with(hash, word);
-    }
-    hash
 }
 
 /// Whether a dead end is kept at this place, so many bytes after the walk's last match.
 fn is_due(place: usize, past: usize) -> bool
-    ensures { result ≡ true → 64 < past }
+    ensures { IsDue place past result }
 {
     place % STEP == 0 && past > STEP
 }
@@ -70,72 +66,56 @@ impl<'d, 't> DeadEnds<'d, 't> {
         DeadEnds {
             lists,
             text,
-            ends: Vec::new(alloc),
             known: HashMap::new(alloc),
             known_to: 0,
+            forgot: false,
+            looked: 0,
             ahead: Ahead::new(alloc),
         }
     }
 
     /// How many bytes a walk reads from here on, if this is known to be a dead end.
     fn more_at(&self, list: usize, part: usize, row: u16, place: usize) -> Option<usize>
-        ensures { IfSome result (λ more. IsDeadEndIn self.now.lists.now self.now.text.now
+        ensures known { result ≡ more_of self.now.known list part row place }
+        ensures vain { IfSome result (λ more. IsDeadEndIn self.now.lists.now self.now.text.now
             (record { list = list; part = part; row = row; place = place; more = more })) }
     {
-        let index = *self.known.get(&hash_of(list, part, row, place))?;
-        if index >= self.ends.len() {
-            return None;
-        }
-        let end = &self.ends[index];
-        if end.list == list && end.part == part && end.row == row && end.place == place {
-            Some(end.more)
-        } else {
-            None
-        }
+        self.known.get(&(list, part, row, place)).copied()
     }
 
-    /// Keeps a dead end, so long as there are fewer than the text has bytes. Where memory runs out it is forgotten, and a later
-    /// walk takes longer.
+    /// Keeps a dead end that isn't known. Where memory runs out it is forgotten, and a later walk takes longer.
     fn add(&mut self, end: DeadEnd)
-        requires { IsDeadEndIn self.old.lists.now self.old.text.now end }
+        requires vain { IsDeadEndIn self.old.lists.now self.old.text.now end }
+        requires new { more_of self.old.known end.list end.part end.row end.place ≡ None }
         ensures lists { self.new.lists ≡ self.old.lists }
         ensures text { self.new.text ≡ self.old.text }
+        ensures looked { self.new.looked ≡ self.old.looked }
+        ensures forgot { self.old.forgot ≡ true → self.new.forgot ≡ true }
+        ensures one_more { self.new.forgot ≡ false →
+            hash_map_len self.new.known ≡ hash_map_len self.old.known + 1 }
+        ensures elsewhere { (list part row place : ℕ) → place ≢ end.place →
+            more_of self.new.known list part row place ≡ more_of self.old.known list part row place }
+        ensures other_parts { (list part row place : ℕ) → part ≢ end.part →
+            more_of self.new.known list part row place ≡ more_of self.old.known list part row place }
     {
-        let index = self.ends.len();
-        if index < self.text.len() && self.ends.push(end).is_ok() {
-            let _ = self
-                .known
-                .insert(hash_of(end.list, end.part, end.row, end.place), index);
+        self.known_to = self.known_to.max(end.place);
+        let key = (end.list, end.part, end.row, end.place);
+        if self.known.insert(key, end.more).is_err() {
+            self.forgot = true;
         }
     }
 
-    /// Keeps the dead end, if it is due. Returns whether it was known already.
-    fn enter(&mut self, due: bool, end: DeadEnd) -> bool
-        requires { due ≡ true → IsDeadEndIn self.old.lists.now self.old.text.now end }
-        ensures lists { self.new.lists ≡ self.old.lists }
-        ensures text { self.new.text ≡ self.old.text }
-    {
-        if !due {
-            return false;
-        }
-        if self
-            .more_at(end.list, end.part, end.row, end.place)
-            .is_some()
-        {
-            return true;
-        }
-        self.add(end);
-        false
-    }
-
-    /// Walks through the table over the rest of the text from this place on, and no farther than to a known dead end.
-    fn walk(&self, table: &Table, list: usize, part: usize, place: usize, rest: &[u8]) -> Walk
+    /// Walks through the table over the rest of the text from this place on, and no farther than to a known dead end. The second
+    /// number is how many cells it looked at.
+    fn walk(&self, table: &Table, list: usize, part: usize, place: usize, rest: &[u8]) -> (Walk, usize)
         requires table { table_at self.now.lists.now list part ≡ Some table.now }
         requires rest { rest.now ≡ drop place self.now.text.now }
         requires inside { place ≤ length self.now.text.now }
-        ensures ends { EndsInRowOf table.now rest.now result.reach result.len result.row }
-        ensures vain { IsVainPast table.now rest.now result.len result.reach }
-        ensures past { result.len < result.reach }
+        ensures ends { EndsInRowOf table.now rest.now result.0.reach result.0.len result.0.row }
+        ensures vain { IsVainPast table.now rest.now result.0.len result.0.reach }
+        ensures past { result.0.len < result.0.reach }
+        ensures looked { IsStop self.now.known list part table.now place rest.now result.1 }
+        ensures before { result.1 ≤ result.0.reach }
     {
         let end = rest.len() + 1;
         let mut row = table.start;
@@ -145,21 +125,23 @@ impl<'d, 't> DeadEnds<'d, 't> {
             let here = place + at;
             if here % STEP == 0 {
                 if let Some(more) = self.more_at(list, part, row, here) {
-                    return Walk {
+                    let walk = Walk {
                         len,
                         row: last,
                         reach: at + more,
                     };
+                    return (walk, at);
                 }
             }
             let cell = cell_at(&table.cells, row, rest[at]);
             let dead = cell == 0;
             if dead {
-                return Walk {
+                let walk = Walk {
                     len,
                     row: last,
                     reach: at + 1,
                 };
+                return (walk, at + 1);
             }
             row = row_of(cell);
             let marked = cell >= MARK;
@@ -168,14 +150,15 @@ impl<'d, 't> DeadEnds<'d, 't> {
                 last = row;
             }
         }
-        Walk {
+        let walk = Walk {
             len,
             row: last,
             reach: end,
-        }
+        };
+        (walk, end)
     }
 
-    /// Keeps the dead ends of a walk, up to the first that is known.
+    /// Keeps the dead ends that a walk came to on the cells that it looked at.
     fn keep(
         &mut self,
         table: &Table,
@@ -184,30 +167,38 @@ impl<'d, 't> DeadEnds<'d, 't> {
         place: usize,
         rest: &[u8],
         walk: Walk,
+        looked: usize,
     )
         requires table { table_at self.old.lists.now list part ≡ Some table.now }
         requires rest { rest.now ≡ drop place self.old.text.now }
         requires inside { place ≤ length self.old.text.now }
         requires vain { IsVainPast table.now rest.now walk.len walk.reach }
+        requires looked { IsStop self.old.known list part table.now place rest.now looked }
+        requires before { looked ≤ walk.reach }
         ensures lists { self.new.lists ≡ self.old.lists }
         ensures text { self.new.text ≡ self.old.text }
+        ensures looked { self.new.looked ≡ self.old.looked }
+        ensures forgot { self.old.forgot ≡ true → self.new.forgot ≡ true }
+        ensures kept { self.new.forgot ≡ false →
+            looked + 64 * hash_map_len self.old.known ≤ walk.len + 129 + 64 * hash_map_len self.new.known }
+        ensures grown { self.new.forgot ≡ false → hash_map_len self.old.known ≤ hash_map_len self.new.known }
+        ensures other_parts { (lists parts row here : ℕ) → parts ≢ part →
+            more_of self.new.known lists parts row here ≡ more_of self.old.known lists parts row here }
     {
         let mut row = table.start;
         'bytes: for at in 0..rest.len() {
-            if at >= walk.reach {
+            if at >= looked {
                 return;
             }
             let here = place + at;
-            let due = is_due(here, at.saturating_sub(walk.len));
-            let end = DeadEnd {
-                list,
-                part,
-                row,
-                place: here,
-                more: walk.reach - at,
-            };
-            if self.enter(due, end) {
-                return;
+            if is_due(here, at.saturating_sub(walk.len)) {
+                self.add(DeadEnd {
+                    list,
+                    part,
+                    row,
+                    place: here,
+                    more: walk.reach - at,
+                });
             }
             row = table.next_of(row, rest[at]);
         }
@@ -231,15 +222,28 @@ impl<'d, 't> DeadEnds<'d, 't> {
         ensures past { IfSome result.winner (λ t. t.len < result.reach) }
         ensures lists { self.new.lists ≡ self.old.lists }
         ensures text { self.new.text ≡ self.old.text }
+        ensures looks { (n : ℕ) × IsStop self.old.known list index part.now.table place rest.now n × (n ≤ result.looked) }
+        ensures looked { self.new.looked ≡ self.old.looked }
+        ensures forgot { self.old.forgot ≡ true → self.new.forgot ≡ true }
+        ensures work { (ps : List Re) → IsPartOf ps 0 (length ps) part.now → self.new.forgot ≡ false →
+            IsLook 2 1 (len_of result.winner) result.looked (hash_map_len self.old.known) (hash_map_len self.new.known) }
+        ensures fresh { (ps : List Re) → IsPartOf ps 0 (length ps) part.now → self.new.forgot ≡ false →
+            HasNoneFrom self.old.known list index place →
+            IsLook 1 1 (len_of result.winner) (reach_of part.now.table rest.now) (hash_map_len self.old.known) (hash_map_len self.new.known) }
+        ensures other_parts { (lists part row here : ℕ) → part ≢ index →
+            more_of self.new.known lists part row here ≡ more_of self.old.known lists part row here }
     {
-        let walk = self.walk(&part.table, list, index, place, rest.as_bytes());
+        let (walk, looked) = self.walk(&part.table, list, index, place, rest.as_bytes());
         let scan = part.table.scan_of(rest, walk);
+        let mut all = looked;
         if scan.is_far() {
-            self.keep(&part.table, list, index, place, rest.as_bytes(), walk);
+            self.keep(&part.table, list, index, place, rest.as_bytes(), walk, looked);
+            all = looked.saturating_mul(2);
         }
         TableScan {
             winner: part.in_list(scan.winner),
             reach: scan.reach,
+            looked: all,
         }
     }
 
@@ -261,51 +265,43 @@ impl<'d, 't> DeadEnds<'d, 't> {
         ensures past { IfSome result.winner (λ t. t.len < result.reach) }
         ensures lists { self.new.lists ≡ self.old.lists }
         ensures text { self.new.text ≡ self.old.text }
+        ensures looked { self.new.looked ≡ self.old.looked }
+        ensures forgot { self.old.forgot ≡ true → self.new.forgot ≡ true }
+        ensures work { (ps : List Re) → AreTablesOf ps tables.now → self.new.forgot ≡ false →
+            IsLook 2 (vec_len tables.now.parts) (len_of result.winner) result.looked (hash_map_len self.old.known) (hash_map_len self.new.known) }
+        ensures fresh { (ps : List Re) → AreTablesOf ps tables.now → self.new.forgot ≡ false →
+            ((part : ℕ) → HasNoneFrom self.old.known list part place) →
+            IsLook 1 (vec_len tables.now.parts) (len_of result.winner) (cells tables.now.parts.items rest.now) (hash_map_len self.old.known) (hash_map_len self.new.known) }
     {
         let mut scan = TableScan {
             winner: None,
             reach: 0,
+            looked: 0,
         };
         'parts: for at in 0..tables.parts.len() {
             let part = &tables.parts[at];
             scan = combined(scan, self.part_winner_at(part, list, at, place, rest));
         }
-        if scan.is_far() {
-            self.known_to = self.known_to.max(place.saturating_add(scan.reach));
-        }
         scan
     }
 
-    /// Scans once more at this place, to keep the dead ends. Out of line, without a result, and with no more arguments than the
-    /// list and the place, so that a scan that doesn't go far pays for a comparison alone.
-    #[inline(never)]
-    fn scan_again(&mut self, list: usize, place: usize)
-        ensures lists { self.new.lists ≡ self.old.lists }
-        ensures text { self.new.text ≡ self.old.text }
-    {
-        let lists = self.lists;
-        let text = self.text;
-        if list < lists.len() && text.is_char_boundary(place) {
-            let _ = self.winner_of_parts_at(&lists[list], list, place, &text[place..]);
-        }
-    }
-
-    /// Where the scan at this place went far in vain, scans once more, to keep the dead ends.
+    /// Counts cells that were looked at.
     #[inline(always)]
-    fn keep_far(&mut self, scan: TableScan, list: usize, place: usize)
+    fn count(&mut self, looked: usize)
         ensures lists { self.new.lists ≡ self.old.lists }
         ensures text { self.new.text ≡ self.old.text }
+        ensures known { self.new.known ≡ self.old.known }
+        ensures forgot { self.new.forgot ≡ self.old.forgot }
+        ensures looked { self.new.looked ≡ min (self.old.looked + looked) (2 ^ 64 - 1) }
     {
-        // mostly decided by the reach alone
-        if scan.reach > FAR && scan.is_far() {
-            self.scan_again(list, place);
-        }
+        self.looked = self.looked.saturating_add(looked);
     }
 
     /// Which pattern of the list wins at this place of the text among those that have a table, as `Tables::winner` returns it for
     /// the rest of the text. A scan that went far in vain is made once more, to keep the dead ends, and each later walk stops at the
-    /// first that is known. So all such calls for a text together take time in proportion to the text, so long as dead ends can be
-    /// kept: there are fewer than the text has bytes, memory isn't refused, and no two have one hash. No contract says so.
+    /// first that is known. So where no dead end was forgotten for want of memory, walks look at three cells at most for each byte of the
+    /// winner and 129 more, in each table, and at 192 for each dead end that is new. `looked` of the answer is a part of that: what
+    /// the last walks looked at.
     #[inline(always)]
     pub fn winner_at(&mut self, tables: &Tables, list: usize, place: usize, rest: &str) -> TableScan
         requires tables { slice_get self.old.lists.now list ≡ Some tables.now }
@@ -321,20 +317,30 @@ impl<'d, 't> DeadEnds<'d, 't> {
         ensures past { IfSome result.winner (λ t. t.len < result.reach) }
         ensures lists { self.new.lists ≡ self.old.lists }
         ensures text { self.new.text ≡ self.old.text }
+        ensures counted { self.old.looked + result.looked < 2 ^ 64 → self.old.looked + result.looked ≤ self.new.looked }
+        ensures forgot { self.old.forgot ≡ true → self.new.forgot ≡ true }
+        ensures work { (ps : List Re) → AreTablesOf ps tables.now → self.new.forgot ≡ false →
+            IsLook 3 (vec_len tables.now.parts) (len_of result.winner) (self.new.looked - self.old.looked) (hash_map_len self.old.known) (hash_map_len self.new.known) }
     {
         if place >= self.ahead.begin {
             if let Some(found) = self.found_at(tables, list, place, rest) {
                 return TableScan {
                     winner: Some(found),
                     reach: found.len + 1,
+                    looked: 0,
                 };
             }
         }
-        if place < self.known_to {
-            return self.winner_of_parts_at(tables, list, place, rest);
+        if place > self.known_to {
+            let scan = tables.winner(rest);
+            self.count(scan.looked);
+            // mostly decided by the reach alone
+            if scan.reach <= FAR || !scan.is_far() {
+                return scan;
+            }
         }
-        let scan = tables.winner(rest);
-        self.keep_far(scan, list, place);
+        let scan = self.winner_of_parts_at(tables, list, place, rest);
+        self.count(scan.looked);
         scan
     }
 }

@@ -2,6 +2,7 @@
 ghost use Rattle.std.specs.Prelude.{◌≡◌, ◌+◌, ◌<◌, ◌≤◌, List, [], length, drop, Some, IfSome, IsCharBoundary, slice_get};
 ghost use Rattle.regex.specs.Patterns.{Re};
 ghost use Rattle.lrlex_table.specs.Reach.{IsDecidedBy};
+ghost use Rattle.lrlex_table.specs.Looking.{HasSameEnds};
 ghost use Rattle.lrlex_table.specs.Tables.{is_tabled, AreTablesOf, IsBestAmong};
 
 use crate::dead_ends::DeadEnds;
@@ -28,6 +29,7 @@ impl<'d, 't> DeadEnds<'d, 't> {
         ensures within { IfSome result (λ t. place + t.len < length text.now) }
         ensures lists { self.new.lists ≡ self.old.lists }
         ensures text { self.new.text ≡ self.old.text }
+        ensures ends { HasSameEnds self.old self.new }
     {
         let _ = tables;
         let _ = text;
@@ -61,6 +63,7 @@ impl<'d, 't> DeadEnds<'d, 't> {
         ensures within { IfSome result (λ t. place + t.len < length self.old.text.now) }
         ensures lists { self.new.lists ≡ self.old.lists }
         ensures text { self.new.text ≡ self.old.text }
+        ensures ends { HasSameEnds self.old self.new }
     {
         let text = self.text;
         self.take(tables, list, place, text)
@@ -72,6 +75,7 @@ impl<'d, 't> DeadEnds<'d, 't> {
         requires list { self.old.ahead.list ≡ list }
         ensures lists { self.new.lists ≡ self.old.lists }
         ensures text { self.new.text ≡ self.old.text }
+        ensures ends { HasSameEnds self.old self.new }
     {
         let _ = tables;
         let most = self.ahead.found.len();
@@ -98,6 +102,7 @@ impl<'d, 't> DeadEnds<'d, 't> {
         requires boundary { IsCharBoundary text.now place }
         ensures lists { self.new.lists ≡ self.old.lists }
         ensures text { self.new.text ≡ self.old.text }
+        ensures ends { HasSameEnds self.old self.new }
     {
         if !self.ahead.is_due(list, place) {
             return;
@@ -129,6 +134,7 @@ impl<'d, 't> DeadEnds<'d, 't> {
         ensures within { IfSome result (λ t. t.len < length rest.now) }
         ensures lists { self.new.lists ≡ self.old.lists }
         ensures text { self.new.text ≡ self.old.text }
+        ensures ends { HasSameEnds self.old self.new }
     {
         let text = self.text;
         if self.ahead.has_more() {

@@ -1,10 +1,11 @@
 //! Merges the tables of a list's patterns in pairs, so that as few tables as can be had are left.
-ghost use Rattle.std.specs.Prelude.{◌≡◌, ℕ, Bool, ◌||◌, ◌+◌, ◌^◌, ◌<◌, ◌≤◌, List, [], ◌∷◌, ◌++◌, length, map, vec_len, slice_index, IfOk, OnOk, IsSome, IfSome, MatchOption, IsTrue, IsFalse, IsUtf8};
+ghost use Rattle.std.specs.Prelude.{◌≡◌, ℕ, Bool, ◌*◌, ◌||◌, ◌+◌, ◌^◌, ◌<◌, ◌≤◌, List, [], ◌∷◌, ◌++◌, length, map, vec_len, slice_index, IfOk, OnOk, IsSome, IfSome, MatchOption, IsTrue, IsFalse, IsUtf8};
 ghost use Rattle.regex.specs.Patterns.{Re};
 ghost use Rattle.lrlex_table.specs.Table.{pattern_at, EndsInRowOf, IsTableOf};
-ghost use Rattle.lrlex_table.specs.Reach.{IsDecidedBy};
+ghost use Rattle.lrlex_table.specs.Reach.{IsDecidedBy, IsReach};
+ghost use Rattle.lrlex_table.specs.Work.{cells};
 ghost use Rattle.lrlex_table.specs.Rows.{table_rows, part_rows, cached_rows, tables_rows};
-ghost use Rattle.lrlex_table.specs.Tables.{AreRising, AreCached, rows_of, is_among, is_tabled, patterns_at, IsPartOf, AreParts, Covers, ArePartsOf, AreTablesOf, IsBelow, IsLongestOf, IsBestAmong, IsWinnerAmong, IsTableScanOf};
+ghost use Rattle.lrlex_table.specs.Tables.{AreRising, AreCached, rows_of, is_among, is_tabled, patterns_at, IsPartOf, AreParts, Covers, ArePartsOf, AreTablesOf, IsBelow, IsLongestOf, IsBestAmong, IsWinnerAmong, IsTableScanOf, len_of};
 
 use crate::budget::Budget;
 use crate::cached_table::CachedTable;
@@ -255,6 +256,7 @@ fn better(one: Option<PatternMatch>, other: Option<PatternMatch>) -> Option<Patt
         IsWinnerAmong ps a text one → IsWinnerAmong ps b text other →
         IsWinnerAmong ps (λ k. a k || b k) text result }
     ensures past { (n : ℕ) → IsBelow n one → IsBelow n other → IsBelow n result }
+    ensures len { (len_of one ≤ len_of result) × (len_of other ≤ len_of result) }
 {
     let Some(found) = one else { return other };
     let Some(rival) = other else { return one };
@@ -265,7 +267,7 @@ fn better(one: Option<PatternMatch>, other: Option<PatternMatch>) -> Option<Patt
     }
 }
 
-/// Two scans of one text as one: the better match and the greater reach.
+/// Two scans of one text as one: the better match, the greater reach, and the cells of both.
 #[inline(always)]
 pub(crate) fn combined(a: TableScan, b: TableScan) -> TableScan
     ensures scan { (ps : List Re) (one other : ℕ → Bool) (text : List ℕ) →
@@ -273,11 +275,16 @@ pub(crate) fn combined(a: TableScan, b: TableScan) -> TableScan
         IsTableScanOf ps (λ k. one k || other k) text result }
     ensures past { IsBelow a.reach a.winner → IsBelow b.reach b.winner →
         IsBelow result.reach result.winner }
+    ensures len { (len_of a.winner ≤ len_of result.winner) × (len_of b.winner ≤ len_of result.winner) }
+    ensures reach { (a.reach ≤ result.reach) × (b.reach ≤ result.reach) }
+    ensures looked { result.looked ≤ a.looked + b.looked }
+    ensures counted { a.looked + b.looked < 2 ^ 64 → result.looked ≡ a.looked + b.looked }
 {
     let reach = if a.reach < b.reach { b.reach } else { a.reach };
     TableScan {
         winner: better(a.winner, b.winner),
         reach,
+        looked: a.looked.saturating_add(b.looked),
     }
 }
 
@@ -306,6 +313,8 @@ impl Part {
             IsLongestOf (patterns_at ps self.now.patterns.items) text found →
             IsWinnerAmong ps (is_among self.now.patterns.items) text result }
         ensures past { (n : ℕ) → IsBelow n found → IsBelow n result }
+        ensures len { IfSome found (λ t. t.pattern < length self.now.patterns.items) →
+            len_of result ≡ len_of found }
     {
         let found = found?;
         let pattern = entry_at(&self.patterns, found.pattern)?;
@@ -329,6 +338,7 @@ impl Part {
         TableScan {
             winner: self.in_list(scan.winner),
             reach: scan.reach,
+            looked: scan.looked,
         }
     }
 
@@ -338,11 +348,14 @@ impl Part {
         ensures scan { (ps : List Re) → IsPartOf ps 0 (length ps) self.now →
             IsTableScanOf ps (is_among self.now.patterns.items) text.now result }
         ensures past { IsBelow result.reach result.winner }
+        ensures looked { result.looked ≡ result.reach }
+        ensures reach { IsReach self.now.table text.now result.reach }
     {
         let scan = self.table.longest_match(text);
         TableScan {
             winner: self.in_list(scan.winner),
             reach: scan.reach,
+            looked: scan.looked,
         }
     }
 }
@@ -389,10 +402,15 @@ impl Tables {
         ensures scan { (ps : List Re) → AreTablesOf ps self.now →
             IsTableScanOf ps (is_tabled self.now.parts.items) text.now result }
         ensures past { IsBelow result.reach result.winner }
+        ensures looked { result.looked ≤ cells self.now.parts.items text.now }
+        ensures counted { cells self.now.parts.items text.now < 2 ^ 64 →
+            result.looked ≡ cells self.now.parts.items text.now }
+        ensures most { cells self.now.parts.items text.now ≤ vec_len self.now.parts * result.reach }
     {
         let mut scan = TableScan {
             winner: None,
             reach: 0,
+            looked: 0,
         };
         'parts: for at in 0..self.parts.len() {
             scan = combined(scan, self.parts[at].winner(text));
@@ -402,7 +420,8 @@ impl Tables {
 
     /// Which of the patterns that have a table wins at the beginning of the text: the longest match, on a tie of the earliest
     /// pattern. There is no winner where none of them matches a byte. Where all patterns have a table, the first `reach` bytes of
-    /// the text decide the winner: it is the same in each text that begins with them.
+    /// the text decide the winner: it is the same in each text that begins with them. A walk through each table looks at a cell for
+    /// each byte up to where no pattern can match any more.
     #[inline(always)]
     pub fn winner(&self, text: &str) -> TableScan
         ensures winner { (ps : List Re) → AreTablesOf ps self.now →
@@ -412,6 +431,10 @@ impl Tables {
         ensures decided { (ps : List Re) → AreTablesOf ps self.now → self.now.asked.items ≡ [] →
             IsDecidedBy ps text.now result.reach }
         ensures past { IfSome result.winner (λ t. t.len < result.reach) }
+        ensures looked { result.looked ≤ cells self.now.parts.items text.now }
+        ensures counted { cells self.now.parts.items text.now < 2 ^ 64 →
+            result.looked ≡ cells self.now.parts.items text.now }
+        ensures most { cells self.now.parts.items text.now ≤ vec_len self.now.parts * result.reach }
     {
         if let Some(part) = self.only() {
             return part.winner(text);

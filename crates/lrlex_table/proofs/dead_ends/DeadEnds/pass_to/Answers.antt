@@ -11,5 +11,6 @@ invariant_of-self c =
     let self = c.args.self.now in
     record {
       right = self.right;
+      up_to = self.up_to;
       marked = λ ts there. ((self.marked ts there).0, c.passed.invariant);
     }
