@@ -38,7 +38,7 @@ pub struct DeadEnds<'d, 't> {
     ends: Vec<DeadEnd>,
     /// For the hash of a dead end the place of one in `ends`. Several may share a hash, so it is compared before it is used.
     known: HashMap<u64, usize>,
-    /// No dead end is after this place.
+    /// No dead end to which this pass came is after this place.
     known_to: usize,
     pub(crate) ahead: Ahead,
     ghost right: { All (IsDeadEndIn lists.now text.now) ends.items },
@@ -75,6 +75,17 @@ impl<'d, 't> DeadEnds<'d, 't> {
             known_to: 0,
             ahead: Ahead::new(alloc),
         }
+    }
+
+    /// Begins another pass over the text. The known dead ends stay, and the room for matches found ahead. So calls that were made
+    /// before ask for no memory that they didn't ask for then, where they are made once more in the same order, and no two dead
+    /// ends have one hash. No contract says so.
+    pub fn rewind(&mut self)
+        ensures lists { self.new.lists ≡ self.old.lists }
+        ensures text { self.new.text ≡ self.old.text }
+    {
+        self.known_to = 0;
+        self.ahead.rewind();
     }
 
     /// How many bytes a walk reads from here on, if this is known to be a dead end.
