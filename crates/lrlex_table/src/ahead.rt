@@ -67,6 +67,17 @@ impl Ahead {
         }
     }
 
+    /// Nothing found ahead any more, as for another pass over the text. The room that it has is kept.
+    pub(crate) fn rewind(&mut self)
+        ensures { self.new.found.items ≡ [] }
+    {
+        let mut kept = mem::replace(self, Ahead::new(self.alloc));
+        kept.found.clear();
+        self.found = kept.found;
+        self.marks = kept.marks;
+        self.more = kept.more;
+    }
+
     /// Whether a match is left.
     pub(crate) fn has_more(&self) -> bool {
         self.at < self.found.len()

@@ -74,6 +74,44 @@ impl<'d, 't> DeadEnds<'d, 't> {
         }
     }
 
+    /// Begins another pass over the text, as if none had been made. The room for dead ends and for matches found ahead is kept, and
+    /// the count of cells goes on. So a pass that makes the same calls finds the same, and asks for no memory that it didn't ask for
+    /// the first time.
+    pub fn rewind(&mut self)
+        ensures lists { self.new.lists ≡ self.old.lists }
+        ensures text { self.new.text ≡ self.old.text }
+        ensures none { hash_map_len self.new.known ≡ 0 }
+        ensures forgot { self.new.forgot ≡ false }
+        ensures looked { self.new.looked ≡ self.old.looked }
+    {
+        self.known.clear();
+        self.known_to = 0;
+        self.forgot = false;
+        self.ahead.rewind();
+    }
+
+    /// How many cells of tables walks have looked at, the end of the text counting as one. It stays at the greatest number, once
+    /// it is there.
+    pub fn looked(&self) -> usize
+        ensures { result ≡ self.now.looked }
+    {
+        self.looked
+    }
+
+    /// How many dead ends are known.
+    pub fn known(&self) -> usize
+        ensures { result ≡ hash_map_len self.now.known }
+    {
+        self.known.len()
+    }
+
+    /// Whether a dead end was forgotten for want of memory.
+    pub fn forgot(&self) -> bool
+        ensures { result ≡ self.now.forgot }
+    {
+        self.forgot
+    }
+
     /// How many bytes a walk reads from here on, if this is known to be a dead end.
     fn more_at(&self, list: usize, part: usize, row: u16, place: usize) -> Option<usize>
         ensures known { result ≡ more_of self.now.known list part row place }
@@ -107,7 +145,14 @@ impl<'d, 't> DeadEnds<'d, 't> {
 
     /// Walks through the table over the rest of the text from this place on, and no farther than to a known dead end. The second
     /// number is how many cells it looked at.
-    fn walk(&self, table: &Table, list: usize, part: usize, place: usize, rest: &[u8]) -> (Walk, usize)
+    fn walk(
+        &self,
+        table: &Table,
+        list: usize,
+        part: usize,
+        place: usize,
+        rest: &[u8],
+    ) -> (Walk, usize)
         requires table { table_at self.now.lists.now list part ≡ Some table.now }
         requires rest { rest.now ≡ drop place self.now.text.now }
         requires inside { place ≤ length self.now.text.now }
@@ -237,7 +282,15 @@ impl<'d, 't> DeadEnds<'d, 't> {
         let scan = part.table.scan_of(rest, walk);
         let mut all = looked;
         if scan.is_far() {
-            self.keep(&part.table, list, index, place, rest.as_bytes(), walk, looked);
+            self.keep(
+                &part.table,
+                list,
+                index,
+                place,
+                rest.as_bytes(),
+                walk,
+                looked,
+            );
             all = looked.saturating_mul(2);
         }
         TableScan {

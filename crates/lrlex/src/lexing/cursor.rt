@@ -5,7 +5,7 @@ ghost use Rattle.lrlex.specs.Scanner.{IsCursorOf, IsStand, at_front, scanned_by,
 ghost use Rattle.lrlex.specs.Views.{definition_by};
 
 use crate::definition::rule_table::{RuleTable, StateRules};
-use crate::lexing::stack::top_of;
+use crate::lexing::stack::{reset, top_of};
 use crate::lexing::winner::Searcher;
 use lrlex_base::Numbered;
 use lrlex_boundaries::room::copied;
@@ -26,6 +26,22 @@ pub(crate) struct Cursor<'d, 't> {
 pub struct ScanPlace {
     pub(crate) place: usize,
     pub(crate) stack: Vec<(usize, usize)>,
+}
+
+impl<'d> Cursor<'d, '_> {
+    /// Goes back to the front of the text. What was made to lex it stays.
+    pub(crate) fn rewind<S: Numbered>(&mut self, table: &'d RuleTable<S>, text: &str)
+        requires { IsCursorOf S.number table.now text.now self.old }
+        ensures cursor { IsCursorOf S.number table.now text.now self.new }
+        ensures front { scanned_by (definition_by S.number table.now) text.now self.new
+            ≡ at_front (definition_by S.number table.now) text.now }
+    {
+        let _ = text;
+        self.place = 0;
+        reset(&mut self.stack);
+        self.rules = table.rules_in(0);
+        self.searcher.rewind();
+    }
 }
 
 /// A cursor at the front of the text.

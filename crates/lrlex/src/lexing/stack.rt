@@ -83,6 +83,15 @@ pub(crate) fn step(
     }
 }
 
+/// Makes the stack state 0 alone, as at the front of a text, in the room that it has.
+pub(crate) fn reset(entries: &mut Vec<(usize, usize)>)
+    requires { 0 < length entries.old.items }
+    ensures { entries.new.items ≡ (1, 0) ∷ [] }
+{
+    entries.truncate(1);
+    entries[0] = (1, 0);
+}
+
 /// The state on top of the stack.
 #[inline(always)]
 pub(crate) fn top_of(entries: &[(usize, usize)]) -> usize

@@ -172,6 +172,15 @@ impl<'d, 't> Searcher<'d, 't> {
         Ok(Searcher { matchers, ends })
     }
 
+    /// Begins another pass over the text. The matchers stay, and the known dead ends.
+    pub(crate) fn rewind(&mut self)
+        ensures matchers { self.new.matchers ≡ self.old.matchers }
+        ensures lists { self.new.ends.lists ≡ self.old.ends.lists }
+        ensures text { self.new.ends.text ≡ self.old.ends.text }
+    {
+        self.ends.rewind();
+    }
+
     /// The tile at the place by the rules of the state, if it was found ahead. No rule is searched for then, and the byte behind the tile
     /// decides it.
     #[inline(always)]

@@ -64,13 +64,13 @@ bytes-preserved c =
         | else-is_due w ↦ ap (λ s. s.forgot) w.self-is ∙ inv.4 was
       ],
       λ i from less inside far.
-        let row = row_after (next_rows c.args.table.now) c.args.table.now.start (take i c.args.rest.now) in
-        elim c.if-is_due.branch [
-          | then-is_due w ↦
-              ap (λ s. more_of s.known c.args.list c.args.part row (place + i)) w.self-is
-              ∙ w.add.ensures.elsewhere c.args.list c.args.part row (place + i) (λ same. absurd (omega (arith, same))) ∙ inv.5 i (omega arith) less inside far
-          | else-is_due w ↦ ap (λ s. more_of s.known c.args.list c.args.part row (place + i)) w.self-is ∙ inv.5 i (omega arith) less inside far
-        ],
+          let row = row_after (next_rows c.args.table.now) c.args.table.now.start (take i c.args.rest.now) in
+          elim c.if-is_due.branch [
+            | then-is_due w ↦
+                ap (λ s. more_of s.known c.args.list c.args.part row (place + i)) w.self-is
+                ∙ w.add.ensures.elsewhere c.args.list c.args.part row (place + i) (λ same. absurd (omega (arith, same))) ∙ inv.5 i (omega arith) less inside far
+            | else-is_due w ↦ ap (λ s. more_of s.known c.args.list c.args.part row (place + i)) w.self-is ∙ inv.5 i (omega arith) less inside far
+          ],
       λ lists parts row here apart. elim c.if-is_due.branch [
         | then-is_due w ↦
             ap (λ s. more_of s.known lists parts row here) w.self-is ∙ w.add.ensures.other_parts lists parts row here apart ∙ inv.6 lists parts row here apart

@@ -23,8 +23,7 @@ returns-clause-work c ps is kept =
     elim c.if-is_far.branch [
       | then-is_far w ↦
           let more : c.walk-looked.result.1 + 64 * old ≤ c.walk-looked.result.0.len + 129 + 64 * hash_map_len w.keep.new.self.known = w.keep.ensures.kept (sym (ap (λ s. s.forgot) w.self-is) ∙ kept) in
-          let grown : old ≤ hash_map_len w.keep.new.self.known = w.keep.ensures.grown (sym (ap (λ s. s.forgot) w.self-is) ∙ kept) in
-          (
+          let grown : old ≤ hash_map_len w.keep.new.self.known = w.keep.ensures.grown (sym (ap (λ s. s.forgot) w.self-is) ∙ kept) in (
             omega (arith, grown, ap (λ s. hash_map_len s.known) w.self-is),
             omega (arith, len, w.all-is, w.saturating_mul-all.ensures, ap (λ s. hash_map_len s.known) w.self-is, more),
           )

@@ -49,15 +49,15 @@ parts-preserved c =
       c.part_winner_at.ensures.looked ∙ inv.4,
       λ was. c.part_winner_at.ensures.forgot (inv.5 was),
       λ ps are kept.
-        look_twice_more at (len_of c.parts.scan.winner) (len_of one.winner) (len_of both.winner) c.parts.scan.looked one.looked both.looked old now after len.0 len.1 c.combined-scan.ensures.looked
-        (inv.6 ps are (not_before _ _ c.part_winner_at.ensures.forgot kept)) (c.part_winner_at.ensures.work ps (is_part ps are) kept),
+          look_twice_more at (len_of c.parts.scan.winner) (len_of one.winner) (len_of both.winner) c.parts.scan.looked one.looked both.looked old now after len.0 len.1 c.combined-scan.ensures.looked
+          (inv.6 ps are (not_before _ _ c.part_winner_at.ensures.forgot kept)) (c.part_winner_at.ensures.work ps (is_part ps are) kept),
       λ ps are kept none.
-        let more : cells (take (at + 1) parts) rest ≡ cells (take at parts) rest + reach_of part.table rest =
-        cells_more parts rest at part lt ∙ ap (λ (p : Part). cells (take at parts) rest + reach_of p.table rest) (sym (c.index-part.ensures ∙ get_or_default parts at _ part lt)) in
-        look_more at (len_of c.parts.scan.winner) (len_of one.winner) (len_of both.winner) (cells (take at parts) rest) (reach_of part.table rest) (cells (take (at + 1) parts) rest) old now after len.0 len.1
-        (omega (arith, more))
-        (inv.7 ps are (not_before _ _ c.part_winner_at.ensures.forgot kept) none)
-        (c.part_winner_at.ensures.fresh ps (is_part ps are) kept (λ row here le. inv.8 at row here (omega arith) ∙ none at row here le)),
+          let more : cells (take (at + 1) parts) rest ≡ cells (take at parts) rest + reach_of part.table rest =
+          cells_more parts rest at part lt ∙ ap (λ (p : Part). cells (take at parts) rest + reach_of p.table rest) (sym (c.index-part.ensures ∙ get_or_default parts at _ part lt)) in
+          look_more at (len_of c.parts.scan.winner) (len_of one.winner) (len_of both.winner) (cells (take at parts) rest) (reach_of part.table rest) (cells (take (at + 1) parts) rest) old now after len.0 len.1
+          (omega (arith, more))
+          (inv.7 ps are (not_before _ _ c.part_winner_at.ensures.forgot kept) none)
+          (c.part_winner_at.ensures.fresh ps (is_part ps are) kept (λ row here le. inv.8 at row here (omega arith) ∙ none at row here le)),
       λ other row here le. c.part_winner_at.ensures.other_parts c.args.list other row here (λ same. absurd (omega (arith, same))) ∙ inv.8 other row here (omega arith),
     )
 

@@ -34,10 +34,10 @@ parts-preserved c =
       c.combined-scan.ensures.past inv.1 c.winner.ensures.past,
       omega (arith, more, c.combined-scan.ensures.looked, inv.2, c.winner.ensures.looked),
       λ less.
-        let before : c.parts.scan.looked ≡ cells (take at parts) text = inv.3 (omega (arith, more, less)) in
-        c.combined-scan.ensures.counted (omega (arith, more, less, before, c.winner.ensures.looked)) ∙ omega (arith, more, before, c.winner.ensures.looked),
+          let before : c.parts.scan.looked ≡ cells (take at parts) text = inv.3 (omega (arith, more, less)) in
+          c.combined-scan.ensures.counted (omega (arith, more, less, before, c.winner.ensures.looked)) ∙ omega (arith, more, before, c.winner.ensures.looked),
       subst (λ n. n ≤ (at + 1) * c.combined-scan.result.reach) (sym more)
-      (grown at (cells (take at parts) text) c.parts.scan.reach c.combined-scan.result.reach c.winner.result.reach inv.4 c.combined-scan.ensures.reach.0 c.combined-scan.ensures.reach.1),
+          (grown at (cells (take at parts) text) c.parts.scan.reach c.combined-scan.result.reach c.winner.result.reach inv.4 c.combined-scan.ensures.reach.0 c.combined-scan.ensures.reach.1),
     )
 
 whole : (c : goal.After-parts) → take c.parts.at c.args.self.now.parts.items ≡ c.args.self.now.parts.items
