@@ -1,11 +1,9 @@
 """All faults of a rule text: those of the reading first, and then those past its fatal ones."""
 
-import json
 import unittest
 
 from support import replay
 from support.all_faults import random_case
-from support.programs import TOP
 
 # Faults after which the reading goes on.
 MILD = {"DuplicateStartState", "DuplicateName", "VerbatimNotSupported"}
@@ -62,9 +60,7 @@ def format_faults(faults):
 
 def replayed():
     """The replayed cases with a rule text, each with the faults that the reading has to tell."""
-    with open(f"{TOP}/crates/lrlex_replay/stdin", encoding="utf-8") as lines:
-        cases = [json.loads(line) for line in lines]
-    return [(one, one["expected"].get("faults", [])) for one in cases if "from_rules" not in one and "steps" not in one]
+    return [(one, one["expected"].get("faults", [])) for one in replay.stored() if "from_rules" not in one and "steps" not in one]
 
 
 class AllFaults(replay.TestCase):

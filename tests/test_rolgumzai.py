@@ -11,7 +11,7 @@ import subprocess
 import tempfile
 import unittest
 
-from support import programs
+from support import programs, replay
 from support.fault_notes import BACKSLASH, BEFORE_RULES, COMMENT, LIST, MARGIN, NO_MARK, QUOTES
 from support.programs import Outcome
 
@@ -299,8 +299,7 @@ FLAGS = [
 
 def replayed():
     """The replayed cases that the program can be given: rules as a text, ids as they come."""
-    cases = [json.loads(line) for line in programs.read("crates/lrlex_replay/stdin").splitlines()]
-    return [it for it in cases if "from_rules" not in it and "ids" not in it and it["storage"] == "u32"]
+    return [it for it in replay.stored() if "from_rules" not in it and "ids" not in it and it["storage"] == "u32"]
 
 
 def words_of(flags):

@@ -1,4 +1,4 @@
-"""Tries laws on random rule texts, inputs and edits: tests/laws, over the program lrlex_replay that is built."""
+"""Tries laws on random rule texts, inputs and edits: tests/laws, over the program lrlex_bench that is built."""
 
 import sys
 

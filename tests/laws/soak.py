@@ -1,4 +1,4 @@
-"""Runs random cases through lrlex_replay, and compares what comes of them with the laws."""
+"""Has random cases replayed, and compares what comes of them with the laws."""
 
 import multiprocessing
 import os

@@ -1,4 +1,4 @@
-"""Replays cases of crates/lrlex_replay/stdin through the C library: python3 -m support.c_replay, in tests/.
+"""Replays cases of crates/lrlex_bench/stdin through the C library: python3 -m support.c_replay, in tests/.
 
 The package lrlex of bindings/python and LRLEX_LIBRARY say how the library is called. A case is compared in its faults with all spans,
 rules, start states, ids from names, items, places, and the count of its pieces; then a document that becomes its input by edits is compared too.
@@ -9,13 +9,12 @@ Each difference is printed; the last line is 'N cases, K left out, D differences
 """
 
 import ctypes
-import json
 import sys
 from ctypes import byref
 
 from lrlex import _c
 
-from support import programs
+from support.replay import stored
 
 LIB = _c.LIB
 
@@ -164,7 +163,7 @@ def replay(case):
 def main():
     """Replays all."""
     left_out = differences = 0
-    cases = [json.loads(line) for line in programs.read("crates/lrlex_replay/stdin").splitlines()]
+    cases = stored()
     for case in cases:
         if is_left_out(case):
             left_out += 1

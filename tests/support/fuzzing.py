@@ -5,13 +5,12 @@ undefined-behaviour sanitizer, on one processor. The status is 0 where every law
 tried.
 """
 
-import json
 import struct
 import subprocess
 import sys
 import unittest
 
-from support import c_library, programs
+from support import c_library, programs, replay
 
 
 def program():
@@ -19,8 +18,8 @@ def program():
     c_library.need_sanitizers()
     path = f"{programs.scratch().name}/cases"
     with open(path, "wb") as to:
-        for line in programs.read("crates/lrlex_replay/stdin").splitlines():
-            parts = [json.loads(line)[it].encode() for it in ("rules", "input")]
+        for case in replay.stored():
+            parts = [case[it].encode() for it in ("rules", "input")]
             to.write(struct.pack("@II", *map(len, parts)) + b"".join(parts))
     return [c_library.of_c("tests/c_library/fuzz.c", *c_library.SANITIZED), path]
 

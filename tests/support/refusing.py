@@ -2,7 +2,7 @@
 
 Each request in turn is refused, from the first until no more are made: at first that one alone, and then all after it too. On each
 row of cli_rows.py the program must say 'Out of memory' and nothing else, or do what it does with memory for all. On each case of
-library_calls.py lrlex_replay must write the lines that were worked out by hand; where a call answers that memory ran out, also what
+library_calls.py lrlex_bench must write the lines that were worked out by hand; where a call answers that memory ran out, also what
 it was lent as it was, and what the call answers when it is made once more; or a beginning of these lines and 'Out of memory'. Each
 command of rolgumzai must write what it does with memory for all, or a beginning of it and 'rolgumzai: out of memory'.
 
@@ -108,10 +108,10 @@ class Command(Run):
 
 
 class Calls(Run):
-    """A run of lrlex_replay on calls of the library."""
+    """A replayed case with calls of the library."""
 
     def __init__(self, call, stdin):
-        super().__init__(f"calls {call.name}", [programs.path_of(replay.PROGRAM)], stdin)
+        super().__init__(f"calls {call.name}", replay.words(), stdin)
         self.call, self.right, self.lines = call, None, []
 
     def learn(self):

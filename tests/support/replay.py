@@ -1,15 +1,15 @@
-"""Runs lrlex_replay over cases with steps. steps.md says what a case is, and which lines its steps answer."""
+"""Has lrlex_bench replay cases with steps. steps.md says what a case is, and which lines its steps answer."""
 
 import json
 import unittest
 
 from support import programs
 
-PROGRAM = "lrlex_replay"
+PROGRAM = "lrlex_bench"
 
 
 class TestCase(unittest.TestCase):
-    """Tests that run lrlex_replay. They are skipped where it isn't built."""
+    """Tests that replay cases. They are skipped where lrlex_bench isn't built."""
 
     def setUp(self):
         programs.need(PROGRAM)
@@ -35,6 +35,11 @@ class Answers:
         return found[-1] if found else None
 
 
+def stored():
+    """The cases without steps that the gate replays."""
+    return [json.loads(line) for line in programs.read(f"crates/{PROGRAM}/stdin").splitlines()]
+
+
 def pair(line):
     """The key and the value of a line, as texts."""
     key, _, value = line.decode().partition(" ")
@@ -51,12 +56,16 @@ def as_input(cases):
     return "".join(one_line(number, case) for number, case in enumerate(cases)).encode()
 
 
+def words(path=None):
+    """The words that have the program replay cases."""
+    return [path or programs.path_of(PROGRAM), "--replay"]
+
+
 def run(text, path=None):
     """The bytes that the program writes of this text of cases."""
-    path = path or programs.path_of(PROGRAM)
-    ended = programs.run([path], text, timeout=600)
+    ended = programs.run(words(path), text, timeout=600)
     if ended.status != 0 or ended.err:
-        raise AssertionError(f"{path} ended with status {ended.status}: {ended.err!r} after {ended.out[-300:]!r}")
+        raise AssertionError(f"{words(path)} ended with status {ended.status}: {ended.err!r} after {ended.out[-300:]!r}")
     return programs.as_bytes(ended.out)
 
 

@@ -1,4 +1,5 @@
-//! Times lexing: `lrlex_bench RULES INPUT K` lexes a text K times by the rules of a rule file.
+//! Times lexing: `lrlex_bench RULES INPUT K` lexes a text K times by the rules of a rule file. `lrlex_bench --replay` replays the
+//! cases of standard input.
 #![tactic(auto)]
 
 mod edits;
@@ -6,7 +7,8 @@ mod keys;
 mod measure;
 
 use crate::measure::{Definition, definition_by, tell_run};
-use lrlex_bench_lib::{Fault, Task, Watch, asked, tell_usage};
+use lrlex_bench_lib::{Fault, Request, Task, Watch, asked, tell_usage};
+use lrlex_replay::replay_all;
 use std::process::ExitCode;
 
 /// Measures what is asked for. The watch took how long the definition's build was.
@@ -35,11 +37,12 @@ fn built(rt: &HostRuntime, task: &Task) -> Result<(), Fault> {
     measured(rt, task, &definition, &mut watch)
 }
 
-/// Does all that the program does. With no words it only prints its usage.
+/// Does what the words of the command line ask for.
 fn served(rt: &HostRuntime) -> Result<(), Fault> {
     match asked(rt)? {
-        Some(task) => built(rt, &task),
-        None => tell_usage(rt),
+        Request::Usage => tell_usage(rt),
+        Request::Replay => Ok(replay_all(rt)?),
+        Request::Timing(task) => built(rt, &task),
     }
 }
 

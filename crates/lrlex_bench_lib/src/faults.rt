@@ -1,4 +1,4 @@
-//! Why nothing is measured.
+//! Why the program gives up.
 use crate::words::USAGE;
 use std::alloc::{AllocError, AllocFailed};
 use std::{fmt, io};
@@ -18,7 +18,7 @@ pub enum Fault {
     DoesNotFit,
     /// Out of memory.
     Memory,
-    /// The clock or standard output failed.
+    /// The clock, standard input or standard output failed.
     System,
 }
 
@@ -38,7 +38,7 @@ impl fmt::Display for Fault {
             Fault::Refused => "The rule file has faults",
             Fault::DoesNotFit => "A key doesn't fit the text",
             Fault::Memory => "Out of memory",
-            Fault::System => "The clock or standard output failed",
+            Fault::System => "The clock, standard input or standard output failed",
         };
         write!(f, "{text}")
     }

@@ -1,5 +1,5 @@
-//! What the program `lrlex_bench` needs besides lexing: its words and the texts that they name, times, and the lines that it
-//! prints. Nothing here lexes.
+//! What the program `lrlex_bench` needs for timing besides lexing: its words and the texts that they name, times, and the lines
+//! that it prints. Nothing here lexes.
 #![tactic(auto)]
 
 mod clock;
@@ -16,6 +16,6 @@ pub use crate::clock::Watch;
 pub use crate::faults::Fault;
 pub use crate::memory::peak;
 pub use crate::spread::{Spread, spread_of};
-pub use crate::tasks::{Task, asked};
+pub use crate::tasks::{Request, Task, asked};
 pub use crate::telling::{Counts, Lexed, Relexed, Sizes, Typed, Typing, tell_anew, tell_usage};
 pub use crate::texts::{boundary_from, lexemes, lines_times};

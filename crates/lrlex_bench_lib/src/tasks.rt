@@ -1,7 +1,8 @@
 //! What the program is asked: its words, with the texts that they name.
 use crate::faults::Fault;
 use crate::texts::text_at;
-use crate::words::{Words, matches_of, words_of};
+use crate::words::{Words, asks_to_replay, matches_of, words_of};
+use clap::ArgMatches;
 use std::env;
 
 /// What is to be timed.
@@ -21,6 +22,17 @@ pub struct Task {
     pub tables: bool,
 }
 
+/// What the program is asked for.
+#[derive(Drop)]
+pub enum Request {
+    /// How it is called.
+    Usage,
+    /// To replay the cases of standard input.
+    Replay,
+    /// To time something.
+    Timing(Task),
+}
+
 /// Reads the texts that the words name.
 fn texts_of(rt: &HostRuntime, words: Words<'_>) -> Result<Task, Fault> {
     let rules = text_at(rt, words.rules, Fault::CannotReadRules)?;
@@ -35,19 +47,24 @@ fn texts_of(rt: &HostRuntime, words: Words<'_>) -> Result<Task, Fault> {
     })
 }
 
-/// What these words ask for, the program's own name first.
-fn task_of(rt: &HostRuntime, words: &[String]) -> Result<Task, Fault> {
-    let matches = matches_of(rt.alloc(), words)?;
-    let given = words_of(&matches)?;
-    texts_of(rt, given)
+/// What these matches ask for.
+fn request_of(rt: &HostRuntime, matches: &ArgMatches<'_>) -> Result<Request, Fault> {
+    if asks_to_replay(matches) {
+        return Ok(Request::Replay);
+    }
+    let given = words_of(matches)?;
+    let task = texts_of(rt, given)?;
+    Ok(Request::Timing(task))
 }
 
-/// What the words of the command line ask for; nothing where there are none.
-pub fn asked(rt: &HostRuntime) -> Result<Option<Task>, Fault> {
+/// What the words of the command line ask for: the usage where there are none.
+pub fn asked(rt: &HostRuntime) -> Result<Request, Fault> {
     let words: Vec<String> = env::args(rt)?.collect(rt.alloc())?;
     if words.len() < 2 {
-        return Ok(None);
+        return Ok(Request::Usage);
     }
-    let task = task_of(rt, words.as_slice())?;
-    Ok(Some(task))
+    match matches_of(rt.alloc(), words.as_slice())? {
+        Some(matches) => request_of(rt, &matches),
+        None => Ok(Request::Usage),
+    }
 }

@@ -5,9 +5,10 @@ use clap::{Arg, ArgAction, ArgMatches, Command, value_parser};
 use std::alloc::{AllocError, Global};
 
 /// How the program is called.
-pub const USAGE: &str = "Usage: lrlex_bench RULES INPUT K [--edits | --keys] [--no-tables]";
+pub const USAGE: &str =
+    "Usage: lrlex_bench RULES INPUT K [--edits | --keys] [--no-tables]\n       lrlex_bench --replay";
 
-/// What the words say.
+/// What the words say of what is to be timed.
 #[derive(Clone, Copy)]
 pub struct Words<'w> {
     /// The path of the rule file.
@@ -49,23 +50,30 @@ fn command<'a>(alloc: Global) -> Result<Command<'a>, AllocError> {
         .arg(number(alloc, "times"))?
         .arg(option(alloc, "edits"))?
         .arg(option(alloc, "keys"))?
-        .arg(option(alloc, "no-tables"))
+        .arg(option(alloc, "no-tables"))?
+        .arg(option(alloc, "replay").exclusive(true))
 }
 
-/// What the command finds in the words, the program's own name first.
-pub fn matches_of<'a>(alloc: Global, words: &'a [String]) -> Result<ArgMatches<'a>, Fault> {
+/// What the command finds in the words, the program's own name first; nothing where they ask for help.
+pub fn matches_of<'a>(alloc: Global, words: &'a [String]) -> Result<Option<ArgMatches<'a>>, Fault> {
     match command(alloc)?.try_get_matches_from(words) {
-        Ok(matches) => Ok(matches),
-        Err(error) => Err(fault_of(error.kind())),
+        Ok(matches) => Ok(Some(matches)),
+        Err(error) => none_by(error.kind()),
     }
 }
 
-/// What an error of `clap` comes to.
-fn fault_of(kind: ErrorKind) -> Fault {
+/// What an error of `clap` comes to: none for help, else a fault.
+fn none_by<'a>(kind: ErrorKind) -> Result<Option<ArgMatches<'a>>, Fault> {
     match kind {
-        ErrorKind::OutOfMemory => Fault::Memory,
-        _ => Fault::Usage,
+        ErrorKind::DisplayHelp => Ok(None),
+        ErrorKind::OutOfMemory => Err(Fault::Memory),
+        _ => Err(Fault::Usage),
     }
+}
+
+/// Whether cases are to be replayed.
+pub fn asks_to_replay(matches: &ArgMatches<'_>) -> bool {
+    matches.get_flag("replay")
 }
 
 /// The words of the matches.

@@ -27,7 +27,6 @@ use serde_json::Value;
 use std::alloc::{AllocError, Global};
 use std::io;
 use std::io::{BufRead, BufReader};
-use std::process::ExitCode;
 
 /// The case of a line; none where the line isn't JSON.
 fn case_of(alloc: Global, line: &str) -> Result<Option<Value>, AllocError> {
@@ -68,7 +67,7 @@ fn count_line(rt: &HostRuntime, tally: Tally, line: &str) -> io::Result<Tally> {
 }
 
 /// Replays the cases of standard input, and writes how many there were.
-fn replay_all(rt: &HostRuntime) -> io::Result<()> {
+pub fn replay_all(rt: &HostRuntime) -> io::Result<()> {
     let alloc = rt.alloc();
     let mut tally = Tally::new();
     for line in BufReader::new(alloc, rt.reader())?.lines(alloc) {
@@ -76,17 +75,4 @@ fn replay_all(rt: &HostRuntime) -> io::Result<()> {
         tally = count_line(rt, tally, line.as_str())?;
     }
     tally.print(rt)
-}
-
-fn main(rt: HostRuntime) -> ExitCode {
-    let Err(fault) = replay_all(&rt) else {
-        return ExitCode::SUCCESS;
-    };
-    // There is nowhere to tell of a fault of standard error.
-    let _ = if fault.kind() == io::ErrorKind::OutOfMemory {
-        eprintln!(rt; "Out of memory")
-    } else {
-        eprintln!(rt; "{fault}")
-    };
-    ExitCode::FAILURE
 }

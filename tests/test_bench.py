@@ -1,0 +1,105 @@
+"""lrlex_bench over rows: its words, its messages and statuses, and the names of what it times, as both compilers build it."""
+
+import shlex
+import tempfile
+import unittest
+
+from support import programs
+from support.programs import Outcome
+from support.replay import PROGRAM
+
+USAGE = "Usage: lrlex_bench RULES INPUT K [--edits | --keys] [--no-tables]\n       lrlex_bench --replay\n"
+STREAM = "The clock, standard input or standard output failed\n"
+
+FILES = {"rules": "%%\n[0-9]+ 'INT'\n[a-z]+ 'ID'\n[ ] ;", "input": "abc 123 ❤", "faulty": "%%\n( 'A'", "bad": b"\xff"}
+
+# Words, standard input, and what comes of them.
+ROWS = [
+    ("", "", Outcome(USAGE)),
+    ("--help", "", Outcome(USAGE)),
+    ("--replay", "", Outcome("0 cases: 0 compared, 0 differ\n")),
+    ("--replay", b"\xff\n", Outcome("", STREAM, 1)),
+    ("--replay --replay", "", Outcome("", USAGE, 1)),
+    ("--replay --no-tables", "", Outcome("", USAGE, 1)),
+    ("rules input 1 --replay", "", Outcome("", USAGE, 1)),
+    ("rules input", "", Outcome("", USAGE, 1)),
+    ("rules input 0", "", Outcome("", USAGE, 1)),
+    ("rules input 4294967296", "", Outcome("", USAGE, 1)),
+    ("rules input 1 more", "", Outcome("", USAGE, 1)),
+    ("rules input 1 --edit", "", Outcome("", USAGE, 1)),
+    ("none input 1", "", Outcome("", "Can't read the rule file\n", 1)),
+    ("bad input 1", "", Outcome("", "Can't read the rule file\n", 1)),
+    ("rules none 1", "", Outcome("", "Can't read the input\n", 1)),
+    ("faulty input 1", "", Outcome("", "The rule file has faults\n", 1)),
+]
+
+OF_BYTES = ["median ns per byte", "best ns per byte", "worst ns per byte"]
+OF_EDIT = ["tiles cut anew", "matches asked", "median ns", "best ns", "worst ns", "times faster than run"]
+OF_KEY = ["most tiles cut anew for a key", "median ns for a key", "best ns for a key", "worst ns for a key"]
+PLACES = ["front", "middle", "end"]
+
+
+def each(names, kinds):
+    """Each kind of each name."""
+    return [f"{name} {kind}" for name in names for kind in kinds]
+
+
+# Words, the names of the lines, and what some of them say.
+TIMED = [
+    (
+        "rules input 3",
+        [
+            "bytes", "rules", "states", "tables", "rows of tables", "rules without a table", "build ms",
+            "bytes lexed", "lexemes", "tiles", "matches asked", "peak entries", "ns per match asked",
+            *each(["run"], OF_BYTES), "lexemes by a scanner", *each(["scan", "lexer", "lines"], OF_BYTES),
+            "peak kB before lexing", "peak kB",
+        ],
+        {"bytes": "11", "rules": "3", "states": "1", "rules without a table": "0", "bytes lexed": "8", "lexemes": "2", "tiles": "4"},
+    ),
+    (
+        "rules input 3 --no-tables",
+        [],
+        {"tables": "0", "rules without a table": "3", "bytes lexed": "8", "lexemes": "2", "tiles": "4"},
+    ),
+    ("rules input 3 --edits", ["run matches asked", "run median ns", *each(PLACES, OF_EDIT)], {}),
+    (
+        "rules input 3 --keys",
+        ["tiles", "peak kB before typing", *each(PLACES, OF_KEY), "peak kB"],
+        {"tiles": "4", "front most tiles cut anew for a key": "1"},
+    ),
+]
+
+
+class Bench(unittest.TestCase):
+    """What lrlex_bench makes of its words."""
+
+    def setUp(self):
+        programs.need(PROGRAM)
+
+    def came_of(self, program, words, stdin=""):
+        """What comes of these words in a folder with the files."""
+        with tempfile.TemporaryDirectory() as folder:
+            programs.fill(folder, FILES)
+            return programs.run([program, *shlex.split(words)], stdin, folder)
+
+    def test_words(self):
+        for program in programs.by_each_compiler(PROGRAM):
+            for words, stdin, wanted in ROWS:
+                with self.subTest(program=program, words=words):
+                    self.assertEqual(self.came_of(program, words, stdin), wanted)
+
+    def test_names_of_what_is_timed(self):
+        for program in programs.by_each_compiler(PROGRAM):
+            for words, names, wanted in TIMED:
+                with self.subTest(program=program, words=words):
+                    came = self.came_of(program, words)
+                    self.assertEqual((came.err, came.status), ("", 0))
+                    lines = [line.split(": ") for line in came.out.splitlines()]
+                    self.assertEqual([name for name, _ in lines], names or [name for name, _ in lines])
+                    found = dict(lines)
+                    self.assertEqual({name: found[name] for name in wanted}, wanted)
+                    self.assertTrue(all(float(value) >= 0 for value in found.values()))
+
+
+if __name__ == "__main__":
+    unittest.main()
