@@ -1,5 +1,5 @@
 -- What a run of a definition that a rule text says has found.
-use Rattle.std.proofs.Common.{◌≡◌, ◌≢◌, ◌∙◌, ap, sym, refl, subst, ℕ, ◌+◌, Bool, true, false, List, [], ◌∷◌, ◌++◌, ◌||◌, map, Option, Some, None, Result, Ok, Err, IfOk, is_err, Vec}
+use Rattle.std.proofs.Common.{◌≡◌, ◌≢◌, ◌∙◌, ap, sym, ap₂, refl, subst, ℕ, ◌+◌, Bool, true, false, List, [], ◌∷◌, ◌++◌, ◌||◌, map, Option, Some, None, Result, Ok, Err, IfOk, is_err, Vec}
 use Rattle.std.specs.List.{list_any}
 use Rattle.std.specs.Io.KnownBytes.{Appends, Keeps}
 use Rattle.std.specs.Result.{IsErrAnd}
@@ -7,26 +7,25 @@ use Rattle.std.specs.declared.alloc.Global.{Global}
 use Rattle.std.proofs.lemmas.List.Folds.{list_any-append}
 use Rattle.lrlex.specs.declared.errors.LRLexError.{LRLexError}
 use Rattle.lrlex_rules.specs.declared.faults.LexBuildError.{LexBuildError}
-use Rattle.lrlex_rules.specs.Definition.{Definition, Rule}
+use Rattle.lrlex_rules.specs.Definition.{Definition}
 use Rattle.lrlex.specs.Active.{is_state}
 use Rattle.lrlex.specs.Boundaries.{Boundary}
 use Rattle.lrlex_rules.specs.Outcome.{outcome}
+use Rattle.lrlex.specs.ItemLaws.{is_error}
 use Rattle.lrlex.specs.Reach.{IsRun}
 use Rattle.lrlex_rules.specs.LexBuildResult.{seen, settings, refused_by, as_faults}
+use Rattle.lrlex.specs.Scanner.{Scanned, at_front}
 use Rattle.lrlex.specs.Tiling.{Tile, Item, Lexeme, Error, End, Done, NoMatch, NoId, NoTarget, items, tile_items, lexeme_of}
 use Rattle.lrlex_base.specs.LexemeParts.{LexemeParts}
 use Rattle.lrlex.specs.Views.{item_of, items_by}
 use Rattle.lrlex_cli.specs.Engine.{Request, Lexing, lines_in, IsEngineRun, EndsWriting, EndsLexing}
 use Rattle.lrlex_cli.specs.Lines.{lines}
-use Rattle.lrlex_cli.specs.Writing.{AppendsFront}
+use Rattle.lrlex_cli.specs.Scanning.{WritesRun}
+use Rattle.lrlex_cli.specs.Writing.{AppendsFront, Writes}
 use Rattle.lrlex_cli.specs.declared.engine.Ended.{Ended}
 use Rattle.lrlex_cli.specs.declared.engine.Ended.TheVariants.{Lexed, Stopped, Refused}
 use Rattle.lrlex_cli.specs.declared.engine.EngineFault.{EngineFault}
 use Rattle.lrlex_cli.specs.declared.engine.EngineFault.TheVariants.{Memory, Write}
-
-abbrev pub is_error : Item → Bool
-is_error (Lexeme id start len faulty) = false
-is_error (Error start end state) = true
 
 abbrev pub stops : End → Bool
 stops Done = false
@@ -86,48 +85,67 @@ ended q x old new (Err Memory) text stopped same ends h = h
 ended q x old new (Err (Write e)) text stopped same ends h = (x, subst (AppendsFront old new) same h)
 
 -- A run of the definition that the rule text says has found these items, and their lines were written.
-pub ran : {D S X : Type 0} (number : S → ℕ) (see : X → LexemeParts S) (view : D → Definition)
-    (q : Request) (built : Result D (Vec LexBuildError Global)) (def : D) (xs : List (Result X LRLexError)) (bounds : List Boundary)
-    (rules : List Rule) (old new : Option (List ℕ)) (r : Result Ended EngineFault)
-    → built ≡ Ok def → seen view as_faults built ≡ outcome (settings q.flags q.greatest (refused_by built)) q.rules
-    → IfOk built (λ d. is_state (view d) 0 ≡ true) → IsRun (view def) q.input (items_by number see xs) bounds
-    → rules ≡ (view def).rules → EndsWriting old new r (lines rules q.input (items_by number see xs)) (list_any (λ x. is_err x) xs)
-    → IsEngineRun q old new r
-ran number see view q built def xs bounds rules old new r is says initial run same wrote =
-    let P : Result _ (Vec LexBuildError Global) → Type 0 = λ b. seen view as_faults b ≡ outcome (settings q.flags q.greatest (refused_by b)) q.rules in
-    let I : Result _ (Vec LexBuildError Global) → Type 0 = λ b. IfOk b (λ d. is_state (view d) 0 ≡ true) in
-    let l = run.lexed (subst I is initial) in
-    let x : Lexing q = record { definition = view def; says = sym (subst P is says); cut = l.cut; end = l.end; tiling = l.tiling; only = l.only } in
-    let text = ap (λ (rs : List Rule). lines rs q.input (items_by number see xs)) same ∙ ap (λ (is : List Item). lines (view def).rules q.input is) l.items_are in
-    let ends = errors_seen number see xs ∙ ap (λ (is : List Item). list_any is_error is) l.items_are ∙ error_at_end (view def) 0 l.cut l.end in
-    ended q x old new r _ _ text ends wrote
-
--- A run has found items, and their lines were written.
-pub lexing_ends : {S X : Type 0} (number : S → ℕ) (see : X → LexemeParts S) (d : Definition) (text : List ℕ)
-    (xs : List (Result X LRLexError)) (bounds : List Boundary) (old new : Option (List ℕ)) (r : Result Ended EngineFault)
-    → IsRun d text (items_by number see xs) bounds
-    → EndsWriting old new r (lines d.rules text (items_by number see xs)) (list_any (λ x. is_err x) xs)
-    → EndsLexing number see d text old new r
-lexing_ends number see d text xs bounds old new (Ok x) run wrote = (xs, bounds, run, wrote)
-lexing_ends number see d text xs bounds old new (Err Memory) run wrote = wrote
-lexing_ends number see d text xs bounds old new (Err (Write e)) run wrote = (xs, bounds, run, wrote)
-
--- for want of memory nothing was written of a run
-pub lexing_without_memory : {S X : Type 0} (number : S → ℕ) (see : X → LexemeParts S) (d : Definition) (text : List ℕ)
-    (bytes : Option (List ℕ)) (r : Result Ended EngineFault) → IsErrAnd r (λ e. e ≡ Memory) → EndsLexing number see d text bytes bytes r
-lexing_without_memory number see d text bytes (Ok x) h = absurd h
-lexing_without_memory number see d text bytes (Err Memory) h = kept bytes
-lexing_without_memory number see d text bytes (Err (Write e)) h = cc
-
--- Lexing by the definition that the rule text says ends as a run does.
-pub lexing_runs : {D S X : Type 0} (number : S → ℕ) (see : X → LexemeParts S) (view : D → Definition)
-    (q : Request) (built : Result D (Vec LexBuildError Global)) (def : D)
+pub ran : {D : Type 0} (view : D → Definition) (q : Request) (built : Result D (Vec LexBuildError Global)) (def : D) (found : List Item) (bounds : List Boundary)
     (old new : Option (List ℕ)) (r : Result Ended EngineFault)
     → built ≡ Ok def → seen view as_faults built ≡ outcome (settings q.flags q.greatest (refused_by built)) q.rules
-    → IfOk built (λ d. is_state (view d) 0 ≡ true) → EndsLexing number see (view def) q.input old new r
+    → is_state (view def) 0 ≡ true → IsRun (view def) q.input found bounds
+    → EndsWriting old new r (lines (view def).rules q.input found) (list_any is_error found)
     → IsEngineRun q old new r
-lexing_runs number see view q built def old new (Ok x) is says initial h =
-    ran number see view q built def h.0 h.1 (view def).rules old new (Ok x) is says initial h.2 refl h.3
-lexing_runs number see view q built def old new (Err Memory) is says initial h = h
-lexing_runs number see view q built def old new (Err (Write e)) is says initial h =
-    ran number see view q built def h.0 h.1 (view def).rules old new (Err (Write e)) is says initial h.2 refl h.3
+ran view q built def found bounds old new r is says initial run wrote =
+    let P : Result _ (Vec LexBuildError Global) → Type 0 = λ b. seen view as_faults b ≡ outcome (settings q.flags q.greatest (refused_by b)) q.rules in
+    let l = run.lexed initial in
+    let x : Lexing q = record { definition = view def; says = sym (subst P is says); cut = l.cut; end = l.end; tiling = l.tiling; only = l.only } in
+    let text = ap (λ (is : List Item). lines (view def).rules q.input is) l.items_are in
+    let ends = ap (λ (is : List Item). list_any is_error is) l.items_are ∙ error_at_end (view def) 0 l.cut l.end in
+    ended q x old new r _ _ text ends wrote
+
+-- the definition that was built has start state 0
+pub initial_of : {D : Type 0} (view : D → Definition) (built : Result D (Vec LexBuildError Global)) (def : D) → built ≡ Ok def → IfOk built (λ d. is_state (view d) 0 ≡ true)
+    → is_state (view def) 0 ≡ true
+initial_of view built def is initial =
+    let I : Result _ (Vec LexBuildError Global) → Type 0 = λ b. IfOk b (λ d. is_state (view d) 0 ≡ true) in
+    subst I is initial
+
+-- A run has found items, and their lines were written.
+pub lexing_ends : (d : Definition) (text : List ℕ) (found : List Item) (bounds : List Boundary) (old new : Option (List ℕ)) (r : Result Ended EngineFault)
+    → IsRun d text found bounds → EndsWriting old new r (lines d.rules text found) (list_any is_error found) → EndsLexing d text old new r
+lexing_ends d text found bounds old new (Ok x) run wrote = (found, bounds, run, wrote)
+lexing_ends d text found bounds old new (Err Memory) run wrote = wrote
+lexing_ends d text found bounds old new (Err (Write e)) run wrote = (found, bounds, run, wrote)
+
+-- for want of memory nothing was written of a run
+pub lexing_without_memory : (d : Definition) (text : List ℕ) (bytes : Option (List ℕ)) (r : Result Ended EngineFault) → IsErrAnd r (λ e. e ≡ Memory) → EndsLexing d text bytes bytes r
+lexing_without_memory d text bytes (Ok x) h = absurd h
+lexing_without_memory d text bytes (Err Memory) h = kept bytes
+lexing_without_memory d text bytes (Err (Write e)) h = cc
+
+-- The lines of what the two passes found were written.
+pub passes_end : {T E : Type 0} (d : Definition) (text : List ℕ) (stopped : Bool) (old new : Option (List ℕ)) (written : Result T E) (r : Result Ended EngineFault)
+    → WritesRun d text stopped old new written → ((lines : List ℕ) → Writes old new written lines → EndsWriting old new r lines stopped) → EndsLexing d text old new r
+passes_end d text stopped old new written r h ends =
+    lexing_ends d text h.0 h.1 old new r h.2 (subst (λ b. EndsWriting old new r (lines d.rules text h.0) b) (sym h.3) (ends (lines d.rules text h.0) h.4))
+
+-- The lines of items that a run has found were written.
+pub items_end : {T E S X : Type 0} (number : S → ℕ) (see : X → LexemeParts S) (d : Definition) (text : List ℕ) (xs ys : List (Result X LRLexError)) (bounds : List Boundary) (stopped : Bool)
+    (old new : Option (List ℕ)) (written : Result T E) (r : Result Ended EngineFault)
+    → xs ≡ ys → IsRun d text (items_by number see ys) bounds → stopped ≡ list_any (λ x. is_err x) xs
+    → Writes old new written (lines d.rules text (items_by number see xs)) → ((lines : List ℕ) → Writes old new written lines → EndsWriting old new r lines stopped) → EndsLexing d text old new r
+items_end number see d text xs ys bounds stopped old new written r same run is wrote ends =
+    lexing_ends d text (items_by number see xs) bounds old new r (subst (λ zs. IsRun d text (items_by number see zs) bounds) (sym same) run)
+    (subst (λ b. EndsWriting old new r (lines d.rules text (items_by number see xs)) b) (is ∙ errors_seen number see xs) (ends (lines d.rules text (items_by number see xs)) wrote))
+
+-- a scanner at the front is at the front of its own text
+pub own_front : (d : Definition) (text : List ℕ) (s : Scanned) → s ≡ at_front d text → s ≡ at_front s.definition s.text
+own_front d text s is = is ∙ ap₂ at_front (sym (ap (λ (y : Scanned). y.definition) is)) (sym (ap (λ (y : Scanned). y.text) is))
+
+-- Lexing by the definition that the rule text says ends as a run does.
+pub lexing_runs : {D : Type 0} (view : D → Definition) (q : Request) (built : Result D (Vec LexBuildError Global)) (def : D)
+    (old new : Option (List ℕ)) (r : Result Ended EngineFault)
+    → built ≡ Ok def → seen view as_faults built ≡ outcome (settings q.flags q.greatest (refused_by built)) q.rules
+    → IfOk built (λ d. is_state (view d) 0 ≡ true) → EndsLexing (view def) q.input old new r
+    → IsEngineRun q old new r
+lexing_runs view q built def old new (Ok x) is says initial h =
+    ran view q built def h.0 h.1 old new (Ok x) is says (initial_of view built def is initial) h.2 h.3
+lexing_runs view q built def old new (Err Memory) is says initial h = h
+lexing_runs view q built def old new (Err (Write e)) is says initial h =
+    ran view q built def h.0 h.1 old new (Err (Write e)) is says (initial_of view built def is initial) h.2 h.3

@@ -1,7 +1,7 @@
 -- Writing one text after another.
 use Rattle.std.proofs.Common.{◌≡◌, ℕ, ◌+◌, List, [], ◌++◌, length, take, Option, Result, Ok, Err, sym, subst, ap, ◌∙◌, arith, append_assoc, append-nil}
 use lib.Seq.{take-append-le, take-append-add, take_all}
-use Rattle.std.proofs.KnownBytes.{Appends-trans}
+use Rattle.std.proofs.KnownBytes.{Appends-nil, Appends-trans}
 use Rattle.std.proofs.lemmas.List.{length-append}
 use Rattle.std.specs.Io.KnownBytes.{Appends}
 use Rattle.std.specs.Result.{IsErr}
@@ -91,3 +91,7 @@ up_to_end old mid new r a b w is (front, first, same) h = subst (λ l. Writes ol
 pub writes_cut : {T E : Type 0} (old new : Option (List ℕ)) (r : Result T E) (a b c : List ℕ) → IsErr r → a ++ b ≡ c → AppendsFront old new a → Writes old new r c
 writes_cut old new (Ok x) a b c err is h = cc
 writes_cut old new (Err e) a b c err is h = begun_fails old new a b c is h
+
+-- where there is nothing to pass on
+pub passes_nothing : (bytes : Option (List ℕ)) (w text : List ℕ) → text ≡ [] → WritesUpTo bytes bytes (w ++ text) w
+passes_nothing bytes w text none = ([], Appends-nil bytes, sym (append-nil w) ∙ ap (λ l. w ++ l) (sym none))

@@ -1,5 +1,5 @@
 -- What the engine returns, what it writes, and what a fault of it displays.
-use Rattle.std.specs.Prelude.{◌≡◌, ◌≢◌, ℕ, Bool, true, false, List, All, [], ◌∷◌, codes, Option, None, Result, Ok, Err, is_err}
+use Rattle.std.specs.Prelude.{◌≡◌, ◌≢◌, ℕ, Bool, true, false, List, All, [], ◌∷◌, codes, Option, None, Result, Ok, Err}
 use Rattle.std.specs.Io.KnownBytes.{Appends, Keeps}
 use Rattle.lrlex_rules.specs.declared.flags.LexFlags.{LexFlags}
 use Rattle.lrlex_rules.specs.Definition.{Definition}
@@ -7,12 +7,10 @@ use Rattle.lrlex_rules.specs.LexBuildError.{IsPlaced}
 use Rattle.lrlex_rules.specs.Outcome.{outcome}
 use Rattle.lrlex_rules.specs.LexBuildResult.{settings, refused_in, as_faults, AreByRegex}
 use Rattle.std.specs.List.{list_any}
-use Rattle.lrlex_base.specs.LexemeParts.{LexemeParts}
 use Rattle.lrlex.specs.Boundaries.{Boundary}
+use Rattle.lrlex.specs.ItemLaws.{is_error}
 use Rattle.lrlex.specs.Reach.{IsRun}
-use Rattle.lrlex.specs.Views.{items_by}
-use Rattle.lrlex.specs.declared.errors.LRLexError.{LRLexError}
-use Rattle.lrlex.specs.Tiling.{Tile, End, Done, IsTiling, items}
+use Rattle.lrlex.specs.Tiling.{Tile, Item, End, Done, IsTiling, items}
 use Rattle.lrlex_cli.specs.Lines.{lines}
 use Rattle.lrlex_cli.specs.Writing.{AppendsFront}
 use Rattle.lrlex_cli.specs.declared.engine.Ended.{Ended}
@@ -72,16 +70,15 @@ EndsWriting old new (Err Memory) text stopped = Keeps old new
 EndsWriting old new (Err (Write e)) text stopped = AppendsFront old new text
 
 -- a run of the definition on the text has found items, whose lines were written, as far as the result says
-abbrev pub WritesRun : {S X : Type 0} → (S → ℕ) → (X → LexemeParts S) → Definition → List ℕ → Option (List ℕ) → Option (List ℕ) → Result Ended EngineFault → Type 0
-WritesRun {S} {X} number see d text old new r =
-    (xs : List (Result X LRLexError)) × (bounds : List Boundary) × IsRun d text (items_by number see xs) bounds
-    × EndsWriting old new r (lines d.rules text (items_by number see xs)) (list_any (λ x. is_err x) xs)
+abbrev pub WritesItems : Definition → List ℕ → Option (List ℕ) → Option (List ℕ) → Result Ended EngineFault → Type 0
+WritesItems d text old new r =
+    (found : List Item) × (bounds : List Boundary) × IsRun d text found bounds × EndsWriting old new r (lines d.rules text found) (list_any is_error found)
 
 -- the lines of a run of the definition on the text were written, as far as the result says; nothing where memory runs out
-abbrev pub EndsLexing : {S X : Type 0} → (S → ℕ) → (X → LexemeParts S) → Definition → List ℕ → Option (List ℕ) → Option (List ℕ) → Result Ended EngineFault → Type 0
-EndsLexing number see d text old new (Ok x) = WritesRun number see d text old new (Ok x)
-EndsLexing number see d text old new (Err Memory) = Keeps old new
-EndsLexing number see d text old new (Err (Write e)) = WritesRun number see d text old new (Err (Write e))
+abbrev pub EndsLexing : Definition → List ℕ → Option (List ℕ) → Option (List ℕ) → Result Ended EngineFault → Type 0
+EndsLexing d text old new (Ok x) = WritesItems d text old new (Ok x)
+EndsLexing d text old new (Err Memory) = Keeps old new
+EndsLexing d text old new (Err (Write e)) = WritesItems d text old new (Err (Write e))
 
 -- all of the text at `Ok`, nothing where memory runs out, and the beginning of it where a write failed
 abbrev pub IsReport : {X : Type 0} → Option (List ℕ) → Option (List ℕ) → Result X EngineFault → List ℕ → Type 0

@@ -3,6 +3,7 @@ pub mod Engine
 pub mod FaultLines
 pub mod Lines
 pub mod Program
+pub mod Scanning
 pub mod Texts
 pub mod Words
 pub mod Writing

@@ -1,19 +1,20 @@
 //! Builds a lexer from a rule text, lexes an input and writes a line for each item.
-ghost use Rattle.std.specs.Prelude.{◌≡◌, All, is_err};
+ghost use Rattle.std.specs.Prelude.{◌≡◌, ℕ, All, List, Option, is_err, true};
 ghost use Rattle.std.specs.List.{list_any};
 ghost use Rattle.lrlex_base.specs.Spans.{Fits, as_span};
 ghost use Rattle.lrlex_base.specs.Edits.{edited};
 ghost use Rattle.lrlex_cli.specs.Engine.{IsEngineRun, EndsWriting, EndsLexing, IsReport};
-ghost use Rattle.lrlex_cli.specs.Lines.{lines};
+ghost use Rattle.lrlex_cli.specs.Writing.{Writes};
 ghost use Rattle.lrlex_cli.specs.declared.engine.EngineFault.TheVariants.{Memory};
 ghost use Rattle.lrlex_rules.specs.LexBuildError.{IsPlaced};
-ghost use Rattle.lrlex.specs.ItemLaws.{FitsText};
-ghost use Rattle.lrlex.specs.Views.{definition_of, item_of, items_by};
+ghost use Rattle.lrlex.specs.Active.{is_state};
+ghost use Rattle.lrlex.specs.Views.{definition_of};
 ghost use Rattle.lrlex_cli.specs.FaultLines.{fault_lines};
 
 use crate::fault_lines::fault_lines;
 use crate::lines::write_lines;
 use crate::messages::{CANNOT_WRITE, OUT_OF_MEMORY};
+use crate::scanning::{first_pass, second_pass};
 use crate::writing::{ROOM, write_bytes};
 use lrlex::{LRLexError, LRNonStreamingLexerDef, LexBuildError, LexFlags};
 use lrlex_base::{Edit, LexerTypes};
@@ -66,6 +67,18 @@ impl From<AllocError> for EngineFault {
     }
 }
 
+/// How a run ended whose lines were written with this result; `stopped` is whether an error stopped it.
+fn ending(written: io::Result<()>, stopped: bool) -> Result<Ended, EngineFault>
+    ensures { (old new : Option (List ℕ)) (text : List ℕ) → Writes old new written text
+        → EndsWriting old new result text stopped }
+{
+    match written {
+        Ok(()) if stopped => Ok(Ended::Stopped),
+        Ok(()) => Ok(Ended::Lexed),
+        Err(fault) => Err(EngineFault::Write(fault)),
+    }
+}
+
 /// Whether one of the items is an error.
 fn has_error<X>(items: &[Result<X, LRLexError>]) -> bool
     ensures { result ≡ list_any (λ item. is_err item) items.now }
@@ -73,45 +86,30 @@ fn has_error<X>(items: &[Result<X, LRLexError>]) -> bool
     items.iter().any(|item| item.is_err())
 }
 
-/// Writes a line for each item of a run, and returns whether an error stopped the run. The items fit the input.
-fn write_items<L: LexerTypes<LexErrorT = LRLexError>, W: Write>(
-    alloc: Global,
-    definition: &LRNonStreamingLexerDef<L>,
-    input: &str,
-    items: &[Result<L::LexemeT, LRLexError>],
-    out: &mut W,
-) -> Result<Ended, EngineFault>
-    requires { All (λ item. FitsText input.now (item_of L.StorageT.number L.LexemeT.seen item))
-        items.now }
-    ensures { EndsWriting (W.contents out.old) (W.contents out.new) result
-        (lines (definition_of L.StorageT.number definition.now).rules input.now
-        (items_by L.StorageT.number L.LexemeT.seen items.now))
-        (list_any (λ item. is_err item) items.now) }
-{
-    let mut waiting = Vec::with_capacity(alloc, ROOM)?;
-    let stopped = has_error(items);
-    if let Err(fault) = write_lines::<L, W>(out, &mut waiting, definition, input, items) {
-        return Err(EngineFault::Write(fault));
-    }
-    if stopped {
-        Ok(Ended::Stopped)
-    } else {
-        Ok(Ended::Lexed)
-    }
-}
-
-/// Lexes the input and writes a line for each item.
+/// Lexes the input and writes a line for each item. No list of the items is kept. The definition has start state 0.
 fn write_lexed<L: LexerTypes<LexErrorT = LRLexError>, W: Write>(
     alloc: Global,
     definition: &LRNonStreamingLexerDef<L>,
     input: &str,
     out: &mut W,
 ) -> Result<Ended, EngineFault>
-    ensures { EndsLexing L.StorageT.number L.LexemeT.seen (definition_of L.StorageT.number definition.now) input.now
+    requires { is_state (definition_of L.StorageT.number definition.now) 0 ≡ true }
+    ensures { EndsLexing (definition_of L.StorageT.number definition.now) input.now
         (W.contents out.old) (W.contents out.new) result }
 {
-    let lexed = definition.run(alloc, input)?;
-    write_items::<L, W>(alloc, definition, input, lexed.items(), out)
+    let mut waiting = Vec::with_capacity(alloc, ROOM)?;
+    let mut scanner = definition.scanner(alloc, input)?;
+    let first = first_pass(alloc, &mut scanner)?;
+    let written = second_pass::<L, W>(
+        alloc,
+        &mut scanner,
+        first,
+        definition,
+        input,
+        &mut waiting,
+        out,
+    );
+    ending(written, first.stopped())
 }
 
 /// Lexes the old text, lexes again after the edit, and writes a line for each item of the new text.
@@ -125,11 +123,14 @@ fn write_relexed<L: LexerTypes<LexErrorT = LRLexError>, W: Write>(
 ) -> Result<Ended, EngineFault>
     requires fits { Fits old.now edit.now.removed }
     requires gives { new.now ≡ edited old.now (as_span edit.now.removed) edit.now.put.now }
-    ensures { EndsLexing L.StorageT.number L.LexemeT.seen (definition_of L.StorageT.number definition.now) new.now
+    ensures { EndsLexing (definition_of L.StorageT.number definition.now) new.now
         (W.contents out.old) (W.contents out.new) result }
 {
     let lexed = definition.run(alloc, old)?.relex(alloc, edit, new)?;
-    write_items::<L, W>(alloc, definition, new, lexed.items(), out)
+    let mut waiting = Vec::with_capacity(alloc, ROOM)?;
+    let items = lexed.items();
+    let written = write_lines::<L, W>(out, &mut waiting, definition, new, items);
+    ending(written, has_error(items))
 }
 
 /// Builds a lexer from the rule text, lexes the input and writes a line for each item, which ends with U+000A.

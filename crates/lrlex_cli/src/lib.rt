@@ -7,6 +7,7 @@ mod fault_lines;
 mod lines;
 mod messages;
 pub mod program;
+mod scanning;
 pub mod texts;
 pub mod words;
 mod writing;

@@ -1,15 +1,18 @@
 //! The lines that the program writes for the items of a run.
-ghost use Rattle.std.specs.Prelude.{◌≡◌, [], ◌∷◌, ◌++◌, All, false, map, true};
+ghost use Rattle.std.specs.Prelude.{◌≡◌, [], ◌∷◌, ◌++◌, ◌-◌, All, false, map, true};
+ghost use Rattle.lrlex_base.specs.Spans.{Fits, span_end, span_start};
 ghost use Rattle.lrlex.specs.Errors.{stop_text};
 ghost use Rattle.lrlex.specs.ItemLaws.{FitsText};
+ghost use Rattle.lrlex.specs.Tiling.{Lexeme};
 ghost use Rattle.lrlex.specs.Views.{definition_of, item_of};
 ghost use Rattle.lrlex_cli.specs.Lines.{line, lines};
+ghost use Rattle.lrlex_cli.specs.Scanning.{last_lexeme, lexeme_by, stop_line};
 ghost use Rattle.lrlex_cli.specs.Writing.{Passes, Writes};
 
 use crate::messages::STOPPED_AT;
 use crate::writing::{flush, pass, pass_both};
-use lrlex::{LRLexError, LRNonStreamingLexerDef};
-use lrlex_base::{LexError, Lexeme, LexerTypes};
+use lrlex::{LRLexError, LRNonStreamingLexerDef, ScannedTile};
+use lrlex_base::{LexError, Lexeme, LexerTypes, Span};
 use std::io;
 use std::io::Write;
 
@@ -31,7 +34,7 @@ fn line_waits(waiting: &mut Vec<u8>, name: &[u8], matched: &[u8]) -> bool
     true
 }
 
-/// Passes on the line of a lexeme, where there is no room for it to wait: its rule's name, a blank and the matched text.
+/// Passes on the line of a lexeme, where there is no room for it to wait.
 #[inline(never)]
 fn pass_parts<W: Write>(
     out: &mut W,
@@ -48,7 +51,7 @@ fn pass_parts<W: Write>(
 
 /// Passes on the line of a lexeme: its rule's name, a blank and the matched text.
 #[inline(always)]
-fn pass_lexeme<W: Write>(
+fn pass_named<W: Write>(
     out: &mut W,
     waiting: &mut Vec<u8>,
     name: &str,
@@ -61,6 +64,26 @@ fn pass_lexeme<W: Write>(
         return Ok(());
     }
     pass_parts(out, waiting, name.as_bytes(), matched.as_bytes())
+}
+
+/// Passes on the line of the lexeme with this id and these bytes of the text.
+#[inline(always)]
+fn pass_lexeme<L: LexerTypes, W: Write>(
+    out: &mut W,
+    waiting: &mut Vec<u8>,
+    definition: &LRNonStreamingLexerDef<L>,
+    text: &str,
+    id: L::StorageT,
+    span: Span,
+) -> io::Result<()>
+    requires { Fits text.now span }
+    ensures { Passes (W.contents out.old) (W.contents out.new) result
+        (waiting.old.items ++ line (definition_of L.StorageT.number definition.now).rules text.now
+        (Lexeme (L.StorageT.number id) (span_start span) (span_end span - span_start span) false))
+        waiting.new.items }
+{
+    let name = definition.name_of(id).unwrap_or("");
+    pass_named(out, waiting, name, &text[span.start()..span.end()])
 }
 
 /// Passes on the line of an error at this byte: the text that it displays.
@@ -89,9 +112,14 @@ fn pass_line<L: LexerTypes, W: Write>(
 {
     match item {
         Ok(lexeme) => {
-            let span = lexeme.span();
-            let name = definition.name_of(lexeme.tok_id()).unwrap_or("");
-            pass_lexeme(out, waiting, name, &text[span.start()..span.end()])
+            pass_lexeme::<L, W>(
+                out,
+                waiting,
+                definition,
+                text,
+                lexeme.tok_id(),
+                lexeme.span(),
+            )
         }
         Err(error) => pass_error(out, waiting, error.span().start()),
     }
@@ -116,4 +144,58 @@ pub(crate) fn write_lines<L: LexerTypes, W: Write>(
         pass_line::<L, W>(out, waiting, definition, text, item)?;
     }
     flush(out, waiting)
+}
+
+/// Passes on the line of a tile's lexeme, if it gives one. The lexeme fits the text.
+#[inline(always)]
+pub(crate) fn pass_tile<L: LexerTypes, W: Write>(
+    out: &mut W,
+    waiting: &mut Vec<u8>,
+    definition: &LRNonStreamingLexerDef<L>,
+    text: &str,
+    tile: ScannedTile<L::StorageT>,
+) -> io::Result<()>
+    requires { All (FitsText text.now) (lexeme_by L.StorageT.number tile) }
+    ensures { Passes (W.contents out.old) (W.contents out.new) result
+        (waiting.old.items ++ lines (definition_of L.StorageT.number definition.now).rules text.now
+        (lexeme_by L.StorageT.number tile)) waiting.new.items }
+{
+    match tile.id {
+        Some(id) => pass_lexeme::<L, W>(out, waiting, definition, text, id, tile.span),
+        None => Ok(()),
+    }
+}
+
+/// Passes on the line of the lexeme of a tile that may be there. The lexeme fits the text.
+pub(crate) fn pass_last<L: LexerTypes, W: Write>(
+    out: &mut W,
+    waiting: &mut Vec<u8>,
+    definition: &LRNonStreamingLexerDef<L>,
+    text: &str,
+    last: Option<ScannedTile<L::StorageT>>,
+) -> io::Result<()>
+    requires { All (FitsText text.now) (last_lexeme L.StorageT.number last) }
+    ensures { Passes (W.contents out.old) (W.contents out.new) result
+        (waiting.old.items ++ lines (definition_of L.StorageT.number definition.now).rules text.now
+        (last_lexeme L.StorageT.number last)) waiting.new.items }
+{
+    match last {
+        Some(tile) => pass_tile::<L, W>(out, waiting, definition, text, tile),
+        None => Ok(()),
+    }
+}
+
+/// Passes on the line of an error that may be there, at this byte.
+pub(crate) fn pass_stop<W: Write>(
+    out: &mut W,
+    waiting: &mut Vec<u8>,
+    error: Option<usize>,
+) -> io::Result<()>
+    ensures { Passes (W.contents out.old) (W.contents out.new) result
+        (waiting.old.items ++ stop_line error) waiting.new.items }
+{
+    match error {
+        Some(at) => pass_error(out, waiting, at),
+        None => Ok(()),
+    }
 }
