@@ -172,7 +172,7 @@ impl<'d, 't> Searcher<'d, 't> {
         Ok(Searcher { matchers, ends })
     }
 
-    /// Begins another pass over the text. The matchers stay, and the room for dead ends.
+    /// Begins another pass over the text. The matchers stay, and the known dead ends.
     pub(crate) fn rewind(&mut self)
         ensures matchers { self.new.matchers ≡ self.old.matchers }
         ensures lists { self.new.ends.lists ≡ self.old.ends.lists }
