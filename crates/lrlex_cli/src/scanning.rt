@@ -89,11 +89,6 @@ pub(crate) fn first_pass<S: Numbered>(
     }
 }
 
-/// Puts the scanner back to the front of its text.
-fn rewind<S: Numbered>(scanner: &mut Scanner<'_, '_, S>)
-    ensures { scanner.new ≡ at_front scanner.old.definition scanner.old.text }
-{}
-
 /// The next tile of a scanner that a first pass took further: with what it has made, no memory lacks.
 #[inline(always)]
 fn next_tile<S: Numbered>(
@@ -128,7 +123,7 @@ pub(crate) fn second_pass<L: LexerTypes<LexErrorT = LRLexError>, W: Write>(
     ensures { WritesRun (definition_of L.StorageT.number definition.now) text.now
         (is_some first.error) (W.contents out.old) (W.contents out.new) result }
 {
-    rewind(scanner);
+    scanner.rewind();
     let mut left = first.lexemes;
     while left > 0 {
         let tile = next_tile(alloc, scanner)?;

@@ -6,7 +6,7 @@ use Rattle.lrlex_cli.proofs.scanning.second_pass.Goals as goal
 
 pub loop-left-init : goal.loop-left-init
 loop-left-init g c =
-    none_written g.L.StorageT.Id.number (definition_of g.L.StorageT.Id.number c.args.definition.now) c.args.text.now c.args.first _ _ c.args.scanner.now c.rewind.new.scanner c.utf8.text
+    none_written g.L.StorageT.Id.number (definition_of g.L.StorageT.Id.number c.args.definition.now) c.args.text.now c.args.first _ _ c.args.scanner.now c.rewind.new.self c.utf8.text
     c.requires.found c.requires.definition c.requires.text c.rewind.ensures c.requires.none
 
 pub loop-left-smaller : goal.loop-left-smaller
