@@ -5,8 +5,7 @@ function whose contract it breaks (GATE.md alone), and then the edit as rt reads
 
 By function, as the gate tries those of GATE.md: the crate is copied, all its edits are made there, the other functions are left
 unproved (holes.py), and the prover must refuse each of these functions at a goal of its own. One check does for all: what an edit
-changes is a body, and a function is proved by the contracts of those that it calls. The prover's searches get half their counts
-(--margin), so that one that fails ends sooner: unedited, each of these functions is proved by them. In the gate a crate's edits are tried once
+changes is a body, and a function is proved by the contracts of those that it calls. In the gate a crate's edits are tried once
 rt ci has proved the libraries below it, with what processor time rt ci leaves; where not all are refused then, they are tried once
 more when rt ci has ended. Unedited (--unedited), each of these functions must be accepted: no edit is refused for what is left
 unproved.
@@ -106,7 +105,7 @@ def tried(edits, listed, much=0):
         rooms.copy_sources(listed[crate].folder, folder)
         whys = [changed(folder, changes) for *_, changes in edits]
         holes.leave_unproved(folder, crate, functions)
-        more = ["--allow-holes", "--margin", *[word for it in functions for word in ("--only", it)]]
+        more = ["--allow-holes", *[word for it in functions for word in ("--only", it)]]
         told = prover.checked(folder, crate, listed[crate].needs, more, much)
     return [judged(edit, why, told) for edit, why in zip(edits, whys)]
 
