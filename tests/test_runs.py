@@ -4,7 +4,7 @@ import unittest
 
 from support import replay
 from support.definitions import WORK, from_text, new_with_budget, with_budget
-from support.rule_texts import FAR, FAR_PAIRS, FAR_STATES, FAR_TWO_TABLES, FAR_WITHOUT_TABLE
+from support.rule_texts import FAR, FAR_FOUR_TABLES, FAR_PAIRS, FAR_STATES, FAR_TWO_TABLES, FAR_WITHOUT_TABLE
 from support.run_rows import Row, check_rows
 
 END = "%%\na$ 'X'\n[ab] 'Y'"
@@ -37,6 +37,7 @@ TABLES = [
     Row(from_text("%x s\n%%\na 'A'\n<s>b 'B'"), "", tables=2, without_table=0),
     Row(from_text("%x s\n%%\na <s>'A'"), "", tables=1, without_table=0),
     Row(from_text(FAR_TWO_TABLES), "", tables=2, without_table=0),
+    Row(from_text(FAR_FOUR_TABLES), "", tables=4, without_table=0),
 ]
 
 # Texts on which tables walk far past the end of a tile in vain.
@@ -45,6 +46,8 @@ FAR_TEXTS = [
     Row(from_text(FAR), "a" * 1_000_000 + "b", tiles=1, count=1),
     Row(from_text(FAR_PAIRS), "ab" * 500_000, tiles=1_000_000, count=1_000_000),
     Row(from_text(FAR_TWO_TABLES), "a" * 200_000, tiles=200_000, count=200_000),
+    # more dead ends than bytes: with a cap at as many this would take twenty minutes
+    Row(from_text(FAR_FOUR_TABLES), "a" * 1_000_000, tiles=1_000_000, count=1_000_000),
     Row(from_text(FAR_STATES), "a" * 200_000, tiles=200_000, count=200_000),
     Row(from_text(FAR_WITHOUT_TABLE), "a" * 200_000, tiles=200_000, count=200_000),
 ]

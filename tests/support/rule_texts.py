@@ -15,6 +15,8 @@ FAR = "%%\na 'A'\na*b 'B'"
 FAR_PAIRS = "%%\na 'A'\nb 'B'\n(ab)*c 'C'"
 
 FAR_TWO_TABLES = "%%\na 'A'\n(a{13})*b 'B'\n(a{17})*c 'C'"
+# four of these tables come to more dead ends than the text has bytes
+FAR_FOUR_TABLES = "%%\na 'A'\n(a{13})*b 'B'\n(a{17})*c 'C'\n(a{19})*d 'D'\n(a{23})*e 'E'\n"
 
 FAR_STATES = "%x s\n%%\na <s>'A'\na*b 'B'\n<s>a <INITIAL>'T'\n<s>a*c 'C'"
 
