@@ -34,8 +34,8 @@ ROWS = [
 ]
 
 OF_BYTES = ["median ns per byte", "best ns per byte", "worst ns per byte"]
-OF_EDIT = ["tiles cut anew", "matches asked", "median ns", "best ns", "worst ns", "times faster than run"]
-OF_KEY = ["most tiles cut anew for a key", "median ns for a key", "best ns for a key", "worst ns for a key"]
+OF_EDIT = ["tiles cut anew", "matches asked", "median ns", "best ns", "worst ns", "times faster than run", "cells looked at"]
+OF_KEY = ["most tiles cut anew for a key", "most cells looked at for a key", "median ns for a key", "best ns for a key", "worst ns for a key"]
 PLACES = ["front", "middle", "end"]
 
 
@@ -51,21 +51,28 @@ TIMED = [
         [
             "bytes", "rules", "states", "tables", "rows of tables", "rules without a table", "build ms",
             "bytes lexed", "lexemes", "tiles", "matches asked", "peak entries", "ns per match asked",
+            "cells looked at", "cells at most",
             *each(["run"], OF_BYTES), "lexemes by a scanner", *each(["scan", "lexer", "lines"], OF_BYTES),
             "peak kB before lexing", "peak kB",
         ],
-        {"bytes": "11", "rules": "3", "states": "1", "rules without a table": "0", "bytes lexed": "8", "lexemes": "2", "tiles": "4"},
+        {"bytes": "11", "rules": "3", "states": "1", "rules without a table": "0", "bytes lexed": "8", "lexemes": "2", "tiles": "4", "cells looked at": "13"},
     ),
     (
         "rules input 3 --no-tables",
         [],
-        {"tables": "0", "rules without a table": "3", "bytes lexed": "8", "lexemes": "2", "tiles": "4"},
+        {"tables": "0", "rules without a table": "3", "bytes lexed": "8", "lexemes": "2", "tiles": "4", "cells looked at": "0"},
     ),
-    ("rules input 3 --edits", ["run matches asked", "run median ns", *each(PLACES, OF_EDIT)], {}),
+    (
+        "rules input 3 --edits",
+        ["run matches asked", "run median ns", *each(PLACES, OF_EDIT)],
+        # a blank in front, one between 1 and 23, and one behind the place where lexing stops
+        {"front cells looked at": "2", "middle cells looked at": "7", "end cells looked at": "1"},
+    ),
     (
         "rules input 3 --keys",
         ["tiles", "peak kB before typing", *each(PLACES, OF_KEY), "peak kB"],
-        {"tiles": "4", "front most tiles cut anew for a key": "1"},
+        # the third key makes aaaabc
+        {"tiles": "4", "front most tiles cut anew for a key": "1", "front most cells looked at for a key": "7"},
     ),
 ]
 

@@ -1,8 +1,8 @@
 -- What an edit changed: the items, and the tiles.
-use Rattle.std.proofs.Common.{◌≡◌, ℕ, zero, suc, ◌+◌, ◌-◌, ◌^◌, ◌<◌, ◌≤◌, true, false, List, Result, All, None, Some, [], ◌∷◌, ◌++◌, length, map, drop, take, refl, sym, ap, ap₂, ◌∙◌, subst, arith, append-nil, append_assoc, length-append, map-id}
+use Rattle.std.proofs.Common.{◌≡◌, ℕ, suc, ◌+◌, ◌-◌, ◌^◌, ◌<◌, ◌≤◌, true, false, List, Result, All, [], ◌∷◌, ◌++◌, length, map, drop, take, refl, sym, ap, ap₂, ◌∙◌, subst, arith, append-nil, append_assoc, length-append, map-id}
 use Rattle.std.proofs.Math.Logic.{∥∥₁_elim}
 use Rattle.std.proofs.Props.{props}
-use Rattle.std.proofs.lemmas.List.{map-append, take_at, drop_at, drop_all, take-map, drop-map, length-map, length-take-le, take-append-le}
+use Rattle.std.proofs.lemmas.List.{map-append, take_at, drop_at, drop_all, take-map, length-map, length-take-le}
 use Rattle.std.proofs.lemmas.Option.{slice_get-get_or}
 use Rattle.lrlex_base.specs.LexemeParts.{LexemeParts}
 use Rattle.lrlex_base.specs.Spans.{as_span, Span as Cut}
@@ -11,11 +11,10 @@ use Rattle.lrlex_rules.specs.Definition.{Definition}
 use Rattle.lrlex_table.specs.Reach.{IsText}
 use Rattle.lrlex.specs.Active.{is_state}
 use Rattle.lrlex.specs.Changes.{IsChange, HasChanged, change, none_of, moved_past}
-use Rattle.lrlex.specs.Lookahead.{LooksAhead, IsSafe}
 use Rattle.lrlex.specs.Moves.{IsMovable, items_from}
 use Rattle.lrlex.specs.Progress.{HasRecut, HasMet, IsEditOf, HasReplacedTail, HasReplacedMiddle, front_of}
 use Rattle.lrlex.specs.Reach.{IsLexed, Reached}
-use Rattle.lrlex.specs.Tiling.{Item, Lexeme, Error, Tile, IsTiling, boundaries, rebased}
+use Rattle.lrlex.specs.Tiling.{Item, Lexeme, Error, IsTiling, boundaries, rebased}
 use Rattle.lrlex.specs.Views.{definition_by, item_of, items_by}
 use Rattle.lrlex_boundaries.specs.Boundaries.{Boundary, boundary_at, place_and_stack, no_boundary}
 use Rattle.lrlex_boundaries.specs.Entries.{plain}
@@ -28,7 +27,7 @@ use Rattle.lrlex.proofs.InPlaceLemmas.{met_items, met_within}
 use Rattle.lrlex.proofs.MeetLemmas.{rest_same}
 use Rattle.lrlex.proofs.PeakLemmas.{tiles_are, length-boundaries}
 use Rattle.lrlex.proofs.ReachLemmas.{length_now}
-use Rattle.lrlex.proofs.RecutLemmas.{old_lexed, old_looks}
+use Rattle.lrlex.proofs.RecutLemmas.{old_looks}
 use Rattle.lrlex.proofs.ResumeLemmas.{alike-edited, begin_alike}
 use Rattle.lrlex.proofs.SpliceLemmas.{AtBoundary, at_bound}
 use Rattle.lrlex.proofs.TailLemmas.{tail_tiling}

@@ -43,6 +43,7 @@ pub mod RestLemmas
 pub mod PieceLemmas
 mod PieceLawLemmas
 pub mod DocumentLemmas
+pub mod LinearLemmas
 pub mod ListLemmas
 pub mod NotedLemmas
 pub mod MergedLemmas

@@ -9,7 +9,7 @@ use Rattle.std.proofs.lemmas.List.{length-map, get_or-set_other}
 use Rattle.std.proofs.lemmas.Option.{slice_get-get_or, slice_get_past}
 use Rattle.std.proofs.lemmas.List.Folds.{list_any_more}
 use Rattle.regex_hir.specs.Text.{is_some_and}
-use Rattle.lrlex_rules.specs.Definition.{Definition, Rule, StartState}
+use Rattle.lrlex_rules.specs.Definition.{Rule, StartState}
 use Rattle.lrlex_rules.specs.RuleParts.{as_rule, as_state}
 use Rattle.lrlex_rules.specs.declared.states.StartState as start
 use Rattle.lrlex_table.specs.Tables.{is_among}

@@ -1,5 +1,5 @@
 -- Tiles that are cut anew, from an old boundary on.
-use Rattle.std.proofs.Common.{◌≡◌, ℕ, ◌+◌, ◌-◌, ◌<◌, ◌≤◌, true, List, Result, [], ◌∷◌, ◌++◌, Some, None, length, map, drop, take, slice_range, refl, sym, ap, ◌∙◌, subst, inl, inr, arith, append-nil, length-append, IsCharBoundary}
+use Rattle.std.proofs.Common.{◌≡◌, ℕ, ◌+◌, ◌-◌, ◌<◌, ◌≤◌, true, List, Result, Option, [], ◌∷◌, ◌++◌, Some, None, length, map, drop, take, slice_range, refl, sym, ap, ◌∙◌, subst, inl, inr, arith, append-nil, length-append, IsCharBoundary}
 use Rattle.std.specs.List.{sum_by}
 use Rattle.std.specs.List.Sorted.{IsPartitionedBy}
 use Rattle.std.proofs.lemmas.Bool.{cases_lt}
@@ -23,6 +23,7 @@ use Rattle.lrlex.specs.Relex.{AreCountsOf}
 use Rattle.lrlex.specs.Tiling.{Done, Item, asked_at, top}
 use Rattle.lrlex.specs.Progress.{HasAdvanced, HasRecut, HasEnded, HasMet, IsEditOf, IsUnderWay, StandsAt, Front, front_of}
 use Rattle.lrlex.specs.Views.{definition_by, items_by}
+use Rattle.lrlex.specs.Work.{IsLinearIn}
 use Rattle.lrlex.specs.declared.errors.LRLexError.{LRLexError}
 use Rattle.lrlex.specs.declared.definition.rule_table.RuleTable.{RuleTable}
 use Rattle.lrlex.specs.declared.lexing.step.Progress.{Progress}
@@ -215,10 +216,11 @@ module _ {S X : Type 0} (number : S → ℕ) (seen : X → LexemeParts S) (def :
 
   -- ---- where it ends
 
-  module _ (first : ℕ) (within : first ≤ length found) (before : items_by number seen (take first found) ≡ items_before (boundary_at olds k).place (items_by number seen found)) where
+  module _ (first : ℕ) (within : first ≤ length found) (before : items_by number seen (take first found) ≡ items_before (boundary_at olds k).place (items_by number seen found))
+      (cells : Option ℕ) (linear : IsLinearIn def new (length new) cells) where
     -- at a meeting
     pub cut_met : (p : Progress X) (j : ℕ) → AreCut p → HasMet (definition_by number def) number seen olds removed put new front p j
-        → HasRecut number seen def found olds numbers removed put new (record { index = k; first = first; progress = p; met = Some j })
+        → HasRecut number seen def found olds numbers removed put new (record { index = k; first = first; progress = p; met = Some j; looked = cells })
     cut_met p j c m = record {
       from = c.from;
       first = within;
@@ -231,12 +233,13 @@ module _ {S X : Type 0} (number : S → ℕ) (seen : X → LexemeParts S) (def :
           counts_met number def new olds numbers removed put p.place p.stack.items (front.items ++ items_by number seen p.items.items) (whole p) p.asked c.under_way.reached
           k c.from (omega (arith, whole_len p c, c.under_way.some)) c.exact c.unmet (length p.boundaries - 1) (omega (arith, whole_len p c, c.under_way.some))
           tail all is_bounds m.past j m.within m.place m.stack;
+      linear = linear;
     }
 
     -- at an error
     pub cut_stopped : (p n : Progress X) → AreCut p → ((j : ℕ) → Meets olds (whole p) removed.start removed.end (length put) j → ⊥) → HasEnded (definition_by number def) number seen new front p n
         → p.place < length new → n.asked ≡ p.asked + untabled_count def (top (plain p.stack.items)) → n.asked ≤ searches (definition_by number def) new (whole p)
-        → HasRecut number seen def found olds numbers removed put new (record { index = k; first = first; progress = n; met = None })
+        → HasRecut number seen def found olds numbers removed put new (record { index = k; first = first; progress = n; met = None; looked = cells })
     cut_stopped p n c none e lt is few =
         let D = definition_by number def in
         let same : whole n ≡ whole p = ap (λ ms. take k olds ++ ms) e.same in
@@ -252,10 +255,11 @@ module _ {S X : Type 0} (number : S → ℕ) (seen : X → LexemeParts S) (def :
               counts_stopped number def new olds numbers removed put p.place p.stack.items (front.items ++ items_by number seen p.items.items) (whole p) p.asked c.under_way.reached
               k c.from (omega (arith, whole_len p c, c.under_way.some)) c.exact c.unmet (length n.boundaries - 1) (omega (arith, whole_len p c, c.under_way.some, ap length e.same))
               all n.asked (is_bounds ∙ ap (λ ms. whole n ++ ms) (nil refl) ∙ append-nil (whole n) ∙ same) none lt is few;
+          linear = linear;
         }
 
     -- at the text's end
-    pub cut_ended : (p : Progress X) → AreCut p → length new ≤ p.place → HasRecut number seen def found olds numbers removed put new (record { index = k; first = first; progress = p; met = None })
+    pub cut_ended : (p : Progress X) → AreCut p → length new ≤ p.place → HasRecut number seen def found olds numbers removed put new (record { index = k; first = first; progress = p; met = None; looked = cells })
     cut_ended p c end =
         let D = definition_by number def in
         let all = front.items ++ items_by number seen p.items.items in
@@ -272,4 +276,5 @@ module _ {S X : Type 0} (number : S → ℕ) (seen : X → LexemeParts S) (def :
               counts_ended number def new olds numbers removed put p.place p.stack.items all (whole p) p.asked c.under_way.reached
               k c.from (omega (arith, whole_len p c, c.under_way.some)) c.exact c.unmet (length p.boundaries - 1) (omega (arith, whole_len p c, c.under_way.some))
               new_bounds (is_bounds ∙ ap (λ ms. whole p ++ ms) (nil refl) ∙ append-nil (whole p)) end;
+          linear = linear;
         }

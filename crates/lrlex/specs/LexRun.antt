@@ -12,8 +12,8 @@ use Rattle.lrlex.specs.declared.errors.LRLexError.{LRLexError}
 use Rattle.lrlex.specs.declared.definition.non_streaming.LRNonStreamingLexerDef.{LRNonStreamingLexerDef}
 
 -- The definition that a run went by, its text, what it gave, its boundaries, for each of them how many bytes past its place
--- the tiles before it looked (255 stands for more), what the call that made it took: searches, and tiles cut anew, and what that
--- call changed in the items and pieces.
+-- the tiles before it looked (255 stands for more), what the call that made it took: searches, tiles cut anew, and cells of tables that were looked at, if
+-- that is known; and what that call changed in the items and pieces.
 pub record Run (D X : Type 0) : Type 0 where
   pub definition : D
   pub text : List ℕ
@@ -22,11 +22,12 @@ pub record Run (D X : Type 0) : Type 0 where
   pub ahead : List ℕ
   pub asked : ℕ
   pub recut : ℕ
+  pub looked : Option ℕ
   pub changed : Changed
 
 -- a run that has these
-abbrev pub run_with : {D X : Type 0} → D → List ℕ → List (Result X LRLexError) → List Boundary → List ℕ → ℕ → ℕ → Changed → Run D X
-run_with d text items bounds ahead asked recut changed = record { definition = d; text = text; items = items; boundaries = bounds; ahead = ahead; asked = asked; recut = recut; changed = changed }
+abbrev pub run_with : {D X : Type 0} → D → List ℕ → List (Result X LRLexError) → List Boundary → List ℕ → ℕ → ℕ → Option ℕ → Changed → Run D X
+run_with d text items bounds ahead asked recut looked changed = record { definition = d; text = text; items = items; boundaries = bounds; ahead = ahead; asked = asked; recut = recut; looked = looked; changed = changed }
 
 -- it is the run of this definition on this text
 abbrev pub IsRunOf : {L X S E P Q : Type 0} → (S → ℕ) → (X → LexemeParts S) → LRNonStreamingLexerDef L X S E P Q → List ℕ → Run (LRNonStreamingLexerDef L X S E P Q) X → Type 0

@@ -11,7 +11,7 @@ use Rattle.lrlex_table.specs.Never.{WinsNowhereIn}
 use Rattle.lrlex_table.specs.declared.tables.Tables.{Tables}
 use Rattle.lrlex.specs.StateTables.{list_in}
 use Rattle.lrlex.specs.Active.{is_state, is_active, rule_at}
-use Rattle.lrlex.specs.Tiling.{Wins, Tile, End, Done, NoMatch, NoId, NoTarget}
+use Rattle.lrlex.specs.Tiling.{Wins, Tile, End, NoTarget}
 use Rattle.lrlex.specs.declared.definition.rule_table.RuleTable.{RuleTable}
 
 -- in no start state does the rule at place k win a text

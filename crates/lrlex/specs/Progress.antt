@@ -15,6 +15,7 @@ use Rattle.lrlex.specs.Reach.{IsLexed, IsRun, Reached, searches}
 use Rattle.lrlex.specs.Changes.{all_new}
 use Rattle.lrlex.specs.Relex.{AreCountsOf}
 use Rattle.lrlex_boundaries.specs.Entries.{AreEntries, plain}
+use Rattle.lrlex.specs.Work.{IsLinearIn}
 use Rattle.lrlex.specs.Tiling.{Item, rebased, stack_after, top}
 use Rattle.lrlex.specs.Views.{definition_by, items_by}
 use Rattle.lrlex.specs.declared.errors.LRLexError.{LRLexError}
@@ -45,13 +46,14 @@ pub record StandsAt {X : Type 0} (old : List Boundary) (numbers : List ℕ) (ind
   pub ahead : p.ahead.items ≡ slice_index numbers index ∷ []
   pub lookahead : p.lookahead ≡ slice_index numbers index
 
--- what was found, with so many tiles cut anew
-pub record HasFinished {X : Type 0} (p : Progress X) (cut : ℕ) (r : Lexed X) : Type 0 where
+-- what was found, with so many tiles cut anew and so many cells looked at
+pub record HasFinished {X : Type 0} (p : Progress X) (cut : ℕ) (cells : Option ℕ) (r : Lexed X) : Type 0 where
   pub items : r.items.items ≡ p.items.items
   pub boundaries : r.boundaries ≡ p.boundaries
   pub asked : r.asked ≡ p.asked
   pub ahead : r.ahead.items ≡ p.ahead.items
   pub recut : r.recut ≡ cut
+  pub looked : r.looked ≡ cells
   pub changed : r.changed ≡ all_new (length p.items.items) cut
 
 -- the same was found, at the same cost, and by the same change
@@ -61,6 +63,7 @@ pub record HasSame {X : Type 0} (old new : Lexed X) : Type 0 where
   pub ahead : new.ahead.items ≡ old.ahead.items
   pub asked : new.asked ≡ old.asked
   pub recut : new.recut ≡ old.recut
+  pub looked : new.looked ≡ old.looked
   pub changed : new.changed ≡ old.changed
 
 -- All old boundaries before the cursor stand before the place, as it was before the edit; where a meeting was found, the one at
@@ -147,6 +150,7 @@ pub record HasRecut {S X : Type 0} (number : S → ℕ) (seen : X → LexemePart
       → LooksAhead (definition_by number d) new (take a.index bounds ++ a.progress.boundaries) (take a.index numbers ++ a.progress.ahead.items)
   pub counts : (tail all : List Boundary) → (a.met ≡ None → tail ≡ []) → all ≡ (take a.index bounds ++ a.progress.boundaries) ++ tail
       → AreCountsOf (definition_by number d) (asks_by d new) bounds numbers (as_span removed) put new all a.progress.asked (length a.progress.boundaries - 1)
+  pub linear : IsLinearIn d new (length new) a.looked
 
 -- what was cut anew stands in place of all behind its front
 pub record HasReplacedTail {X : Type 0} (found : List (Result X LRLexError)) (bounds : List Boundary) (numbers : List ℕ) (a : Recut X)

@@ -1,5 +1,5 @@
 -- Start states by their places, and the tables of each.
-use Rattle.std.specs.Prelude.{◌≡◌, ℕ, ◌<◌, List, [], map, Some, All, Vec, unwrap_or, vec_len, slice_get, slice_index_or}
+use Rattle.std.specs.Prelude.{◌≡◌, ℕ, ◌<◌, List, [], ◌∷◌, map, max, Some, All, Vec, unwrap_or, vec_len, slice_get, slice_index_or}
 use Rattle.std.specs.List.{sum_by}
 use Rattle.std.specs.declared.alloc.Global.{Global}
 use Rattle.regex.specs.Patterns.{Re}
@@ -7,7 +7,7 @@ use Rattle.lrlex_rules.specs.Definition.{Rule}
 use Rattle.lrlex_rules.specs.RuleParts.{RuleParts, as_rule, as_state}
 use Rattle.lrlex_rules.specs.Patterns.{pattern_of}
 use Rattle.lrlex_rules.specs.declared.states.StartState as start
-use Rattle.lrlex_table.specs.Tables.{AreTablesOf, rows_of}
+use Rattle.lrlex_table.specs.Tables.{AreTablesOf}
 use Rattle.lrlex_table.specs.declared.tables.Tables.{Tables}
 use Rattle.lrlex.specs.Active.{no_rule}
 
@@ -40,12 +40,14 @@ abbrev pub AreServed : {S : Type 0} → List (RuleParts S) → List (List ℕ) �
 AreServed rules lists tables =
     (j : ℕ) (t : Tables) → slice_get tables j ≡ Some t → AreTablesOf (patterns_on (map (as_rule (λ _. 0)) rules) (list_in lists j)) t
 
--- how many tables these have, how many rows in all, and how many rules without a table
+-- how many tables these have, and how many rules without a table
 abbrev pub count_of_tables : List Tables → ℕ
 count_of_tables tables = sum_by (λ t. vec_len t.parts) tables
 
-abbrev pub count_of_rows : List Tables → ℕ
-count_of_rows tables = sum_by (λ t. rows_of t.parts.items) tables
-
 abbrev pub count_of_asked : List Tables → ℕ
 count_of_asked tables = sum_by (λ t. vec_len t.asked) tables
+
+-- the most tables that one of these lists has
+abbrev pub most_tables : List Tables → ℕ
+most_tables [] = 0
+most_tables (t ∷ ts) = max (vec_len t.parts) (most_tables ts)

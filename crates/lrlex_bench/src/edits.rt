@@ -10,21 +10,21 @@ use lrlex_bench_lib::{Fault, Relexed, Watch, boundary_from, tell_anew};
 /// What each edit inserts: one byte, of which any of the rule files in `bench` makes a tile or part of one.
 const PUT: &str = " ";
 
-/// Lexes once again after the edit. How many tiles were cut anew, and how many matches were asked for.
+/// Lexes once again after the edit. How many tiles were cut anew, how many matches were asked for, and how many cells were looked at.
 fn time_relex(
     rt: &HostRuntime,
     run: &Run<'_, '_>,
     edit: &Edit<'_>,
     new: &str,
     watch: &mut Watch,
-) -> Result<(usize, u128), Fault>
+) -> Result<(usize, u128, Option<usize>), Fault>
     requires fits { Fits run.now.text edit.now.removed }
     requires gives { new.now ≡ edited run.now.text (as_span edit.now.removed) edit.now.put.now }
 {
     watch.start(rt);
     let after = run.relex(rt.alloc(), edit, new)?;
     watch.stop(rt);
-    Ok((after.recut_tiles(), after.asked()))
+    Ok((after.recut_tiles(), after.asked(), after.looked()))
 }
 
 /// Lexes so many times again after the edit.
@@ -39,15 +39,16 @@ fn time_relexes(
     requires fits { Fits run.now.text edit.now.removed }
     requires gives { new.now ≡ edited run.now.text (as_span edit.now.removed) edit.now.put.now }
 {
-    let mut counts = (0, 0);
+    let mut counts = (0, 0, None);
     for _ in 0..times {
         counts = time_relex(rt, run, edit, new, watch)?;
     }
-    let (lexed, asked) = counts;
+    let (lexed, asked, looked) = counts;
     let spread = watch.spread()?;
     Ok(Relexed {
         lexed,
         asked,
+        looked,
         spread,
     })
 }

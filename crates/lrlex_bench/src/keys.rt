@@ -40,14 +40,20 @@ fn type_keys(
     watch: &mut Watch,
 ) -> Result<Typed, Fault> {
     let mut most = 0usize;
+    let mut cells = 0usize;
     let mut place = from;
     for _ in 0..keys {
         time_key(rt, document, place, watch)?;
         most = most.max(document.recut_tiles());
+        cells = cells.max(document.looked().unwrap_or(usize::MAX));
         place = place.saturating_add(KEY.len());
     }
     let spread = watch.spread()?;
-    Ok(Typed { most, spread })
+    Ok(Typed {
+        most,
+        cells,
+        spread,
+    })
 }
 
 /// Types so many keys at the front of the document, in its middle and at its end, and prints what that took.

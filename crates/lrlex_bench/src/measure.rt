@@ -41,6 +41,8 @@ fn counts_of(run: &Run<'_, '_>) -> Counts {
         tiles: run.tiles(),
         asked: run.asked(),
         peak: run.entries_peak(),
+        looked: run.looked(),
+        most: run.definition().most_cells(run.text().len()),
     }
 }
 

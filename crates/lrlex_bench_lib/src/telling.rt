@@ -51,6 +51,14 @@ impl Sizes {
     }
 }
 
+/// Prints how many cells of tables were looked at, if that is known.
+fn tell_cells(rt: &HostRuntime, looked: Option<usize>) -> io::Result<()> {
+    match looked {
+        Some(cells) => println!(rt; "cells looked at: {cells}"),
+        None => println!(rt; "cells looked at: unknown"),
+    }
+}
+
 /// What a run counts.
 #[derive(Clone, Copy)]
 pub struct Counts {
@@ -62,6 +70,10 @@ pub struct Counts {
     pub asked: u128,
     /// The most runs of equal neighbours in a stack of states.
     pub peak: usize,
+    /// Cells of tables that were looked at, if that is known.
+    pub looked: Option<usize>,
+    /// How many that may be.
+    pub most: usize,
 }
 
 impl Counts {
@@ -72,6 +84,8 @@ impl Counts {
         tiles: 0,
         asked: 0,
         peak: 0,
+        looked: None,
+        most: 0,
     };
 
     /// Prints the counts, and how long a match took that was asked for.
@@ -82,11 +96,15 @@ impl Counts {
             tiles,
             asked,
             peak,
+            looked,
+            most,
         } = *self;
         let each = Hundredths::of(nanos, asked);
         println!(rt;
             "bytes lexed: {end}\nlexemes: {lexemes}\ntiles: {tiles}\nmatches asked: {asked}\npeak entries: {peak}\nns per match asked: {each}"
-        )
+        )?;
+        tell_cells(rt, looked)?;
+        println!(rt; "cells at most: {most}")
     }
 }
 
@@ -153,6 +171,8 @@ pub struct Relexed {
     pub lexed: usize,
     /// Matches asked for.
     pub asked: u128,
+    /// Cells of tables that were looked at, if that is known.
+    pub looked: Option<usize>,
     /// The times, in nanoseconds.
     pub spread: Spread,
 }
@@ -163,6 +183,7 @@ impl Relexed {
         let Relexed {
             lexed,
             asked,
+            looked,
             spread,
         } = *self;
         let Spread {
@@ -174,6 +195,8 @@ impl Relexed {
         println!(rt;
             "{name} tiles cut anew: {lexed}\n{name} matches asked: {asked}\n{name} median ns: {median}\n{name} best ns: {best}\n{name} worst ns: {worst}\n{name} times faster than run: {faster}"
         )?;
+        print!(rt; "{name} ")?;
+        tell_cells(rt, looked)?;
         Ok(())
     }
 }
@@ -183,6 +206,8 @@ impl Relexed {
 pub struct Typed {
     /// The most tiles that a key cut anew.
     pub most: usize,
+    /// The most cells of tables that a key looked at.
+    pub cells: usize,
     /// The times of the keys, in nanoseconds.
     pub spread: Spread,
 }
@@ -190,14 +215,18 @@ pub struct Typed {
 impl Typed {
     /// Prints it under this name.
     fn tell(&self, rt: &HostRuntime, name: &str) -> io::Result<()> {
-        let Typed { most, spread } = *self;
+        let Typed {
+            most,
+            cells,
+            spread,
+        } = *self;
         let Spread {
             median,
             best,
             worst,
         } = spread;
         println!(rt;
-            "{name} most tiles cut anew for a key: {most}\n{name} median ns for a key: {median}\n{name} best ns for a key: {best}\n{name} worst ns for a key: {worst}"
+            "{name} most tiles cut anew for a key: {most}\n{name} most cells looked at for a key: {cells}\n{name} median ns for a key: {median}\n{name} best ns for a key: {best}\n{name} worst ns for a key: {worst}"
         )
     }
 }

@@ -89,7 +89,7 @@ pub(crate) fn first_pass<S: Numbered>(
     }
 }
 
-/// The next tile of a scanner that a first pass took further: with what it has made, no memory lacks.
+/// The next tile. A first pass came further and has made what this needs, so neither fault comes.
 #[inline(always)]
 fn next_tile<S: Numbered>(
     alloc: Global,

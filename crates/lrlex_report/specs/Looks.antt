@@ -29,7 +29,7 @@ behind_caret Bracket = Caret
 behind_caret Caret = Other
 behind_caret Other = Other
 
--- a group, an alternative or what a group's flags are for begins behind it
+-- behind this byte a group begins, an alternative, or the rest of a group that begins with flags
 abbrev pub begins_part : ℕ → Bool
 begins_part b = (b == byte "(") || ((b == byte "|") || (b == byte ":"))
 

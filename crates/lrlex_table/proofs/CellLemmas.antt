@@ -58,6 +58,9 @@ cell_marked t cell i read = subst (λ x. is_marked x ≡ wins_at t.wins.items (r
 pub cell_within : (t : Table) (cell i : ℕ) → cell ≡ slice_index_or t.cells.items i 0 → row_in cell < length t.wins.items
 cell_within t cell i read = subst (λ x. row_in x < length t.wins.items) (sym read) (t.sound.2 i)
 
+pub row_within : (t : Table) (r i : ℕ) → r ≡ slice_index_or (next_rows t) i 0 → r < length t.wins.items
+row_within t r i is = subst (λ q. q < length t.wins.items) (sym (row_at t.cells.items i) ∙ sym is) (t.sound.2 i)
+
 -- the rows are those that were marked
 pub rows_back : (cells next : List ℕ) → length cells ≡ length next → ((i : ℕ) → i < length next → row_in (slice_index_or cells i 0) ≡ slice_index_or next i 0) → rows_in cells ≡ next
 rows_back cells next len each =

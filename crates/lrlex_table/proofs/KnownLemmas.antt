@@ -6,7 +6,7 @@ use Rattle.std.proofs.lemmas.Bool.{true≢false, cases_Bool, cases_lt, cond-true
 use Rattle.std.proofs.lemmas.Option.{same_Some}
 use Rattle.std.proofs.lemmas.Nat.{mod_below}
 use Rattle.std.proofs.Math.Nat.{div-add-mod}
-use Rattle.lrlex_table.specs.DeadEnds.{is_same_end, more_of, AreDeadEndsIn, AreUpTo, HasNoneFrom, IsDeadEndIn, IsDue, IsStop, IsVain}
+use Rattle.lrlex_table.specs.DeadEnds.{is_same_end, more_of, AreDeadEndsIn, AreUpTo, AreWithin, HasNoneFrom, IsDeadEndIn, IsDue, IsStop, IsVain, IsWithin}
 use Rattle.lrlex_table.specs.Reach.{row_after, IsReach}
 use Rattle.lrlex_table.specs.Work.{reach_of}
 use Rattle.lrlex_table.specs.Table.{next_rows}
@@ -46,6 +46,9 @@ module _ {S : Type 0} (old new : HashMap (ℕ × ℕ × ℕ × ℕ) ℕ S) (same
   pub up_to_stays : (k to : ℕ) → AreUpTo k old → k ≤ to → AreUpTo to new
   up_to_stays k to are below list part row place after = all_same list part row place ∙ are list part row place (omega arith)
 
+  pub within_stays : (lists : List Tables) (text : List ℕ) → AreWithin lists text old → AreWithin lists text new
+  within_stays lists text are list part row place more there = are list part row place more (sym (all_same list part row place) ∙ there)
+
 -- what is known once a dead end was put there
 module _ {S : Type 0} (old new : HashMap (ℕ × ℕ × ℕ × ℕ) ℕ S) (e : DeadEnd) (put : Puts old new e) where
   abbrev key : ℕ × ℕ × ℕ × ℕ
@@ -69,6 +72,18 @@ module _ {S : Type 0} (old new : HashMap (ℕ × ℕ × ℕ × ℕ) ℕ S) (e : 
             let k = same_key key (list, part, row, place) same in
             let m : e.more ≡ more = same_Some _ _ (sym (cond-true _ _ _ same) ∙ sym (put (list, part, row, place)) ∙ there) in
             λ t at. subst (IsVain t row (drop place text)) m (same_end lists text e list part row place k.0 k.1 k.2 k.3 is t at)
+        | inr apart ↦ are list part row place more (sym (unchanged list part row place apart) ∙ there)
+      ]
+
+  pub within_after : (lists : List Tables) (text : List ℕ) → AreWithin lists text old → IsWithin lists text e.list e.part e.row e.place → AreWithin lists text new
+  within_after lists text are is list part row place more there =
+      elim (cases_Bool (is_same_end key (list, part, row, place))) [
+        | inl same ↦
+            let k = same_key key (list, part, row, place) same in
+            subst (IsWithin lists text list part row) k.3
+            (subst (λ r. IsWithin lists text list part r e.place) k.2
+            (subst (λ p. IsWithin lists text list p e.row e.place) k.1
+            (subst (λ l. IsWithin lists text l e.part e.row e.place) k.0 is)))
         | inr apart ↦ are list part row place more (sym (unchanged list part row place apart) ∙ there)
       ]
 

@@ -15,6 +15,8 @@ pub mod PartLemmas
 pub mod DeadEndLemmas
 pub mod WorkLemmas
 pub mod KnownLemmas
+pub mod LinearLemmas
+pub mod CountLemmas
 pub mod WinnerLemmas
 pub mod NeverLemmas
 pub mod ForCallers

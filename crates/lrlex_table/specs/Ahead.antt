@@ -1,5 +1,5 @@
 -- Matches that were found ahead (Ahead).
-use Rattle.std.specs.Prelude.{◌≡◌, ℕ, zero, suc, ◌+◌, ◌-◌, ◌<◌, List, All, [], length, drop, Some, slice_get, slice_index_or, IsCharBoundary}
+use Rattle.std.specs.Prelude.{◌≡◌, ℕ, zero, suc, ◌+◌, ◌-◌, ◌<◌, min, List, All, [], length, drop, Some, slice_get, slice_index_or, IsCharBoundary}
 use Rattle.regex.specs.Patterns.{Re}
 use Rattle.lrlex_table.specs.Tables.{AreTablesOf}
 use Rattle.lrlex_table.specs.Chain.{IsChainOf, IsWonBy, end_of, row_of, AreMarksOf}
@@ -24,6 +24,10 @@ won_at found k = (slice_index_or found k nothing).pattern
 abbrev pub start_at : List Found → ℕ → ℕ
 start_at found zero = 0
 start_at found (suc k) = end_at found k
+
+-- how many bytes of the text it looks at from `from` on
+abbrev pub bytes_ahead : Ahead → List ℕ → ℕ → ℕ
+bytes_ahead a text from = min (min a.bytes (length text - from)) 8192
 
 -- the matches end at the marks, each with the pattern that the chain has for its row
 abbrev pub AreNamed : Chain → List Mark → List Found → Type 0

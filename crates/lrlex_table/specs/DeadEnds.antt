@@ -1,6 +1,6 @@
 -- Dead ends (DeadEnds): where walks through a table go on in vain.
-use Rattle.std.specs.Prelude.{◌≡◌, ℕ, ◌+◌, ◌<◌, ◌≤◌, ◌%◌, ◌⊎◌, Bool, true, false, ◌&&◌, nat_eq, List, length, take, drop, Option, Some, None, option_map, option_and_then, slice_get}
-use Rattle.std.specs.HashMap.{HashMap, get, hash_map_len}
+use Rattle.std.specs.Prelude.{◌≡◌, ℕ, ◌+◌, ◌<◌, ◌≤◌, ◌%◌, ◌⊎◌, Bool, true, false, ◌&&◌, nat_eq, List, length, take, drop, Option, Some, None, option_map, option_and_then, unwrap_or, slice_get, vec_len}
+use Rattle.std.specs.HashMap.{HashMap, get}
 use Rattle.lrlex_table.specs.Cell.{wins_at}
 use Rattle.lrlex_table.specs.Table.{next_rows}
 use Rattle.lrlex_table.specs.Reach.{row_after, IsReach}
@@ -50,6 +50,21 @@ abbrev pub AreDeadEndsIn : {S : Type 0} → List Tables → List ℕ → HashMap
 AreDeadEndsIn lists text known =
     (list part row place more : ℕ) → more_of known list part row place ≡ Some more →
     IsDeadEndIn lists text (record { list = list; part = part; row = row; place = place; more = more })
+
+-- how many rows the table of this part of this list has, 0 where there is none
+abbrev pub rows_at : List Tables → ℕ → ℕ → ℕ
+rows_at lists list part = unwrap_or (option_map (λ t. vec_len t.wins) (table_at lists list part)) 0
+
+-- this is a row of the table of this part, and the place is a multiple of 64 within the text
+pub record IsWithin (lists : List Tables) (text : List ℕ) (list part row place : ℕ) : Type 0 where
+  pub below : row < rows_at lists list part
+  pub inside : place ≤ length text
+  pub due : place % 64 ≡ 0
+
+-- all that are known are at rows of their tables, and at multiples of 64 within the text
+abbrev pub AreWithin : {S : Type 0} → List Tables → List ℕ → HashMap (ℕ × ℕ × ℕ × ℕ) ℕ S → Type 0
+AreWithin lists text known =
+    (list part row place more : ℕ) → more_of known list part row place ≡ Some more → IsWithin lists text list part row place
 
 -- none is known after this place
 abbrev pub AreUpTo : {S : Type 0} → ℕ → HashMap (ℕ × ℕ × ℕ × ℕ) ℕ S → Type 0

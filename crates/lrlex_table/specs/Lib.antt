@@ -13,3 +13,4 @@ pub mod Chain
 pub mod Ahead
 pub mod DeadEnds
 pub mod Looking
+pub mod Linear

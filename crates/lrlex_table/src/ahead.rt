@@ -1,6 +1,6 @@
 //! Matches that were found ahead, one behind the other, and where it is worth while to look for more.
-ghost use Rattle.std.specs.Prelude.{◌≡◌, ◌+◌, ◌<◌, ◌≤◌, [], length, true};
-ghost use Rattle.lrlex_table.specs.Ahead.{IsFoundIn};
+ghost use Rattle.std.specs.Prelude.{◌≡◌, ◌↔◌, ◌+◌, ◌-◌, ◌*◌, ◌^◌, ◌<◌, ◌≤◌, min, [], length, vec_len, true, IsTrue};
+ghost use Rattle.lrlex_table.specs.Ahead.{IsFoundIn, bytes_ahead};
 
 use crate::chain::Chain;
 use crate::marks::{Found, MOST_BYTES, Mark};
@@ -17,8 +17,8 @@ const TRY_AGAIN: usize = 64;
 const MOST_WAIT: usize = 65_536;
 
 /// Matches that were found ahead from this place on, by the chain of this list: those from `at` on are left. The next one begins at `begin`,
-/// and each where the one before it ends. Where none is left, it isn't looked ahead before `begin`. So the bytes that are looked at are
-/// in proportion to the text: what is behind the last match that was found is part of the next one.
+/// and each where the one before it ends. Where none is left, it isn't looked ahead before `begin`, and never before `limit`: a look of so
+/// many bytes isn't followed by another in the first half of them. So looks take at most four cells for each byte of the text.
 #[derive(Drop)]
 pub(crate) struct Ahead {
     alloc: Global,
@@ -42,12 +42,18 @@ pub(crate) struct Ahead {
     pub(crate) missed: usize,
     /// How many bytes are passed before it is tried again.
     wait: usize,
+    /// How many cells were looked at: twice the bytes of each look, since a second lane may walk in vain. It stays at the greatest number.
+    pub(crate) cells: usize,
+    /// It isn't looked ahead again before this place, in the middle of the bytes that were looked at last.
+    pub(crate) limit: usize,
 }
 
 impl Ahead {
     /// Nothing found ahead yet, and no room for it.
     pub(crate) fn new(alloc: Global) -> Ahead
-        ensures { result.found.items ≡ [] }
+        ensures none { result.found.items ≡ [] }
+        ensures cells { result.cells ≡ 0 }
+        ensures limit { result.limit ≡ 0 }
     {
         Ahead {
             alloc,
@@ -64,12 +70,16 @@ impl Ahead {
             passed: 0,
             missed: 0,
             wait: FIRST_BYTES,
+            cells: 0,
+            limit: 0,
         }
     }
 
     /// Nothing found ahead any more, as for another pass over the text. The room that it has is kept.
     pub(crate) fn rewind(&mut self)
-        ensures { self.new.found.items ≡ [] }
+        ensures none { self.new.found.items ≡ [] }
+        ensures cells { self.new.cells ≡ 0 }
+        ensures limit { self.new.limit ≡ 0 }
     {
         let mut kept = mem::replace(self, Ahead::new(self.alloc));
         kept.found.clear();
@@ -91,10 +101,14 @@ impl Ahead {
         self.list != list && place >= self.end
     }
 
-    /// Whether to look ahead for matches of this list from this place on. Else it is put off. Nothing that was found is left.
+    /// Whether to look ahead for matches of this list from this place on. Else it is put off, as it is before `limit`. Nothing that was
+    /// found is left.
     pub(crate) fn is_due(&mut self, list: usize, place: usize) -> bool
         ensures list { result ≡ true → self.new.list ≡ list }
         ensures none { self.new.found.items ≡ [] }
+        ensures due { result ≡ true → self.old.limit ≤ place }
+        ensures cells { self.new.cells ≡ self.old.cells }
+        ensures limit { self.new.limit ≡ self.old.limit }
     {
         if self.has_more() {
             let left = self.end.saturating_sub(self.begin);
@@ -120,12 +134,18 @@ impl Ahead {
             self.begin = place.saturating_add(TRY_AGAIN);
             return false;
         }
+        if place < self.limit {
+            self.begin = self.limit;
+            return false;
+        }
         true
     }
 
     /// Doesn't look ahead from this place on for some time.
     pub(crate) fn put_off(&mut self, place: usize)
-        ensures { self.new.found.items ≡ [] }
+        ensures none { self.new.found.items ≡ [] }
+        ensures cells { self.new.cells ≡ self.old.cells }
+        ensures limit { self.new.limit ≡ self.old.limit }
     {
         self.found.clear();
         self.at = 0;
@@ -139,6 +159,9 @@ impl Ahead {
         ensures none { self.new.found.items ≡ [] }
         ensures at { self.new.at ≡ 0 }
         ensures from { self.new.from ≡ self.old.from }
+        ensures room { IsTrue result ↔ (bytes < vec_len self.new.marks) × (bytes < vec_len self.new.more) }
+        ensures cells { self.new.cells ≡ self.old.cells }
+        ensures limit { self.new.limit ≡ self.old.limit }
     {
         self.found.clear();
         self.at = 0;
@@ -149,19 +172,28 @@ impl Ahead {
         self.marks.resize(bytes + 1, none).is_ok() && self.more.resize(bytes + 1, none).is_ok()
     }
 
-    /// Looks for matches in the text from this place on.
+    /// Looks for matches in the text from this place on. Where there is no room for them, nothing is looked at.
     #[inline(never)]
     pub(crate) fn look(&mut self, chain: &Chain, text: &[u8], from: usize)
-        requires { from ≤ length text.now }
+        requires inside { from ≤ length text.now }
+        requires due { self.old.limit ≤ from }
         ensures list { self.new.list ≡ self.old.list }
         ensures found { IsFoundIn chain.now text.now from self.new }
+        ensures counted { bytes_ahead self.old text.now from < vec_len self.new.marks → bytes_ahead self.old text.now from < vec_len self.new.more →
+            self.new.cells ≡ min (self.old.cells + 2 * bytes_ahead self.old text.now from) (2 ^ 64 - 1) }
+        ensures kept { self.old.cells ≤ self.new.cells }
+        ensures cells { self.new.cells ≤ self.old.cells + 4 * (self.new.limit - from) }
+        ensures limit { self.old.limit ≤ self.new.limit }
+        ensures near { self.new.limit ≤ from + 4096 }
     {
         let many = self.bytes.min(text.len() - from).min(MOST_BYTES);
         self.from = from;
         self.begin = from.saturating_add(many);
-        if !self.has_room(many) || many >= self.marks.len() || many >= self.more.len() {
+        if !self.has_room(many) {
             return;
         }
+        self.cells = self.cells.saturating_add(2 * many);
+        self.limit = from + many.div_ceil(2);
         let count = chain.mark_in_lanes(text, from, many, &mut self.marks, &mut self.more);
         if count == 0 || self.found.reserve(count).is_err() {
             return;

@@ -7,13 +7,13 @@ ghost use Rattle.lrlex_table.specs.Reach.{IsDecidedBy};
 ghost use Rattle.lrlex_table.specs.Tables.{is_among, is_tabled, IsPartOf, AreTablesOf, IsBestAmong, IsTableScanOf, len_of};
 ghost use Rattle.lrlex_table.specs.Work.{cells, reach_of, IsLook};
 ghost use Rattle.lrlex_table.specs.Ahead.{AreAheadIn};
-ghost use Rattle.lrlex_table.specs.DeadEnds.{table_at, more_of, AreDeadEndsIn, AreUpTo, HasNoneFrom, IsDeadEndIn, IsDue, IsStop, IsVainPast};
+ghost use Rattle.lrlex_table.specs.DeadEnds.{table_at, more_of, AreDeadEndsIn, AreUpTo, AreWithin, HasNoneFrom, IsDeadEndIn, IsDue, IsStop, IsVainPast, IsWithin};
 
 use crate::ahead::Ahead;
 use crate::merged_tables::{Part, combined};
 use crate::table::{MARK, Table, row_of};
 use crate::tables::Tables;
-use crate::walk::{FAR, TableScan, Walk, cell_at};
+use crate::walk::{TableScan, Walk, cell_at};
 use std::alloc::Global;
 use std::collections::HashMap;
 
@@ -47,6 +47,7 @@ pub struct DeadEnds<'d, 't> {
     pub(crate) ahead: Ahead,
     ghost right: { AreDeadEndsIn lists.now text.now known },
     ghost up_to: { AreUpTo known_to known },
+    ghost within: { AreWithin lists.now text.now known },
     ghost marked: { AreAheadIn lists.now text.now ahead },
 }
 
@@ -58,60 +59,6 @@ fn is_due(place: usize, past: usize) -> bool
 }
 
 impl<'d, 't> DeadEnds<'d, 't> {
-    /// No dead ends yet, for this text and the tables of these lists.
-    pub fn new(alloc: Global, lists: &'d [Tables], text: &'t str) -> Self
-        ensures lists { result.lists.now ≡ lists.now }
-        ensures text { result.text.now ≡ text.now }
-    {
-        DeadEnds {
-            lists,
-            text,
-            known: HashMap::new(alloc),
-            known_to: 0,
-            forgot: false,
-            looked: 0,
-            ahead: Ahead::new(alloc),
-        }
-    }
-
-    /// Begins another pass over the text, as if none had been made. The room for dead ends and for matches found ahead is kept, and
-    /// the count of cells goes on. So a pass that makes the same calls finds the same, and asks for no memory that it didn't ask for
-    /// the first time.
-    pub fn rewind(&mut self)
-        ensures lists { self.new.lists ≡ self.old.lists }
-        ensures text { self.new.text ≡ self.old.text }
-        ensures none { hash_map_len self.new.known ≡ 0 }
-        ensures forgot { self.new.forgot ≡ false }
-        ensures looked { self.new.looked ≡ self.old.looked }
-    {
-        self.known.clear();
-        self.known_to = 0;
-        self.forgot = false;
-        self.ahead.rewind();
-    }
-
-    /// How many cells of tables walks have looked at, the end of the text counting as one. It stays at the greatest number, once
-    /// it is there.
-    pub fn looked(&self) -> usize
-        ensures { result ≡ self.now.looked }
-    {
-        self.looked
-    }
-
-    /// How many dead ends are known.
-    pub fn known(&self) -> usize
-        ensures { result ≡ hash_map_len self.now.known }
-    {
-        self.known.len()
-    }
-
-    /// Whether a dead end was forgotten for want of memory.
-    pub fn forgot(&self) -> bool
-        ensures { result ≡ self.now.forgot }
-    {
-        self.forgot
-    }
-
     /// How many bytes a walk reads from here on, if this is known to be a dead end.
     fn more_at(&self, list: usize, part: usize, row: u16, place: usize) -> Option<usize>
         ensures known { result ≡ more_of self.now.known list part row place }
@@ -124,10 +71,12 @@ impl<'d, 't> DeadEnds<'d, 't> {
     /// Keeps a dead end that isn't known. Where memory runs out it is forgotten, and a later walk takes longer.
     fn add(&mut self, end: DeadEnd)
         requires vain { IsDeadEndIn self.old.lists.now self.old.text.now end }
+        requires within { IsWithin self.old.lists.now self.old.text.now end.list end.part end.row end.place }
         requires new { more_of self.old.known end.list end.part end.row end.place ≡ None }
         ensures lists { self.new.lists ≡ self.old.lists }
         ensures text { self.new.text ≡ self.old.text }
         ensures looked { self.new.looked ≡ self.old.looked }
+        ensures ahead { self.new.ahead ≡ self.old.ahead }
         ensures forgot { self.old.forgot ≡ true → self.new.forgot ≡ true }
         ensures one_more { self.new.forgot ≡ false →
             hash_map_len self.new.known ≡ hash_map_len self.old.known + 1 }
@@ -223,6 +172,7 @@ impl<'d, 't> DeadEnds<'d, 't> {
         ensures lists { self.new.lists ≡ self.old.lists }
         ensures text { self.new.text ≡ self.old.text }
         ensures looked { self.new.looked ≡ self.old.looked }
+        ensures ahead { self.new.ahead ≡ self.old.ahead }
         ensures forgot { self.old.forgot ≡ true → self.new.forgot ≡ true }
         ensures kept { self.new.forgot ≡ false →
             looked + 64 * hash_map_len self.old.known ≤ walk.len + 129 + 64 * hash_map_len self.new.known }
@@ -269,6 +219,7 @@ impl<'d, 't> DeadEnds<'d, 't> {
         ensures text { self.new.text ≡ self.old.text }
         ensures looks { (n : ℕ) × IsStop self.old.known list index part.now.table place rest.now n × (n ≤ result.looked) }
         ensures looked { self.new.looked ≡ self.old.looked }
+        ensures ahead { self.new.ahead ≡ self.old.ahead }
         ensures forgot { self.old.forgot ≡ true → self.new.forgot ≡ true }
         ensures work { (ps : List Re) → IsPartOf ps 0 (length ps) part.now → self.new.forgot ≡ false →
             IsLook 2 1 (len_of result.winner) result.looked (hash_map_len self.old.known) (hash_map_len self.new.known) }
@@ -303,7 +254,7 @@ impl<'d, 't> DeadEnds<'d, 't> {
     /// Which pattern of the list wins at this place among those that have a table, where each walk stops at the first known
     /// dead end, and those that it comes to are kept.
     #[inline(never)]
-    fn winner_of_parts_at(
+    pub(crate) fn winner_of_parts_at(
         &mut self,
         tables: &Tables,
         list: usize,
@@ -319,6 +270,7 @@ impl<'d, 't> DeadEnds<'d, 't> {
         ensures lists { self.new.lists ≡ self.old.lists }
         ensures text { self.new.text ≡ self.old.text }
         ensures looked { self.new.looked ≡ self.old.looked }
+        ensures ahead { self.new.ahead ≡ self.old.ahead }
         ensures forgot { self.old.forgot ≡ true → self.new.forgot ≡ true }
         ensures work { (ps : List Re) → AreTablesOf ps tables.now → self.new.forgot ≡ false →
             IsLook 2 (vec_len tables.now.parts) (len_of result.winner) result.looked (hash_map_len self.old.known) (hash_map_len self.new.known) }
@@ -340,60 +292,14 @@ impl<'d, 't> DeadEnds<'d, 't> {
 
     /// Counts cells that were looked at.
     #[inline(always)]
-    fn count(&mut self, looked: usize)
+    pub(crate) fn count(&mut self, looked: usize)
         ensures lists { self.new.lists ≡ self.old.lists }
         ensures text { self.new.text ≡ self.old.text }
         ensures known { self.new.known ≡ self.old.known }
         ensures forgot { self.new.forgot ≡ self.old.forgot }
+        ensures ahead { self.new.ahead ≡ self.old.ahead }
         ensures looked { self.new.looked ≡ min (self.old.looked + looked) (2 ^ 64 - 1) }
     {
         self.looked = self.looked.saturating_add(looked);
-    }
-
-    /// Which pattern of the list wins at this place of the text among those that have a table, as `Tables::winner` returns it for
-    /// the rest of the text. A scan that went far in vain is made once more, to keep the dead ends, and each later walk stops at the
-    /// first that is known. So where no dead end was forgotten for want of memory, walks look at three cells at most for each byte of the
-    /// winner and 129 more, in each table, and at 192 for each dead end that is new. `looked` of the answer is a part of that: what
-    /// the last walks looked at.
-    #[inline(always)]
-    pub fn winner_at(&mut self, tables: &Tables, list: usize, place: usize, rest: &str) -> TableScan
-        requires tables { slice_get self.old.lists.now list ≡ Some tables.now }
-        requires rest { rest.now ≡ drop place self.old.text.now }
-        requires inside { place ≤ length self.old.text.now }
-        ensures winner { (ps : List Re) → AreTablesOf ps tables.now →
-            MatchOption result.winner
-            (IsBestAmong ps (is_tabled tables.now.parts.items) rest.now 0 0)
-            (λ t. (0 < t.len) ×
-            IsBestAmong ps (is_tabled tables.now.parts.items) rest.now t.pattern t.len) }
-        ensures decided { (ps : List Re) → AreTablesOf ps tables.now →
-            tables.now.asked.items ≡ [] → IsDecidedBy ps rest.now result.reach }
-        ensures past { IfSome result.winner (λ t. t.len < result.reach) }
-        ensures lists { self.new.lists ≡ self.old.lists }
-        ensures text { self.new.text ≡ self.old.text }
-        ensures counted { self.old.looked + result.looked < 2 ^ 64 → self.old.looked + result.looked ≤ self.new.looked }
-        ensures forgot { self.old.forgot ≡ true → self.new.forgot ≡ true }
-        ensures work { (ps : List Re) → AreTablesOf ps tables.now → self.new.forgot ≡ false →
-            IsLook 3 (vec_len tables.now.parts) (len_of result.winner) (self.new.looked - self.old.looked) (hash_map_len self.old.known) (hash_map_len self.new.known) }
-    {
-        if place >= self.ahead.begin {
-            if let Some(found) = self.found_at(tables, list, place, rest) {
-                return TableScan {
-                    winner: Some(found),
-                    reach: found.len + 1,
-                    looked: 0,
-                };
-            }
-        }
-        if place > self.known_to {
-            let scan = tables.winner(rest);
-            self.count(scan.looked);
-            // mostly decided by the reach alone
-            if scan.reach <= FAR || !scan.is_far() {
-                return scan;
-            }
-        }
-        let scan = self.winner_of_parts_at(tables, list, place, rest);
-        self.count(scan.looked);
-        scan
     }
 }

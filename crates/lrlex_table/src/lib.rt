@@ -13,6 +13,7 @@ mod determinize;
 mod hash;
 mod index;
 mod lanes;
+mod linear;
 mod looking;
 mod marking;
 mod marks;

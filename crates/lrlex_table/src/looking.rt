@@ -1,8 +1,9 @@
 //! Which pattern wins at a place, where matches that were looked for ahead tell it.
-ghost use Rattle.std.specs.Prelude.{◌≡◌, ◌+◌, ◌<◌, ◌≤◌, List, [], length, drop, Some, IfSome, IsCharBoundary, slice_get};
+ghost use Rattle.std.specs.Prelude.{◌≡◌, ℕ, ◌+◌, ◌<◌, ◌≤◌, List, [], length, drop, Some, IfSome, IsCharBoundary, slice_get};
 ghost use Rattle.regex.specs.Patterns.{Re};
 ghost use Rattle.lrlex_table.specs.Reach.{IsDecidedBy};
 ghost use Rattle.lrlex_table.specs.Looking.{HasSameEnds};
+ghost use Rattle.lrlex_table.specs.Linear.{HasLinearWork};
 ghost use Rattle.lrlex_table.specs.Tables.{is_tabled, AreTablesOf, IsBestAmong};
 
 use crate::dead_ends::DeadEnds;
@@ -30,6 +31,8 @@ impl<'d, 't> DeadEnds<'d, 't> {
         ensures lists { self.new.lists ≡ self.old.lists }
         ensures text { self.new.text ≡ self.old.text }
         ensures ends { HasSameEnds self.old self.new }
+        ensures counted { self.old.ahead.cells ≤ self.new.ahead.cells }
+        ensures linear { (most from at : ℕ) → HasLinearWork most from at self.old → HasLinearWork most from at self.new }
     {
         let _ = tables;
         let _ = text;
@@ -64,6 +67,8 @@ impl<'d, 't> DeadEnds<'d, 't> {
         ensures lists { self.new.lists ≡ self.old.lists }
         ensures text { self.new.text ≡ self.old.text }
         ensures ends { HasSameEnds self.old self.new }
+        ensures counted { self.old.ahead.cells ≤ self.new.ahead.cells }
+        ensures linear { (most from at : ℕ) → HasLinearWork most from at self.old → HasLinearWork most from at self.new }
     {
         let text = self.text;
         self.take(tables, list, place, text)
@@ -76,6 +81,8 @@ impl<'d, 't> DeadEnds<'d, 't> {
         ensures lists { self.new.lists ≡ self.old.lists }
         ensures text { self.new.text ≡ self.old.text }
         ensures ends { HasSameEnds self.old self.new }
+        ensures counted { self.old.ahead.cells ≤ self.new.ahead.cells }
+        ensures linear { (most from at : ℕ) → HasLinearWork most from at self.old → HasLinearWork most from at self.new }
     {
         let _ = tables;
         let most = self.ahead.found.len();
@@ -103,6 +110,8 @@ impl<'d, 't> DeadEnds<'d, 't> {
         ensures lists { self.new.lists ≡ self.old.lists }
         ensures text { self.new.text ≡ self.old.text }
         ensures ends { HasSameEnds self.old self.new }
+        ensures counted { self.old.ahead.cells ≤ self.new.ahead.cells }
+        ensures linear { (most from : ℕ) → HasLinearWork most from place self.old → HasLinearWork most from place self.new }
     {
         if !self.ahead.is_due(list, place) {
             return;
@@ -135,6 +144,8 @@ impl<'d, 't> DeadEnds<'d, 't> {
         ensures lists { self.new.lists ≡ self.old.lists }
         ensures text { self.new.text ≡ self.old.text }
         ensures ends { HasSameEnds self.old self.new }
+        ensures counted { self.old.ahead.cells ≤ self.new.ahead.cells }
+        ensures linear { (most from : ℕ) → HasLinearWork most from place self.old → HasLinearWork most from place self.new }
     {
         let text = self.text;
         if self.ahead.has_more() {

@@ -2,7 +2,9 @@ ghost use Rattle.std.specs.Prelude.{◌≡◌, ◌<◌, ◌≤◌};
 
 use crate::definition::names::name_of;
 use crate::definition::rule_table::RuleTable;
-use crate::definition::state_tables::{count_of_asked, count_of_rows, count_of_tables};
+use crate::definition::state_tables::{
+    count_of_asked, count_of_rows, count_of_tables, most_tables,
+};
 use lrlex_base::LexerTypes;
 use lrlex_rules::LexFlags;
 use lrlex_table::Budget;
@@ -16,8 +18,9 @@ pub struct LRNonStreamingLexerDef<L: LexerTypes> {
 
 impl<L: LexerTypes> LRNonStreamingLexerDef<L> {
     ghost use Rattle.lrlex.specs.Views.{definition_of, definition_tables};
-    ghost use Rattle.std.specs.Prelude.{Some, option_map, IfOk, ◌^◌};
-    ghost use Rattle.lrlex.specs.StateTables.{count_of_tables, count_of_rows, count_of_asked};
+    ghost use Rattle.std.specs.Prelude.{Some, option_map, min, IfOk, ◌-◌, ◌^◌};
+    ghost use Rattle.lrlex.specs.StateTables.{count_of_tables, count_of_asked, most_tables};
+    ghost use Rattle.lrlex_table.specs.Linear.{count_of_rows, most_cells};
     ghost use Rattle.lrlex_table.specs.Rows.{rows_held};
     ghost use Rattle.lrlex.specs.Ids.{name_of};
 
@@ -56,6 +59,24 @@ impl<L: LexerTypes> LRNonStreamingLexerDef<L> {
             → result ≡ count_of_rows (definition_tables self.now) }
     {
         count_of_rows(self.table.tables.as_slice())
+    }
+
+    /// How many cells of tables lexing a text of so many bytes looks at, at most: 390 for each byte and each table that a start
+    /// state has, 192 for each row of a table and each 64 bytes, 4 more for each byte, and 16,384. `LexRun::looked` is no more, where
+    /// it is told. It stays at the greatest number, once it is there.
+    pub fn most_cells(&self, bytes: usize) -> usize
+        ensures { count_of_rows (definition_tables self.now) < 2 ^ 64
+            → result ≡ min (most_cells (most_tables (definition_tables self.now)) bytes
+            (count_of_rows (definition_tables self.now)) bytes) (2 ^ 64 - 1) }
+    {
+        let lists = self.table.tables.as_slice();
+        let by_walks = most_tables(lists).saturating_mul(bytes).saturating_mul(390);
+        let blocks = bytes / 64 + 1;
+        let by_dead_ends = count_of_rows(lists)
+            .saturating_mul(blocks)
+            .saturating_mul(192);
+        let ahead = bytes.saturating_mul(4).saturating_add(16_384);
+        by_walks.saturating_add(by_dead_ends).saturating_add(ahead)
     }
 
     /// How many rules have no table, in all lists of rules that are active in a state.

@@ -2,11 +2,12 @@
 ghost use Rattle.std.specs.Prelude.{◌≡◌, ◌+◌, ◌<◌, ◌≤◌, ◌^◌, ℕ, List, All, [], ◌∷◌, map, length, IfOk, OnOk, IfSome};
 ghost use Rattle.regex.specs.Patterns.{Re};
 ghost use Rattle.lrlex_table.specs.Table.{IsTableOf};
+ghost use Rattle.lrlex_table.specs.Linear.{count_of_rows};
 ghost use Rattle.lrlex_table.specs.Rows.{table_rows, cached_rows, tables_rows, rows_held};
 ghost use Rattle.lrlex_table.specs.Tables.{AreCached, ArePartsOf, AreTablesOf};
 ghost use Rattle.lrlex_rules.specs.RuleParts.{as_rule};
 ghost use Rattle.lrlex_rules.specs.Patterns.{pattern_of};
-ghost use Rattle.lrlex.specs.StateTables.{pattern_in, patterns_on, AreServed, count_of_tables, count_of_rows, count_of_asked};
+ghost use Rattle.lrlex.specs.StateTables.{pattern_in, patterns_on, AreServed, count_of_tables, count_of_asked, most_tables};
 
 use lrlex_rules::Rule;
 use lrlex_table::{
@@ -202,6 +203,17 @@ pub(crate) fn count_of_rows(lists: &[Tables]) -> usize
         rows = rows.saturating_add(of_list.rows());
     }
     rows
+}
+
+/// The most tables that one of these lists has.
+pub(crate) fn most_tables(lists: &[Tables]) -> usize
+    ensures { result ≡ most_tables lists.now }
+{
+    let mut most = 0usize;
+    'lists: for of_list in lists {
+        most = most.max(of_list.count());
+    }
+    most
 }
 
 /// How many rules have no table, in all lists.

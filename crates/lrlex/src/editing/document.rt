@@ -13,6 +13,7 @@ ghost use Rattle.lrlex_rules.specs.RuleParts.{state_number};
 ghost use Rattle.lrlex.specs.Reach.{IsRun};
 ghost use Rattle.lrlex.specs.Changes.{all_new};
 ghost use Rattle.lrlex.specs.Relex.{WasChanged, WasRelexed};
+ghost use Rattle.lrlex.specs.Work.{HasLinearWork, IsLinearIn};
 ghost use Rattle.lrlex.specs.Searches.{asks, asks_by};
 ghost use Rattle.lrlex.specs.Utf16.{utf16_position};
 ghost use Rattle.lrlex_positions.specs.Lines.{AreLinesOf, HasPosition, IsNearestPlace};
@@ -125,6 +126,7 @@ fn lexed_text<S: Numbered, X: Lexeme<S>>(
     ensures exact { IfOk result (λ t. t.lexed.asked ≡ asks_by table.now text.now
         t.lexed.boundaries) }
     ensures lexed { IfOk result (λ t. t.lexed.recut ≡ length t.lexed.boundaries - 1) }
+    ensures linear { IfOk result (λ t. IsLinearIn table.now text.now (length text.now) t.lexed.looked) }
     ensures changed { IfOk result (λ t. t.lexed.changed ≡ all_new (length t.lexed.items.items)
         (length t.lexed.boundaries - 1)) }
 {
@@ -186,12 +188,13 @@ fn edit_in_place<S: Numbered, X: Lexeme<S>>(
     let to = edit.removed.end();
     put_text(&mut it.text, from, to, edit.put);
     match relex_in_place(alloc, table, &mut it.lexed, edit, &it.text) {
-        Ok((asked, changed)) => {
+        Ok((asked, changed, looked)) => {
             it.newlines = newlines;
             let lines = it.lines.after(alloc, edit, &it.text);
             it.lines = lines;
             it.lexed.asked = asked;
             it.lexed.recut = changed.pieces.inserted;
+            it.lexed.looked = looked;
             it.lexed.changed = changed;
             Ok(())
         }
@@ -255,6 +258,7 @@ impl<'lexer, L: LexerTypes<LexErrorT = LRLexError>> Model for Document<'lexer, L
       ahead = d.held.lexed.ahead.items;
       asked = d.held.lexed.asked;
       recut = d.held.lexed.recut;
+      looked = d.held.lexed.looked;
       changed = d.held.lexed.changed;
     } };
 
@@ -276,6 +280,7 @@ impl<'lexer, L: LexerTypes<LexErrorT = LRLexError>> Document<'lexer, L> {
         ensures text { IfOk result (λ d. d.text ≡ text.now) }
         ensures exact { IfOk result (λ d. d.asked ≡ asks definition.now text.now d.boundaries) }
         ensures lexed { IfOk result (λ d. d.recut ≡ length d.boundaries - 1) }
+        ensures linear { IfOk result (λ d. HasLinearWork definition.now text.now d.looked) }
         ensures changed { IfOk result (λ d. d.changed ≡ all_new (length d.items)
             (length d.boundaries - 1)) }
     {
@@ -329,6 +334,7 @@ impl<'lexer, L: LexerTypes<LexErrorT = LRLexError>> Document<'lexer, L> {
             self.old.ahead (span from to) put.now self.new) }
         ensures changed { OnOk result (WasChanged L.StorageT.number L.LexemeT.seen (span from to)
             put.now self.old self.new) }
+        ensures linear { OnOk result (HasLinearWork self.new.definition self.new.text self.new.looked) }
         ensures refused { IfErr result (λ e. e ≡ DoesNotFit ↔ ¬ (FitsAt self.old.text from to)) }
         ensures kept { OnErr result (self.new ≡ self.old) }
     {
@@ -423,6 +429,14 @@ impl<'lexer, L: LexerTypes<LexErrorT = LRLexError>> Document<'lexer, L> {
         ensures { result ≡ self.now.recut }
     {
         self.held.lexed.recut
+    }
+
+    /// How many cells of tables the last edit looked at, or, where there was none yet, lexing the text as a whole, counted as
+    /// `LexRun::looked` counts them. None where memory for what bounds it was refused.
+    pub fn looked(&self) -> Option<usize>
+        ensures { result ≡ self.now.looked }
+    {
+        self.held.lexed.looked
     }
 
     /// Which items and which pieces the last edit changed: from the `first` on, so many went and so many came. Those before stayed,

@@ -15,6 +15,7 @@ ghost use Rattle.lrlex.specs.LexRun.{IsRunOf, HasItemLaws};
 ghost use Rattle.lrlex.specs.Changes.{HasChanged};
 ghost use Rattle.lrlex.specs.Relex.{AreCountsOf, WasRelexed};
 ghost use Rattle.lrlex.specs.Views.{definition_by, definition_of, items_by, item_of};
+ghost use Rattle.lrlex.specs.Work.{HasLinearWork, HasWorked, IsLinearIn};
 ghost use Rattle.lrlex.specs.Progress.{HasRecut, HasSame, IsEditOf, HasReplacedTail, HasReplacedMiddle, TellsMeeting};
 
 use crate::definition::rule_table::RuleTable;
@@ -219,6 +220,8 @@ pub(crate) struct Recut<X> {
     pub(crate) progress: Progress<X>,
     /// The old boundary that was met, unless lexing came to an end before.
     pub(crate) met: Option<usize>,
+    /// How many cells of tables were looked at, if that is known.
+    pub(crate) looked: Option<usize>,
 }
 
 /// Lexes the text after an edit of the old run's, from the last boundary before which no tile looked at what the edit changes,
@@ -256,6 +259,7 @@ fn lex_changed<S: Numbered, X: Lexeme<S>>(
                 first,
                 progress,
                 met: Some(cursor),
+                looked: searcher.looked(table),
             });
         }
         if !advance(alloc, table, new, &mut rules, &mut searcher, &mut progress)? {
@@ -264,6 +268,7 @@ fn lex_changed<S: Numbered, X: Lexeme<S>>(
                 first,
                 progress,
                 met: None,
+                looked: searcher.looked(table),
             });
         }
     }
@@ -272,6 +277,7 @@ fn lex_changed<S: Numbered, X: Lexeme<S>>(
         first,
         progress,
         met: None,
+        looked: searcher.looked(table),
     })
 }
 
@@ -341,6 +347,7 @@ fn replace_middle<S: Numbered, X: Lexeme<S>>(
         first,
         progress,
         met: _,
+        looked: _,
     } = recut;
     let Progress {
         place: to,
@@ -363,15 +370,15 @@ fn replace_middle<S: Numbered, X: Lexeme<S>>(
     Ok(last)
 }
 
-/// Lexes the text after an edit in place, and answers how many searches that needed and what it changed, which the run has yet to
-/// be told. What is before these tiles stays, and what follows is moved. Where memory is refused, nothing changes.
+/// Lexes the text after an edit in place, and answers how many searches that needed, what it changed, and how many cells were looked
+/// at, which the run has yet to be told. What is before these tiles stays, and what follows is moved. Where memory is refused, nothing changes.
 pub(crate) fn relex_in_place<S: Numbered, X: Lexeme<S>>(
     alloc: Global,
     table: &RuleTable<S>,
     lexed: &mut Lexed<X>,
     edit: &Edit<'_>,
     new: &str,
-) -> Result<(u128, Changed), AllocError>
+) -> Result<(u128, Changed, Option<usize>), AllocError>
     requires known { IsEditOf S.number X.seen table.now lexed.old.items.items
         lexed.old.boundaries lexed.old.ahead.items edit.now.removed edit.now.put.now new.now }
     ensures run { OnOk result (IsRun (definition_by S.number table.now) new.now
@@ -392,10 +399,11 @@ pub(crate) fn relex_in_place<S: Numbered, X: Lexeme<S>>(
         (items_by S.number X.seen lexed.old.items.items)
         (items_by S.number X.seen lexed.new.items.items) lexed.old.boundaries
         lexed.new.boundaries n.1 n.1.pieces.inserted) }
+    ensures linear { IfOk result (λ n. IsLinearIn table.now new.now (length new.now) n.2) }
     ensures kept { OnErr result (HasSame lexed.old lexed.new) }
 {
     if !table.is_state(0) {
-        return Ok((0, Changed::none(lexed.items.len())));
+        return Ok((0, Changed::none(lexed.items.len()), Some(0)));
     }
     lexed.boundaries.tidy(alloc)?;
     let old = Old {
@@ -405,6 +413,7 @@ pub(crate) fn relex_in_place<S: Numbered, X: Lexeme<S>>(
     };
     let recut = lex_changed(alloc, table, &old, edit, new)?;
     let asked = recut.progress.asked;
+    let looked = recut.looked;
     let index = recut.index;
     let first = recut.first;
     let inserted = recut.progress.items.len();
@@ -426,6 +435,7 @@ pub(crate) fn relex_in_place<S: Numbered, X: Lexeme<S>>(
                     items: items_between,
                     pieces: tiles_between,
                 },
+                looked,
             ))
         }
         None => {
@@ -440,6 +450,7 @@ pub(crate) fn relex_in_place<S: Numbered, X: Lexeme<S>>(
                     items: items_behind,
                     pieces: tiles_behind,
                 },
+                looked,
             ))
         }
     }
@@ -464,11 +475,13 @@ fn relexed<S: Numbered, X: Lexeme<S>>(
         (as_span edit.now.removed) edit.now.put.now new.now r.boundaries r.asked r.recut) }
     ensures stateless { is_state (definition_by S.number table.now) 0 ≡ false →
         IfOk result (λ r. r.recut ≡ 0) }
+    ensures linear { IfOk result (λ r. IsLinearIn table.now new.now (length new.now) r.looked) }
 {
     let mut lexed = old.copied(alloc)?;
-    let (asked, changed) = relex_in_place(alloc, table, &mut lexed, edit, new)?;
+    let (asked, changed, looked) = relex_in_place(alloc, table, &mut lexed, edit, new)?;
     lexed.asked = asked;
     lexed.recut = changed.pieces.inserted;
+    lexed.looked = looked;
     lexed.changed = changed;
     Ok(lexed)
 }
@@ -495,6 +508,7 @@ impl<'lexer, L: LexerTypes<LexErrorT = LRLexError>> LexRun<'lexer, '_, L> {
             self.now.ahead (as_span edit.now.removed) edit.now.put.now) }
         ensures stateless { is_state (definition_of L.StorageT.number self.now.definition) 0 ≡ false →
             IfOk result (λ r. r.recut ≡ 0) }
+        ensures linear { IfOk result (λ r. HasLinearWork self.now.definition new.now r.looked) }
     {
         let lexed = relexed(alloc, &self.definition.table, &self.lexed, edit, new)?;
         Ok(LexRun {

@@ -29,7 +29,7 @@ pub struct ScanPlace {
 }
 
 impl<'d> Cursor<'d, '_> {
-    /// Goes back to the front of the text. What was made to lex it stays.
+    /// Goes back to the front of the text. The matchers stay, and all room.
     pub(crate) fn rewind<S: Numbered>(&mut self, table: &'d RuleTable<S>, text: &str)
         requires { IsCursorOf S.number table.now text.now self.old }
         ensures cursor { IsCursorOf S.number table.now text.now self.new }

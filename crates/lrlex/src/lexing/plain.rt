@@ -1,5 +1,5 @@
 //! A run takes many tiles at a time, where they were found ahead and their rules are plain.
-ghost use Rattle.std.specs.Prelude.{◌≡◌, ◌+◌, ◌-◌, ◌^◌, ◌<◌, ◌≤◌, ◌++◌, true, false, length, map, max, Option, Some, None, vec_len, vec_capacity, if◌then◌else◌, IfOk, IfSome, OnOk};
+ghost use Rattle.std.specs.Prelude.{◌≡◌, ℕ, ◌+◌, ◌-◌, ◌^◌, ◌<◌, ◌≤◌, ◌++◌, true, false, length, map, max, Option, Some, None, vec_len, vec_capacity, if◌then◌else◌, IfOk, IfSome, OnOk};
 ghost use Rattle.lrlex.specs.Tiling.{lexeme_of, top};
 ghost use Rattle.lrlex_boundaries.specs.Entries.{plain, AreEntries};
 ghost use Rattle.lrlex_boundaries.specs.Boundaries.{last_entries};
@@ -7,6 +7,7 @@ ghost use Rattle.lrlex.specs.Searcher.{AreOf, IsFoundAt, IsSearcherOf};
 ghost use Rattle.lrlex.specs.Plain.{IsRunning, id_or};
 ghost use Rattle.lrlex.specs.Progress.{Front, HasAdvanced, HasEnded, HasEntered, HasSearched, IsUnderWay};
 ghost use Rattle.lrlex.specs.Views.{definition_by, item_of};
+ghost use Rattle.lrlex.specs.Work.{HasGoneOn, HasWorked};
 
 use crate::definition::kinds::Kind;
 use crate::definition::rule_table::{RuleTable, StateRules};
@@ -111,6 +112,9 @@ fn take_plain<S: Numbered, X: Lexeme<S>>(
     ensures inside { IfOk result (λ _. progress.new.place < length text.now) }
     ensures onward { IfOk result (λ _. progress.old.place ≤ progress.new.place) }
     ensures searcher { IfOk result (λ _. IsSearcherOf table.now text.now searcher.new) }
+    ensures linear { IfOk result (λ _. (first : ℕ)
+        → HasWorked table.now first progress.old.place searcher.old.ends
+        → HasWorked table.now first progress.new.place searcher.new.ends) }
     ensures tile { IfOk result (λ next. IfSome next (IsFoundAt S.number table.now
         rules.entry.state text.now progress.new.place)) }
 {
@@ -197,6 +201,9 @@ pub(crate) fn take_ahead<S: Numbered, X: Lexeme<S>>(
     ensures inside { IfOk result (λ _. progress.new.place < length text.now) }
     ensures onward { IfOk result (λ _. progress.old.place ≤ progress.new.place) }
     ensures searcher { IfOk result (λ _. IsSearcherOf table.now text.now searcher.new) }
+    ensures linear { IfOk result (λ _. (first : ℕ)
+        → HasWorked table.now first progress.old.place searcher.old.ends
+        → HasWorked table.now first progress.new.place searcher.new.ends) }
     ensures tile { IfOk result (λ next. IfSome next (IsFoundAt S.number table.now
         rules.entry.state text.now progress.new.place)) }
 {
@@ -244,6 +251,9 @@ pub(crate) fn take_next<'d, S: Numbered, X: Lexeme<S>>(
         → IsUnderWay (definition_by S.number table.now) S.number
         X.seen text.now f progress.old
         → HasSearched S.number table.now text.now f progress.old progress.new) }
+    ensures linear { IfOk result (λ on. (first : ℕ)
+        → HasWorked table.now first progress.old.place searcher.old.ends
+        → HasGoneOn table.now text.now first progress.new.place on searcher.new.ends) }
 {
     let Some(tile) = next else {
         return advance(alloc, table, text, rules, searcher, progress);

@@ -1,4 +1,4 @@
-ghost use Rattle.std.specs.Prelude.{◌≡◌, ℕ, ◌+◌, ◌-◌, ◌*◌, ◌<◌, ◌≤◌, false, List, [], length, vec_len, IfOk, option_map, slice_index};
+ghost use Rattle.std.specs.Prelude.{◌≡◌, ℕ, ◌+◌, ◌-◌, ◌*◌, ◌<◌, ◌≤◌, false, List, [], length, vec_len, IfOk, Some, option_map, slice_index};
 ghost use Rattle.lrlex_rules.specs.Definition.{Definition};
 ghost use Rattle.lrlex.specs.Active.{is_state};
 ghost use Rattle.lrlex_boundaries.specs.Boundaries.{boundary_at, last_entries, most_entries};
@@ -7,6 +7,7 @@ ghost use Rattle.lrlex.specs.Reach.{Reached, IsLexed, IsRun, searches};
 ghost use Rattle.lrlex.specs.Searches.{asks, asks_by};
 ghost use Rattle.lrlex.specs.Lookahead.{LooksAhead};
 ghost use Rattle.lrlex.specs.Views.{definition_by, definition_of, items_by};
+ghost use Rattle.lrlex.specs.Work.{HasLinearWork, IsLinearIn};
 ghost use Rattle.lrlex.specs.LexRun.{IsRunOf, HasItemLaws, end_of, end_state_of};
 ghost use Rattle.lrlex_rules.specs.RuleParts.{state_number};
 ghost use Rattle.lrlex.specs.Changes.{all_new};
@@ -57,6 +58,7 @@ impl<'lexer, 'input, L: LexerTypes<LexErrorT = LRLexError>> Model for LexRun<'le
       ahead = r.lexed.ahead.items;
       asked = r.lexed.asked;
       recut = r.lexed.recut;
+      looked = r.lexed.looked;
       changed = r.lexed.changed;
     } };
 
@@ -119,6 +121,15 @@ impl<'lexer, 'input, L: LexerTypes<LexErrorT = LRLexError>> LexRun<'lexer, 'inpu
         ensures { result ≡ self.now.recut }
     {
         self.lexed.recut
+    }
+
+    /// How many cells of tables the call that made this run looked at. The end of the text counts as one, and looking for many tiles
+    /// ahead as twice the bytes that it was for. It stays at the greatest number, once it is there. None where memory for what
+    /// bounds it was refused. Searches of `regex` aren't counted.
+    pub fn looked(&self) -> Option<usize>
+        ensures { result ≡ self.now.looked }
+    {
+        self.lexed.looked
     }
 
     /// The greatest number of entries of a boundary's stack.
@@ -186,6 +197,8 @@ pub(crate) struct Lexed<X> {
     pub(crate) ahead: Vec<u8>,
     /// How many tiles were cut anew.
     pub(crate) recut: usize,
+    /// How many cells of tables were looked at, if that is known.
+    pub(crate) looked: Option<usize>,
     /// Which items and which tiles went, and which came.
     pub(crate) changed: Changed,
 }
@@ -203,6 +216,7 @@ impl<X: Copy> Lexed<X> {
             asked: self.asked,
             ahead: copied(alloc, &self.ahead)?,
             recut: self.recut,
+            looked: self.looked,
             changed: self.changed,
         })
     }
@@ -247,6 +261,7 @@ fn stateless<S: Numbered, X: Lexeme<S>>(alloc: Global) -> Result<Lexed<X>, Alloc
     ensures asked { IfOk result (λ r. r.asked ≡ 0) }
     ensures none { IfOk result (λ r. r.boundaries ≡ []) }
     ensures lexed { IfOk result (λ r. r.recut ≡ 0) }
+    ensures looked { IfOk result (λ r. r.looked ≡ Some 0) }
     ensures changed { IfOk result (λ r. r.changed ≡ all_new (vec_len r.items) 0) }
 {
     let mut items = Vec::new(alloc);
@@ -257,13 +272,14 @@ fn stateless<S: Numbered, X: Lexeme<S>>(alloc: Global) -> Result<Lexed<X>, Alloc
         asked: 0,
         ahead: Vec::new(alloc),
         recut: 0,
+        looked: Some(0),
         changed: Changed::all_new(1, 0),
     })
 }
 
-/// What was found, once lexing has come to its end.
-fn finished<X>(progress: Progress<X>) -> Lexed<X>
-    ensures { HasFinished progress (length progress.boundaries - 1) result }
+/// What was found, once lexing has come to its end, and how many cells were looked at.
+fn finished<X>(progress: Progress<X>, looked: Option<usize>) -> Lexed<X>
+    ensures { HasFinished progress (length progress.boundaries - 1) looked result }
 {
     let Progress {
         place: _,
@@ -282,6 +298,7 @@ fn finished<X>(progress: Progress<X>) -> Lexed<X>
         asked,
         ahead,
         recut,
+        looked,
         changed,
     }
 }
@@ -302,6 +319,7 @@ pub(crate) fn lex<S: Numbered, X: Lexeme<S>>(
         (definition_by S.number table.now).rules) }
     ensures exact { IfOk result (λ r. r.asked ≡ asks_by table.now text.now r.boundaries) }
     ensures lexed { IfOk result (λ r. r.recut ≡ length r.boundaries - 1) }
+    ensures linear { IfOk result (λ r. IsLinearIn table.now text.now (length text.now) r.looked) }
     ensures changed { IfOk result (λ r. r.changed ≡ all_new (length r.items.items)
         (length r.boundaries - 1)) }
 {
@@ -334,16 +352,16 @@ pub(crate) fn lex<S: Numbered, X: Lexeme<S>>(
             &mut progress,
         )?;
         if !goes_on {
-            return Ok(finished(progress));
+            return Ok(finished(progress, searcher.looked(table)));
         }
     }
-    Ok(finished(progress))
+    Ok(finished(progress, searcher.looked(table)))
 }
 
 impl<L: LexerTypes<LexErrorT = LRLexError>> LRNonStreamingLexerDef<L> {
     /// Cuts the text into tiles, from state 0 on: at each place the rule wins that matches the most bytes there, and of
     /// several the earliest. It stops where no rule matches, where the winner has a name and no id, and where its target
-    /// is no state.
+    /// is no state. No text makes it slow: the cells of tables that it looks at are linear in the text.
     pub fn run<'lexer, 'input>(
         &'lexer self,
         alloc: Global,
@@ -360,6 +378,7 @@ impl<L: LexerTypes<LexErrorT = LRLexError>> LRNonStreamingLexerDef<L> {
             (definition_of L.StorageT.number self.now).rules) }
         ensures exact { IfOk result (λ r. r.asked ≡ asks self.now text.now r.boundaries) }
         ensures lexed { IfOk result (λ r. r.recut ≡ length r.boundaries - 1) }
+        ensures linear { IfOk result (λ r. HasLinearWork self.now text.now r.looked) }
     {
         let lexed = lex(alloc, &self.table, text)?;
         Ok(LexRun {

@@ -117,9 +117,9 @@ impl<'lexer, 'input, S: Numbered> Scanner<'lexer, 'input, S> {
         }
     }
 
-    /// Goes back to the front of the text. What it has made stays: its room for the stack and for tiles found ahead, the matchers of
-    /// rules without a table, and what it knows of where looking ahead leads nowhere. So a second pass over the same tiles asks for no
-    /// memory, where the first one got all that it asked for. No contract says so.
+    /// Goes back to the front of the text. What it has made stays: the matchers of rules without a table, and the room for its stack,
+    /// for tiles found ahead and for where looking ahead leads nowhere. So a second pass over the same tiles asks for no memory, where
+    /// the first one got all that it asked for. No contract says so.
     pub fn rewind(&mut self)
         ensures { self.new ≡ at_front self.old.definition self.old.text }
     {

@@ -1,4 +1,4 @@
-ghost use Rattle.std.specs.Prelude.{◌≡◌, ◌+◌, ◌-◌, ◌^◌, ◌<◌, ◌≤◌, true, false, [], ◌∷◌, ◌++◌, length, map, max, None, option_map, IfOk, OnOk};
+ghost use Rattle.std.specs.Prelude.{◌≡◌, ℕ, ◌+◌, ◌-◌, ◌^◌, ◌<◌, ◌≤◌, true, false, [], ◌∷◌, ◌++◌, length, map, max, None, option_map, IfOk, OnOk};
 ghost use Rattle.lrlex.specs.Active.{is_state, lexeme_id};
 ghost use Rattle.lrlex_rules.specs.RuleParts.{as_rule};
 ghost use Rattle.lrlex.specs.Searches.{untabled_count};
@@ -9,6 +9,7 @@ ghost use Rattle.lrlex.specs.Reach.{Reached, IsLexed, searches};
 ghost use Rattle.lrlex.specs.Lookahead.{HasLooked, capped};
 ghost use Rattle.lrlex.specs.Searcher.{AreOf, IsSearcherOf};
 ghost use Rattle.lrlex.specs.Views.{definition_by, item_of, items_by};
+ghost use Rattle.lrlex.specs.Work.{HasGoneOn, HasWorked};
 ghost use Rattle.lrlex.specs.Progress.{Front, HasAdvanced, HasEnded, HasEntered, HasSearched, IsUnderWay};
 
 use crate::definition::rule_table::{RuleTable, StateRules};
@@ -175,6 +176,9 @@ pub(crate) fn advance<'d, S: Numbered, X: Lexeme<S>>(
         → IsUnderWay (definition_by S.number table.now) S.number
         X.seen text.now f progress.old
         → HasSearched S.number table.now text.now f progress.old progress.new) }
+    ensures linear { IfOk result (λ on. (first : ℕ)
+        → HasWorked table.now first progress.old.place searcher.old.ends
+        → HasGoneOn table.now text.now first progress.new.place on searcher.new.ends) }
 {
     let place = progress.place;
     table.enter(rules, top_of(&progress.stack));

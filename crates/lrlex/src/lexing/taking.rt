@@ -1,10 +1,11 @@
 //! A run takes what won at its place, whatever its rule is.
-ghost use Rattle.std.specs.Prelude.{◌≡◌, ◌+◌, ◌^◌, ◌<◌, true, false, length, drop, vec_len, IfOk, IfSome, OnOk, IsCharBoundary};
+ghost use Rattle.std.specs.Prelude.{◌≡◌, ◌+◌, ◌^◌, ◌<◌, max, true, false, length, drop, vec_len, IfOk, IfSome, OnOk, IsCharBoundary};
 ghost use Rattle.lrlex.specs.Tiling.{top};
 ghost use Rattle.lrlex_boundaries.specs.Entries.{plain, AreEntries};
 ghost use Rattle.lrlex_boundaries.specs.Boundaries.{last_entries};
 ghost use Rattle.lrlex.specs.Searcher.{HasAsked, IsScanOf};
 ghost use Rattle.lrlex.specs.Views.{definition_by};
+ghost use Rattle.lrlex.specs.Work.{won_bytes};
 ghost use Rattle.lrlex.specs.Progress.{Front, HasAdvanced, HasEnded, HasEntered, HasSearched, IsUnderWay};
 
 use crate::definition::active::{lacks_id, lexeme_id};
@@ -78,6 +79,8 @@ pub(crate) fn take_scan<S: Numbered, X: Lexeme<S>>(
         → IsUnderWay (definition_by S.number table.now) S.number
         X.seen text.now f progress.old
         → HasSearched S.number table.now text.now f progress.old progress.new) }
+    ensures place { IfOk result (λ on. on ≡ true
+        → progress.new.place ≡ progress.old.place + max 1 (won_bytes scan.winner)) }
 {
     let place = progress.place;
     progress.asked = asked;

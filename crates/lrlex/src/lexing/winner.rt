@@ -1,8 +1,9 @@
 //! The winner at a place: the best of what the tables tell and of what the rules without one answer, as they are asked.
-ghost use Rattle.std.specs.Prelude.{◌≡◌, ℕ, length, slice_index, [], ◌+◌, ◌^◌, ◌<◌, ◌≤◌, ◌⊎◌, true, false, vec_len, List, drop, IfOk, IfSome, IsCharBoundary};
+ghost use Rattle.std.specs.Prelude.{◌≡◌, ℕ, length, slice_index, [], max, ◌+◌, ◌-◌, ◌^◌, ◌<◌, ◌≤◌, ◌⊎◌, true, false, vec_len, List, drop, IfOk, IfSome, IsCharBoundary};
 ghost use Rattle.lrlex_rules.specs.Matchers.{AreMatchers};
 ghost use Rattle.lrlex.specs.Searcher.{AreOf, HasAsked, IsFoundAt, IsSearcherOf, IsScanOf};
 ghost use Rattle.lrlex.specs.Views.{definition_by};
+ghost use Rattle.lrlex.specs.Work.{HasWorked, IsLinearIn, won_bytes};
 
 use crate::definition::rule_table::{RuleTable, StateRules};
 use lrlex_base::Numbered;
@@ -70,6 +71,8 @@ fn tabled_winner<S: Numbered>(
     ensures tile { IfSome result.winner (λ t. IsCharBoundary text.now t.len
         × (t.rule < vec_len table.now.rules)) }
     ensures ends { (ends.new.lists ≡ ends.old.lists) × (ends.new.text ≡ ends.old.text) }
+    ensures linear { (first : ℕ) → HasWorked table.now first from ends.old
+        → HasWorked table.now first (from + max 1 (won_bytes result.winner)) ends.new }
 {
     let scan = ends.winner_at(rules.tables, rules.list, from, text);
     let Some(found) = scan.winner else {
@@ -116,6 +119,8 @@ fn winner_with_search<'d, S: Numbered>(
         asked.old asked.new) }
     ensures matchers { AreMatchers table.now.rules.items matchers.new }
     ensures ends { (ends.new.lists ≡ ends.old.lists) × (ends.new.text ≡ ends.old.text) }
+    ensures linear { IfOk result (λ s. (first : ℕ) → HasWorked table.now first from ends.old
+        → HasWorked table.now first (from + max 1 (won_bytes s.winner)) ends.new) }
 {
     let active = rules.active;
     let tables = rules.tables;
@@ -165,14 +170,25 @@ impl<'d, 't> Searcher<'d, 't> {
         table: &'d RuleTable<S>,
         text: &'t str,
     ) -> Result<Self, AllocError>
-        ensures { IfOk result (IsSearcherOf table.now text.now) }
+        ensures searcher { IfOk result (IsSearcherOf table.now text.now) }
+        ensures linear { IfOk result (λ s. (first : ℕ) → HasWorked table.now first first s.ends) }
     {
         let matchers = empty_matchers(alloc, &table.rules)?;
         let ends = DeadEnds::new(alloc, &table.tables, text);
         Ok(Searcher { matchers, ends })
     }
 
-    /// Begins another pass over the text. The matchers stay, and the known dead ends.
+    /// How many cells of tables were looked at. None where a dead end was forgotten for want of memory.
+    pub(crate) fn looked<S>(&self, table: &RuleTable<S>) -> Option<usize>
+        ensures { (input : List ℕ) (first place : ℕ) → IsSearcherOf table.now input self.now
+            → HasWorked table.now first place self.now.ends → place ≤ length input
+            → IsLinearIn table.now input (place - first) result }
+    {
+        let _ = table;
+        self.ends.looked()
+    }
+
+    /// Begins another pass over the text. The matchers stay, and the room for dead ends.
     pub(crate) fn rewind(&mut self)
         ensures matchers { self.new.matchers ≡ self.old.matchers }
         ensures lists { self.new.ends.lists ≡ self.old.ends.lists }
@@ -196,6 +212,8 @@ impl<'d, 't> Searcher<'d, 't> {
             → IfSome result (IsFoundAt S.number table.now rules.entry.state input place) }
         ensures searcher { (input : List ℕ) → IsSearcherOf table.now input self.old
             → IsSearcherOf table.now input self.new }
+        ensures linear { (first at : ℕ) → HasWorked table.now first at self.old.ends
+            → HasWorked table.now first at self.new.ends }
     {
         let found = self.ends.ahead_at(rules.tables, rules.list, place)?;
         let rule = active_place(rules.active, table.rules.len(), found.pattern);
@@ -230,6 +248,8 @@ impl<'d, 't> Searcher<'d, 't> {
             asked.old asked.new) }
         ensures searcher { (input : List ℕ) → IsSearcherOf table.now input self.old
             → IsSearcherOf table.now input self.new }
+        ensures linear { IfOk result (λ s. (first : ℕ) → HasWorked table.now first place self.old.ends
+            → HasWorked table.now first (place + max 1 (won_bytes s.winner)) self.new.ends) }
     {
         if rules.tables.asked().is_empty() {
             let ends = &mut self.ends;

@@ -1,4 +1,4 @@
-use Rattle.std.proofs.Common.{◌≡◌, ◌||◌, ◌==◌, ◌<◌, ℕ, List, Bool, false, get_or, length, sym, ap, ◌∙◌, refl, subst}
+use Rattle.std.proofs.Common.{◌≡◌, ◌||◌, ◌<◌, ℕ, List, Bool, false, get_or, length, sym, ap, ◌∙◌}
 use Rattle.std.proofs.Math.Bool.{or-false}
 use Rattle.lrlex.specs.Never.{stands_at}
 use Rattle.lrlex.proofs.MarkLemmas.{mark_more, stands_within, stands_past}

@@ -1,5 +1,5 @@
 use Rattle.std.proofs.Common.{◌≡◌, ◌<◌, ◌^◌, take}
-use Rattle.lrlex.specs.StateTables.{count_of_rows}
+use Rattle.lrlex_table.specs.Linear.{count_of_rows}
 use Rattle.lrlex.proofs.definition.state_tables.count_of_rows.Given as goal
 
 abbrev pub invariant-lists : goal.invariant-lists

@@ -1,5 +1,5 @@
 use Rattle.std.specs.List.Sorted.{IsPartitionedBy}
-use Rattle.std.proofs.Common.{◌≡◌, ◌^◌, ◌<◌, ◌++◌, length, sym, ap, ◌∙◌, subst, arith}
+use Rattle.std.proofs.Common.{◌≡◌, ◌^◌, ◌<◌, ◌≤◌, ◌++◌, length, sym, ap, ◌∙◌, subst, arith}
 use Rattle.lrlex_table.specs.Reach.{IsText}
 use Rattle.lrlex_table.proofs.ByteLemmas.{are_bytes}
 use Rattle.lrlex.specs.Searches.{IsLastSafe}
@@ -9,7 +9,9 @@ use Rattle.lrlex_boundaries.specs.Entries.{plain, AreEntries}
 use Rattle.lrlex.specs.Lookahead.{IsSafe, items_before}
 use Rattle.lrlex.specs.Moves.{begins_before}
 use Rattle.lrlex.specs.Views.{definition_by, items_by}
+use Rattle.lrlex.specs.Work.{HasWorked}
 use Rattle.lrlex.proofs.RecutLemmas.{new_len, old_lexed, old_looks, old_sorted, some_old, old_first_safe, old_order, front, whole, none_cut, one_cut, cut_met, cut_stopped, cut_ended}
+use Rattle.lrlex.proofs.LinearLemmas.{linear_in_all}
 use Rattle.lrlex.proofs.MeetLemmas.{none_met}
 use Rattle.lrlex.proofs.ReachLemmas.{entries_now}
 use Rattle.lrlex.proofs.editing.relex.lex_changed.Goals as goal
@@ -51,13 +53,16 @@ tiles-init g c =
       last = c.last_safe-index.ensures.last;
     }) in
     record {
-      searcher = c.in_ok-searcher.ensures;
+      searcher = c.in_ok-searcher.ensures.searcher;
       rules = subst (λ q. AreOf g.S.Numbered.number c.args.table.now q c.rules_in-rules.result) (sym c.rules_in-rules.ensures.state) c.rules_in-rules.ensures.rules;
       cut = none_cut g.S.Numbered.number g.X.Lexeme.seen c.args.table.now c.args.old.now.items.now c.args.old.now.boundaries.now c.args.old.now.ahead.now c.args.edit.now.removed c.args.edit.now.put.now c.args.new.now k c.requires.known.text c.in_ok-progress.progress c.requires.initial is c.requires.known.fits c.requires.known.gives
           (old_lexed g.S.Numbered.number g.X.Lexeme.seen c.args.table.now c.args.old.now.items.now c.args.old.now.boundaries.now c.args.old.now.ahead.now c.args.edit.now.removed c.args.edit.now.put.now c.args.new.now c.requires.known c.requires.initial)
           (old_looks g.S.Numbered.number g.X.Lexeme.seen c.args.table.now c.args.old.now.items.now c.args.old.now.boundaries.now c.args.old.now.ahead.now c.args.edit.now.removed c.args.edit.now.put.now c.args.new.now c.requires.known c.requires.initial) from c.in_ok-progress.ensures;
       cursor = c.boundaries_before_rest-cursor.ensures.within;
       behind = λ j lt. omega (arith, c.boundaries_before_rest-cursor.ensures.before j lt);
+      worked =
+          let first = (boundary_at o.boundaries.now k).place in
+          subst (λ at. HasWorked c.args.table.now first at c.in_ok-searcher.searcher.ends) (sym c.in_ok-progress.ensures.place) (c.in_ok-searcher.ensures.linear first);
     }
 
 pub meets-requires-clause-sorted : goal.meets-requires-clause-sorted
@@ -81,12 +86,16 @@ meets-requires-clause-room g c = omega (arith, new_len g.S.Numbered.number g.X.L
 
 pub returns-then-meets : goal.returns-then-meets
 returns-then-meets g c =
+    let first = (boundary_at c.args.old.now.boundaries.now c.last_safe-index.result).place in
     let at = c.meets.ensures.at in
     let yes = c.if-meets.true in
     let place : c.place.result ≡ (boundary_at c.args.old.now.boundaries.now c.last_safe-index.result).place = c.place.ensures in
     let before = c.count_before-first.ensures.before ∙ ap (λ i. items_before i (items_by g.S.Numbered.number g.X.Lexeme.seen c.args.old.now.items.now)) place in
     cut_met g.S.Numbered.number g.X.Lexeme.seen c.args.table.now c.args.old.now.items.now c.args.old.now.boundaries.now c.args.old.now.ahead.now c.args.edit.now.removed c.args.edit.now.put.now c.args.new.now c.last_safe-index.result
-    c.count_before-first.result c.count_before-first.ensures.within before c.tiles.progress c.meets.new.cursor c.tiles.invariant.cut (record {
+    c.count_before-first.result c.count_before-first.ensures.within before c.looked.result
+    (let le : c.tiles.progress.place ≤ length c.args.new.now = omega (arith, c.tiles-test.true) in
+    linear_in_all c.args.table.now c.args.new.now first c.tiles.progress.place c.looked.result le (c.looked.ensures c.args.new.now first c.tiles.progress.place c.tiles.invariant.searcher c.tiles.invariant.worked le))
+    c.tiles.progress c.meets.new.cursor c.tiles.invariant.cut (record {
       under_way = c.tiles.invariant.cut.under_way;
       within = at.within yes;
       past = at.past yes;
@@ -112,8 +121,12 @@ returns-then-not-branch g c =
     (λ past j within at same. c.meets.ensures.none c.if-meets.false past j within at (same ∙ ap (λ xs. plain xs) (sym c.deref.ensures.value))) in
     let before = c.count_before-first.ensures.before ∙ ap (λ i. items_before i (items_by g.S.Numbered.number g.X.Lexeme.seen o.items.now)) c.place.ensures in
     let searched = c.in_ok-advance.ensures.asked f cut.under_way in
+    let first = (boundary_at o.boundaries.now k).place in
+    let gone = c.in_ok-advance.ensures.linear first c.tiles.invariant.worked in
     cut_stopped g.S.Numbered.number g.X.Lexeme.seen c.args.table.now c.args.old.now.items.now c.args.old.now.boundaries.now c.args.old.now.ahead.now c.args.edit.now.removed c.args.edit.now.put.now c.args.new.now k
-    c.count_before-first.result c.count_before-first.ensures.within before p c.advance.new.progress cut none (c.in_ok-advance.ensures.ends c.if-not-branch.true f cut.under_way) c.tiles-test.true searched.exact searched.few
+    c.count_before-first.result c.count_before-first.ensures.within before c.looked-then-not-branch.result
+    (linear_in_all c.args.table.now c.args.new.now first gone.0 c.looked-then-not-branch.result gone.1 (c.looked-then-not-branch.ensures c.args.new.now first gone.0 c.in_ok-advance.ensures.held.1 gone.3 gone.1))
+    p c.advance.new.progress cut none (c.in_ok-advance.ensures.ends c.if-not-branch.true f cut.under_way) c.tiles-test.true searched.exact searched.few
 
 pub tiles-smaller : goal.tiles-smaller
 tiles-smaller g c =
@@ -139,10 +152,18 @@ tiles-preserved g c =
       cut = one_cut g.S.Numbered.number g.X.Lexeme.seen c.args.table.now c.args.old.now.items.now c.args.old.now.boundaries.now c.args.old.now.ahead.now c.args.edit.now.removed c.args.edit.now.put.now c.args.new.now k p c.advance.new.progress cut none on c.tiles-test.true (c.in_ok-advance.ensures.asked f cut.under_way).exact;
       cursor = c.meets.ensures.at.cursor;
       behind = λ j lt. omega (arith, c.meets.ensures.at.behind j lt, on.grows);
+      worked =
+          let first = (boundary_at o.boundaries.now k).place in
+          let gone = c.in_ok-advance.ensures.linear first c.tiles.invariant.worked in
+          subst (λ at. HasWorked c.args.table.now first at c.advance.new.searcher.ends) (gone.2 c.if-not-branch.false) gone.3;
     }
 
 pub returns : goal.returns
 returns g c =
+    let first = (boundary_at c.args.old.now.boundaries.now c.last_safe-index.result).place in
+    let le = c.tiles.invariant.cut.under_way.boundary.0 in
     let before = c.count_before-first.ensures.before ∙ ap (λ i. items_before i (items_by g.S.Numbered.number g.X.Lexeme.seen c.args.old.now.items.now)) c.place.ensures in
     cut_ended g.S.Numbered.number g.X.Lexeme.seen c.args.table.now c.args.old.now.items.now c.args.old.now.boundaries.now c.args.old.now.ahead.now c.args.edit.now.removed c.args.edit.now.put.now c.args.new.now c.last_safe-index.result
-    c.count_before-first.result c.count_before-first.ensures.within before c.tiles.progress c.tiles.invariant.cut (omega (arith, c.tiles-test.false))
+    c.count_before-first.result c.count_before-first.ensures.within before c.looked-2.result
+    (linear_in_all c.args.table.now c.args.new.now first c.tiles.progress.place c.looked-2.result le (c.looked-2.ensures c.args.new.now first c.tiles.progress.place c.tiles.invariant.searcher c.tiles.invariant.worked le))
+    c.tiles.progress c.tiles.invariant.cut (omega (arith, c.tiles-test.false))

@@ -1,4 +1,4 @@
-use Rattle.std.proofs.Common.{◌≡◌, ◌+◌, ◌<◌, [], ◌∷◌, ◌++◌, length, sym, ap, ◌∙◌, subst, arith}
+use Rattle.std.proofs.Common.{◌≡◌, [], ◌∷◌, ◌++◌, length, sym, ap, ◌∙◌, subst, arith}
 use Rattle.std.proofs.lemmas.Str.{IsCharBoundary-start}
 use Rattle.lrlex_boundaries.specs.Entries.{plain, AreEntries}
 use Rattle.lrlex.specs.Searcher.{AreOf}
@@ -24,5 +24,5 @@ returns-clause-cursor g c =
       initial = c.requires;
       rules = subst (λ q. AreOf g.S.Numbered.number c.args.table.now q c.rules_in.result) (sym c.rules_in.ensures.state) c.rules_in.ensures.rules;
       state = c.rules_in.ensures.state ∙ ap (λ xs. top (plain xs)) (sym is);
-      searcher = c.in_ok-searcher.ensures;
+      searcher = c.in_ok-searcher.ensures.searcher;
     }

@@ -10,6 +10,7 @@ use Rattle.lrlex.specs.Searches.{untabled_count}
 use Rattle.lrlex.specs.Tiling.{Tile, Wins, IsTaken, lexeme_of, stack_after, top}
 use Rattle.lrlex_boundaries.specs.Entries.{plain}
 use Rattle.lrlex.specs.Views.{definition_by, items_by}
+use Rattle.lrlex_table.proofs.LinearLemmas.{linear_later}
 use Rattle.lrlex.proofs.AdvanceLemmas.{advanced}
 use Rattle.lrlex.proofs.KindLemmas.{kinds_len, plain_rule, no_target_at, stays}
 use Rattle.lrlex.proofs.PlainLemmas.{gives_own, stored_at}
@@ -116,4 +117,15 @@ tiles-preserved g c =
       onward = omega (arith, e.place, c.tiles.invariant.onward);
       items_room = omega (arith, c.in_ok-pass.ensures.items.0, c.in_ok-pass.ensures.items.1, c.store_lexeme.ensures.len, c.store_lexeme.ensures.capacity, c.tiles.invariant.items_room, c.tiles-test.true);
       numbers_room = omega (arith, c.in_ok-pass.ensures.numbers.0, c.in_ok-pass.ensures.numbers.1, c.tiles.invariant.numbers_room, c.tiles-test.true);
+      linear = λ first was.
+          linear_later _ first p.place n.place c.ahead.new.self.ends (c.in-Some.ensures.linear first p.place (c.tiles.invariant.linear first was)) (omega (arith, e.place));
     }
+
+pub returns-in_default-clause-linear : goal.returns-in_default-clause-linear
+returns-in_default-clause-linear g c first was = c.in_default.ensures.linear first c.tiles.progress.place (c.tiles.invariant.linear first was)
+
+pub returns-in_default-stored-clause-linear : goal.returns-in_default-stored-clause-linear
+returns-in_default-stored-clause-linear g c first was = c.in-Some.ensures.linear first c.tiles.progress.place (c.tiles.invariant.linear first was)
+
+pub returns-then-not-kind-clause-linear : goal.returns-then-not-kind-clause-linear
+returns-then-not-kind-clause-linear g c first was = c.in-Some.ensures.linear first c.tiles.progress.place (c.tiles.invariant.linear first was)

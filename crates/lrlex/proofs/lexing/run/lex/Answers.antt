@@ -13,6 +13,8 @@ use Rattle.lrlex.specs.Tiling.{top}
 use Rattle.lrlex.proofs.ReachLemmas.{entries_now, top_is_state, ended, nothing_left, asked_now, few_searches, run_of, length_now}
 use Rattle.lrlex.specs.Searches.{asks_by}
 use Rattle.lrlex.proofs.SearchLemmas.{asks_nowhere, more_asked, all_asked, next_asked}
+use Rattle.lrlex.specs.Work.{HasWorked, IsLinearIn}
+use Rattle.lrlex.proofs.LinearLemmas.{linear_in_all}
 use Rattle.lrlex.proofs.lexing.run.lex.Goals as goal
 
 pub tiles-init : goal.tiles-init
@@ -21,11 +23,12 @@ tiles-init g c =
     let e = c.in_ok-progress.ensures in
     record {
       rules = subst (λ q. AreOf g.S.Numbered.number c.args.table.now q c.rules_in-rules.result) (sym c.rules_in-rules.ensures.state) c.rules_in-rules.ensures.rules;
-      searcher = c.in_ok-searcher.ensures;
+      searcher = c.in_ok-searcher.ensures.searcher;
       boundary = subst (IsCharBoundary c.args.text.now) (sym e.place) (IsCharBoundary-start c.args.text.now c.utf8.text);
       reached = begun (definition_by g.S.Numbered.number c.args.table.now) c.args.text.now g.S.Numbered.number g.X.Lexeme.seen p.place p.stack.items p.items.items p.boundaries p.asked e.place e.stack e.items e.boundaries e.asked (sym c.is_state.ensures ∙ c.if-not-is_state.false);
       looked = begun_looking (definition_by g.S.Numbered.number c.args.table.now) c.args.text.now p.boundaries p.ahead.items p.place p.lookahead e.boundaries e.ahead e.place e.lookahead;
       exact = e.asked ∙ sym (asks_nowhere c.args.table.now c.args.text.now p.boundaries 0 (length p.boundaries - 1) (omega (arith, ap length e.boundaries)));
+      linear = subst (λ n. HasWorked c.args.table.now 0 n c.in_ok-searcher.searcher.ends) (sym e.place) (c.in_ok-searcher.ensures.linear 0);
     }
 
 pub tiles-preserved : goal.tiles-preserved
@@ -46,6 +49,9 @@ tiles-preserved g c =
       looked = (c.in_ok-goes_on.ensures.goes_on on no_front u).under_way.looked;
       exact = next_asked c.args.table.now c.args.text.now d p.place p.stack.items found p.boundaries p.asked r 0 some c.in_ok-next.ensures.running.exact c.take_next.new.progress.asked more.0 c.take_next.new.progress.boundaries
           c.in_ok-next.ensures.inside (c.in_ok-goes_on.ensures.asked no_front u).exact more.1;
+      linear =
+          let gone = c.in_ok-goes_on.ensures.linear 0 (c.in_ok-next.ensures.linear 0 c.tiles.invariant.linear) in
+          subst (λ n. HasWorked c.args.table.now 0 n c.take_next.new.searcher.ends) (gone.2 on) gone.3;
     }
 
 pub returns-clause-run : goal.returns-clause-run
@@ -166,3 +172,20 @@ enter-requires-clause-id g c =
     let stack = plain c.tiles.progress.stack.items in
     let on_top : c.top_of.result ≡ top stack = c.top_of.ensures ∙ ap (λ s. top (plain s)) c.as_slice.ensures.value in
     subst (λ q. is_state d q ≡ true) (sym on_top) (top_is_state d stack c.tiles.invariant.reached.states c.tiles.invariant.reached.some)
+
+pub returns-then-not-goes_on-clause-linear : goal.returns-then-not-goes_on-clause-linear
+returns-then-not-goes_on-clause-linear g c =
+    let table = c.args.table.now in
+    let text = c.args.text.now in
+    let gone = c.in_ok-goes_on.ensures.linear 0 (c.in_ok-next.ensures.linear 0 c.tiles.invariant.linear) in
+    subst (IsLinearIn table text (length text)) (sym c.finished.ensures.looked)
+    (linear_in_all table text 0 gone.0 c.looked.result gone.1 (c.looked.ensures text 0 gone.0 c.in_ok-goes_on.ensures.held.1 gone.3 gone.1))
+
+pub returns-clause-linear : goal.returns-clause-linear
+returns-clause-linear g c =
+    let table = c.args.table.now in
+    let text = c.args.text.now in
+    let p = c.tiles.progress in
+    let inside = c.tiles.invariant.boundary.0 in
+    subst (IsLinearIn table text (length text)) (sym c.finished-2.ensures.looked)
+    (linear_in_all table text 0 p.place c.looked-2.result inside (c.looked-2.ensures text 0 p.place c.tiles.invariant.searcher c.tiles.invariant.linear inside))

@@ -4,6 +4,7 @@ use Rattle.lrlex.specs.Lookahead.{HasLooked}
 use Rattle.lrlex.specs.Searcher.{AreOf, IsSearcherOf}
 use Rattle.lrlex.specs.Searches.{asks_by}
 use Rattle.lrlex.specs.Views.{definition_by, items_by}
+use Rattle.lrlex.specs.Work.{HasWorked}
 use Rattle.lrlex.proofs.lexing.run.lex.Given as goal
 
 abbrev pub invariant-tiles : goal.invariant-tiles
@@ -14,6 +15,7 @@ invariant-tiles g l = record {
   reached : Reached (definition_by g.S.Numbered.number l.table) l.text l.progress.place l.progress.stack.items (items_by g.S.Numbered.number g.X.Lexeme.seen l.progress.items.items) l.progress.boundaries l.progress.asked;
   looked : HasLooked (definition_by g.S.Numbered.number l.table) l.text l.progress.boundaries l.progress.ahead.items l.progress.place l.progress.lookahead;
   exact : l.progress.asked ≡ asks_by l.table l.text (slice_range l.progress.boundaries 0 (length l.progress.boundaries - 1));
+  linear : HasWorked l.table 0 l.progress.place l.searcher.ends;
 }
 
 abbrev pub decreases-tiles : goal.decreases-tiles

@@ -1,4 +1,4 @@
-use Rattle.std.proofs.Common.{◌≡◌, ◌+◌, ◌<◌, not, length, drop, refl, sym, ap, ap₂, ◌∙◌, subst, arith}
+use Rattle.std.proofs.Common.{◌≡◌, not, drop, refl, sym, ap, ap₂, subst, arith}
 use Rattle.std.proofs.lemmas.Str.{IsCharBoundary-from_rest}
 use Rattle.regex_hir.specs.Text.{is_some_and}
 use Rattle.lrlex_base.specs.Spans.{span}
@@ -83,4 +83,15 @@ take_tile-requires-clause-cursor g c = record {
   rules = c.requires.rules;
   state = c.requires.state;
   searcher = c.in-Some.ensures.searcher c.args.text.now c.requires.searcher;
+}
+
+pub seek-requires : goal.seek-requires
+seek-requires g c = record {
+  cursor = record {
+    stands = c.requires.stands;
+    initial = c.requires.initial;
+    rules = c.requires.rules;
+    state = c.requires.state;
+    searcher = c.in_default.ensures.searcher c.args.text.now c.requires.searcher;
+  };
 }

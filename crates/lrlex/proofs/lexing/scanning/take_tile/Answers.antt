@@ -1,12 +1,11 @@
-use Rattle.std.proofs.Common.{◌≡◌, ◌+◌, ◌<◌, length, drop, true, false, refl, sym, ap, ap₂, ◌∙◌, subst, arith, vec_len, IsCharBoundary}
+use Rattle.std.proofs.Common.{◌≡◌, ◌<◌, length, drop, true, false, refl, sym, ap, ap₂, ◌∙◌, subst, arith}
 use Rattle.std.proofs.lemmas.Str.{IsCharBoundary-from_rest}
 use Rattle.lrlex_base.specs.Spans.{span}
 use Rattle.lrlex_boundaries.specs.Entries.{plain, AreEntries}
 use Rattle.lrlex_rules.specs.Definition.{Rule}
 use Rattle.lrlex.specs.Active.{is_state, lacks_id, lacks_target, lexeme_id, rule_at}
-use Rattle.lrlex.specs.Scanner.{IsCursorOf, IsTileAt, Scanned}
-use Rattle.lrlex.specs.Searcher.{AreOf}
-use Rattle.lrlex.specs.Tiling.{Tile, IsTaken, IsWinner, stack_after, top}
+use Rattle.lrlex.specs.Scanner.{Scanned}
+use Rattle.lrlex.specs.Tiling.{Tile, stack_after, top}
 use Rattle.lrlex.specs.Views.{definition_by}
 use Rattle.lrlex.proofs.ReachLemmas.{AreStates, IsSound, sound_after, top_is_state, wins_at}
 use Rattle.lrlex.proofs.ViewLemmas.{rule_read}

@@ -1,4 +1,4 @@
-use Rattle.std.proofs.Common.{◌≡◌, ℕ, ◌+◌, ◌<◌, ◌++◌, ◌∷◌, [], Result, Ok, Err, IfOk, not, length, drop, sym, ap, ◌∙◌, subst, arith}
+use Rattle.std.proofs.Common.{◌≡◌, ◌+◌, ◌++◌, ◌∷◌, [], Result, Ok, Err, IfOk, max, not, length, drop, refl, sym, ap, ◌∙◌, subst, arith}
 use Rattle.std.proofs.lemmas.List.{length-map}
 use Rattle.regex_hir.specs.Text.{is_some_and}
 use Rattle.lrlex_rules.specs.RuleParts.{as_rule}
@@ -9,10 +9,13 @@ use Rattle.lrlex.specs.Searches.{untabled_count}
 use Rattle.lrlex.specs.Tiling.{Tile, Wins, IsTaken, lexeme_of, stack_after, top}
 use Rattle.lrlex_boundaries.specs.Entries.{plain}
 use Rattle.lrlex.specs.Views.{definition_by, items_by}
+use Rattle.lrlex.specs.Work.{won_bytes}
 use Rattle.lrlex.proofs.AdvanceLemmas.{advanced, searched}
 use Rattle.lrlex.proofs.FrontLemmas.{last_behind}
 use Rattle.lrlex.proofs.KindLemmas.{kinds_len, plain_rule, no_target_at}
 use Rattle.lrlex.proofs.ReachLemmas.{entries_now, last_now, room_for, searches-few}
+use Rattle.lrlex_table.proofs.LinearLemmas.{linear_later}
+use Rattle.lrlex.proofs.LinearLemmas.{gone_on, won_within}
 use Rattle.lrlex.proofs.lexing.step.advance.Goals as goal
 
 if_ok : {A E : Type 0} (r : Result A E) (P : Type 0) → P → IfOk r (λ _. P)
@@ -114,3 +117,27 @@ winner-requires-clause-room g c =
 
 pub winner-requires-clause-searcher : goal.winner-requires-clause-searcher
 winner-requires-clause-searcher g c = (c.args.text.now, c.ahead.ensures.searcher c.args.text.now c.requires.searcher, c.range_from-rest.ensures.value, omega (arith, c.requires.inside))
+
+pub returns-then-kind-clause-linear : goal.returns-then-kind-clause-linear
+returns-then-kind-clause-linear g c first was =
+    let p = c.args.progress.now in
+    let at : IsFoundAt g.S.Numbered.number c.args.table.now c.enter.new.rules.state c.args.text.now p.place c.in-Some.tile = c.in-Some.ensures.tile c.args.text.now c.requires.searcher in
+    let behind = c.in_ok-stay.ensures.place in
+    (c.stay.new.progress.place, omega (arith, behind, at.within), λ is. refl, linear_later _ first p.place c.stay.new.progress.place c.ahead.new.self.ends (c.in-Some.ensures.linear first p.place was) (omega (arith, behind)))
+
+pub returns-in-Some-clause-linear : goal.returns-in-Some-clause-linear
+returns-in-Some-clause-linear g c =
+    let p = c.args.progress.now in
+    let at : IsFoundAt g.S.Numbered.number c.args.table.now c.enter.new.rules.state c.args.text.now p.place c.in-Some.tile = c.in-Some.ensures.tile c.args.text.now c.requires.searcher in
+    let end = p.place + max 1 c.in-Some.tile.len in
+    gone_on c.args.table.now c.args.text.now c.args.searcher.now.ends c.ahead.new.self.ends p.place end c.take_scan.new.progress.place c.take_scan.result
+    (λ first was. linear_later _ first p.place end c.ahead.new.self.ends (c.in-Some.ensures.linear first p.place was) (omega arith))
+    (omega (arith, at.within, c.requires.inside)) c.take_scan.ensures.place
+
+pub returns-clause-linear : goal.returns-clause-linear
+returns-clause-linear g c =
+    let p = c.args.progress.now in
+    let scan = c.in_ok-scan.scan in
+    gone_on c.args.table.now c.args.text.now c.args.searcher.now.ends c.winner.new.self.ends p.place (p.place + max 1 (won_bytes scan.winner)) c.take_scan-2.new.progress.place c.take_scan-2.result
+    (λ first was. c.in_ok-scan.ensures.linear first (c.in_default.ensures.linear first p.place was))
+    (won_within _ scan.winner c.args.text.now p.place c.requires.inside (rw c.range_from-rest.ensures.value at c.in_ok-scan.ensures.tile)) c.take_scan-2.ensures.place

@@ -1,10 +1,8 @@
-use Rattle.std.proofs.Common.{◌≡◌, ◌+◌, ◌<◌, ◌≤◌, List, [], ◌∷◌, ◌++◌, None, length, drop, refl, sym, ap, ◌∙◌, subst, arith, append_assoc, IsCharBoundary}
-use Rattle.std.proofs.lemmas.List.{length-map}
+use Rattle.std.proofs.Common.{◌≡◌, ◌+◌, ◌<◌, ◌≤◌, List, [], ◌∷◌, ◌++◌, None, length, drop, refl, sym, ap, ◌∙◌, subst, arith, append_assoc}
 use Rattle.lrlex_rules.specs.Definition.{Rule}
 use Rattle.lrlex.specs.Active.{active_count, lacks_id, lacks_target, lexeme_id}
 use Rattle.lrlex.specs.Searches.{untabled_count}
-use Rattle.lrlex.specs.Tiling.{Tile, Item, Error, top, IsStuck, IsTaken, IsWinner, stack_after, lexeme_of, tile_items, NoMatch, NoId, NoTarget}
-use Rattle.lrlex_rules.specs.RuleParts.{as_rule}
+use Rattle.lrlex.specs.Tiling.{Tile, Item, Error, top, IsTaken, stack_after, lexeme_of, tile_items, NoMatch, NoId, NoTarget}
 use Rattle.lrlex_boundaries.specs.Entries.{plain}
 use Rattle.lrlex.specs.Views.{definition_by, items_by}
 use Rattle.lrlex.proofs.ViewLemmas.{rule_read}

@@ -1,4 +1,4 @@
-use Rattle.std.proofs.Common.{◌<◌, ◌≤◌, length, slice_get, get_or, refl, sym, ap, ◌∙◌, subst, arith}
+use Rattle.std.proofs.Common.{◌+◌, ◌<◌, ◌≤◌, max, length, slice_get, get_or, refl, sym, ap, ◌∙◌, subst, arith}
 use Rattle.std.proofs.lemmas.List.{length-map}
 use Rattle.lrlex_rules.specs.RuleParts.{as_rule}
 use Rattle.lrlex.specs.StateTables.{pattern_in}
@@ -8,6 +8,9 @@ use Rattle.lrlex.specs.Views.{definition_by}
 use Rattle.lrlex.proofs.PlaceLemmas.{all_places}
 use Rattle.lrlex.proofs.DecidedLemmas.{decided_look}
 use Rattle.lrlex.proofs.TableLemmas.{active_within, told_none, told_some, told_bytes, best_wins, best_stuck}
+use Rattle.lrlex_table.specs.Tables.{len_of}
+use Rattle.lrlex.specs.StateTables.{most_tables}
+use Rattle.lrlex.proofs.LinearLemmas.{few_tables, worked_past}
 use Rattle.lrlex.proofs.lexing.winner.tabled_winner.Goals as goal
 
 pub winner_at-scan-requires-clause-tables : goal.winner_at-scan-requires-clause-tables
@@ -80,3 +83,18 @@ returns-clause-tile g c =
     let rules_len = length-map c.args.table.now.rules.items (as_rule g.S.Numbered.number) in
     let within : found.pattern < length places = omega (arith, told.within some, length-map places (pattern_in d.rules)) in
     (told.cuts, omega (arith, c.active_place-rule.ensures, c.args.table.now.rules.ok.0, rules_len, active_within d q places c.requires.rules.active found.pattern within))
+
+pub returns-in_default-clause-linear : goal.returns-in_default-clause-linear
+returns-in_default-clause-linear g c first was =
+    let lists = c.args.table.now.tables.items in
+    let scan = c.winner_at-scan.result in
+    worked_past (most_tables lists) first (c.args.from + max 1 (len_of scan.winner)) (c.args.from + 1) c.winner_at-scan.new.self c.requires.rules.tables
+    (λ are. c.winner_at-scan.ensures.linear _ (most_tables lists) first are (few_tables lists c.args.rules.list c.args.rules.tables.now c.requires.rules.list) was) (omega (arith, ap len_of c.in_default.is))
+
+pub returns-clause-linear : goal.returns-clause-linear
+returns-clause-linear g c first was =
+    let lists = c.args.table.now.tables.items in
+    let scan = c.winner_at-scan.result in
+    let found = c.in-Some.found in
+    worked_past (most_tables lists) first (c.args.from + max 1 (len_of scan.winner)) (c.args.from + max 1 found.len) c.winner_at-scan.new.self c.requires.rules.tables
+    (λ are. c.winner_at-scan.ensures.linear _ (most_tables lists) first are (few_tables lists c.args.rules.list c.args.rules.tables.now c.requires.rules.list) was) (omega (arith, ap len_of c.in-Some.is))

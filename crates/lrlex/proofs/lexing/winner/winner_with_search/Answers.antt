@@ -1,9 +1,9 @@
-use Rattle.std.proofs.Common.{◌≡◌, ℕ, ◌+◌, ◌<◌, ◌≤◌, ◌⊎◌, true, length, slice_get, vec_len, get_or, refl, sym, ap, ◌∙◌, subst, inl, inr, arith}
+use Rattle.std.proofs.Common.{◌≡◌, ℕ, ◌+◌, ◌<◌, ◌≤◌, ◌⊎◌, max, true, length, slice_get, vec_len, get_or, refl, sym, ap, ◌∙◌, subst, inl, inr, arith}
 use Rattle.std.proofs.lemmas.Option.{slice_get_read}
 use Rattle.std.proofs.lemmas.List.{length-map}
 use Rattle.lrlex_rules.specs.RuleParts.{as_rule}
 use Rattle.lrlex_matching.specs.Matching.{match_length}
-use Rattle.lrlex_table.specs.Tables.{IsBestAmong}
+use Rattle.lrlex_table.specs.Tables.{IsBestAmong, len_of}
 use Rattle.lrlex_rules.specs.Matchers.{IsMatcherOf}
 use Rattle.lrlex.specs.StateTables.{patterns_on, pattern_in}
 use Rattle.lrlex.specs.Active.{is_active}
@@ -16,6 +16,9 @@ use Rattle.lrlex.proofs.ScanLemmas.{length-places_of}
 use Rattle.lrlex_rules.proofs.MatcherLemmas.{matcher_at, matchers_set}
 use Rattle.lrlex.proofs.DecidedLemmas.{decided_whole}
 use Rattle.lrlex.proofs.TableLemmas.{active_within, looked_at, looked_more, other_within, others_few, told_none, told_some, pattern_here, best_kept, best_taken, best_wins, best_stuck, asked_is}
+use Rattle.lrlex.specs.StateTables.{most_tables}
+use Rattle.lrlex_table.proofs.LinearLemmas.{linear_later}
+use Rattle.lrlex.proofs.LinearLemmas.{few_tables, worked_past}
 use Rattle.lrlex.proofs.lexing.winner.winner_with_search.Goals as goal
 use Rattle.lrlex.proofs.lexing.winner.winner_with_search.Goals.{in-Some, in-None, then-is_better, else-is_better}
 
@@ -38,6 +41,15 @@ others-init g c =
             subst told (sym w.best-is)
             (told_none d q text places t.asked.items c.requires.rules.active t refl c.requires.rules.tables c.winner_at-scan.result.winner c.winner_at-scan.ensures.winner w.in-None.is)
       ];
+      linear = λ first was.
+          let lists = c.args.table.now.tables.items in
+          let scan = c.winner_at-scan.result in
+          let some : max 1 (len_of scan.winner) ≤ max 1 c.match-scan.best.len = elim c.match-scan.branch [
+            | in-Some w ↦ omega (arith, ap len_of w.in-Some.is, ap (λ b. b.len) w.best-is)
+            | in-None w ↦ omega (arith, ap len_of w.in-None.is)
+          ] in
+          worked_past (most_tables lists) first (c.args.from + max 1 (len_of scan.winner)) (c.args.from + max 1 c.match-scan.best.len) c.winner_at-scan.new.self c.requires.rules.tables
+          (λ are. c.winner_at-scan.ensures.linear _ (most_tables lists) first are (few_tables lists c.args.rules.list t c.requires.rules.list) was) (omega (arith, some));
     }
 
 pub bounds-active-number : goal.bounds-active-number
@@ -145,6 +157,12 @@ others-preserved g c =
         counted = omega (arith, inv.counted, c.in_ok-len.ensures.counted);
         best = subst best (sym w.best-is)
             (best_taken ps text a b k more c.others.best.rule c.others.best.len inv.best len is inside c.in_ok-len.ensures.boundary (c.is_better.ensures.better w.if-is_better.true));
+        linear = λ first was.
+            let more : c.others.best.len ≤ len = elim (c.is_better.ensures.better w.if-is_better.true) [
+              | inl more ↦ omega (arith, more)
+              | inr as_many ↦ omega (arith, as_many.0)
+            ] in
+            linear_later _ first (c.args.from + max 1 c.others.best.len) _ _ (inv.linear first was) (omega (arith, more, ap (λ b. b.len) w.best-is));
       }
       | else-is_better w ↦ record {
         matchers = matchers;
@@ -152,6 +170,7 @@ others-preserved g c =
         best = subst best (sym w.best-is)
             (best_kept ps text a b k more c.others.best.rule c.others.best.len inv.best (subst (λ n. n ≤ c.others.best.len) is (c.is_better.ensures.no_more w.if-is_better.false))
             (λ e. c.is_better.ensures.later w.if-is_better.false (is ∙ e)));
+        linear = λ first was. linear_later _ first (c.args.from + max 1 c.others.best.len) _ _ (inv.linear first was) (omega (arith, ap (λ b. b.len) w.best-is));
       }
     ]
 
@@ -269,3 +288,7 @@ returns-in_err-len-clause-matchers g c =
     let below : place < length rules = omega (arith, rules_len, active_within d c.args.state places c.requires.rules.active k within) in
     let at = slice_get_read rules (length rules) place r refl below c.index-rule.ensures in
     matchers_set rules c.others.matchers c.others.invariant.matchers place r at c.match_rule.new.slot c.in_err-len.ensures.slot
+
+pub returns-then-best-eq0-clause-linear : goal.returns-then-best-eq0-clause-linear
+returns-then-best-eq0-clause-linear g c first was =
+    linear_later _ first (c.args.from + max 1 c.others.best.len) (c.args.from + 1) _ (c.others.invariant.linear first was) (omega (arith, c.if-best-eq0.true))

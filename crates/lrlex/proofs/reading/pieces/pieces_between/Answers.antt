@@ -23,7 +23,7 @@ tiles-init g c =
     let initial = c.requires.initial in
     let is : IsText text = record { bytes = are_bytes text c.type_inv.text; utf8 = c.utf8.text } in
     record {
-      searcher = c.in_ok-searcher.ensures;
+      searcher = c.in_ok-searcher.ensures.searcher;
       rules = subst (λ q. AreOf g.S.Numbered.number def q c.rules_in-rules.result) (sym c.rules_in-rules.ensures.state) c.rules_in-rules.ensures.rules;
       boundary = subst (IsCharBoundary text) (sym c.place-place.ensures) (between_characters d text c.requires.lexed.0 bounds c.requires.lexed.1 is initial c.args.first (omega (arith, c.requires.order, c.requires.within)));
       many = omega (arith, ap length c.in_ok-pieces.ensures.items);

@@ -1,5 +1,5 @@
-use Rattle.std.proofs.Common.{◌≡◌, ◌+◌, sym, ap, ◌∙◌, subst, arith}
-use Rattle.lrlex_table.proofs.KnownLemmas.{ok_of, err_of, Puts, all_same, dead_ends_stay, up_to_stays, dead_ends_after, up_to_after, elsewhere, other_parts}
+use Rattle.std.proofs.Common.{◌≡◌, sym, ◌∙◌, arith}
+use Rattle.lrlex_table.proofs.KnownLemmas.{ok_of, err_of, Puts, dead_ends_stay, within_stays, up_to_stays, dead_ends_after, within_after, up_to_after, elsewhere, other_parts}
 use Rattle.lrlex_table.proofs.dead_ends.DeadEnds.add.Goals as goal
 use Rattle.lrlex_table.proofs.dead_ends.DeadEnds.add.Goals.{Else-is_err, Then-is_err}
 
@@ -13,6 +13,7 @@ pub invariant_of-self : goal.invariant_of-self
 invariant_of-self c = record {
   right = dead_ends_stay c.args.self.now.known c.insert.new.self (same c) c.args.self.now.lists.now c.args.self.now.text.now c.args.self.now.right;
   up_to = up_to_stays c.args.self.now.known c.insert.new.self (same c) c.args.self.now.known_to c.max-self.result c.args.self.now.up_to (omega (arith, c.max-self.ensures));
+  within = within_stays c.args.self.now.known c.insert.new.self (same c) c.args.self.now.lists.now c.args.self.now.text.now c.args.self.now.within;
   marked = c.args.self.now.marked;
 }
 
@@ -20,6 +21,7 @@ pub invariant_of-self-else-is_err : goal.invariant_of-self-else-is_err
 invariant_of-self-else-is_err c = record {
   right = dead_ends_after c.args.self.now.known c.insert.new.self c.args.end (put c) c.args.self.now.lists.now c.args.self.now.text.now c.args.self.now.right c.requires.vain;
   up_to = up_to_after c.args.self.now.known c.insert.new.self c.args.end (put c) c.args.self.now.known_to c.max-self.result c.args.self.now.up_to (omega (arith, c.max-self.ensures)) (omega (arith, c.max-self.ensures));
+  within = within_after c.args.self.now.known c.insert.new.self c.args.end (put c) c.args.self.now.lists.now c.args.self.now.text.now c.args.self.now.within c.requires.within;
   marked = c.args.self.now.marked;
 }
 

@@ -1,12 +1,13 @@
-use Rattle.std.proofs.Common.{◌≡◌, ◌+◌, ◌-◌, ◌<◌, true, false, drop, take, refl, sym, ap, ◌∙◌, subst, arith}
+use Rattle.std.proofs.Common.{◌≡◌, ◌+◌, ◌-◌, ◌<◌, false, length, drop, take, option_map, unwrap_or, vec_len, refl, sym, ap, ◌∙◌, subst, arith}
 use Rattle.std.specs.HashMap.{hash_map_len}
 use Rattle.std.proofs.lemmas.Bool.{true≢false}
-use Rattle.std.proofs.lemmas.List.{drop-drop}
+use Rattle.std.proofs.lemmas.List.{length-drop, drop-drop}
 use Rattle.std.proofs.lemmas.Option.{same_Some}
 use Rattle.lrlex_table.specs.Table.{next_rows}
 use Rattle.lrlex_table.specs.Reach.{row_after}
 use Rattle.lrlex_table.specs.DeadEnds.{table_at, more_of, IsDue, IsVain}
 use Rattle.lrlex_table.proofs.DeadEndLemmas.{row_more, vain_behind}
+use Rattle.lrlex_table.proofs.CellLemmas.{row_within}
 use Rattle.lrlex_table.proofs.KnownLemmas.{IsPaid, paid_first, paid_step, not_before}
 use Rattle.lrlex_table.proofs.dead_ends.DeadEnds.keep.Goals as goal
 use Rattle.lrlex_table.proofs.dead_ends.DeadEnds.keep.Goals.{then-is_due, else-is_due}
@@ -16,11 +17,12 @@ bytes-init c = (
   refl,
   refl,
   refl,
-  refl,
+  (refl, refl),
   λ was. was,
   λ i from less inside due. c.requires.looked.unknown i less inside due,
   λ lists parts row here apart. refl,
   λ is. paid_first c.args.place c.args.walk.len (hash_map_len c.args.self.now.known),
+  c.args.table.now.sound.1,
 )
 
 pub add-requires-clause-vain : goal.add-requires-clause-vain
@@ -37,6 +39,18 @@ add-requires-clause-vain c t at =
     let vain = vain_behind table hay c.args.walk.len c.args.walk.reach j row c.requires.vain past (omega (arith, c.if-at-looked.false, c.requires.before)) inv.0 in
     let same : drop j hay ≡ drop (place + j) c.bytes.self.text.now = ap (drop j) c.requires.rest ∙ drop-drop j place c.args.self.now.text.now ∙ ap (λ x. drop (place + j) x.now) (sym inv.2) in
     subst (λ x. IsVain x row (drop (place + j) c.bytes.self.text.now) more) is (subst (λ xs. IsVain table row xs more) same vain)
+
+pub add-requires-clause-within : goal.add-requires-clause-within
+add-requires-clause-within c =
+    let table = c.args.table.now in
+    let inv = c.bytes.invariant in record {
+      below =
+          let there = ap (λ x. table_at x.now c.args.list c.args.part) inv.1 ∙ c.requires.table in
+          omega (arith, inv.8, table.wins.ok.0, ap (λ o. unwrap_or (option_map (λ t. vec_len t.wins) o) 0) there);
+      inside =
+          omega (arith, c.requires.inside, c.bytes-test.true, ap length c.requires.rest, length-drop c.args.place c.args.self.now.text.now, ap (λ x. length x.now) inv.2);
+      due = (c.is_due.ensures.0 c.if-is_due.true).0;
+    }
 
 pub bytes-preserved : goal.bytes-preserved
 bytes-preserved c =
@@ -56,8 +70,9 @@ bytes-preserved c =
         | else-is_due w ↦ ap (λ s. s.text) w.self-is ∙ inv.2
       ],
       elim c.if-is_due.branch [
-        | then-is_due w ↦ ap (λ s. s.looked) w.self-is ∙ w.add.ensures.looked ∙ inv.3
-        | else-is_due w ↦ ap (λ s. s.looked) w.self-is ∙ inv.3
+        | then-is_due w ↦
+            (ap (λ s. s.looked) w.self-is ∙ w.add.ensures.looked ∙ inv.3.0, ap (λ s. s.ahead) w.self-is ∙ w.add.ensures.ahead ∙ inv.3.1)
+        | else-is_due w ↦ (ap (λ s. s.looked) w.self-is ∙ inv.3.0, ap (λ s. s.ahead) w.self-is ∙ inv.3.1)
       ],
       λ was. elim c.if-is_due.branch [
         | then-is_due w ↦ ap (λ s. s.forgot) w.self-is ∙ w.add.ensures.forgot (inv.4 was)
@@ -87,4 +102,5 @@ bytes-preserved c =
             (paid_step place at len (hash_map_len old.known) (hash_map_len c.bytes.self.known) (hash_map_len c.bytes.self.known) c.is_due.result due
             (λ there. absurd (true≢false (sym there ∙ w.if-is_due.false))) (λ isnt. refl) (inv.7 (sym (ap (λ s. s.forgot) w.self-is) ∙ is)))
       ],
+      row_within c.args.table.now _ _ c.next_of-row.ensures,
     )

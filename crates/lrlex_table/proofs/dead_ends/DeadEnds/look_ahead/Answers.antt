@@ -19,6 +19,7 @@ invariant_of-self-2 c =
     record {
       right = self.right;
       up_to = self.up_to;
+      within = self.within;
       marked =
           ahead_of self.lists.now self.text.now a tables (ap (slice_get self.lists.now) (c.look.ensures.list ∙ c.is_due.ensures.list c.if-not-is_due.false) ∙ c.requires.tables)
           (subst (λ xs. AreWonIn tables xs a.from a.found.items) c.requires.text won)

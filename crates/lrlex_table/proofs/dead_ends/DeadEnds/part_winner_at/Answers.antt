@@ -1,10 +1,9 @@
-use Rattle.std.proofs.Common.{◌≡◌, ◌+◌, ◌*◌, ◌<◌, ◌≤◌, false, length, refl, sym, ap, ◌∙◌, subst, arith}
+use Rattle.std.proofs.Common.{◌≡◌, ◌+◌, ◌*◌, ◌≤◌, sym, ap, ◌∙◌, subst, arith}
 use Rattle.std.specs.HashMap.{hash_map_len}
 use Rattle.std.proofs.lemmas.Bool.{ltb-false}
 use Rattle.lrlex_table.specs.DeadEnds.{IsStop}
-use Rattle.regex.specs.Patterns.{Re}
-use Rattle.lrlex_table.specs.Tables.{IsPartOf, len_of}
-use Rattle.lrlex_table.specs.Work.{IsLook, reach_of}
+use Rattle.lrlex_table.specs.Tables.{len_of}
+use Rattle.lrlex_table.specs.Work.{reach_of}
 use Rattle.lrlex_table.proofs.WinnerLemmas.{among_places, decided_part}
 use Rattle.lrlex_table.proofs.KnownLemmas.{stop_is_reach}
 use Rattle.lrlex_table.proofs.dead_ends.DeadEnds.part_winner_at.Goals as goal

@@ -12,5 +12,6 @@ invariant_of-self c =
     record {
       right = self.right;
       up_to = self.up_to;
+      within = self.within;
       marked = λ ts there. ((self.marked ts there).0, c.passed.invariant);
     }

@@ -1,12 +1,14 @@
-use Rattle.std.proofs.Common.{◌≡◌, ◌+◌, ◌-◌, ◌*◌, ◌<◌, ◌≤◌, min, true, false, vec_len, refl, sym, ap, ◌∙◌, subst, arith}
+use Rattle.std.proofs.Common.{◌≡◌, ◌+◌, ◌-◌, ◌≤◌, min, vec_len, refl, sym, ap, ◌∙◌, subst, arith}
 use Rattle.std.specs.HashMap.{hash_map_len}
 use Rattle.std.proofs.lemmas.Bool.{ltb-false}
-use Rattle.lrlex_table.specs.DeadEnds.{more_of, HasNoneFrom}
+use Rattle.lrlex_table.specs.DeadEnds.{more_of}
 use Rattle.lrlex_table.specs.Looking.{HasSameEnds}
 use Rattle.lrlex_table.specs.Tables.{len_of}
 use Rattle.lrlex_table.specs.Work.{cells, IsLook}
 use Rattle.lrlex_table.proofs.WinnerLemmas.{decided_all}
 use Rattle.lrlex_table.proofs.WorkLemmas.{look_near, look_far, look_again}
+use Rattle.lrlex_table.specs.Linear.{HasLinearWork}
+use Rattle.lrlex_table.proofs.LinearLemmas.{linear_after, look_from}
 use Rattle.lrlex_table.proofs.dead_ends.DeadEnds.winner_at.Goals as goal
 use Rattle.lrlex_table.proofs.dead_ends.DeadEnds.winner_at.Goals.{then-place-self+in_default, else-place-self, then-scan-le-FAR-via-then-scan-le-FAR, then-scan-le-FAR-via-else-scan-le-FAR+then-not-is_far, then-place-self-2+else-scan-le-FAR+else-not-is_far, else-place-self-2}
 
@@ -75,3 +77,49 @@ returns-clause-work c ps are kept =
           (look_again (vec_len tables.parts) (len_of scan.winner) scan.looked (hash_map_len c.if-place-self-2.self.known) (hash_map_len c.winner_of_parts_at-scan.new.self.known) all two
           (omega (arith, c.count-2.ensures.looked, c.winner_of_parts_at-scan.ensures.looked, ap (λ s. s.looked) w.self-is, same.looked))))
     ]
+
+pub returns-then-scan-le-FAR-clause-linear : goal.returns-then-scan-le-FAR-clause-linear
+returns-then-scan-le-FAR-clause-linear c ps most from are le is =
+    let old = c.args.self.now in
+    let before = c.if-place-self.self in
+    let place = c.args.place in
+    let parts = vec_len c.args.tables.now.parts in
+    let len = len_of c.winner-scan.result.winner in
+    let same : HasSameEnds old before = elim c.if-place-self.branch [
+      | then-place-self+in_default w ↦ subst (λ s. HasSameEnds old s) (sym w.self-is) w.found_at.ensures.ends
+      | else-place-self w ↦ subst (λ s. HasSameEnds old s) (sym w.self-is) (record { known = refl; forgot = refl; looked = refl })
+    ] in
+    let here : HasLinearWork most from place before = elim c.if-place-self.branch [
+      | then-place-self+in_default w ↦ subst (λ s. HasLinearWork most from place s) (sym w.self-is) (w.found_at.ensures.linear most from is)
+      | else-place-self w ↦ subst (λ s. HasLinearWork most from place s) (sym w.self-is) is
+    ] in
+    linear_after most parts from place len before c.count.new.self here le c.count.ensures.ahead (λ was. c.count.ensures.forgot ∙ was)
+    (λ kept. look_from parts len old before c.count.new.self same (returns-then-scan-le-FAR-clause-work c ps are kept))
+
+pub returns-clause-linear : goal.returns-clause-linear
+returns-clause-linear c ps most from are le is =
+    let old = c.args.self.now in
+    let before = c.if-place-self.self in
+    let after = c.count-2.new.self in
+    let place = c.args.place in
+    let parts = vec_len c.args.tables.now.parts in
+    let len = len_of c.winner_of_parts_at-scan.result.winner in
+    let same : HasSameEnds old before = elim c.if-place-self.branch [
+      | then-place-self+in_default w ↦ subst (λ s. HasSameEnds old s) (sym w.self-is) w.found_at.ensures.ends
+      | else-place-self w ↦ subst (λ s. HasSameEnds old s) (sym w.self-is) (record { known = refl; forgot = refl; looked = refl })
+    ] in
+    let here : HasLinearWork most from place before = elim c.if-place-self.branch [
+      | then-place-self+in_default w ↦ subst (λ s. HasLinearWork most from place s) (sym w.self-is) (w.found_at.ensures.linear most from is)
+      | else-place-self w ↦ subst (λ s. HasLinearWork most from place s) (sym w.self-is) is
+    ] in
+    let ahead : c.if-place-self-2.self.ahead ≡ before.ahead = elim c.if-place-self-2.branch [
+      | then-place-self-2+else-scan-le-FAR+else-not-is_far w ↦ ap (λ s. s.ahead) w.self-is ∙ w.count.ensures.ahead
+      | else-place-self-2 w ↦ ap (λ s. s.ahead) w.self-is
+    ] in
+    let forgot : c.if-place-self-2.self.forgot ≡ before.forgot = elim c.if-place-self-2.branch [
+      | then-place-self-2+else-scan-le-FAR+else-not-is_far w ↦ ap (λ s. s.forgot) w.self-is ∙ w.count.ensures.forgot
+      | else-place-self-2 w ↦ ap (λ s. s.forgot) w.self-is
+    ] in
+    linear_after most parts from place len before after here le (c.count-2.ensures.ahead ∙ c.winner_of_parts_at-scan.ensures.ahead ∙ ahead)
+    (λ was. c.count-2.ensures.forgot ∙ c.winner_of_parts_at-scan.ensures.forgot (forgot ∙ was))
+    (λ kept. look_from parts len old before after same (returns-clause-work c ps are kept))

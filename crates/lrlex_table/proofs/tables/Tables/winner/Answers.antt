@@ -1,5 +1,4 @@
-use Rattle.std.proofs.Common.{◌≡◌, ◌*◌, ◌≤◌, length, vec_len, ap, sym, ◌∙◌, arith}
-use Rattle.lrlex_table.specs.Work.{cells}
+use Rattle.std.proofs.Common.{◌≡◌, length, vec_len, ap, sym, ◌∙◌, arith}
 use Rattle.lrlex_table.proofs.WinnerLemmas.{decided_all, only_part}
 use Rattle.lrlex_table.proofs.WorkLemmas.{cells_one}
 use Rattle.lrlex_table.proofs.tables.Tables.winner.Goals as goal

@@ -1,4 +1,4 @@
-use Rattle.std.proofs.Common.{◌≡◌, ◌+◌, ◌*◌, ◌^◌, List, take, ◌<◌, ◌≤◌, IfSome}
+use Rattle.std.proofs.Common.{◌≡◌, ◌*◌, ◌^◌, List, take, ◌<◌, ◌≤◌, IfSome}
 use Rattle.regex.specs.Patterns.{Re}
 use Rattle.lrlex_table.specs.Tables.{is_tabled, AreTablesOf, IsTableScanOf}
 use Rattle.lrlex_table.specs.Work.{cells}

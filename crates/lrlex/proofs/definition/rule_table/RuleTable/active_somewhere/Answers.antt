@@ -1,7 +1,6 @@
-use Rattle.std.proofs.Common.{◌≡◌, ◌+◌, ◌<◌, ◌||◌, ℕ, List, Vec, Global, [], Some, false, get_or, length, map, option_map, slice_get, unwrap_or, sym, ap, ap₂, ◌∙◌, subst, arith}
+use Rattle.std.proofs.Common.{◌≡◌, ◌<◌, ◌||◌, ℕ, Vec, Global, [], false, get_or, length, map, sym, ap, ap₂, ◌∙◌, subst, arith}
 use Rattle.std.specs.List.{list_any}
 use Rattle.std.proofs.lemmas.List.{with_items_is, get_or-map, get_or_default, take_all}
-use Rattle.std.proofs.lemmas.Option.{slice_get-get_or}
 use Rattle.lrlex_table.specs.Tables.{is_among}
 use Rattle.lrlex.specs.StateTables.{list_in}
 use Rattle.lrlex.proofs.MarkLemmas.{mark_all_more, somewhere}

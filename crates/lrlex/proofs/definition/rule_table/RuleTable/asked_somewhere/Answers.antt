@@ -1,4 +1,4 @@
-use Rattle.std.proofs.Common.{◌≡◌, ◌+◌, ◌<◌, ◌||◌, ℕ, List, Vec, Global, [], Some, false, get_or, length, map, option_map, slice_get, unwrap_or, sym, ap, ap₂, ◌∙◌, subst, arith}
+use Rattle.std.proofs.Common.{◌≡◌, ◌<◌, ◌||◌, ℕ, Vec, Global, [], Some, false, get_or, length, map, option_map, unwrap_or, sym, ap, ap₂, ◌∙◌, subst, arith}
 use Rattle.std.specs.List.{list_any}
 use Rattle.std.proofs.lemmas.List.{with_items_is, get_or-map, get_or_default, take_all}
 use Rattle.std.proofs.lemmas.Option.{slice_get-get_or}

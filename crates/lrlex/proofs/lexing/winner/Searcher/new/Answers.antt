@@ -1,9 +1,12 @@
 use Rattle.std.proofs.Common.{◌∙◌}
 use Rattle.lrlex.proofs.lexing.winner.Searcher.new.Goals as goal
 
-pub returns : goal.returns
-returns g c = record {
+pub returns-clause-searcher : goal.returns-clause-searcher
+returns-clause-searcher g c = record {
   matchers = rw c.deref.ensures.value at c.in_ok-matchers.ensures;
   lists = c.new-ends.ensures.lists ∙ c.deref-2.ensures.value;
   text = c.new-ends.ensures.text;
 }
+
+pub returns-clause-linear : goal.returns-clause-linear
+returns-clause-linear g c first = c.new-ends.ensures.linear _ first

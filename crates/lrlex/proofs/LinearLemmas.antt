@@ -1,0 +1,68 @@
+-- Lexing in linear time.
+use Rattle.std.proofs.Common.{◌≡◌, ℕ, zero, suc, ◌+◌, ◌-◌, ◌<◌, ◌≤◌, max, Bool, true, List, [], ◌∷◌, ◌++◌, length, drop, Option, Some, None, is_some, Result, Ok, Err, IfOk, IfSome, IsCharBoundary, vec_len, slice_get, refl, sym, ap, ◌∙◌, arith, length-drop}
+use Rattle.std.proofs.Props.{props}
+use Rattle.std.proofs.lemmas.Bool.{true≢false}
+use Rattle.std.proofs.lemmas.Option.{same_Some}
+use Rattle.std.proofs.Math.Nat.{mul-le-mul_left}
+use Rattle.std.proofs.Math.Logic.{∥∥₁_elim}
+use Rattle.lrlex_table.specs.Linear.{HasLinearWork, count_of_rows, most_cells}
+use Rattle.lrlex_table.proofs.LinearLemmas.{linear_later}
+use Rattle.lrlex_table.specs.declared.dead_ends.DeadEnds.{DeadEnds}
+use Rattle.lrlex_table.specs.declared.tables.Tables.{Tables}
+use Rattle.lrlex.specs.StateTables.{most_tables}
+use Rattle.lrlex.specs.Work.{HasGoneOn, HasWorked, IsLinearIn, won_bytes}
+use Rattle.lrlex.specs.declared.definition.rule_table.RuleTable.{RuleTable}
+use Rattle.lrlex.specs.declared.lexing.winner.Tile.{Tile}
+
+-- a list's tables are no more than the most
+pub few_tables : (lists : List Tables) (k : ℕ) (t : Tables) → slice_get lists k ≡ Some t → vec_len t.parts ≤ most_tables lists
+few_tables [] k t is = absurd (true≢false (ap is_some (sym is)))
+few_tables (x ∷ xs) zero t is =
+    let most : most_tables (x ∷ xs) ≡ max (vec_len x.parts) (most_tables xs) = refl in
+    omega (arith, most, ap (λ y. vec_len y.parts) (same_Some _ _ is))
+few_tables (x ∷ xs) (suc k) t is =
+    let most : most_tables (x ∷ xs) ≡ max (vec_len x.parts) (most_tables xs) = refl in
+    omega (arith, most, few_tables xs k t is)
+
+-- the most of some lists and one more
+pub most_more : (lists : List Tables) (t : Tables) → most_tables (lists ++ t ∷ []) ≡ max (most_tables lists) (vec_len t.parts)
+most_more [] t = omega arith
+most_more (x ∷ xs) t = ap (max (vec_len x.parts)) (most_more xs t) ∙ omega arith
+
+le_prop : (a b : ℕ) → IsProp (a ≤ b)
+le_prop a b = Prim.hlevel props
+
+-- a look up to a place, for whoever knows that its tables are right, and so up to a later one
+pub worked_past : {A : Type 0} (tables first place later : ℕ) (e : DeadEnds) → ∥ A ∥₁ → (A → HasLinearWork tables first place e) → place ≤ later → HasLinearWork tables first later e
+worked_past {A} tables first place later e known worked le =
+    let up : A → HasLinearWork tables first later e = λ a. linear_later tables first place later e (worked a) le in
+    record {
+      onward = ∥∥₁_elim known (le_prop _ _) (λ a. (up a).onward);
+      walks = λ kept. ∥∥₁_elim known (le_prop _ _) (λ a. (up a).walks kept);
+      ahead = ∥∥₁_elim known (le_prop _ _) (λ a. (up a).ahead);
+      near = ∥∥₁_elim known (le_prop _ _) (λ a. (up a).near);
+    }
+
+-- what wins at a place in the text ends in it
+pub won_within : (B : Tile → Type 0) (winner : Option Tile) (text : List ℕ) (place : ℕ) → place < length text → IfSome winner (λ t. IsCharBoundary (drop place text) t.len × B t) →
+    place + max 1 (won_bytes winner) ≤ length text
+won_within B None text place inside cuts = omega (arith, inside)
+won_within B (Some t) text place inside cuts = omega (arith, inside, cuts.0.0, length-drop place text)
+
+-- lexing went on past what won, or ended there
+pub gone_on : {S E : Type 0} (d : RuleTable S) (text : List ℕ) (old new : DeadEnds) (place p here : ℕ) (r : Result Bool E) → ((first : ℕ) → HasWorked d first place old → HasWorked d first p new) → p ≤ length text →
+    IfOk r (λ on. on ≡ true → here ≡ p) → IfOk r (λ on. (first : ℕ) → HasWorked d first place old → HasGoneOn d text first here on new)
+gone_on d text old new place p here (Ok on) worked inside moved = λ first was. (p, inside, λ is. sym (moved is), worked first was)
+gone_on d text old new place p here (Err e) worked inside moved = tt
+
+more_cells : (tables bytes more rows len : ℕ) → bytes ≤ more → most_cells tables bytes rows len ≤ most_cells tables more rows len
+more_cells tables bytes more rows len le = omega (arith, le, mul-le-mul_left {m = bytes} {n = more} tables le)
+
+-- what is linear in so many bytes is linear in more
+pub linear_more : {S : Type 0} (d : RuleTable S) (text : List ℕ) (bytes more : ℕ) (looked : Option ℕ) → bytes ≤ more → IsLinearIn d text bytes looked → IsLinearIn d text more looked
+linear_more d text bytes more None le is = is
+linear_more d text bytes more (Some n) le is = omega (arith, is, more_cells (most_tables d.tables.items) bytes more (count_of_rows d.tables.items) (length text) le)
+
+-- what is linear from a place up to another is linear in the whole text
+pub linear_in_all : {S : Type 0} (d : RuleTable S) (text : List ℕ) (first place : ℕ) (looked : Option ℕ) → place ≤ length text → IsLinearIn d text (place - first) looked → IsLinearIn d text (length text) looked
+linear_in_all d text first place looked le is = linear_more d text (place - first) (length text) looked (omega (arith, le)) is
