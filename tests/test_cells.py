@@ -53,6 +53,10 @@ class Cells(unittest.TestCase):
             with self.subTest(rules=rules, text=text):
                 self.assertEqual(cells_of(rules, text)[0], wanted)
 
+    def test_how_many_there_may_be(self):
+        # five bytes by one table of four rows
+        self.assertEqual(cells_of(WORDS, "ab c ")[1], 390 * 5 + 192 * 4 + 4 * 5 + 16_384)
+
     def test_texts_that_look_far_take_twice_as_much_where_they_are_twice_as_long(self):
         for rules, word in FAR_TEXTS:
             with self.subTest(rules=rules):

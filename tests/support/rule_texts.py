@@ -30,9 +30,9 @@ def word_by_chance(chance, most):
 
 
 def far_by_chance(chance, size):
-    """A rule text whose rules look far, and a text of so many letters on which they mostly do so in vain.
+    """A rule text whose rules look far, and a text of so many letters on which they do so in vain.
 
-    A rule wants a word some number of times, over and over, and then a letter that hardly ever comes. The text has these words over and
+    A rule wants a word some number of times, over and over, and then a letter that never comes. The text has these words over and
     over, with another word now and then.
     """
     words = [word_by_chance(chance, 3) for _ in range(chance.randint(1, 4))]
