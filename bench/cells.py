@@ -42,7 +42,7 @@ def tell(name, looked, most, plain=""):
 
 def tell_text(name, rules, text, plain=""):
     """Measures a text, and prints its line."""
-    looked, most = cells_of(rules, text)
+    looked, _, most = cells_of(rules, text)
     size = len(text.encode())
     tell(name, looked / size, most / size, plain)
 
@@ -57,7 +57,7 @@ def main(paths):
         tell_text(name, rules, word * (SIZE // len(word)), f"{plain:,.0f}")
     counts = [cells_of(*far_by_chance(random.Random(seed), SIZE)) for seed in range(CHANCES)]
     worst = max(counts)
-    tell(f"{CHANCES} rule texts by chance, the worst", worst[0] / SIZE, worst[1] / SIZE)
+    tell(f"{CHANCES} rule texts by chance, the worst", worst[0] / SIZE, worst[2] / SIZE)
 
 
 if __name__ == "__main__":

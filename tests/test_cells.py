@@ -1,4 +1,4 @@
-"""How many cells of tables a run looks at: worked out for short texts, and within what its contract allows for texts that look far."""
+"""How many cells of tables a run or a scanner looks at: worked out for short texts, and within what its contract allows for texts that look far."""
 
 import random
 import tempfile
@@ -34,12 +34,12 @@ FAR_TEXTS = [
 
 
 def cells_of(rules, text):
-    """How many cells a run of the text looks at, and how many its contract allows."""
+    """How many cells a run of the text looks at, and a scanner, and how many their contracts allow."""
     with tempfile.TemporaryDirectory() as folder:
         programs.fill(folder, {"rules": rules, "text": text})
         came = programs.run([programs.path_of(PROGRAM), "rules", "text", "1"], "", folder)
     found = dict(line.split(": ") for line in came.out.splitlines())
-    return int(found["cells looked at"]), int(found["cells at most"])
+    return int(found["cells looked at"]), int(found["cells looked at by a scanner"]), int(found["cells at most"])
 
 
 class Cells(unittest.TestCase):
@@ -51,27 +51,30 @@ class Cells(unittest.TestCase):
     def test_short_texts(self):
         for rules, text, wanted in WORKED:
             with self.subTest(rules=rules, text=text):
-                self.assertEqual(cells_of(rules, text)[0], wanted)
+                looked, scanned, _ = cells_of(rules, text)
+                self.assertEqual(looked, wanted)
+                self.assertEqual(scanned, wanted)
 
     def test_how_many_there_may_be(self):
         # five bytes by one table of four rows
-        self.assertEqual(cells_of(WORDS, "ab c ")[1], 390 * 5 + 192 * 4 + 4 * 5 + 16_384)
+        self.assertEqual(cells_of(WORDS, "ab c ")[2], 390 * 5 + 192 * 4 + 4 * 5 + 16_384)
 
     def test_texts_that_look_far_take_twice_as_much_where_they_are_twice_as_long(self):
         for rules, word in FAR_TEXTS:
             with self.subTest(rules=rules):
-                once, most = cells_of(rules, word * (40_000 // len(word)))
-                twice, twice_most = cells_of(rules, word * (80_000 // len(word)))
-                self.assertLessEqual(once, most)
-                self.assertLessEqual(twice, twice_most)
+                once, scanned, most = cells_of(rules, word * (40_000 // len(word)))
+                twice, twice_scanned, twice_most = cells_of(rules, word * (80_000 // len(word)))
+                self.assertLessEqual(max(once, scanned), most)
+                self.assertLessEqual(max(twice, twice_scanned), twice_most)
                 self.assertLess(twice, 2.1 * once)
+                self.assertLess(twice_scanned, 2.1 * scanned)
 
     def test_rules_that_look_far_by_chance(self):
         for seed in range(100):
             rules, text = far_by_chance(random.Random(seed), 20_000)
             with self.subTest(seed=seed, rules=rules):
-                looked, most = cells_of(rules, text)
-                self.assertLessEqual(looked, most)
+                looked, scanned, most = cells_of(rules, text)
+                self.assertLessEqual(max(looked, scanned), most)
 
 
 if __name__ == "__main__":

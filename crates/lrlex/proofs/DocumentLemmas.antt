@@ -19,11 +19,13 @@ use Rattle.lrlex.specs.Nearest.{FitsAt}
 use Rattle.lrlex.specs.Reach.{IsRun}
 use Rattle.lrlex.specs.Relex.{AreCountsOf}
 use Rattle.lrlex.specs.Views.{definition_by, items_by}
+use Rattle.lrlex.specs.Work.{IsLinearIn}
 use Rattle.lrlex.specs.declared.errors.LRLexError.{LRLexError}
 use Rattle.lrlex.specs.declared.definition.rule_table.RuleTable.{RuleTable}
 use Rattle.lrlex.specs.declared.editing.document.LexedText.{LexedText}
 use Rattle.lrlex.proofs.InPlaceLemmas.{counts_moved}
 use Rattle.lrlex.proofs.ItemLemmas.{have_laws}
+use Rattle.lrlex.proofs.LinearLemmas.{linear_again}
 
 -- a span that fits, by the numbers of its ends
 pub span_fits : (text : List ℕ) (s : TheSpan) (from to : ℕ) → from ≡ s.start → to ≡ s.end → Fits text s → FitsAt text from to
@@ -96,3 +98,7 @@ module _ {S X : Type 0} (number : S → ℕ) (seen : X → LexemeParts S) (d : R
       OnOk r (AreCountsOf (definition_by number d) (asks_by d (string_bytes new.text)) bounds numbers removed put (string_bytes new.text) new.lexed.boundaries new.lexed.asked new.lexed.recut)
   edited_counts (Ok x) bounds numbers made is_bounds is_numbers = counts_moved (asks_by d) is_bounds is_numbers refl refl made.counts
   edited_counts (Err e) bounds numbers made is_bounds is_numbers = tt
+
+  pub edited_linear : {A E : Type 0} (r : Result A E) → OnOk r (WasEdited number seen d removed put old new) → OnOk r (IsLinearIn d (string_bytes new.text) (length (string_bytes new.text)) new.lexed.looked)
+  edited_linear (Ok x) made = linear_again d _ _ _ _ made.recut
+  edited_linear (Err e) made = tt

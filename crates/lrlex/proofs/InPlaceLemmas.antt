@@ -1,16 +1,16 @@
 -- What was cut anew, in its place: it is what the new text gives.
-use Rattle.std.proofs.Common.{◌≡◌, ◌≢◌, ℕ, ◌+◌, ◌-◌, ◌^◌, ◌<◌, ◌≤◌, true, false, List, Result, All, None, [], ◌++◌, length, map, drop, take, refl, sym, ap, ◌∙◌, subst, inl, inr, arith, append-nil}
+use Rattle.std.proofs.Common.{◌≡◌, ◌≢◌, ℕ, ◌+◌, ◌-◌, ◌^◌, ◌<◌, ◌≤◌, true, false, List, Result, All, None, Some, [], ◌++◌, length, map, drop, take, refl, sym, ap, ap₂, ◌∙◌, subst, inl, inr, arith, append-nil}
 use Rattle.std.proofs.Math.Logic.{∥∥₁_elim}
 use Rattle.std.proofs.Props.{props}
 use Rattle.std.proofs.lemmas.Bool.{cases_lt, true≢false}
-use Rattle.std.proofs.lemmas.List.{map-append, nil_from_length}
+use Rattle.std.proofs.lemmas.List.{map-append, nil_from_length, length-append, length-take-le, get_or_append_left, get_or-append-add}
 use Rattle.lrlex_base.specs.LexemeParts.{LexemeParts}
 use Rattle.lrlex_base.specs.Spans.{as_span, Span as Cut}
 use Rattle.lrlex_base.specs.declared.spans.Span.{Span}
 use Rattle.lrlex_rules.specs.Definition.{Definition}
 use Rattle.lrlex.specs.Active.{is_state}
 use Rattle.lrlex.specs.Searches.{asks_by}
-use Rattle.lrlex_boundaries.specs.Boundaries.{Boundary, boundary_at, last_entries}
+use Rattle.lrlex_boundaries.specs.Boundaries.{Boundary, boundary_at, last_entries, no_boundary}
 use Rattle.lrlex.specs.Lookahead.{LooksAhead, items_before}
 use Rattle.lrlex_boundaries.specs.Moves.{IsMovableBoundary, moved_boundary}
 use Rattle.lrlex.specs.Moves.{IsMovable, items_from}
@@ -19,6 +19,8 @@ use Rattle.lrlex.specs.Relex.{AreCountsOf}
 use Rattle.lrlex.specs.Tiling.{Item, Item-set, rebased}
 use Rattle.lrlex.specs.Progress.{HasRecut, HasMet, IsEditOf, HasReplacedTail, HasReplacedMiddle, front_of}
 use Rattle.lrlex.specs.Views.{definition_by, item_of, items_by}
+use Rattle.lrlex.specs.Changes.{change}
+use Rattle.lrlex.specs.Work.{HasLinearRecut, IsLinearIn}
 use Rattle.lrlex.specs.declared.errors.LRLexError.{LRLexError}
 use Rattle.lrlex.specs.declared.definition.rule_table.RuleTable.{RuleTable}
 use Rattle.lrlex.specs.declared.editing.relex.Recut.{Recut}
@@ -27,7 +29,7 @@ use Rattle.lrlex.proofs.RecutLemmas.{old_lexed, old_looks, old_sorted}
 use Rattle.lrlex.proofs.FrontLemmas.{last_behind}
 use Rattle.lrlex.proofs.MeetLemmas.{items_movable, bounds_movable, rest_same, whole}
 use Rattle.lrlex.proofs.RaisedLemmas.{looks_taken_over}
-use Rattle.lrlex.proofs.ReachLemmas.{last_now, run_of}
+use Rattle.lrlex.proofs.ReachLemmas.{last_now, place_now, run_of}
 
 module _ {S X : Type 0} (number : S → ℕ) (seen : X → LexemeParts S) (def : RuleTable S) (found : List (Result X LRLexError)) (olds : List Boundary) (numbers : List ℕ)
     (removed : Span) (put new : List ℕ) (e : IsEditOf number seen def found olds numbers removed put new) where
@@ -58,6 +60,18 @@ module _ {S X : Type 0} (number : S → ℕ) (seen : X → LexemeParts S) (def :
     }
 
   module _ (initial : is_state (definition_by number def) 0 ≡ true) (a : Recut X) (h : HasRecut number seen def found olds numbers removed put new a) where
+    -- what was cut anew begins where the old run stood
+    starts_at : (bounds' tail : List Boundary) → bounds' ≡ (take a.index olds ++ a.progress.boundaries) ++ tail → (boundary_at bounds' a.index).place ≡ (boundary_at olds a.index).place
+    starts_at bounds' tail is =
+        let front = take a.index olds in
+        let count : length front ≡ a.index = length-take-le a.index olds (omega (arith, h.from.within)) in
+        let at : boundary_at bounds' a.index ≡ boundary_at olds a.index =
+        ap (λ ms. boundary_at ms a.index) is
+        ∙ get_or_append_left (front ++ a.progress.boundaries) tail no_boundary a.index (omega (arith, length-append front a.progress.boundaries, count, h.some))
+        ∙ ap (boundary_at (front ++ a.progress.boundaries)) (omega (arith, count))
+        ∙ get_or-append-add front a.progress.boundaries 0 no_boundary ∙ h.start in
+        ap (λ (b : Boundary). b.place) at
+
     -- ---- at a meeting
 
     module _ (j : ℕ) (m : HasMet (definition_by number def) number seen olds removed put new (front_of (items_by number seen found) olds numbers a.index) a.progress j) where
@@ -115,6 +129,21 @@ module _ {S X : Type 0} (number : S → ℕ) (seen : X → LexemeParts S) (def :
         pub between_counts : a.met ≢ None → AreCountsOf (definition_by number def) (asks_by def new) olds numbers (as_span removed) put new bounds' a.progress.asked (length a.progress.boundaries - 1)
         between_counts met = h.counts (map (moved_boundary (boundary_at olds j).place a.progress.place) (drop (j + 1) olds)) bounds' (λ none. absurd (met none)) is.boundaries
 
+        pub between_recut : a.met ≡ Some j → HasLinearRecut def new bounds' (change a.index (j - a.index) (length a.progress.boundaries - 1)) a.looked
+        between_recut met =
+            let tail = map (moved_boundary (boundary_at olds j).place a.progress.place) (drop (j + 1) olds) in
+            let long : length bounds_now ≡ a.index + length a.progress.boundaries = omega (arith, length-append (take a.index olds) a.progress.boundaries, length-take-le a.index olds (omega (arith, h.from.within))) in
+            let end : a.index + (length a.progress.boundaries - 1) ≡ length bounds_now - 1 = omega (arith, long, h.some) in
+            let last : (boundary_at bounds' (a.index + (length a.progress.boundaries - 1))).place ≡ a.progress.place =
+            ap₂ (λ ms i. (boundary_at ms i).place) is.boundaries end
+            ∙ ap (λ (b : Boundary). b.place) (get_or_append_left bounds_now tail no_boundary (length bounds_now - 1) (omega (arith, long, h.some)))
+            ∙ place_now (definition_by number def) new a.progress.place a.progress.stack.items found_now bounds_now a.progress.asked m.under_way.reached in
+            let first : (boundary_at bounds' a.index).place ≡ (boundary_at olds a.index).place = starts_at bounds' tail is.boundaries in
+            record {
+              met = λ _. subst (λ n. IsLinearIn def new n a.looked) (ap₂ (λ x y. x - y) (sym last) (sym first)) (h.near j met);
+              ended = subst (λ x. IsLinearIn def new (length new - x) a.looked) (sym first) h.linear;
+            }
+
     -- ---- at an end
 
     module _ (none : a.met ≡ None) (found' : List (Result X LRLexError)) (bounds' : List Boundary) (numbers' : List ℕ) (is : HasReplacedTail found olds numbers a found' bounds' numbers') where
@@ -132,6 +161,16 @@ module _ {S X : Type 0} (number : S → ℕ) (seen : X → LexemeParts S) (def :
 
       pub behind_counts : AreCountsOf (definition_by number def) (asks_by def new) olds numbers (as_span removed) put new bounds' a.progress.asked (length a.progress.boundaries - 1)
       behind_counts = h.counts [] bounds' (λ _. refl) (is.boundaries ∙ sym (append-nil (take a.index olds ++ a.progress.boundaries)))
+
+      pub behind_recut : HasLinearRecut def new bounds' (change a.index ((length olds - 1) - a.index) (length a.progress.boundaries - 1)) a.looked
+      behind_recut =
+          let first = starts_at bounds' [] (is.boundaries ∙ sym (append-nil (take a.index olds ++ a.progress.boundaries))) in
+          let long : length bounds' ≡ a.index + length a.progress.boundaries =
+          omega (arith, ap length is.boundaries, length-append (take a.index olds) a.progress.boundaries, length-take-le a.index olds (omega (arith, h.from.within))) in
+          record {
+            met = λ lt. absurd (omega (arith, lt, long, h.some));
+            ended = subst (λ x. IsLinearIn def new (length new - x) a.looked) (sym first) h.linear;
+          }
 
 -- the same counts, of what is known to be the same
 pub counts_moved : {d : Definition} (asks : List ℕ → List Boundary → ℕ) {old old' : List Boundary} {ahead ahead' : List ℕ} {removed removed' : Cut} {put text text' : List ℕ} {new : List Boundary} {many recut : ℕ} →

@@ -114,11 +114,16 @@ module _ (d : Definition) (text : List ℕ) (place : ℕ) (stack : List (ℕ × 
       let same : searches d text bounds ≡ sum_by (asked_at d (length text)) (map place_and_stack r.before ++ (place, plain stack) ∷ []) = ap (sum_by (asked_at d (length text))) bounds_now in
       omega (arith, r.asks, all, same)
 
-  pub last_now : last_entries bounds ≡ stack
-  last_now =
+  boundary_now : boundary_at bounds (length bounds - 1) ≡ record { place = place; entries = stack }
+  boundary_now =
       let n : length r.before ≡ length bounds - 1 = omega (arith, ap length r.kept, length-append r.before (record { place = place; entries = stack } ∷ [])) in
-      ap (λ i. (boundary_at bounds i).entries) (sym n) ∙ ap (λ ms. (boundary_at ms (length r.before)).entries) r.kept
-      ∙ ap (λ (m : Boundary). m.entries) (get_or_at r.before (record { place = place; entries = stack }) [] no_boundary (length r.before) refl)
+      ap (boundary_at bounds) (sym n) ∙ ap (λ ms. boundary_at ms (length r.before)) r.kept ∙ get_or_at r.before (record { place = place; entries = stack }) [] no_boundary (length r.before) refl
+
+  pub last_now : last_entries bounds ≡ stack
+  last_now = ap (λ (m : Boundary). m.entries) boundary_now
+
+  pub place_now : (boundary_at bounds (length bounds - 1)).place ≡ place
+  place_now = ap (λ (m : Boundary). m.place) boundary_now
 
   pub entries_now : AreEntries stack
   entries_now = (All-pop (λ (m : Boundary). AreEntries m.entries) bounds r.before (Some (record { place = place; entries = stack })) r.kept r.entries).1

@@ -4,7 +4,7 @@ use Rattle.std.specs.List.{sum_by}
 use Rattle.std.specs.List.Sorted.{IsPartitionedBy}
 use Rattle.std.proofs.lemmas.Bool.{cases_lt}
 use Rattle.std.proofs.lemmas.Option.{same_Some, none-some}
-use Rattle.std.proofs.lemmas.List.{length-drop, length-take-le, get_or-take, take_more, map-append}
+use Rattle.std.proofs.lemmas.List.{length-drop, length-take-le, get_or-take, get_or_append_left, take_more, map-append}
 use Rattle.std.proofs.lemmas.List.Sums.{sum_by-append}
 use Rattle.lrlex_base.specs.Edits.{edited}
 use Rattle.lrlex_base.specs.LexemeParts.{LexemeParts}
@@ -154,6 +154,7 @@ module _ {S X : Type 0} (number : S → ℕ) (seen : X → LexemeParts S) (def :
   -- they are cut from boundary k, and none before the place meets the old run
   pub record AreCut (p : Progress X) : Type 0 where
     pub from : IsLastSafe olds numbers removed.start k
+    pub start : boundary_at p.boundaries 0 ≡ boundary_at olds k
     pub under_way : IsUnderWay (definition_by number def) number seen new front p
     pub exact : p.asked ≡ asks_by def new (slice_range (whole p) k (length (whole p) - 1))
     pub unmet : (j : ℕ) → j + 1 < length (whole p) → Meets olds (whole p) removed.start removed.end (length put) j → ⊥
@@ -179,6 +180,7 @@ module _ {S X : Type 0} (number : S → ℕ) (seen : X → LexemeParts S) (def :
       let count : length (whole p) ≡ k + 1 = ap length bounds_are ∙ length-take-le (k + 1) olds (omega (arith, from.within)) in
       record {
         from = from;
+        start = ap (λ ms. boundary_at ms 0) e.boundaries;
         under_way = record {
           boundary = subst (IsCharBoundary new) (sym e.place) gone.boundary;
           some = omega (arith, ap length e.boundaries);
@@ -209,6 +211,7 @@ module _ {S X : Type 0} (number : S → ℕ) (seen : X → LexemeParts S) (def :
       let e : whole n ≡ whole p ++ m ∷ [] = joined (take k olds) p.boundaries n.boundaries (m ∷ []) more.more.1 in
       record {
         from = c.from;
+        start = ap (λ ms. boundary_at ms 0) more.more.1 ∙ get_or_append_left p.boundaries (m ∷ []) no_boundary 0 c.under_way.some ∙ c.start;
         under_way = more.under_way;
         exact = next_asked def new D p.place p.stack.items (front.items ++ items_by number seen p.items.items) (whole p) p.asked c.under_way.reached k (omega (arith, whole_len p c, c.under_way.some)) c.exact n.asked m (whole n) lt is e;
         unmet = λ j below meets. none j (meets_front olds (whole p) (m ∷ []) (whole n) removed.start removed.end (length put) j e (omega (arith, below, ap length e, length-append (whole p) (m ∷ []))) meets);
@@ -217,14 +220,15 @@ module _ {S X : Type 0} (number : S → ℕ) (seen : X → LexemeParts S) (def :
   -- ---- where it ends
 
   module _ (first : ℕ) (within : first ≤ length found) (before : items_by number seen (take first found) ≡ items_before (boundary_at olds k).place (items_by number seen found))
-      (cells : Option ℕ) (linear : IsLinearIn def new (length new) cells) where
+      (cells : Option ℕ) (linear : IsLinearIn def new (length new - (boundary_at olds k).place) cells) where
     -- at a meeting
-    pub cut_met : (p : Progress X) (j : ℕ) → AreCut p → HasMet (definition_by number def) number seen olds removed put new front p j
+    pub cut_met : (p : Progress X) (j : ℕ) → AreCut p → HasMet (definition_by number def) number seen olds removed put new front p j → IsLinearIn def new (p.place - (boundary_at olds k).place) cells
         → HasRecut number seen def found olds numbers removed put new (record { index = k; first = first; progress = p; met = Some j; looked = cells })
-    cut_met p j c m = record {
+    cut_met p j c m near = record {
       from = c.from;
       first = within;
       before = before;
+      start = c.start;
       some = c.under_way.some;
       met = λ i e. subst (HasMet (definition_by number def) number seen olds removed put new front p) (same_Some j i e) m;
       lexed = λ e. absurd (none-some j (sym e));
@@ -233,6 +237,7 @@ module _ {S X : Type 0} (number : S → ℕ) (seen : X → LexemeParts S) (def :
           counts_met number def new olds numbers removed put p.place p.stack.items (front.items ++ items_by number seen p.items.items) (whole p) p.asked c.under_way.reached
           k c.from (omega (arith, whole_len p c, c.under_way.some)) c.exact c.unmet (length p.boundaries - 1) (omega (arith, whole_len p c, c.under_way.some))
           tail all is_bounds m.past j m.within m.place m.stack;
+      near = λ i e. near;
       linear = linear;
     }
 
@@ -247,6 +252,7 @@ module _ {S X : Type 0} (number : S → ℕ) (seen : X → LexemeParts S) (def :
           from = c.from;
           first = within;
           before = before;
+          start = ap (λ ms. boundary_at ms 0) e.same ∙ c.start;
           some = omega (arith, c.under_way.some, ap length e.same);
           met = λ i m. absurd (none-some i m);
           lexed = λ _. subst (λ xs. IsLexed D new (xs ++ items_by number seen n.items.items) (whole n)) (sym before) e.lexed;
@@ -255,6 +261,7 @@ module _ {S X : Type 0} (number : S → ℕ) (seen : X → LexemeParts S) (def :
               counts_stopped number def new olds numbers removed put p.place p.stack.items (front.items ++ items_by number seen p.items.items) (whole p) p.asked c.under_way.reached
               k c.from (omega (arith, whole_len p c, c.under_way.some)) c.exact c.unmet (length n.boundaries - 1) (omega (arith, whole_len p c, c.under_way.some, ap length e.same))
               all n.asked (is_bounds ∙ ap (λ ms. whole n ++ ms) (nil refl) ∙ append-nil (whole n) ∙ same) none lt is few;
+          near = λ i m. absurd (none-some i m);
           linear = linear;
         }
 
@@ -267,6 +274,7 @@ module _ {S X : Type 0} (number : S → ℕ) (seen : X → LexemeParts S) (def :
           from = c.from;
           first = within;
           before = before;
+          start = c.start;
           some = c.under_way.some;
           met = λ i m. absurd (none-some i m);
           lexed = λ _. subst (λ xs. IsLexed D new (xs ++ items_by number seen p.items.items) (whole p)) (sym before)
@@ -276,5 +284,6 @@ module _ {S X : Type 0} (number : S → ℕ) (seen : X → LexemeParts S) (def :
               counts_ended number def new olds numbers removed put p.place p.stack.items all (whole p) p.asked c.under_way.reached
               k c.from (omega (arith, whole_len p c, c.under_way.some)) c.exact c.unmet (length p.boundaries - 1) (omega (arith, whole_len p c, c.under_way.some))
               new_bounds (is_bounds ∙ ap (λ ms. whole p ++ ms) (nil refl) ∙ append-nil (whole p)) end;
+          near = λ i m. absurd (none-some i m);
           linear = linear;
         }

@@ -29,13 +29,13 @@ pub record HasFound (found : List Item) (s : Scanned) : Type 0 where
   pub enters : (us : List Tile) → boundaries s.definition 0 (0 ∷ []) (cut ++ us) ≡ before ++ boundaries s.definition s.place s.stack us
   pub initial : is_state s.definition 0 ≡ true
 
-pub found_front : (d : Definition) (text : List ℕ) → is_state d 0 ≡ true → HasFound [] (at_front d text)
-found_front d text z =
-    let stack : (at_front d text).stack ≡ 0 ∷ [] = cond-true _ (0 ∷ []) [] z in
+pub found_front : (d : Definition) (text : List ℕ) (most : ℕ) → is_state d 0 ≡ true → HasFound [] (at_front d text most)
+found_front d text most z =
+    let stack : (at_front d text most).stack ≡ 0 ∷ [] = cond-true _ (0 ∷ []) [] z in
     record {
       cut = [];
       before = [];
-      scanned = scanned_front d text z;
+      scanned = scanned_front d text most z;
       gives = λ us e. refl;
       enters = λ us. ap (λ st. boundaries d 0 st us) (sym stack);
       initial = z;

@@ -17,8 +17,8 @@ use Rattle.lrlex.specs.declared.lexing.scanner.ScanEnd.{ScanEnd}
 use Rattle.lrlex.specs.declared.lexing.scanner.ScanEnd.TheVariants.{NoId, NoState}
 use Rattle.lrlex.specs.declared.lexing.scanner.ScanEnd.TheVariants.{Done as IsDone, NoMatch as HasNoMatch, NoTarget as HasNoTarget}
 
-pub scanned_front : (d : Definition) (text : List ℕ) → is_state d 0 ≡ true → AreScanned [] (at_front d text)
-scanned_front d text z = record { goes_on = λ us e h. subst (λ st. IsTiling d text st us e) (cond-true _ (0 ∷ []) [] z) h }
+pub scanned_front : (d : Definition) (text : List ℕ) (most : ℕ) → is_state d 0 ≡ true → AreScanned [] (at_front d text most)
+scanned_front d text most z = record { goes_on = λ us e h. subst (λ st. IsTiling d text st us e) (cond-true _ (0 ∷ []) [] z) h }
 
 pub scanned_more : {S : Type 0} (number : S → ℕ) (ts : List Tile) (s : Scanned) (x : ScannedTile S) (t : Tile) → IsTileAt number s.definition s.place x t →
     IsTaken s.definition (left s) s.stack t → AreScanned ts s → AreScanned (ts ++ t ∷ []) (past s x)

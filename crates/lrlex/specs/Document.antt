@@ -1,5 +1,5 @@
 -- What an edit of a text that is lexed leaves of it.
-use Rattle.std.specs.Prelude.{◌≡◌, ℕ, List, Result, length}
+use Rattle.std.specs.Prelude.{◌≡◌, ℕ, List, Result}
 use Rattle.std.specs.String.{string_bytes}
 use Rattle.lrlex_base.specs.Edits.{edited}
 use Rattle.lrlex_base.specs.Places.{AreBreaksOf}
@@ -12,7 +12,7 @@ use Rattle.lrlex.specs.Relex.{AreCountsOf}
 use Rattle.lrlex.specs.Changes.{HasChanged}
 use Rattle.lrlex.specs.Progress.{HasSame}
 use Rattle.lrlex.specs.Views.{definition_by, items_by}
-use Rattle.lrlex.specs.Work.{IsLinearIn}
+use Rattle.lrlex.specs.Work.{HasLinearRecut}
 use Rattle.lrlex_boundaries.specs.Boundaries.{Boundary}
 use Rattle.lrlex_positions.specs.Lines.{AreLinesOf}
 use Rattle.lrlex.specs.declared.errors.LRLexError.{LRLexError}
@@ -45,7 +45,7 @@ pub record WasEdited {S X : Type 0} (number : S → ℕ) (seen : X → LexemePar
   pub looks : LooksAhead (definition_by number d) (string_bytes new.text) new.lexed.boundaries new.lexed.ahead.items
   pub run : IsRun (definition_by number d) (string_bytes new.text) (items_by number seen new.lexed.items.items) new.lexed.boundaries
   pub counts : AreCountsOf (definition_by number d) (asks_by d (string_bytes new.text)) old.lexed.boundaries old.lexed.ahead.items removed put (string_bytes new.text) new.lexed.boundaries new.lexed.asked new.lexed.recut
-  pub linear : IsLinearIn d (string_bytes new.text) (length (string_bytes new.text)) new.lexed.looked
+  pub recut : HasLinearRecut d (string_bytes new.text) new.lexed.boundaries new.lexed.changed.pieces new.lexed.looked
 
 -- what that changed
 abbrev pub HasChangedText : {S X : Type 0} → (S → ℕ) → (X → LexemeParts S) → RuleTable S → Span → List ℕ → (old new : LexedText X) → Type 0

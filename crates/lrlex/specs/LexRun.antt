@@ -25,10 +25,6 @@ pub record Run (D X : Type 0) : Type 0 where
   pub looked : Option ℕ
   pub changed : Changed
 
--- a run that has these
-abbrev pub run_with : {D X : Type 0} → D → List ℕ → List (Result X LRLexError) → List Boundary → List ℕ → ℕ → ℕ → Option ℕ → Changed → Run D X
-run_with d text items bounds ahead asked recut looked changed = record { definition = d; text = text; items = items; boundaries = bounds; ahead = ahead; asked = asked; recut = recut; looked = looked; changed = changed }
-
 -- it is the run of this definition on this text
 abbrev pub IsRunOf : {L X S E P Q : Type 0} → (S → ℕ) → (X → LexemeParts S) → LRNonStreamingLexerDef L X S E P Q → List ℕ → Run (LRNonStreamingLexerDef L X S E P Q) X → Type 0
 IsRunOf number seen d text r = IsRun (definition_of number d) text (items_by number seen r.items) r.boundaries

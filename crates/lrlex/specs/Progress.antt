@@ -141,6 +141,7 @@ pub record HasRecut {S X : Type 0} (number : S → ℕ) (seen : X → LexemePart
   pub from : IsLastSafe bounds numbers removed.start a.index
   pub first : a.first ≤ length found
   pub before : items_by number seen (take a.first found) ≡ items_before (boundary_at bounds a.index).place (items_by number seen found)
+  pub start : boundary_at a.progress.boundaries 0 ≡ boundary_at bounds a.index
   pub some : 0 < length a.progress.boundaries
   pub met : (j : ℕ) → a.met ≡ Some j
       → HasMet (definition_by number d) number seen bounds removed put new (front_of (items_by number seen found) bounds numbers a.index) a.progress j
@@ -150,7 +151,8 @@ pub record HasRecut {S X : Type 0} (number : S → ℕ) (seen : X → LexemePart
       → LooksAhead (definition_by number d) new (take a.index bounds ++ a.progress.boundaries) (take a.index numbers ++ a.progress.ahead.items)
   pub counts : (tail all : List Boundary) → (a.met ≡ None → tail ≡ []) → all ≡ (take a.index bounds ++ a.progress.boundaries) ++ tail
       → AreCountsOf (definition_by number d) (asks_by d new) bounds numbers (as_span removed) put new all a.progress.asked (length a.progress.boundaries - 1)
-  pub linear : IsLinearIn d new (length new) a.looked
+  pub near : (j : ℕ) → a.met ≡ Some j → IsLinearIn d new (a.progress.place - (boundary_at bounds a.index).place) a.looked
+  pub linear : IsLinearIn d new (length new - (boundary_at bounds a.index).place) a.looked
 
 -- what was cut anew stands in place of all behind its front
 pub record HasReplacedTail {X : Type 0} (found : List (Result X LRLexError)) (bounds : List Boundary) (numbers : List ℕ) (a : Recut X)

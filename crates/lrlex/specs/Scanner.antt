@@ -1,13 +1,14 @@
 -- A scanner, and what its steps say.
-use Rattle.std.specs.Prelude.{◌≡◌, ℕ, ◌+◌, ◌^◌, ◌<◌, true, false, List, All, [], ◌∷◌, ◌++◌, length, drop, Option, Some, None, option_map, if◌then◌else◌, IsCharBoundary}
+use Rattle.std.specs.Prelude.{◌≡◌, ℕ, ◌+◌, ◌^◌, ◌<◌, max, true, false, List, All, [], ◌∷◌, ◌++◌, length, drop, vec_len, Option, Some, None, IfSome, MatchOption, option_map, if◌then◌else◌, IsCharBoundary}
 use Rattle.lrlex_base.specs.Spans.{as_span, span, span_end}
 use Rattle.lrlex_boundaries.specs.Entries.{plain, AreEntries}
 use Rattle.lrlex_rules.specs.Definition.{Definition}
 use Rattle.lrlex_rules.specs.RuleParts.{state_number}
 use Rattle.lrlex.specs.Active.{is_state, lexeme_id, lacks_id, rule_at}
 use Rattle.lrlex.specs.Searcher.{AreOf, IsSearcherOf}
-use Rattle.lrlex.specs.Tiling.{Tile, End, Done, NoMatch, NoTarget, IsEnd, IsTaken, IsTiling, IsWinner, stack_after, top}
+use Rattle.lrlex.specs.Tiling.{Tile, End, Done, NoMatch, NoTarget, IsEnd, IsStuck, IsTaken, IsTiling, IsWinner, Wins, stack_after, top}
 use Rattle.lrlex.specs.Views.{definition_by}
+use Rattle.lrlex.specs.Work.{HasWorked, most_cells_by, won_bytes}
 use Rattle.lrlex.specs.declared.definition.rule_table.RuleTable.{RuleTable}
 use Rattle.lrlex.specs.declared.lexing.cursor.Cursor.{Cursor}
 use Rattle.lrlex.specs.declared.lexing.cursor.ScanPlace.{ScanPlace}
@@ -16,19 +17,25 @@ use Rattle.lrlex.specs.declared.lexing.scanner.ScanEnd.{ScanEnd}
 use Rattle.lrlex.specs.declared.lexing.scanner.ScanEnd.TheVariants.{NoId, NoState}
 use Rattle.lrlex.specs.declared.lexing.scanner.ScanEnd.TheVariants.{Done as IsDone, NoMatch as HasNoMatch, NoTarget as HasNoTarget}
 use Rattle.lrlex.specs.declared.lexing.scanner.Step.{Step}
+use Rattle.lrlex.specs.declared.lexing.winner.Tile.{Tile as Won}
 use Rattle.lrlex.specs.declared.lexing.scanner.Step.TheVariants.{Tile as Found, End as Over}
 
 -- The definition that a scanner goes by, its text, the place up to which it has come, and its stack of start states there,
--- from bottom to top. The stack is empty where the definition has no state 0.
+-- from bottom to top. The stack is empty where the definition has no state 0. It looks at no more than so many cells of tables.
 pub record Scanned : Type 0 where
   pub definition : Definition
   pub text : List ℕ
   pub place : ℕ
   pub stack : List ℕ
+  pub most_cells : ℕ
 
 -- a scanner at the front of a text
-abbrev pub at_front : Definition → List ℕ → Scanned
-at_front d text = record { definition = d; text = text; place = 0; stack = if is_state d 0 then 0 ∷ [] else [] }
+abbrev pub at_front : Definition → List ℕ → (most_cells : ℕ) → Scanned
+at_front d text most = record { definition = d; text = text; place = 0; stack = if is_state d 0 then 0 ∷ [] else []; most_cells = most }
+
+-- it is at the front of this text
+abbrev pub IsAtFront : Definition → List ℕ → Scanned → Type 0
+IsAtFront d text s = s ≡ at_front d text s.most_cells
 
 -- the start state on top of its stack, if it has one
 abbrev pub top_state : List ℕ → Option ℕ
@@ -65,6 +72,7 @@ past s x = record {
   text = s.text;
   place = span_end x.span;
   stack = stack_after s.stack (rule_at s.definition x.rule).target;
+  most_cells = s.most_cells;
 }
 
 -- after a step it stands past the tile, and at an end where it was
@@ -72,9 +80,9 @@ abbrev pub after_step : {S : Type 0} → Scanned → Step S → Scanned
 after_step s (Found x) = past s x
 after_step s (Over e) = s
 
--- what a scanner is inside, by its definition and text
-abbrev pub scanned_by : Definition → List ℕ → Cursor → Scanned
-scanned_by d text c = record { definition = d; text = text; place = c.place; stack = plain c.stack.items }
+-- what a scanner is inside, by its rules and text
+abbrev pub scanned_by : {S : Type 0} → (S → ℕ) → RuleTable S → List ℕ → Cursor → Scanned
+scanned_by number table text c = record { definition = definition_by number table; text = text; place = c.place; stack = plain c.stack.items; most_cells = most_cells_by table text }
 
 -- a scanner can stand here: between characters, with a stack of the definition's states, as entries
 pub record IsStand (d : Definition) (text : List ℕ) (place : ℕ) (stack : List (ℕ × ℕ)) : Type 0 where
@@ -84,18 +92,32 @@ pub record IsStand (d : Definition) (text : List ℕ) (place : ℕ) (stack : Lis
   pub some : 0 < length (plain stack)
   pub room : length (plain stack) + length text < 2 ^ 64 + place
 
--- It stands where it can, its rules are those of the state on top, and what finds winners is of the definition and the text.
+-- This is what wins at the place, in this state: a rule, and bytes that end between characters. None where no rule does.
+pub record IsSought {S : Type 0} (number : S → ℕ) (table : RuleTable S) (text : List ℕ) (place state : ℕ) (winner : Option Won) : Type 0 where
+  pub inside : place < length text
+  pub wins : MatchOption winner (IsStuck (definition_by number table) state (drop place text)) (λ t. Wins (definition_by number table) state (drop place text) t.rule t.len)
+  pub tile : IfSome winner (λ t. IsCharBoundary (drop place text) t.len × (t.rule < vec_len table.rules))
+
+-- the place up to which a scanner has looked for winners: past what wins at its place, where that was sought
+abbrev pub sought_to : (place : ℕ) → Option (Option Won) → ℕ
+sought_to place None = place
+sought_to place (Some winner) = place + max 1 (won_bytes winner)
+
+-- It stands where it can, its rules are those of the state on top, and what finds winners is of the definition and the text. What was
+-- sought wins at its place. It has looked for winners in linear time, unless that is lost.
 pub record IsCursorOf {S : Type 0} (number : S → ℕ) (table : RuleTable S) (text : List ℕ) (c : Cursor) : Type 0 where
   pub stands : IsStand (definition_by number table) text c.place c.stack.items
   pub initial : is_state (definition_by number table) 0 ≡ true
   pub rules : AreOf number table c.rules.state c.rules
   pub state : c.rules.state ≡ top (plain c.stack.items)
   pub searcher : IsSearcherOf table text c.searcher
+  pub sought : IfSome c.sought (IsSought number table text c.place c.rules.state)
+  pub worked : c.lost ≡ false → HasWorked table c.from (sought_to c.place c.sought) c.searcher.ends
 
 -- the same of what there may be
-abbrev pub scanned : Definition → List ℕ → Option Cursor → Scanned
-scanned d text (Some c) = scanned_by d text c
-scanned d text None = record { definition = d; text = text; place = 0; stack = [] }
+abbrev pub scanned : {S : Type 0} → (S → ℕ) → RuleTable S → List ℕ → Option Cursor → Scanned
+scanned number table text (Some c) = scanned_by number table text c
+scanned number table text None = record { definition = definition_by number table; text = text; place = 0; stack = []; most_cells = most_cells_by table text }
 
 abbrev pub IsScannerOf : {S : Type 0} → (S → ℕ) → RuleTable S → List ℕ → Option Cursor → Type 0
 IsScannerOf number table text (Some c) = IsCursorOf number table text c
@@ -107,8 +129,8 @@ pub record IsPlaceOf (d : Definition) (text : List ℕ) (p : ScanPlace) : Type 0
   pub stateless : is_state d 0 ≡ false → (p.place ≡ 0) × (p.stack.items ≡ [])
 
 -- a scanner that stands there
-abbrev pub standing : Definition → List ℕ → ScanPlace → Scanned
-standing d text p = record { definition = d; text = text; place = p.place; stack = plain p.stack.items }
+abbrev pub standing : Definition → List ℕ → ScanPlace → (most_cells : ℕ) → Scanned
+standing d text p most = record { definition = d; text = text; place = p.place; stack = plain p.stack.items; most_cells = most }
 
 -- place and stack are what they were
 pub record StayedAt (old new : Cursor) : Type 0 where

@@ -3,7 +3,9 @@ use lrlex::{
     Budget, DefaultLexerTypes, LRNonStreamingLexerDef, LexBuildResult, LexRun, LexerDef, Step,
     UNSPECIFIED_LEX_FLAGS,
 };
-use lrlex_bench_lib::{Counts, Fault, Lexed, Sizes, Spread, Watch, lexemes, lines_times, peak};
+use lrlex_bench_lib::{
+    Counts, Fault, Lexed, Scanned, Sizes, Spread, Watch, lexemes, lines_times, peak,
+};
 use std::alloc::{AllocError, Global};
 
 /// The definition that is timed.
@@ -59,13 +61,13 @@ fn time_run(
     Ok(counts_of(&run))
 }
 
-/// Goes over the text once by a scanner. How many of its tiles have an id.
+/// Goes over the text once by a scanner. What the scanner counts.
 fn time_scan(
     rt: &HostRuntime,
     definition: &Definition,
     text: &str,
     watch: &mut Watch,
-) -> Result<usize, Fault> {
+) -> Result<Scanned, Fault> {
     let alloc = rt.alloc();
     let mut lexemes = 0usize;
     watch.start(rt);
@@ -77,7 +79,10 @@ fn time_scan(
         }
     }
     watch.stop(rt);
-    Ok(lexemes)
+    // at its end it looks at no more
+    let _again = scanner.next(alloc)?;
+    let looked = scanner.looked();
+    Ok(Scanned { lexemes, looked })
 }
 
 /// Lexes the text once by `lexer`, which finds its lines too.
@@ -108,15 +113,15 @@ pub fn time_runs(
     Ok(counts)
 }
 
-/// So many times a scanner, the tiles with an id of the last one.
+/// So many times a scanner: what the last one counts.
 fn scan_times(
     rt: &HostRuntime,
     definition: &Definition,
     text: &str,
     times: u32,
     watch: &mut Watch,
-) -> Result<(usize, Spread), Fault> {
-    let mut scanned = 0;
+) -> Result<(Scanned, Spread), Fault> {
+    let mut scanned = Scanned::NONE;
     for _ in 0..times {
         scanned = time_scan(rt, definition, text, watch)?;
     }

@@ -51,11 +51,11 @@ impl Sizes {
     }
 }
 
-/// Prints how many cells of tables were looked at, if that is known.
-fn tell_cells(rt: &HostRuntime, looked: Option<usize>) -> io::Result<()> {
+/// Prints how many cells of tables were looked at, if that is known. The words say by what.
+fn tell_cells(rt: &HostRuntime, by: &str, looked: Option<usize>) -> io::Result<()> {
     match looked {
-        Some(cells) => println!(rt; "cells looked at: {cells}"),
-        None => println!(rt; "cells looked at: unknown"),
+        Some(cells) => println!(rt; "cells looked at{by}: {cells}"),
+        None => println!(rt; "cells looked at{by}: unknown"),
     }
 }
 
@@ -103,8 +103,32 @@ impl Counts {
         println!(rt;
             "bytes lexed: {end}\nlexemes: {lexemes}\ntiles: {tiles}\nmatches asked: {asked}\npeak entries: {peak}\nns per match asked: {each}"
         )?;
-        tell_cells(rt, looked)?;
+        tell_cells(rt, "", looked)?;
         println!(rt; "cells at most: {most}")
+    }
+}
+
+/// What a scanner counts.
+#[derive(Clone, Copy)]
+pub struct Scanned {
+    /// Tiles with an id.
+    pub lexemes: usize,
+    /// Cells of tables that were looked at, if that is known.
+    pub looked: Option<usize>,
+}
+
+impl Scanned {
+    /// Of no scanner.
+    pub const NONE: Scanned = Scanned {
+        lexemes: 0,
+        looked: None,
+    };
+
+    /// Prints the counts.
+    fn tell(&self, rt: &HostRuntime) -> io::Result<()> {
+        let Scanned { lexemes, looked } = *self;
+        println!(rt; "lexemes by a scanner: {lexemes}")?;
+        tell_cells(rt, " by a scanner", looked)
     }
 }
 
@@ -125,8 +149,7 @@ pub struct Lexed {
     pub counts: Counts,
     /// The times of `run`.
     pub runs: Spread,
-    /// How many tiles with an id a scanner gave.
-    pub scanned: usize,
+    pub scanned: Scanned,
     /// The times of a scanner.
     pub scans: Spread,
     /// The times of `lexer`.
@@ -141,8 +164,7 @@ impl Lexed {
     /// Prints the times.
     fn tell_times(&self, rt: &HostRuntime) -> io::Result<()> {
         tell_bytes(rt, "run", &self.runs, self.sizes.bytes)?;
-        let scanned = self.scanned;
-        println!(rt; "lexemes by a scanner: {scanned}")?;
+        self.scanned.tell(rt)?;
         tell_bytes(rt, "scan", &self.scans, self.sizes.bytes)?;
         tell_bytes(rt, "lexer", &self.lexers, self.sizes.bytes)?;
         tell_bytes(rt, "lines", &self.lines, self.sizes.bytes)
@@ -196,7 +218,7 @@ impl Relexed {
             "{name} tiles cut anew: {lexed}\n{name} matches asked: {asked}\n{name} median ns: {median}\n{name} best ns: {best}\n{name} worst ns: {worst}\n{name} times faster than run: {faster}"
         )?;
         print!(rt; "{name} ")?;
-        tell_cells(rt, looked)?;
+        tell_cells(rt, "", looked)?;
         Ok(())
     }
 }

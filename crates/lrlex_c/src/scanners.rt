@@ -1,6 +1,6 @@
 //! Scanners: texts whose tiles are pulled.
-ghost use Rattle.std.specs.Prelude.{◌≡◌, ◌≢◌, pos, None, Some, MatchOption, ◌↔◌};
-ghost use Rattle.lrlex.specs.Scanner.{at_front};
+ghost use Rattle.std.specs.Prelude.{◌≡◌, ◌≢◌, pos, None, MatchOption, ◌↔◌};
+ghost use Rattle.lrlex.specs.Scanner.{IsAtFront};
 ghost use Rattle.lrlex_handles.specs.Objects.{definition_in, scanner_in};
 ghost use Rattle.lrlex_handles.specs.Scans.{WasScanned};
 
@@ -19,7 +19,7 @@ pub extern "C" fn lrlex_scanner_new(
 ) -> i32
     ensures kept { definition.new.value ≡ definition.old.value }
     ensures done { result ≡ pos 0 → MatchOption (definition_in definition.old.value) ⊥
-        (λ d. scanner_in out.new.value ≡ Some (at_front d text.now)) }
+        (λ d. MatchOption (scanner_in out.new.value) ⊥ (IsAtFront d text.now)) }
     ensures failed { result ≢ pos 0 → out.new.value ≡ None }
 {
     making::begin(alloc, definition, out, text)

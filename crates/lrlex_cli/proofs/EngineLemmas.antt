@@ -14,7 +14,7 @@ use Rattle.lrlex_rules.specs.Outcome.{outcome}
 use Rattle.lrlex.specs.ItemLaws.{is_error}
 use Rattle.lrlex.specs.Reach.{IsRun}
 use Rattle.lrlex_rules.specs.LexBuildResult.{seen, settings, refused_by, as_faults}
-use Rattle.lrlex.specs.Scanner.{Scanned, at_front}
+use Rattle.lrlex.specs.Scanner.{IsAtFront, Scanned, at_front}
 use Rattle.lrlex.specs.Tiling.{Tile, Item, Lexeme, Error, End, Done, NoMatch, NoId, NoTarget, items, tile_items, lexeme_of}
 use Rattle.lrlex_base.specs.LexemeParts.{LexemeParts}
 use Rattle.lrlex.specs.Views.{item_of, items_by}
@@ -135,8 +135,10 @@ items_end number see d text xs ys bounds stopped old new written r same run is w
     (subst (λ b. EndsWriting old new r (lines d.rules text (items_by number see xs)) b) (is ∙ errors_seen number see xs) (ends (lines d.rules text (items_by number see xs)) wrote))
 
 -- a scanner at the front is at the front of its own text
-pub own_front : (d : Definition) (text : List ℕ) (s : Scanned) → s ≡ at_front d text → s ≡ at_front s.definition s.text
-own_front d text s is = is ∙ ap₂ at_front (sym (ap (λ (y : Scanned). y.definition) is)) (sym (ap (λ (y : Scanned). y.text) is))
+pub own_front : (d : Definition) (text : List ℕ) (most : ℕ) (s : Scanned) → s ≡ at_front d text most → IsAtFront s.definition s.text s
+own_front d text most s is =
+    is ∙ ap₂ (λ e t. at_front e t most) (sym (ap (λ (y : Scanned). y.definition) is)) (sym (ap (λ (y : Scanned). y.text) is))
+    ∙ ap (at_front s.definition s.text) (sym (ap (λ (y : Scanned). y.most_cells) is))
 
 -- Lexing by the definition that the rule text says ends as a run does.
 pub lexing_runs : {D : Type 0} (view : D → Definition) (q : Request) (built : Result D (Vec LexBuildError Global)) (def : D)

@@ -12,7 +12,7 @@ use Rattle.lrlex_rules.specs.RuleParts.{state_number}
 use Rattle.lrlex.specs.Active.{is_state, lacks_id, lexeme_id, rule_at}
 use Rattle.lrlex.specs.ItemLaws.{FitsText, is_error}
 use Rattle.lrlex.specs.Reach.{IsRun}
-use Rattle.lrlex.specs.Scanner.{EndsBy, IsStep, IsTileAt, Scanned, at_front, left, past}
+use Rattle.lrlex.specs.Scanner.{EndsBy, IsAtFront, IsStep, IsTileAt, Scanned, at_front, left, past}
 use Rattle.lrlex.specs.Tiling.{Item, Error, Tile, End, IsEnd, IsTaken, IsTiling, end_items, items, lexeme_of, lexemes, stack_after, stack_past, tile_items}
 use Rattle.lrlex.specs.Tiling.{Done as Whole, NoMatch as Stuck, NoId as LacksId, NoTarget as LacksTarget}
 use Rattle.lrlex.specs.declared.lexing.scanner.ScannedTile.{ScannedTile}
@@ -80,10 +80,10 @@ pub record IsSoFar (front s : Scanned) (count : ℕ) : Type 0 where
   pub definition : s.definition ≡ front.definition
   pub text : s.text ≡ front.text
 
-pub none_so_far : (s : Scanned) → s ≡ at_front s.definition s.text → is_state s.definition 0 ≡ true → IsSoFar s s 0
+pub none_so_far : (s : Scanned) → IsAtFront s.definition s.text s → is_state s.definition 0 ≡ true → IsSoFar s s 0
 none_so_far s at z = record {
   found = [];
-  has_found = subst (λ x. HasFound [] x) (sym at) (found_front s.definition s.text z);
+  has_found = subst (λ x. HasFound [] x) (sym at) (found_front s.definition s.text s.most_cells z);
   counted = refl;
   few = omega arith;
   definition = refl;
@@ -148,7 +148,7 @@ module _ {S : Type 0} (number : S → ℕ) where
         let x = end_of s e h.initial ends in
         let r = run_found found s x.end h x.is in
         let cut = h.cut ++ [] in
-        let front : (at_front d s.text).stack ≡ 0 ∷ [] = cond-true _ (0 ∷ []) [] h.initial in
+        let front : (at_front d s.text 0).stack ≡ 0 ∷ [] = cond-true _ (0 ∷ []) [] h.initial in
         let gives : found ≡ lexemes d 0 cut = sym (append-nil found) ∙ sym (h.gives [] Whole) ∙ items_whole d 0 cut in
         let same : end_items d s.place x.end ≡ last_lexeme number p.last ++ x.error = x.gives ∙ ap (λ o. last_lexeme number o ++ x.error) (sym last) in
         let stop : IsErrorAt p.error x.error = subst (λ o. IsErrorAt o x.error) (sym error) x.stop in
@@ -156,7 +156,7 @@ module _ {S : Type 0} (number : S → ℕ) where
           found = found;
           error = x.error;
           bounds = r.bounds;
-          finds = record { cut = cut; end = x.end; tiling = subst (λ st. IsTiling d s.text st cut x.end) (sym front) (h.scanned.goes_on [] x.end x.is); gives = gives };
+          finds = λ most. record { cut = cut; end = x.end; tiling = subst (λ st. IsTiling d s.text st cut x.end) (sym front) (h.scanned.goes_on [] x.end x.is); gives = gives };
           count = count;
           stop = stop;
           run = subst (λ xs. IsRun d s.text (found ++ xs) r.bounds) same r.run;

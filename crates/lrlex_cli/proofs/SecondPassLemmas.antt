@@ -117,7 +117,7 @@ module _ {S : Type 0} (number : S → ℕ) (d : Definition) (text : List ℕ) (f
     pub joined : said ++ said_by (rest ++ (last ++ error)) ≡ said_by whole
 
   pub none_written : (bytes : Option (List ℕ)) (waiting : List ℕ) (s z : Scanned) → IsUtf8 text → IsFirstPass number d text first →
-      s.definition ≡ d → s.text ≡ text → z ≡ at_front s.definition s.text → waiting ≡ [] → HasWritten bytes bytes waiting z first.lexemes
+      s.definition ≡ d → s.text ≡ text → z ≡ at_front s.definition s.text s.most_cells → waiting ≡ [] → HasWritten bytes bytes waiting z first.lexemes
   none_written bytes waiting s z utf8 h same_definition same_text at none = record {
     whole = h.found ++ (last ++ h.error);
     bounds = h.bounds;
@@ -126,7 +126,7 @@ module _ {S : Type 0} (number : S → ℕ) (d : Definition) (text : List ℕ) (f
     error = h.error;
     stop = h.stop;
     rest = h.found;
-    finds = subst (λ y. Finds y h.found) (ap (λ e. at_front e text) (sym same_definition) ∙ ap (at_front s.definition) (sym same_text) ∙ sym at) h.finds;
+    finds = subst (λ y. Finds y h.found) (ap (λ e. at_front e text s.most_cells) (sym same_definition) ∙ ap (λ t. at_front s.definition t s.most_cells) (sym same_text) ∙ sym at) (h.finds s.most_cells);
     counted = h.count;
     fit = (have_laws d text (h.found ++ (last ++ h.error)) h.bounds h.run).items.fit utf8;
     said = [];

@@ -63,7 +63,7 @@ pub record IsFirstPass {S : Type 0} (number : S → ℕ) (d : Definition) (text 
   pub found : List Item
   pub error : List Item
   pub bounds : List Boundary
-  pub finds : Finds (at_front d text) found
+  pub finds : (most : ℕ) → Finds (at_front d text most) found
   pub count : pass.lexemes ≡ length found
   pub stop : IsErrorAt pass.error error
   pub run : IsRun d text (found ++ (last_lexeme number pass.last ++ error)) bounds

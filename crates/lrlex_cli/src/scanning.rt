@@ -1,7 +1,7 @@
 //! Lexing a text in two passes, of which none keeps its lexemes: the first counts them, and the second writes their lines.
 ghost use Rattle.std.specs.Prelude.{◌≡◌, ◌+◌, ◌<◌, [], true, IfOk, is_some, length};
 ghost use Rattle.lrlex.specs.Active.{is_state};
-ghost use Rattle.lrlex.specs.Scanner.{IsStep, at_front, past};
+ghost use Rattle.lrlex.specs.Scanner.{IsAtFront, IsStep, past};
 ghost use Rattle.lrlex.specs.declared.lexing.scanner.Step.TheVariants.{Tile};
 ghost use Rattle.lrlex.specs.Views.{definition_of};
 ghost use Rattle.lrlex_cli.specs.Scanning.{IsFirstPass, WritesRun, error_place, last_tile, lexeme_by};
@@ -68,7 +68,7 @@ pub(crate) fn first_pass<S: Numbered>(
     alloc: Global,
     scanner: &mut Scanner<'_, '_, S>,
 ) -> Result<FirstPass<S>, AllocError>
-    requires front { scanner.old ≡ at_front scanner.old.definition scanner.old.text }
+    requires front { IsAtFront scanner.old.definition scanner.old.text scanner.old }
     requires initial { is_state scanner.old.definition 0 ≡ true }
     ensures found { IfOk result (IsFirstPass S.number scanner.old.definition scanner.old.text) }
     ensures definition { IfOk result (λ _. scanner.new.definition ≡ scanner.old.definition) }

@@ -6,7 +6,7 @@ use Rattle.lrlex_base.specs.Spans.{Span, span_end, span_start}
 use Rattle.lrlex_rules.specs.Definition.{Definition}
 use Rattle.lrlex_rules.specs.RuleParts.{state_number}
 use Rattle.lrlex.specs.Active.{is_state, lacks_id, lexeme_id, rule_at}
-use Rattle.lrlex.specs.Scanner.{EndsBy, IsStep, IsTileAt, Scanned, at_front, left, past, top_state}
+use Rattle.lrlex.specs.Scanner.{EndsBy, IsAtFront, IsStep, IsTileAt, Scanned, left, past, top_state}
 use Rattle.lrlex.specs.Tiling.{Item, Lexeme, Error, Tile, lexeme_of, tile_items}
 use Rattle.lrlex.specs.Tiling.{Done as Whole, NoMatch as Stuck, NoId as LacksId, NoTarget as LacksTarget}
 use Rattle.lrlex.specs.declared.lexing.scanner.ScannedTile.{ScannedTile}
@@ -141,10 +141,10 @@ pub record AreSoFar (front s : Scanned) (room tokens : List Token) (count : ℕ)
   pub definition : s.definition ≡ front.definition
   pub text : s.text ≡ front.text
 
-pub none_so_far : (s : Scanned) (room : List Token) → s ≡ at_front s.definition s.text → is_state s.definition 0 ≡ true → AreSoFar s s room room 0
+pub none_so_far : (s : Scanned) (room : List Token) → IsAtFront s.definition s.text s → is_state s.definition 0 ≡ true → AreSoFar s s room room 0
 none_so_far s room at z = record {
   found = [];
-  has_found = subst (λ x. HasFound [] x) (sym at) (found_front s.definition s.text z);
+  has_found = subst (λ x. HasFound [] x) (sym at) (found_front s.definition s.text s.most_cells z);
   lexemes = tt;
   counted = record { tokens-are = refl; count-is = refl };
   few = omega arith;
@@ -233,7 +233,7 @@ tokens_so_far front s z room tokens tokens' count lexed e stays ends finish h =
     subst (λ t. AreTokensOf front.definition t 0 room tokens' lexed) h.text (subst (λ d. AreTokensOf d s.text 0 room tokens' lexed) h.definition all)
 
 -- without a state 0 nothing is found
-pub no_tokens : (s : Scanned) (room tokens : List Token) (lexed : Lexed) → s ≡ at_front s.definition s.text → is_state s.definition 0 ≡ false → HasFinished s NoState room tokens 0 lexed →
+pub no_tokens : (s : Scanned) (room tokens : List Token) (lexed : Lexed) → IsAtFront s.definition s.text s → is_state s.definition 0 ≡ false → HasFinished s NoState room tokens 0 lexed →
     AreTokensOf s.definition s.text 0 room tokens lexed
 no_tokens s room tokens lexed at z finish =
     let last = finish [] room (record { tokens-are = refl; count-is = refl }) in
@@ -255,5 +255,5 @@ some_top : (b : Bool) → is_some (top_state (cond b (0 ∷ []) [])) ≡ b
 some_top true = refl
 some_top false = refl
 
-pub initial_of : {A : Type 0} (f : A → ℕ) (s : Scanned) (o : Option A) → s ≡ at_front s.definition s.text → option_map f o ≡ top_state s.stack → is_some o ≡ is_state s.definition 0
+pub initial_of : {A : Type 0} (f : A → ℕ) (s : Scanned) (o : Option A) → IsAtFront s.definition s.text s → option_map f o ≡ top_state s.stack → is_some o ≡ is_state s.definition 0
 initial_of f s o at told = some_map f o ∙ ap is_some told ∙ ap (λ (y : Scanned). is_some (top_state y.stack)) at ∙ some_top (is_state s.definition 0)

@@ -64,7 +64,7 @@ document_in (Some (Refusal r)) = None
 document_in (Some (Document e)) = Some (definition_of (λ n. n) (arc_value e.definition), lexed_bytes e.text)
 document_in (Some (Scanner s)) = None
 
--- the scanner, if there is one: what its definition says, its text, and where it stands
+-- the scanner, if there is one: what its definition says, its text, where it stands, and how many cells of tables it may look at
 abbrev pub scanner_in : Option Object → Option Scanned
 scanner_in None = None
 scanner_in (Some Nothing) = None

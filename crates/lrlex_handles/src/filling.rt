@@ -1,7 +1,7 @@
 //! The lexemes of a text, written as a scanner finds them. No list of them is kept.
 ghost use Rattle.std.specs.Prelude.{◌≡◌, ◌<◌, ◌≤◌, IfOk};
 ghost use Rattle.lrlex_base.specs.Spans.{span_end};
-ghost use Rattle.lrlex.specs.Scanner.{EndsBy, at_front};
+ghost use Rattle.lrlex.specs.Scanner.{EndsBy, IsAtFront};
 ghost use Rattle.lrlex_handles.specs.Answers.{AreTokensOf};
 ghost use Rattle.lrlex_handles.specs.Lexemes.{HasFinished, HasPut, is_stop, is_unmatched};
 
@@ -70,7 +70,7 @@ pub(crate) fn fill(
     scanner: &mut Scanner<'_, '_, u32>,
     tokens: &mut [Token],
 ) -> Result<Lexed, AllocError>
-    requires { scanner.old ≡ at_front scanner.old.definition scanner.old.text }
+    requires { IsAtFront scanner.old.definition scanner.old.text scanner.old }
     ensures { IfOk result (AreTokensOf scanner.old.definition scanner.old.text 0 tokens.old
         tokens.new) }
 {

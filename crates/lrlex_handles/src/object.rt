@@ -46,11 +46,13 @@ impl Model for Scanning {
     ghost use Rattle.std.specs.Arc.{arc_value};
     ghost use Rattle.lrlex.specs.Scanner.{IsPlaceOf, Scanned, standing};
     ghost use Rattle.lrlex.specs.Views.{definition_of};
+    ghost use Rattle.lrlex.specs.Work.{most_cells_of};
 
     ghost Value = { Scanned };
 
     ghost view = { λ s. standing (definition_of (λ n. n) (arc_value s.definition))
-        (string_bytes s.text) s.at };
+        (string_bytes s.text) s.at
+        (most_cells_of (arc_value s.definition) (string_bytes s.text)) };
 
     ghost invariant = { λ s. IsPlaceOf (definition_of (λ n. n) (arc_value s.definition))
         (string_bytes s.text) s.at };

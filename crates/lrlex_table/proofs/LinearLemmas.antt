@@ -2,14 +2,14 @@
 use Rattle.std.proofs.Common.{◌≡◌, ℕ, ◌+◌, ◌-◌, ◌*◌, ◌/◌, ◌≤◌, max, true, false, ap, ◌∙◌, arith}
 use Rattle.std.specs.HashMap.{hash_map_len}
 use Rattle.std.proofs.Math.Nat.{mul-add, mul-le-mul_left, mul-le-mul_right, mul_left_comm}
-use Rattle.lrlex_table.specs.Linear.{HasLinearWork, most_cells}
+use Rattle.lrlex_table.specs.Linear.{HasWorkedTo, most_cells}
 use Rattle.lrlex_table.specs.Looking.{HasSameEnds}
 use Rattle.lrlex_table.specs.Work.{IsLook}
 use Rattle.lrlex_table.specs.declared.dead_ends.DeadEnds.{DeadEnds}
 use Rattle.lrlex_table.proofs.KnownLemmas.{not_before}
 
 -- what is so up to a place is so up to a later one
-pub linear_later : (tables from place later : ℕ) (e : DeadEnds) → HasLinearWork tables from place e → place ≤ later → HasLinearWork tables from later e
+pub linear_later : (tables from place later : ℕ) (e : DeadEnds) → HasWorkedTo tables from place e → place ≤ later → HasWorkedTo tables from later e
 linear_later tables from place later e is le = record {
   onward = omega (arith, is.onward, le);
   walks = λ kept. omega (arith, is.walks kept, mul-le-mul_left {m = place - from} {n = later - from} tables (omega (arith, le)));
@@ -31,8 +31,8 @@ look_from parts len old before after same look =
     (omega (arith, look.0, known), omega (arith, look.1, known, same.looked))
 
 -- a look for a winner at the place, behind which the next is
-pub linear_after : (tables parts from place len : ℕ) (old new : DeadEnds) → HasLinearWork tables from place old → parts ≤ tables → new.ahead ≡ old.ahead → (old.forgot ≡ true → new.forgot ≡ true) →
-    (new.forgot ≡ false → IsLook 3 parts len (new.looked - old.looked) (hash_map_len old.known) (hash_map_len new.known)) → HasLinearWork tables from (place + max 1 len) new
+pub linear_after : (tables parts from place len : ℕ) (old new : DeadEnds) → HasWorkedTo tables from place old → parts ≤ tables → new.ahead ≡ old.ahead → (old.forgot ≡ true → new.forgot ≡ true) →
+    (new.forgot ≡ false → IsLook 3 parts len (new.looked - old.looked) (hash_map_len old.known) (hash_map_len new.known)) → HasWorkedTo tables from (place + max 1 len) new
 linear_after tables parts from place len old new is le same kept look = record {
   onward = omega (arith, is.onward);
   walks = λ now.
@@ -45,6 +45,6 @@ linear_after tables parts from place len old new is le same kept look = record {
 }
 
 -- few dead ends make few cells
-pub few_cells : (tables from place : ℕ) (e : DeadEnds) → HasLinearWork tables from place e → (rows length n : ℕ) → e.forgot ≡ false → hash_map_len e.known ≤ rows * (length / 64 + 1) → n ≤ e.looked + e.ahead.cells →
+pub few_cells : (tables from place : ℕ) (e : DeadEnds) → HasWorkedTo tables from place e → (rows length n : ℕ) → e.forgot ≡ false → hash_map_len e.known ≤ rows * (length / 64 + 1) → n ≤ e.looked + e.ahead.cells →
     n ≤ most_cells tables (place - from) rows length
 few_cells tables from place e is rows length n kept few le = omega (arith, is.walks kept, is.ahead, is.near, is.onward, few, le)

@@ -9,7 +9,7 @@ use Rattle.lrlex_table.specs.declared.dead_ends.DeadEnds.{DeadEnds}
 -- Winners were looked for from `from` on up to `place`, through at most so many tables at each place. Walks looked at 390 cells
 -- at most for each byte and table, and at 192 for each dead end that is known, unless one was forgotten. Looking ahead takes at
 -- most four cells for each byte, and comes at most 4,096 bytes farther.
-pub record HasLinearWork (tables from place : ℕ) (e : DeadEnds) : Type 0 where
+pub record HasWorkedTo (tables from place : ℕ) (e : DeadEnds) : Type 0 where
   pub onward : from ≤ place
   pub walks : e.forgot ≡ false → e.looked ≤ 390 * (tables * (place - from)) + 192 * hash_map_len e.known
   pub ahead : e.ahead.cells ≤ 4 * (e.ahead.limit - from)

@@ -5,7 +5,7 @@ ghost use Rattle.regex.specs.Patterns.{Re};
 ghost use Rattle.lrlex_table.specs.Reach.{IsDecidedBy};
 ghost use Rattle.lrlex_table.specs.Tables.{is_tabled, AreTablesOf, IsBestAmong, len_of};
 ghost use Rattle.lrlex_table.specs.Work.{IsLook};
-ghost use Rattle.lrlex_table.specs.Linear.{HasLinearWork, count_of_rows, most_cells};
+ghost use Rattle.lrlex_table.specs.Linear.{HasWorkedTo, count_of_rows, most_cells};
 
 use crate::ahead::Ahead;
 use crate::dead_ends::DeadEnds;
@@ -19,7 +19,7 @@ impl<'d, 't> DeadEnds<'d, 't> {
     pub fn new(alloc: Global, lists: &'d [Tables], text: &'t str) -> Self
         ensures lists { result.lists.now ≡ lists.now }
         ensures text { result.text.now ≡ text.now }
-        ensures linear { (most from : ℕ) → HasLinearWork most from from result }
+        ensures linear { (most from : ℕ) → HasWorkedTo most from from result }
     {
         DeadEnds {
             lists,
@@ -41,7 +41,7 @@ impl<'d, 't> DeadEnds<'d, 't> {
         ensures none { hash_map_len self.new.known ≡ 0 }
         ensures forgot { self.new.forgot ≡ false }
         ensures looked { self.new.looked ≡ 0 }
-        ensures linear { (most : ℕ) → HasLinearWork most 0 0 self.new }
+        ensures linear { (most : ℕ) → HasWorkedTo most 0 0 self.new }
     {
         self.known.clear();
         self.known_to = 0;
@@ -55,10 +55,10 @@ impl<'d, 't> DeadEnds<'d, 't> {
     /// once it is there.
     pub fn looked(&self) -> Option<usize>
         ensures looked { result ≡ (if self.now.forgot then None else Some (min (self.now.looked + self.now.ahead.cells) (2 ^ 64 - 1))) }
-        ensures linear { (most from place : ℕ) → HasLinearWork most from place self.now → place ≤ length self.now.text.now →
+        ensures linear { (most from place : ℕ) → HasWorkedTo most from place self.now → place ≤ length self.now.text.now →
             IfSome result (λ n. n ≤ most_cells most (place - from) (count_of_rows self.now.lists.now) (length self.now.text.now)) }
     {
-        // few, as it says
+        // it says how few there are
         let _ = self.known();
         if self.forgot {
             return None;
@@ -100,7 +100,7 @@ impl<'d, 't> DeadEnds<'d, 't> {
         ensures work { (ps : List Re) → AreTablesOf ps tables.now → self.new.forgot ≡ false →
             IsLook 3 (vec_len tables.now.parts) (len_of result.winner) (self.new.looked - self.old.looked) (hash_map_len self.old.known) (hash_map_len self.new.known) }
         ensures linear { (ps : List Re) (most from : ℕ) → AreTablesOf ps tables.now → vec_len tables.now.parts ≤ most →
-            HasLinearWork most from place self.old → HasLinearWork most from (place + max 1 (len_of result.winner)) self.new }
+            HasWorkedTo most from place self.old → HasWorkedTo most from (place + max 1 (len_of result.winner)) self.new }
     {
         if place >= self.ahead.begin {
             if let Some(found) = self.found_at(tables, list, place, rest) {

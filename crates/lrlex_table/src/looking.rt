@@ -3,7 +3,7 @@ ghost use Rattle.std.specs.Prelude.{◌≡◌, ℕ, ◌+◌, ◌<◌, ◌≤◌,
 ghost use Rattle.regex.specs.Patterns.{Re};
 ghost use Rattle.lrlex_table.specs.Reach.{IsDecidedBy};
 ghost use Rattle.lrlex_table.specs.Looking.{HasSameEnds};
-ghost use Rattle.lrlex_table.specs.Linear.{HasLinearWork};
+ghost use Rattle.lrlex_table.specs.Linear.{HasWorkedTo};
 ghost use Rattle.lrlex_table.specs.Tables.{is_tabled, AreTablesOf, IsBestAmong};
 
 use crate::dead_ends::DeadEnds;
@@ -32,7 +32,7 @@ impl<'d, 't> DeadEnds<'d, 't> {
         ensures text { self.new.text ≡ self.old.text }
         ensures ends { HasSameEnds self.old self.new }
         ensures counted { self.old.ahead.cells ≤ self.new.ahead.cells }
-        ensures linear { (most from at : ℕ) → HasLinearWork most from at self.old → HasLinearWork most from at self.new }
+        ensures linear { (most from at : ℕ) → HasWorkedTo most from at self.old → HasWorkedTo most from at self.new }
     {
         let _ = tables;
         let _ = text;
@@ -68,7 +68,7 @@ impl<'d, 't> DeadEnds<'d, 't> {
         ensures text { self.new.text ≡ self.old.text }
         ensures ends { HasSameEnds self.old self.new }
         ensures counted { self.old.ahead.cells ≤ self.new.ahead.cells }
-        ensures linear { (most from at : ℕ) → HasLinearWork most from at self.old → HasLinearWork most from at self.new }
+        ensures linear { (most from at : ℕ) → HasWorkedTo most from at self.old → HasWorkedTo most from at self.new }
     {
         let text = self.text;
         self.take(tables, list, place, text)
@@ -82,7 +82,7 @@ impl<'d, 't> DeadEnds<'d, 't> {
         ensures text { self.new.text ≡ self.old.text }
         ensures ends { HasSameEnds self.old self.new }
         ensures counted { self.old.ahead.cells ≤ self.new.ahead.cells }
-        ensures linear { (most from at : ℕ) → HasLinearWork most from at self.old → HasLinearWork most from at self.new }
+        ensures linear { (most from at : ℕ) → HasWorkedTo most from at self.old → HasWorkedTo most from at self.new }
     {
         let _ = tables;
         let most = self.ahead.found.len();
@@ -111,7 +111,7 @@ impl<'d, 't> DeadEnds<'d, 't> {
         ensures text { self.new.text ≡ self.old.text }
         ensures ends { HasSameEnds self.old self.new }
         ensures counted { self.old.ahead.cells ≤ self.new.ahead.cells }
-        ensures linear { (most from : ℕ) → HasLinearWork most from place self.old → HasLinearWork most from place self.new }
+        ensures linear { (most from : ℕ) → HasWorkedTo most from place self.old → HasWorkedTo most from place self.new }
     {
         if !self.ahead.is_due(list, place) {
             return;
@@ -145,7 +145,7 @@ impl<'d, 't> DeadEnds<'d, 't> {
         ensures text { self.new.text ≡ self.old.text }
         ensures ends { HasSameEnds self.old self.new }
         ensures counted { self.old.ahead.cells ≤ self.new.ahead.cells }
-        ensures linear { (most from : ℕ) → HasLinearWork most from place self.old → HasLinearWork most from place self.new }
+        ensures linear { (most from : ℕ) → HasWorkedTo most from place self.old → HasWorkedTo most from place self.new }
     {
         let text = self.text;
         if self.ahead.has_more() {

@@ -13,7 +13,7 @@ ghost use Rattle.lrlex_rules.specs.RuleParts.{state_number};
 ghost use Rattle.lrlex.specs.Reach.{IsRun};
 ghost use Rattle.lrlex.specs.Changes.{all_new};
 ghost use Rattle.lrlex.specs.Relex.{WasChanged, WasRelexed};
-ghost use Rattle.lrlex.specs.Work.{HasLinearWork, IsLinearIn};
+ghost use Rattle.lrlex.specs.Work.{HasLinearRecut, HasLinearWork, IsLinearIn};
 ghost use Rattle.lrlex.specs.Searches.{asks, asks_by};
 ghost use Rattle.lrlex.specs.Utf16.{utf16_position};
 ghost use Rattle.lrlex_positions.specs.Lines.{AreLinesOf, HasPosition, IsNearestPlace};
@@ -315,7 +315,8 @@ impl<'lexer, L: LexerTypes<LexErrorT = LRLexError>> Document<'lexer, L> {
     }
 
     /// Puts a text in the place of the bytes from `from` up to `to`, and lexes again what that changes. After a refusal the
-    /// document is what it was.
+    /// document is what it was. The cells of tables that it looks at are linear in the bytes that it cuts anew, beside what the dead
+    /// ends of the text take.
     pub fn edit(
         &mut self,
         alloc: Global,
@@ -335,6 +336,8 @@ impl<'lexer, L: LexerTypes<LexErrorT = LRLexError>> Document<'lexer, L> {
         ensures changed { OnOk result (WasChanged L.StorageT.number L.LexemeT.seen (span from to)
             put.now self.old self.new) }
         ensures linear { OnOk result (HasLinearWork self.new.definition self.new.text self.new.looked) }
+        ensures recut { OnOk result (HasLinearRecut self.new.definition.table self.new.text
+            self.new.boundaries self.new.changed.pieces self.new.looked) }
         ensures refused { IfErr result (λ e. e ≡ DoesNotFit ↔ ¬ (FitsAt self.old.text from to)) }
         ensures kept { OnErr result (self.new ≡ self.old) }
     {

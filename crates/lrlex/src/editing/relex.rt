@@ -15,7 +15,7 @@ ghost use Rattle.lrlex.specs.LexRun.{IsRunOf, HasItemLaws};
 ghost use Rattle.lrlex.specs.Changes.{HasChanged};
 ghost use Rattle.lrlex.specs.Relex.{AreCountsOf, WasRelexed};
 ghost use Rattle.lrlex.specs.Views.{definition_by, definition_of, items_by, item_of};
-ghost use Rattle.lrlex.specs.Work.{HasLinearWork, HasWorked, IsLinearIn};
+ghost use Rattle.lrlex.specs.Work.{HasLinearRecut, HasLinearWork, HasWorked, IsLinearIn};
 ghost use Rattle.lrlex.specs.Progress.{HasRecut, HasSame, IsEditOf, HasReplacedTail, HasReplacedMiddle, TellsMeeting};
 
 use crate::definition::rule_table::RuleTable;
@@ -399,7 +399,8 @@ pub(crate) fn relex_in_place<S: Numbered, X: Lexeme<S>>(
         (items_by S.number X.seen lexed.old.items.items)
         (items_by S.number X.seen lexed.new.items.items) lexed.old.boundaries
         lexed.new.boundaries n.1 n.1.pieces.inserted) }
-    ensures linear { IfOk result (λ n. IsLinearIn table.now new.now (length new.now) n.2) }
+    ensures recut { IfOk result (λ n. HasLinearRecut table.now new.now lexed.new.boundaries
+        n.1.pieces n.2) }
     ensures kept { OnErr result (HasSame lexed.old lexed.new) }
 {
     if !table.is_state(0) {
@@ -476,6 +477,8 @@ fn relexed<S: Numbered, X: Lexeme<S>>(
     ensures stateless { is_state (definition_by S.number table.now) 0 ≡ false →
         IfOk result (λ r. r.recut ≡ 0) }
     ensures linear { IfOk result (λ r. IsLinearIn table.now new.now (length new.now) r.looked) }
+    ensures recut { IfOk result (λ r. HasLinearRecut table.now new.now r.boundaries
+        r.changed.pieces r.looked) }
 {
     let mut lexed = old.copied(alloc)?;
     let (asked, changed, looked) = relex_in_place(alloc, table, &mut lexed, edit, new)?;
@@ -489,6 +492,7 @@ fn relexed<S: Numbered, X: Lexeme<S>>(
 impl<'lexer, L: LexerTypes<LexErrorT = LRLexError>> LexRun<'lexer, '_, L> {
     /// Lexes the text after an edit. The old items are taken over up to the last boundary before which no tile is known to
     /// have looked at what the edit changes, and again from the first boundary on where place and stack meet the old ones.
+    /// The cells of tables that it looks at are linear in the bytes that it cuts anew, beside what the dead ends of the text take.
     pub fn relex<'new>(
         &self,
         alloc: Global,
@@ -509,6 +513,8 @@ impl<'lexer, L: LexerTypes<LexErrorT = LRLexError>> LexRun<'lexer, '_, L> {
         ensures stateless { is_state (definition_of L.StorageT.number self.now.definition) 0 ≡ false →
             IfOk result (λ r. r.recut ≡ 0) }
         ensures linear { IfOk result (λ r. HasLinearWork self.now.definition new.now r.looked) }
+        ensures recut { IfOk result (λ r. HasLinearRecut self.now.definition.table new.now
+            r.boundaries r.changed.pieces r.looked) }
     {
         let lexed = relexed(alloc, &self.definition.table, &self.lexed, edit, new)?;
         Ok(LexRun {

@@ -1,12 +1,13 @@
 //! Where a scanner stands.
-ghost use Rattle.std.specs.Prelude.{◌≡◌, true, IfOk};
+ghost use Rattle.std.specs.Prelude.{◌≡◌, ◌≤◌, true, IfOk, IfSome};
 ghost use Rattle.lrlex.specs.Active.{is_state};
 ghost use Rattle.lrlex.specs.Scanner.{IsCursorOf, IsStand, at_front, scanned_by, standing};
 ghost use Rattle.lrlex.specs.Views.{definition_by};
+ghost use Rattle.lrlex.specs.Work.{most_cells_by};
 
 use crate::definition::rule_table::{RuleTable, StateRules};
 use crate::lexing::stack::{reset, top_of};
-use crate::lexing::winner::Searcher;
+use crate::lexing::winner::{Searcher, Tile};
 use lrlex_base::Numbered;
 use lrlex_boundaries::room::copied;
 use std::alloc::{AllocError, Global};
@@ -18,6 +19,13 @@ pub(crate) struct Cursor<'d, 't> {
     pub(crate) stack: Vec<(usize, usize)>,
     pub(crate) rules: StateRules<'d>,
     pub(crate) searcher: Searcher<'d, 't>,
+    /// What wins at the place, where it was looked for and not taken: at an end, and where memory was refused for the stack. So it
+    /// isn't looked for again.
+    pub(crate) sought: Option<Option<Tile>>,
+    /// The place from which on winners were looked for.
+    pub(crate) from: usize,
+    /// Whether memory was refused while a winner was looked for. Then it may be looked for again, and nothing bounds the cells.
+    pub(crate) lost: bool,
 }
 
 /// Where a scanner stands, apart from its definition and its text: its place, in bytes, and its stack of start states. It holds
@@ -33,14 +41,29 @@ impl<'d> Cursor<'d, '_> {
     pub(crate) fn rewind<S: Numbered>(&mut self, table: &'d RuleTable<S>, text: &str)
         requires { IsCursorOf S.number table.now text.now self.old }
         ensures cursor { IsCursorOf S.number table.now text.now self.new }
-        ensures front { scanned_by (definition_by S.number table.now) text.now self.new
-            ≡ at_front (definition_by S.number table.now) text.now }
+        ensures front { scanned_by S.number table.now text.now self.new
+            ≡ at_front (definition_by S.number table.now) text.now (most_cells_by table.now text.now) }
     {
         let _ = text;
         self.place = 0;
         reset(&mut self.stack);
         self.rules = table.rules_in(0);
         self.searcher.rewind();
+        self.sought = None;
+        self.from = 0;
+        self.lost = false;
+    }
+
+    /// How many cells of tables were looked at. None where memory was refused while a winner was looked for, or for a dead end.
+    pub(crate) fn looked<S: Numbered>(&self, table: &RuleTable<S>, text: &str) -> Option<usize>
+        requires { IsCursorOf S.number table.now text.now self.now }
+        ensures { IfSome result (λ n. n ≤ most_cells_by table.now text.now) }
+    {
+        let _ = text;
+        if self.lost {
+            return None;
+        }
+        self.searcher.looked(table)
     }
 }
 
@@ -52,8 +75,8 @@ pub(crate) fn cursor_of<'d, 't, S: Numbered>(
 ) -> Result<Cursor<'d, 't>, AllocError>
     requires { is_state (definition_by S.number table.now) 0 ≡ true }
     ensures cursor { IfOk result (IsCursorOf S.number table.now text.now) }
-    ensures front { IfOk result (λ c. scanned_by (definition_by S.number table.now) text.now c
-        ≡ at_front (definition_by S.number table.now) text.now) }
+    ensures front { IfOk result (λ c. scanned_by S.number table.now text.now c
+        ≡ at_front (definition_by S.number table.now) text.now (most_cells_by table.now text.now)) }
 {
     let mut stack = Vec::new(alloc);
     stack.push((1, 0))?;
@@ -63,6 +86,9 @@ pub(crate) fn cursor_of<'d, 't, S: Numbered>(
         stack,
         rules: table.rules_in(0),
         searcher,
+        sought: None,
+        from: 0,
+        lost: false,
     })
 }
 
@@ -77,8 +103,8 @@ pub(crate) fn cursor_at<'d, 't, S: Numbered>(
     requires stands { IsStand (definition_by S.number table.now) text.now at.now.place
         at.now.stack.items }
     ensures cursor { IfOk result (IsCursorOf S.number table.now text.now) }
-    ensures place { IfOk result (λ c. scanned_by (definition_by S.number table.now) text.now c
-        ≡ standing (definition_by S.number table.now) text.now at.now) }
+    ensures place { IfOk result (λ c. scanned_by S.number table.now text.now c
+        ≡ standing (definition_by S.number table.now) text.now at.now (most_cells_by table.now text.now)) }
 {
     let stack = copied(alloc, &at.stack)?;
     let searcher = Searcher::new(alloc, table, text)?;
@@ -87,5 +113,8 @@ pub(crate) fn cursor_at<'d, 't, S: Numbered>(
         rules: table.rules_in(top_of(&stack)),
         stack,
         searcher,
+        sought: None,
+        from: at.place,
+        lost: false,
     })
 }

@@ -64,8 +64,8 @@ pub fn utf16_laws()
 /// What the steps of a scanner give: from the front of a text on, the tiles that led it to its place. With its end they are the
 /// one tiling of the text, so that `run` gives their items.
 pub fn scan_laws<S: Numbered>()
-    ensures front { (d : Definition) (text : List ℕ) → is_state d 0 ≡ true
-        → AreScanned [] (at_front d text) }
+    ensures front { (d : Definition) (text : List ℕ) (most : ℕ) → is_state d 0 ≡ true
+        → AreScanned [] (at_front d text most) }
     ensures taken { (ts : List TheTile) (s : Scanned) (x : ScannedTile S)
         (h : IsStep S.number s (Tile x)) → AreScanned ts s
         → AreScanned (ts ++ h.0 ∷ []) (after_step s (Tile x)) }

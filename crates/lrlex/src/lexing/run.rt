@@ -361,7 +361,7 @@ pub(crate) fn lex<S: Numbered, X: Lexeme<S>>(
 impl<L: LexerTypes<LexErrorT = LRLexError>> LRNonStreamingLexerDef<L> {
     /// Cuts the text into tiles, from state 0 on: at each place the rule wins that matches the most bytes there, and of
     /// several the earliest. It stops where no rule matches, where the winner has a name and no id, and where its target
-    /// is no state. No text makes it slow: the cells of tables that it looks at are linear in the text.
+    /// is no state. The cells of tables that it looks at are linear in the text, where memory for dead ends suffices.
     pub fn run<'lexer, 'input>(
         &'lexer self,
         alloc: Global,

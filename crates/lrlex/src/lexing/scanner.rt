@@ -1,14 +1,15 @@
 //! A lexer that is pulled: one tile at a time, and no list is kept.
-ghost use Rattle.std.specs.Prelude.{◌≡◌, OnErr, IfOk, option_map};
+ghost use Rattle.std.specs.Prelude.{◌≡◌, ◌≤◌, OnErr, IfOk, IfSome, option_map};
 ghost use Rattle.lrlex_rules.specs.RuleParts.{state_number};
 ghost use Rattle.lrlex.specs.Scanner.{IsCursorOf, IsPlaceOf, IsStep, StayedAt, after_step, at_front, scanned_by, standing, top_state};
 ghost use Rattle.lrlex.specs.Views.{definition_by, definition_of};
+ghost use Rattle.lrlex.specs.Work.{most_cells_by, most_cells_of};
 
 use crate::definition::non_streaming::LRNonStreamingLexerDef;
 use crate::definition::rule_table::RuleTable;
 use crate::errors::LRLexError;
 use crate::lexing::cursor::{Cursor, ScanPlace, cursor_at, cursor_of};
-use crate::lexing::scanning::{seek, take_tile};
+use crate::lexing::scanning::{seek, take_sought, take_tile};
 use crate::lexing::stack::top_of;
 use lrlex_base::{LexerTypes, Numbered, Span};
 use lrlex_rules::StartStateId;
@@ -59,12 +60,14 @@ fn next_step<'d, S: Numbered>(
     requires { IsCursorOf S.number table.now text.now cursor.old }
     ensures cursor { IsCursorOf S.number table.now text.now cursor.new }
     ensures step { IfOk result (IsStep S.number
-        (scanned_by (definition_by S.number table.now) text.now cursor.old)) }
-    ensures moved { IfOk result (λ s. scanned_by (definition_by S.number table.now) text.now
-        cursor.new ≡ after_step (scanned_by (definition_by S.number table.now) text.now
-        cursor.old) s) }
+        (scanned_by S.number table.now text.now cursor.old)) }
+    ensures moved { IfOk result (λ s. scanned_by S.number table.now text.now cursor.new
+        ≡ after_step (scanned_by S.number table.now text.now cursor.old) s) }
     ensures stayed { OnErr result (StayedAt cursor.old cursor.new) }
 {
+    if let Some(winner) = cursor.sought {
+        return take_sought(table, text, cursor, winner);
+    }
     let place = cursor.place;
     if let Some(tile) = cursor.searcher.ahead(table, cursor.rules, place) {
         let kind = table.kinds[tile.rule];
@@ -94,16 +97,55 @@ pub struct Scanner<'lexer, 'input, S: Numbered> {
 
 impl<'lexer, 'input, S: Numbered> Model for Scanner<'lexer, 'input, S> {
     ghost use Rattle.lrlex.specs.Scanner.{IsScannerOf, Scanned, scanned};
-    ghost use Rattle.lrlex.specs.Views.{definition_by};
 
     ghost Value = { Scanned };
 
-    ghost view = { λ s. scanned (definition_by S.number s.table.now) s.text.now s.cursor };
+    ghost view = { λ s. scanned S.number s.table.now s.text.now s.cursor };
 
     ghost invariant = { λ s. IsScannerOf S.number s.table.now s.text.now s.cursor };
 }
 
 impl<'lexer, 'input, S: Numbered> Scanner<'lexer, 'input, S> {
+    /// At the front of the text.
+    fn of(alloc: Global, table: &'lexer RuleTable<S>, text: &'input str) -> Result<Self, AllocError>
+        ensures { IfOk result (λ s. s ≡ at_front (definition_by S.number table.now) text.now
+            (most_cells_by table.now text.now)) }
+    {
+        let cursor = if table.is_state(0) {
+            Some(cursor_of(alloc, table, text)?)
+        } else {
+            None
+        };
+        Ok(Scanner {
+            table,
+            text,
+            cursor,
+        })
+    }
+
+    /// Where another one stood.
+    fn at(
+        alloc: Global,
+        table: &'lexer RuleTable<S>,
+        text: &'input str,
+        at: &ScanPlace,
+    ) -> Result<Self, AllocError>
+        requires { IsPlaceOf (definition_by S.number table.now) text.now at.now }
+        ensures { IfOk result (λ s. s ≡ standing (definition_by S.number table.now) text.now at.now
+            (most_cells_by table.now text.now)) }
+    {
+        let cursor = if table.is_state(0) {
+            Some(cursor_at(alloc, table, text, at)?)
+        } else {
+            None
+        };
+        Ok(Scanner {
+            table,
+            text,
+            cursor,
+        })
+    }
+
     /// The next tile, or why there is none. At an end, and after refused memory, the scanner is what it was.
     #[inline(always)]
     pub fn next(&mut self, alloc: Global) -> Result<Step<S>, AllocError>
@@ -121,7 +163,7 @@ impl<'lexer, 'input, S: Numbered> Scanner<'lexer, 'input, S> {
     /// for tiles found ahead and for where looking ahead leads nowhere. So a second pass over the same tiles asks for no memory, where
     /// the first one got all that it asked for. No contract says so.
     pub fn rewind(&mut self)
-        ensures { self.new ≡ at_front self.old.definition self.old.text }
+        ensures { self.new ≡ at_front self.old.definition self.old.text self.old.most_cells }
     {
         if let Some(cursor) = &mut self.cursor {
             cursor.rewind(self.table, self.text);
@@ -148,10 +190,22 @@ impl<'lexer, 'input, S: Numbered> Scanner<'lexer, 'input, S> {
         }
     }
 
+    /// How many cells of tables it has looked at since it stood at the front, or where `scanner_at` set it, counted as
+    /// `LexRun::looked` counts them. At an end nothing is looked at again. None where memory was refused to what bounds it.
+    pub fn looked(&self) -> Option<usize>
+        ensures { IfSome result (λ n. n ≤ self.now.most_cells) }
+    {
+        match &self.cursor {
+            Some(cursor) => cursor.looked(self.table, self.text),
+            None => Some(0),
+        }
+    }
+
     /// Where it stands, for `scanner_at`.
     pub fn into_place(self, alloc: Global) -> ScanPlace
         ensures place { IsPlaceOf self.entry.definition self.entry.text result }
-        ensures same { self.entry ≡ standing self.entry.definition self.entry.text result }
+        ensures same { self.entry ≡ standing self.entry.definition self.entry.text result
+            self.entry.most_cells }
     {
         let Scanner { cursor, .. } = self;
         match cursor {
@@ -171,19 +225,10 @@ impl<L: LexerTypes<LexErrorT = LRLexError>> LRNonStreamingLexerDef<L> {
         alloc: Global,
         text: &'input str,
     ) -> Result<Scanner<'lexer, 'input, L::StorageT>, AllocError>
-        ensures { IfOk result (λ s. s ≡ at_front (definition_of L.StorageT.number self.now) text.now) }
+        ensures { IfOk result (λ s. s ≡ at_front (definition_of L.StorageT.number self.now) text.now
+            (most_cells_of self.now text.now)) }
     {
-        let table = &self.table;
-        let cursor = if table.is_state(0) {
-            Some(cursor_of(alloc, table, text)?)
-        } else {
-            None
-        };
-        Ok(Scanner {
-            table,
-            text,
-            cursor,
-        })
+        Scanner::of(alloc, &self.table, text)
     }
 
     /// A scanner that stands where another one of this definition and this text stood. What it learned of where looking ahead leads
@@ -195,19 +240,9 @@ impl<L: LexerTypes<LexErrorT = LRLexError>> LRNonStreamingLexerDef<L> {
         at: &ScanPlace,
     ) -> Result<Scanner<'lexer, 'input, L::StorageT>, AllocError>
         requires { IsPlaceOf (definition_of L.StorageT.number self.now) text.now at.now }
-        ensures { IfOk result (λ s. s
-            ≡ standing (definition_of L.StorageT.number self.now) text.now at.now) }
+        ensures { IfOk result (λ s. s ≡ standing (definition_of L.StorageT.number self.now) text.now
+            at.now (most_cells_of self.now text.now)) }
     {
-        let table = &self.table;
-        let cursor = if table.is_state(0) {
-            Some(cursor_at(alloc, table, text, at)?)
-        } else {
-            None
-        };
-        Ok(Scanner {
-            table,
-            text,
-            cursor,
-        })
+        Scanner::at(alloc, &self.table, text, at)
     }
 }

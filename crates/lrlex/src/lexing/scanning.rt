@@ -1,8 +1,7 @@
 //! A scanner's step where its tile wasn't found ahead, or its rule isn't plain.
-ghost use Rattle.std.specs.Prelude.{◌≡◌, ◌<◌, length, drop, vec_len, IfOk, IfSome, MatchOption, OnErr, IsCharBoundary};
-ghost use Rattle.lrlex.specs.Scanner.{IsCursorOf, IsStep, StayedAt, after_step, scanned_by};
-ghost use Rattle.lrlex.specs.Tiling.{IsStuck, Wins};
-ghost use Rattle.lrlex.specs.Views.{definition_by};
+ghost use Rattle.std.specs.Prelude.{◌≡◌, ◌+◌, ◌≤◌, max, None, Some, IfOk, OnErr};
+ghost use Rattle.lrlex.specs.Scanner.{IsCursorOf, IsSought, IsStep, StayedAt, after_step, scanned_by, sought_to};
+ghost use Rattle.lrlex.specs.Work.{won_bytes};
 
 use crate::definition::active::{lacks_id, lexeme_id};
 use crate::definition::rule_table::RuleTable;
@@ -23,20 +22,15 @@ pub(crate) fn take_tile<'d, S: Numbered>(
     winner: Option<Tile>,
 ) -> Result<Step<S>, AllocError>
     requires cursor { IsCursorOf S.number table.now text.now cursor.old }
-    requires some { cursor.old.place < length text.now }
-    requires winner { MatchOption winner
-        (IsStuck (definition_by S.number table.now) cursor.old.rules.state
-        (drop cursor.old.place text.now))
-        (λ t. Wins (definition_by S.number table.now) cursor.old.rules.state
-        (drop cursor.old.place text.now) t.rule t.len) }
-    requires tile { IfSome winner (λ t. IsCharBoundary
-        (drop cursor.old.place text.now) t.len × (t.rule < vec_len table.now.rules)) }
+    requires sought { IsSought S.number table.now text.now cursor.old.place cursor.old.rules.state
+        winner }
+    requires within { sought_to cursor.old.place cursor.old.sought
+        ≤ cursor.old.place + max 1 (won_bytes winner) }
     ensures cursor { IsCursorOf S.number table.now text.now cursor.new }
     ensures step { IfOk result (IsStep S.number
-        (scanned_by (definition_by S.number table.now) text.now cursor.old)) }
-    ensures moved { IfOk result (λ s. scanned_by (definition_by S.number table.now) text.now
-        cursor.new ≡ after_step (scanned_by (definition_by S.number table.now) text.now
-        cursor.old) s) }
+        (scanned_by S.number table.now text.now cursor.old)) }
+    ensures moved { IfOk result (λ s. scanned_by S.number table.now text.now cursor.new
+        ≡ after_step (scanned_by S.number table.now text.now cursor.old) s) }
     ensures stayed { OnErr result (StayedAt cursor.old cursor.new) }
 {
     let Some(tile) = winner else {
@@ -59,10 +53,31 @@ pub(crate) fn take_tile<'d, S: Numbered>(
     step(&mut cursor.stack, rule.target_state())?;
     table.enter(&mut cursor.rules, top_of(&cursor.stack));
     cursor.place = place + tile.len;
+    cursor.sought = None;
     Ok(Step::Tile(found))
 }
 
-/// Takes the next step, where no tile was found ahead.
+/// Takes the next step, where what wins was sought before.
+#[inline(never)]
+pub(crate) fn take_sought<'d, S: Numbered>(
+    table: &'d RuleTable<S>,
+    text: &str,
+    cursor: &mut Cursor<'d, '_>,
+    winner: Option<Tile>,
+) -> Result<Step<S>, AllocError>
+    requires cursor { IsCursorOf S.number table.now text.now cursor.old }
+    requires sought { cursor.old.sought ≡ Some winner }
+    ensures cursor { IsCursorOf S.number table.now text.now cursor.new }
+    ensures step { IfOk result (IsStep S.number
+        (scanned_by S.number table.now text.now cursor.old)) }
+    ensures moved { IfOk result (λ s. scanned_by S.number table.now text.now cursor.new
+        ≡ after_step (scanned_by S.number table.now text.now cursor.old) s) }
+    ensures stayed { OnErr result (StayedAt cursor.old cursor.new) }
+{
+    take_tile(table, text, cursor, winner)
+}
+
+/// Takes the next step, where no tile was found ahead, and nothing was sought.
 #[inline(always)]
 pub(crate) fn seek<'d, S: Numbered>(
     alloc: Global,
@@ -71,12 +86,12 @@ pub(crate) fn seek<'d, S: Numbered>(
     cursor: &mut Cursor<'d, '_>,
 ) -> Result<Step<S>, AllocError>
     requires cursor { IsCursorOf S.number table.now text.now cursor.old }
+    requires unsought { cursor.old.sought ≡ None }
     ensures cursor { IsCursorOf S.number table.now text.now cursor.new }
     ensures step { IfOk result (IsStep S.number
-        (scanned_by (definition_by S.number table.now) text.now cursor.old)) }
-    ensures moved { IfOk result (λ s. scanned_by (definition_by S.number table.now) text.now
-        cursor.new ≡ after_step (scanned_by (definition_by S.number table.now) text.now
-        cursor.old) s) }
+        (scanned_by S.number table.now text.now cursor.old)) }
+    ensures moved { IfOk result (λ s. scanned_by S.number table.now text.now cursor.new
+        ≡ after_step (scanned_by S.number table.now text.now cursor.old) s) }
     ensures stayed { OnErr result (StayedAt cursor.old cursor.new) }
 {
     let place = cursor.place;
@@ -87,6 +102,14 @@ pub(crate) fn seek<'d, S: Numbered>(
     let rest = &text[place..];
     let mut asked = 0;
     let searcher = &mut cursor.searcher;
-    let scan = searcher.winner(alloc, table, rules.state, rules, place, rest, &mut asked)?;
-    take_tile(table, text, cursor, scan.winner)
+    match searcher.winner(alloc, table, rules.state, rules, place, rest, &mut asked) {
+        Ok(scan) => {
+            cursor.sought = Some(scan.winner);
+            take_tile(table, text, cursor, scan.winner)
+        }
+        Err(refused) => {
+            cursor.lost = true;
+            Err(refused)
+        }
+    }
 }

@@ -1,6 +1,7 @@
 //! The winner at a place: the best of what the tables tell and of what the rules without one answer, as they are asked.
 ghost use Rattle.std.specs.Prelude.{◌≡◌, ℕ, length, slice_index, [], max, ◌+◌, ◌-◌, ◌^◌, ◌<◌, ◌≤◌, ◌⊎◌, true, false, vec_len, List, drop, IfOk, IfSome, IsCharBoundary};
 ghost use Rattle.lrlex_rules.specs.Matchers.{AreMatchers};
+ghost use Rattle.lrlex_table.specs.Linear.{HasWorkedTo};
 ghost use Rattle.lrlex.specs.Searcher.{AreOf, HasAsked, IsFoundAt, IsSearcherOf, IsScanOf};
 ghost use Rattle.lrlex.specs.Views.{definition_by};
 ghost use Rattle.lrlex.specs.Work.{HasWorked, IsLinearIn, won_bytes};
@@ -193,6 +194,7 @@ impl<'d, 't> Searcher<'d, 't> {
         ensures matchers { self.new.matchers ≡ self.old.matchers }
         ensures lists { self.new.ends.lists ≡ self.old.ends.lists }
         ensures text { self.new.ends.text ≡ self.old.ends.text }
+        ensures linear { (most : ℕ) → HasWorkedTo most 0 0 self.new.ends }
     {
         self.ends.rewind();
     }

@@ -1,8 +1,9 @@
 //! Scanners of a text.
 ghost use Rattle.std.specs.Prelude.{◌≡◌, ◌≢◌, pos, None, Some, IfOk, MatchOption};
 ghost use Rattle.std.specs.Arc.{arc_value};
-ghost use Rattle.lrlex.specs.Scanner.{at_front};
+ghost use Rattle.lrlex.specs.Scanner.{IsAtFront, at_front};
 ghost use Rattle.lrlex.specs.Views.{definition_of};
+ghost use Rattle.lrlex.specs.Work.{most_cells_of};
 ghost use Rattle.lrlex_handles.specs.Objects.{definition_in, scanner_in};
 
 use crate::definitions::shared;
@@ -20,7 +21,7 @@ fn begun(
     text: &str,
 ) -> Result<Scanning, AllocError>
     ensures { IfOk result (λ it. it ≡ at_front (definition_of (λ n. n) (arc_value definition))
-        text.now) }
+        text.now (most_cells_of (arc_value definition) text.now)) }
 {
     let scanner = definition.scanner(alloc, text)?;
     let at = scanner.into_place(alloc);
@@ -35,7 +36,7 @@ fn begun(
 fn begun_in(alloc: Global, object: &Object, text: &str) -> Result<Option<Box<Object>>, AllocError>
     ensures { IfOk result (λ made. MatchOption made (definition_in (Some object.now) ≡ None)
         (λ b. MatchOption (definition_in (Some object.now)) ⊥
-        (λ d. scanner_in (Some b.value) ≡ Some (at_front d text.now)))) }
+        (λ d. MatchOption (scanner_in (Some b.value)) ⊥ (IsAtFront d text.now)))) }
 {
     match shared(object)? {
         None => Ok(None),
@@ -48,7 +49,7 @@ fn begun_in(alloc: Global, object: &Object, text: &str) -> Result<Option<Box<Obj
 
 fn new_in(alloc: Global, object: &Object, out: &mut Handle, text: &[u8]) -> i32
     ensures done { result ≡ pos 0 → MatchOption (definition_in (Some object.now)) ⊥
-        (λ d. scanner_in out.new.value ≡ Some (at_front d text.now)) }
+        (λ d. MatchOption (scanner_in out.new.value) ⊥ (IsAtFront d text.now)) }
     ensures kept { result ≢ pos 0 → out.new.value ≡ out.old.value }
 {
     match str::from_utf8(text) {
@@ -68,7 +69,7 @@ fn new_in(alloc: Global, object: &Object, out: &mut Handle, text: &[u8]) -> i32
 pub fn begin(alloc: Global, definition: &mut Handle, out: &mut Handle, text: &[u8]) -> i32
     ensures kept { definition.new.value ≡ definition.old.value }
     ensures done { result ≡ pos 0 → MatchOption (definition_in definition.old.value) ⊥
-        (λ d. scanner_in out.new.value ≡ Some (at_front d text.now)) }
+        (λ d. MatchOption (scanner_in out.new.value) ⊥ (IsAtFront d text.now)) }
     ensures failed { result ≢ pos 0 → out.new.value ≡ None }
 {
     let _before = out.take(alloc);

@@ -2,6 +2,7 @@
 ghost use Rattle.std.specs.Prelude.{◌≡◌, ◌≢◌, ◌↔◌, pos, None, Some, IfOk};
 ghost use Rattle.lrlex.specs.Scanner.{IsPlaceOf, standing};
 ghost use Rattle.lrlex.specs.Views.{definition_of};
+ghost use Rattle.lrlex.specs.Work.{most_cells_of};
 ghost use Rattle.lrlex_handles.specs.Objects.{scanner_in};
 ghost use Rattle.lrlex_handles.specs.Scans.{AreNext, WasScanned, tile_by, told_by};
 
@@ -75,8 +76,10 @@ fn next_by(
     ensures place { IfOk result (λ r. IsPlaceOf (definition_of (λ n. n) definition.now) text.now
         r.0) }
     ensures next { IfOk result (λ r. AreNext
-        (standing (definition_of (λ n. n) definition.now) text.now at.now) tiles.old tiles.new
-        r.1 (standing (definition_of (λ n. n) definition.now) text.now r.0)) }
+        (standing (definition_of (λ n. n) definition.now) text.now at.now
+        (most_cells_of definition.now text.now)) tiles.old tiles.new r.1
+        (standing (definition_of (λ n. n) definition.now) text.now r.0
+        (most_cells_of definition.now text.now))) }
 {
     let mut scanner = definition.scanner_at(alloc, text, at)?;
     let scanned = fill(alloc, &mut scanner, tiles)?;

@@ -18,7 +18,7 @@ pub returns-in_err-first : goal.returns-in_err-first
 returns-in_err-first g c = lexing_without_memory _ _ _ _ c.from_residual-in_err-first.ensures.1
 
 pub first_pass-requires-clause-front : goal.first_pass-requires-clause-front
-first_pass-requires-clause-front g c = own_front _ _ _ c.in_ok-scanner.ensures
+first_pass-requires-clause-front g c = own_front _ _ _ _ c.in_ok-scanner.ensures
 
 pub first_pass-requires-clause-initial : goal.first_pass-requires-clause-initial
 first_pass-requires-clause-initial g c = ap (λ (y : Scanned). is_state y.definition 0) c.in_ok-scanner.ensures ∙ c.requires

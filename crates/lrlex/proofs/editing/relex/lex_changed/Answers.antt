@@ -11,7 +11,7 @@ use Rattle.lrlex.specs.Moves.{begins_before}
 use Rattle.lrlex.specs.Views.{definition_by, items_by}
 use Rattle.lrlex.specs.Work.{HasWorked}
 use Rattle.lrlex.proofs.RecutLemmas.{new_len, old_lexed, old_looks, old_sorted, some_old, old_first_safe, old_order, front, whole, none_cut, one_cut, cut_met, cut_stopped, cut_ended}
-use Rattle.lrlex.proofs.LinearLemmas.{linear_in_all}
+use Rattle.lrlex.proofs.LinearLemmas.{linear_to_end}
 use Rattle.lrlex.proofs.MeetLemmas.{none_met}
 use Rattle.lrlex.proofs.ReachLemmas.{entries_now}
 use Rattle.lrlex.proofs.editing.relex.lex_changed.Goals as goal
@@ -91,17 +91,18 @@ returns-then-meets g c =
     let yes = c.if-meets.true in
     let place : c.place.result ≡ (boundary_at c.args.old.now.boundaries.now c.last_safe-index.result).place = c.place.ensures in
     let before = c.count_before-first.ensures.before ∙ ap (λ i. items_before i (items_by g.S.Numbered.number g.X.Lexeme.seen c.args.old.now.items.now)) place in
+    let le : c.tiles.progress.place ≤ length c.args.new.now = omega (arith, c.tiles-test.true) in
+    let near = c.looked.ensures c.args.new.now first c.tiles.progress.place c.tiles.invariant.searcher c.tiles.invariant.worked le in
     cut_met g.S.Numbered.number g.X.Lexeme.seen c.args.table.now c.args.old.now.items.now c.args.old.now.boundaries.now c.args.old.now.ahead.now c.args.edit.now.removed c.args.edit.now.put.now c.args.new.now c.last_safe-index.result
     c.count_before-first.result c.count_before-first.ensures.within before c.looked.result
-    (let le : c.tiles.progress.place ≤ length c.args.new.now = omega (arith, c.tiles-test.true) in
-    linear_in_all c.args.table.now c.args.new.now first c.tiles.progress.place c.looked.result le (c.looked.ensures c.args.new.now first c.tiles.progress.place c.tiles.invariant.searcher c.tiles.invariant.worked le))
+    (linear_to_end c.args.table.now c.args.new.now first c.tiles.progress.place c.looked.result le near)
     c.tiles.progress c.meets.new.cursor c.tiles.invariant.cut (record {
       under_way = c.tiles.invariant.cut.under_way;
       within = at.within yes;
       past = at.past yes;
       place = at.place yes;
       stack = at.stack yes ∙ c.deref.ensures.value;
-    })
+    }) near
 
 pub advance-requires-clause-under_way : goal.advance-requires-clause-under_way
 advance-requires-clause-under_way g c =
@@ -125,7 +126,7 @@ returns-then-not-branch g c =
     let gone = c.in_ok-advance.ensures.linear first c.tiles.invariant.worked in
     cut_stopped g.S.Numbered.number g.X.Lexeme.seen c.args.table.now c.args.old.now.items.now c.args.old.now.boundaries.now c.args.old.now.ahead.now c.args.edit.now.removed c.args.edit.now.put.now c.args.new.now k
     c.count_before-first.result c.count_before-first.ensures.within before c.looked-then-not-branch.result
-    (linear_in_all c.args.table.now c.args.new.now first gone.0 c.looked-then-not-branch.result gone.1 (c.looked-then-not-branch.ensures c.args.new.now first gone.0 c.in_ok-advance.ensures.held.1 gone.3 gone.1))
+    (linear_to_end c.args.table.now c.args.new.now first gone.0 c.looked-then-not-branch.result gone.1 (c.looked-then-not-branch.ensures c.args.new.now first gone.0 c.in_ok-advance.ensures.held.1 gone.3 gone.1))
     p c.advance.new.progress cut none (c.in_ok-advance.ensures.ends c.if-not-branch.true f cut.under_way) c.tiles-test.true searched.exact searched.few
 
 pub tiles-smaller : goal.tiles-smaller
@@ -165,5 +166,5 @@ returns g c =
     let before = c.count_before-first.ensures.before ∙ ap (λ i. items_before i (items_by g.S.Numbered.number g.X.Lexeme.seen c.args.old.now.items.now)) c.place.ensures in
     cut_ended g.S.Numbered.number g.X.Lexeme.seen c.args.table.now c.args.old.now.items.now c.args.old.now.boundaries.now c.args.old.now.ahead.now c.args.edit.now.removed c.args.edit.now.put.now c.args.new.now c.last_safe-index.result
     c.count_before-first.result c.count_before-first.ensures.within before c.looked-2.result
-    (linear_in_all c.args.table.now c.args.new.now first c.tiles.progress.place c.looked-2.result le (c.looked-2.ensures c.args.new.now first c.tiles.progress.place c.tiles.invariant.searcher c.tiles.invariant.worked le))
+    (linear_to_end c.args.table.now c.args.new.now first c.tiles.progress.place c.looked-2.result le (c.looked-2.ensures c.args.new.now first c.tiles.progress.place c.tiles.invariant.searcher c.tiles.invariant.worked le))
     c.tiles.progress c.tiles.invariant.cut (omega (arith, c.tiles-test.false))

@@ -5,7 +5,7 @@ use Rattle.lrlex.specs.Active.{is_state}
 use Rattle.lrlex.specs.Progress.{HasRecut, HasReplacedTail, HasReplacedMiddle}
 use Rattle.lrlex.specs.Views.{definition_by}
 use Rattle.lrlex.proofs.RecutLemmas.{old_looks, old_order, old_sorted}
-use Rattle.lrlex.proofs.InPlaceLemmas.{stateless_run, stateless_looks, stateless_counts, met_within, met_last, met_items, met_bounds, between_run, between_looks, between_counts, behind_run, behind_looks, behind_counts}
+use Rattle.lrlex.proofs.InPlaceLemmas.{stateless_run, stateless_looks, stateless_counts, met_within, met_last, met_items, met_bounds, between_run, between_looks, between_counts, behind_run, behind_looks, behind_counts, between_recut, behind_recut}
 use Rattle.lrlex_base.specs.Spans.{as_span}
 use Rattle.lrlex_boundaries.specs.Boundaries.{boundary_at}
 use Rattle.lrlex_table.specs.Reach.{IsText}
@@ -13,6 +13,8 @@ use Rattle.lrlex_table.proofs.ByteLemmas.{are_bytes}
 use Rattle.lrlex.specs.Changes.{HasChanged, change, none_of}
 use Rattle.lrlex.specs.Moves.{items_from}
 use Rattle.lrlex.specs.Relex.{AreCountsOf}
+use Rattle.lrlex.specs.Work.{HasLinearRecut}
+use Rattle.lrlex.proofs.LinearLemmas.{no_recut}
 use Rattle.lrlex.specs.Searches.{asks_by}
 use Rattle.lrlex.specs.Views.{items_by}
 use Rattle.lrlex.specs.declared.editing.changes.Change.{Change}
@@ -235,3 +237,34 @@ returns-in_ok-replace_tail-in-None-clause-stateless g c none = absurd (true≢fa
 
 pub returns-in_ok-last-in-Some-clause-stateless : goal.returns-in_ok-last-in-Some-clause-stateless
 returns-in_ok-last-in-Some-clause-stateless g c none = absurd (true≢false (sym (sym c.is_state.ensures ∙ c.if-not-is_state.false) ∙ none))
+
+-- the cells that were looked at
+pub returns-then-not-is_state-clause-recut : goal.returns-then-not-is_state-clause-recut
+returns-then-not-is_state-clause-recut g c = no_recut c.args.table.now c.args.new.now c.args.lexed.now.boundaries c.none.result.pieces
+
+pub returns-in_ok-replace_tail-in-None-clause-recut : goal.returns-in_ok-replace_tail-in-None-clause-recut
+returns-in_ok-replace_tail-in-None-clause-recut g c =
+    let initial : is_state (definition_by g.S.Numbered.number c.args.table.now) 0 ≡ true = sym c.is_state.ensures ∙ c.if-not-is_state.false in
+    let a = c.in_ok-recut.recut in
+    let h : HasRecut g.S.Numbered.number g.X.Lexeme.seen c.args.table.now c.args.lexed.now.items.items c.args.lexed.now.boundaries c.args.lexed.now.ahead.items c.args.edit.now.removed c.args.edit.now.put.now c.args.new.now a = rw (sym c.as_slice.ensures.value, sym c.tidy.ensures, sym c.as_slice-2.ensures.value) c.in_ok-recut.ensures in
+    let is : HasReplacedTail c.args.lexed.now.items.items c.args.lexed.now.boundaries c.args.lexed.now.ahead.items a c.replace_tail.new.items.items c.replace_tail.new.boundaries c.replace_tail.new.ahead.items =
+    rw (sym c.tidy.ensures) c.in_ok-replace_tail-in-None.ensures.put in
+    let cut : c.len-cut.result - 1 ≡ length a.progress.boundaries - 1 = ap (λ n. n - 1) c.len-cut.ensures in
+    let end : c.len-end.result - 1 ≡ length c.args.lexed.now.boundaries - 1 = ap (λ n. n - 1) (c.len-end.ensures ∙ ap length c.tidy.ensures) in
+    let of_tiles : c.between-tiles_behind.result ≡ change a.index ((length c.args.lexed.now.boundaries - 1) - a.index) (length a.progress.boundaries - 1) = c.between-tiles_behind.ensures ∙ ap₂ (λ l n. change a.index (l - a.index) n) end cut in
+    subst (λ (x : Change). HasLinearRecut c.args.table.now c.args.new.now c.replace_tail.new.boundaries x a.looked) (sym of_tiles)
+    (behind_recut g.S.Numbered.number g.X.Lexeme.seen c.args.table.now c.args.lexed.now.items.items c.args.lexed.now.boundaries c.args.lexed.now.ahead.items c.args.edit.now.removed c.args.edit.now.put.now c.args.new.now c.requires.known initial a h c.in-None.is c.replace_tail.new.items.items c.replace_tail.new.boundaries c.replace_tail.new.ahead.items is)
+
+pub returns-in_ok-last-in-Some-clause-recut : goal.returns-in_ok-last-in-Some-clause-recut
+returns-in_ok-last-in-Some-clause-recut g c =
+    let initial : is_state (definition_by g.S.Numbered.number c.args.table.now) 0 ≡ true = sym c.is_state.ensures ∙ c.if-not-is_state.false in
+    let a = c.in_ok-recut.recut in
+    let h : HasRecut g.S.Numbered.number g.X.Lexeme.seen c.args.table.now c.args.lexed.now.items.items c.args.lexed.now.boundaries c.args.lexed.now.ahead.items c.args.edit.now.removed c.args.edit.now.put.now c.args.new.now a = rw (sym c.as_slice.ensures.value, sym c.tidy.ensures, sym c.as_slice-2.ensures.value) c.in_ok-recut.ensures in
+    let j = c.in-Some.met in
+    let m = h.met j c.in-Some.is in
+    let is : HasReplacedMiddle g.S.Numbered.number g.X.Lexeme.seen c.args.lexed.now.items.items c.args.lexed.now.boundaries c.args.lexed.now.ahead.items a j c.replace_middle.new.items.items c.replace_middle.new.boundaries c.replace_middle.new.ahead.items =
+    rw (sym c.tidy.ensures) c.in_ok-last-in-Some.ensures.put in
+    let cut : c.len-cut.result - 1 ≡ length a.progress.boundaries - 1 = ap (λ n. n - 1) c.len-cut.ensures in
+    let of_tiles : c.between-tiles_between.result ≡ change a.index (j - a.index) (length a.progress.boundaries - 1) = c.between-tiles_between.ensures ∙ ap (change a.index (j - a.index)) cut in
+    subst (λ (x : Change). HasLinearRecut c.args.table.now c.args.new.now c.replace_middle.new.boundaries x a.looked) (sym of_tiles)
+    (between_recut g.S.Numbered.number g.X.Lexeme.seen c.args.table.now c.args.lexed.now.items.items c.args.lexed.now.boundaries c.args.lexed.now.ahead.items c.args.edit.now.removed c.args.edit.now.put.now c.args.new.now c.requires.known initial a h j m c.replace_middle.new.items.items c.replace_middle.new.boundaries c.replace_middle.new.ahead.items is c.in-Some.is)

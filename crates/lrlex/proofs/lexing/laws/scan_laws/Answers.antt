@@ -2,7 +2,7 @@ use Rattle.lrlex.proofs.ScannerLemmas.{run_of_scanned, scanned_all, scanned_fron
 use Rattle.lrlex.proofs.lexing.laws.scan_laws.Goals as goal
 
 pub returns-clause-front : goal.returns-clause-front
-returns-clause-front g c d text z = scanned_front d text z
+returns-clause-front g c d text most z = scanned_front d text most z
 
 pub returns-clause-taken : goal.returns-clause-taken
 returns-clause-taken g c ts s x h all = scanned_more g.S.Numbered.number ts s x h.0 h.1 h.2 all

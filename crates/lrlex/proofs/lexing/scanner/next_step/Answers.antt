@@ -1,13 +1,16 @@
-use Rattle.std.proofs.Common.{◌≡◌, not, drop, refl, sym, ap, ap₂, subst, arith}
+use Rattle.std.proofs.Common.{◌≡◌, ◌+◌, IfSome, false, not, drop, refl, sym, ap, ap₂, subst, arith}
 use Rattle.std.proofs.lemmas.Str.{IsCharBoundary-from_rest}
 use Rattle.regex_hir.specs.Text.{is_some_and}
 use Rattle.lrlex_base.specs.Spans.{span}
 use Rattle.lrlex_boundaries.specs.Entries.{plain}
 use Rattle.lrlex.specs.Active.{is_state, rule_at}
-use Rattle.lrlex.specs.Scanner.{Scanned}
+use Rattle.lrlex.specs.Scanner.{IsSought, Scanned, sought_to}
 use Rattle.lrlex.specs.Searcher.{IsFoundAt}
+use Rattle.lrlex.specs.StateTables.{most_tables}
 use Rattle.lrlex.specs.Tiling.{Tile, Wins, top}
 use Rattle.lrlex.specs.Views.{definition_by}
+use Rattle.lrlex.specs.Work.{HasWorked, most_cells_by}
+use Rattle.lrlex_table.proofs.LinearLemmas.{linear_later}
 use Rattle.lrlex.proofs.KindLemmas.{kinds_len, plain_rule, no_target_at, stays}
 use Rattle.lrlex.proofs.lexing.scanner.next_step.Goals as goal
 
@@ -15,16 +18,17 @@ pub index-kind-requires : goal.index-kind-requires
 index-kind-requires g c =
     let table = c.args.table.now in
     let p = c.args.cursor.now in
-    let tile = c.in-Some.tile in
-    let at : IsFoundAt g.S.Numbered.number table p.rules.state c.args.text.now p.place tile = c.in-Some.ensures.tile c.args.text.now c.requires.searcher in
+    let tile = c.in-Some-ahead.tile in
+    let at : IsFoundAt g.S.Numbered.number table p.rules.state c.args.text.now p.place tile = c.in-Some-ahead.ensures.tile c.args.text.now c.requires.searcher in
     omega (arith, at.rule, kinds_len table, table.kinds.ok.0)
 
 pub returns-then-kind-clause-cursor : goal.returns-then-kind-clause-cursor
 returns-then-kind-clause-cursor g c =
     let table = c.args.table.now in
     let p = c.args.cursor.now in
-    let tile = c.in-Some.tile in
-    let at : IsFoundAt g.S.Numbered.number table p.rules.state c.args.text.now p.place tile = c.in-Some.ensures.tile c.args.text.now c.requires.searcher in
+    let tile = c.in-Some-ahead.tile in
+    let at : IsFoundAt g.S.Numbered.number table p.rules.state c.args.text.now p.place tile = c.in-Some-ahead.ensures.tile c.args.text.now c.requires.searcher in
+    let unsought : p.lost ≡ false → HasWorked table p.from p.place c.ahead.new.self.ends = λ kept. c.in-Some-ahead.ensures.linear p.from p.place (subst (λ o. HasWorked table p.from (sought_to p.place o) p.searcher.ends) c.in_default.is (c.requires.worked kept)) in
     record {
       stands = record {
         boundary = IsCharBoundary-from_rest c.args.text.now p.place tile.len c.requires.stands.boundary.0 at.cuts;
@@ -36,15 +40,18 @@ returns-then-kind-clause-cursor g c =
       initial = c.requires.initial;
       rules = c.requires.rules;
       state = c.requires.state;
-      searcher = c.in-Some.ensures.searcher c.args.text.now c.requires.searcher;
+      searcher = c.in-Some-ahead.ensures.searcher c.args.text.now c.requires.searcher;
+      sought = subst (λ o. IfSome o (IsSought g.S.Numbered.number table c.args.text.now (p.place + tile.len) p.rules.state)) (sym c.in_default.is) tt;
+      worked = λ kept. subst (λ o. HasWorked table p.from (sought_to (p.place + tile.len) o) c.ahead.new.self.ends) (sym c.in_default.is)
+          (linear_later (most_tables table.tables.items) p.from p.place (p.place + tile.len) c.ahead.new.self.ends (unsought kept) (omega arith));
     }
 
 pub returns-then-kind-clause-step : goal.returns-then-kind-clause-step
 returns-then-kind-clause-step g c =
     let table = c.args.table.now in
     let p = c.args.cursor.now in
-    let tile = c.in-Some.tile in
-    let at : IsFoundAt g.S.Numbered.number table p.rules.state c.args.text.now p.place tile = c.in-Some.ensures.tile c.args.text.now c.requires.searcher in
+    let tile = c.in-Some-ahead.tile in
+    let at : IsFoundAt g.S.Numbered.number table p.rules.state c.args.text.now p.place tile = c.in-Some-ahead.ensures.tile c.args.text.now c.requires.searcher in
     let d = definition_by g.S.Numbered.number table in
     let t : Tile = record { rule = tile.rule; len = tile.len } in
     let on_top : p.rules.state ≡ top (plain p.stack.items) = c.requires.state in
@@ -68,12 +75,12 @@ pub returns-then-kind-clause-moved : goal.returns-then-kind-clause-moved
 returns-then-kind-clause-moved g c =
     let table = c.args.table.now in
     let p = c.args.cursor.now in
-    let tile = c.in-Some.tile in
-    let at : IsFoundAt g.S.Numbered.number table p.rules.state c.args.text.now p.place tile = c.in-Some.ensures.tile c.args.text.now c.requires.searcher in
+    let tile = c.in-Some-ahead.tile in
+    let at : IsFoundAt g.S.Numbered.number table p.rules.state c.args.text.now p.place tile = c.in-Some-ahead.ensures.tile c.args.text.now c.requires.searcher in
     let d = definition_by g.S.Numbered.number table in
     let stack = plain p.stack.items in
     let target = no_target_at g.S.Numbered.number table tile.rule c.index-kind.result.now at.rule c.index-kind.ensures c.if-kind.true in
-    ap₂ (λ p s. let made : Scanned = record { definition = d; text = c.args.text.now; place = p; stack = s } in made) (sym c.new.ensures.end)
+    ap₂ (λ p s. let made : Scanned = record { definition = d; text = c.args.text.now; place = p; stack = s; most_cells = most_cells_by c.args.table.now c.args.text.now } in made) (sym c.new.ensures.end)
     (sym (stays stack (rule_at d tile.rule).target target))
 
 pub take_tile-requires-clause-cursor : goal.take_tile-requires-clause-cursor
@@ -82,7 +89,9 @@ take_tile-requires-clause-cursor g c = record {
   initial = c.requires.initial;
   rules = c.requires.rules;
   state = c.requires.state;
-  searcher = c.in-Some.ensures.searcher c.args.text.now c.requires.searcher;
+  searcher = c.in-Some-ahead.ensures.searcher c.args.text.now c.requires.searcher;
+  sought = c.requires.sought;
+  worked = λ kept. c.in-Some-ahead.ensures.linear c.args.cursor.now.from (sought_to c.args.cursor.now.place c.args.cursor.now.sought) (c.requires.worked kept);
 }
 
 pub seek-requires : goal.seek-requires
@@ -92,6 +101,9 @@ seek-requires g c = record {
     initial = c.requires.initial;
     rules = c.requires.rules;
     state = c.requires.state;
-    searcher = c.in_default.ensures.searcher c.args.text.now c.requires.searcher;
+    searcher = c.in_default-ahead.ensures.searcher c.args.text.now c.requires.searcher;
+    sought = c.requires.sought;
+    worked = λ kept. c.in_default-ahead.ensures.linear c.args.cursor.now.from (sought_to c.args.cursor.now.place c.args.cursor.now.sought) (c.requires.worked kept);
   };
+  unsought = c.in_default.is;
 }

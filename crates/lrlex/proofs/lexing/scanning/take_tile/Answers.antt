@@ -1,12 +1,15 @@
-use Rattle.std.proofs.Common.{◌≡◌, ◌<◌, length, drop, true, false, refl, sym, ap, ap₂, ◌∙◌, subst, arith}
+use Rattle.std.proofs.Common.{◌≡◌, ◌+◌, ◌<◌, length, drop, true, false, refl, sym, ap, ap₂, ◌∙◌, subst, arith}
 use Rattle.std.proofs.lemmas.Str.{IsCharBoundary-from_rest}
 use Rattle.lrlex_base.specs.Spans.{span}
 use Rattle.lrlex_boundaries.specs.Entries.{plain, AreEntries}
 use Rattle.lrlex_rules.specs.Definition.{Rule}
 use Rattle.lrlex.specs.Active.{is_state, lacks_id, lacks_target, lexeme_id, rule_at}
-use Rattle.lrlex.specs.Scanner.{Scanned}
+use Rattle.lrlex.specs.Scanner.{Scanned, sought_to}
+use Rattle.lrlex.specs.StateTables.{most_tables}
 use Rattle.lrlex.specs.Tiling.{Tile, stack_after, top}
 use Rattle.lrlex.specs.Views.{definition_by}
+use Rattle.lrlex.specs.Work.{most_cells_by}
+use Rattle.lrlex_table.proofs.LinearLemmas.{linear_later}
 use Rattle.lrlex.proofs.ReachLemmas.{AreStates, IsSound, sound_after, top_is_state, wins_at}
 use Rattle.lrlex.proofs.ViewLemmas.{rule_read}
 use Rattle.lrlex.proofs.lexing.scanning.take_tile.Goals as goal
@@ -18,6 +21,8 @@ returns-then-lacks_id-clause-cursor g c = record {
   rules = c.requires.cursor.rules;
   state = c.requires.cursor.state;
   searcher = c.requires.cursor.searcher;
+  sought = c.requires.cursor.sought;
+  worked = c.requires.cursor.worked;
 }
 
 pub returns-then-lacks_target-clause-cursor : goal.returns-then-lacks_target-clause-cursor
@@ -27,6 +32,8 @@ returns-then-lacks_target-clause-cursor g c = record {
   rules = c.requires.cursor.rules;
   state = c.requires.cursor.state;
   searcher = c.requires.cursor.searcher;
+  sought = c.requires.cursor.sought;
+  worked = c.requires.cursor.worked;
 }
 
 pub returns-in_err-step-clause-cursor : goal.returns-in_err-step-clause-cursor
@@ -45,6 +52,8 @@ returns-in_err-step-clause-cursor g c =
       rules = c.requires.cursor.rules;
       state = c.requires.cursor.state ∙ ap (λ xs. top (plain xs)) (sym same);
       searcher = c.requires.cursor.searcher;
+      sought = c.requires.cursor.sought;
+      worked = c.requires.cursor.worked;
     }
 
 pub returns-then-lacks_id-clause-step : goal.returns-then-lacks_id-clause-step
@@ -52,9 +61,9 @@ returns-then-lacks_id-clause-step g c =
     let d = definition_by g.S.Numbered.number c.args.table.now in
     let stack = plain c.args.cursor.now.stack.items in
     let t : Tile = record { rule = c.in-Some.tile.rule; len = c.in-Some.tile.len } in
-    let within : t.rule < length c.args.table.now.rules.items = omega (arith, c.args.table.now.rules.ok.0, (rw c.in-Some.is at c.requires.tile).1) in
+    let within : t.rule < length c.args.table.now.rules.items = omega (arith, c.args.table.now.rules.ok.0, (rw c.in-Some.is at c.requires.sought.tile).1) in
     let rule_is = rule_read g.S.Numbered.number c.args.table.now t.rule c.index-rule.result.now within c.index-rule.ensures in
-    let wins = wins_at d c.args.cursor.now.rules.state stack (drop c.args.cursor.now.place c.args.text.now) (drop c.args.cursor.now.place c.args.text.now) t c.requires.cursor.state refl (rw c.in-Some.is at c.requires.winner) in
+    let wins = wins_at d c.args.cursor.now.rules.state stack (drop c.args.cursor.now.place c.args.text.now) (drop c.args.cursor.now.place c.args.text.now) t c.requires.cursor.state refl (rw c.in-Some.is at c.requires.sought.wins) in
     (t, refl, wins, ap lacks_id rule_is ∙ sym c.if-lacks_id.ensures)
 
 pub returns-then-lacks_target-clause-step : goal.returns-then-lacks_target-clause-step
@@ -62,9 +71,9 @@ returns-then-lacks_target-clause-step g c =
     let d = definition_by g.S.Numbered.number c.args.table.now in
     let stack = plain c.args.cursor.now.stack.items in
     let t : Tile = record { rule = c.in-Some.tile.rule; len = c.in-Some.tile.len } in
-    let within : t.rule < length c.args.table.now.rules.items = omega (arith, c.args.table.now.rules.ok.0, (rw c.in-Some.is at c.requires.tile).1) in
+    let within : t.rule < length c.args.table.now.rules.items = omega (arith, c.args.table.now.rules.ok.0, (rw c.in-Some.is at c.requires.sought.tile).1) in
     let rule_is = rule_read g.S.Numbered.number c.args.table.now t.rule c.index-rule.result.now within c.index-rule.ensures in
-    let wins = wins_at d c.args.cursor.now.rules.state stack (drop c.args.cursor.now.place c.args.text.now) (drop c.args.cursor.now.place c.args.text.now) t c.requires.cursor.state refl (rw c.in-Some.is at c.requires.winner) in (
+    let wins = wins_at d c.args.cursor.now.rules.state stack (drop c.args.cursor.now.place c.args.text.now) (drop c.args.cursor.now.place c.args.text.now) t c.requires.cursor.state refl (rw c.in-Some.is at c.requires.sought.wins) in (
       t,
       record {
         rule = refl;
@@ -79,9 +88,9 @@ returns-clause-step g c =
     let d = definition_by g.S.Numbered.number c.args.table.now in
     let stack = plain c.args.cursor.now.stack.items in
     let t : Tile = record { rule = c.in-Some.tile.rule; len = c.in-Some.tile.len } in
-    let within : t.rule < length c.args.table.now.rules.items = omega (arith, c.args.table.now.rules.ok.0, (rw c.in-Some.is at c.requires.tile).1) in
+    let within : t.rule < length c.args.table.now.rules.items = omega (arith, c.args.table.now.rules.ok.0, (rw c.in-Some.is at c.requires.sought.tile).1) in
     let rule_is = rule_read g.S.Numbered.number c.args.table.now t.rule c.index-rule.result.now within c.index-rule.ensures in
-    let wins = wins_at d c.args.cursor.now.rules.state stack (drop c.args.cursor.now.place c.args.text.now) (drop c.args.cursor.now.place c.args.text.now) t c.requires.cursor.state refl (rw c.in-Some.is at c.requires.winner) in (
+    let wins = wins_at d c.args.cursor.now.rules.state stack (drop c.args.cursor.now.place c.args.text.now) (drop c.args.cursor.now.place c.args.text.now) t c.requires.cursor.state refl (rw c.in-Some.is at c.requires.sought.wins) in (
       t,
       record {
         rule = refl;
@@ -100,11 +109,11 @@ returns-clause-moved g c =
     let d = definition_by g.S.Numbered.number c.args.table.now in
     let stack = plain c.args.cursor.now.stack.items in
     let k = c.in-Some.tile.rule in
-    let within : k < length c.args.table.now.rules.items = omega (arith, c.args.table.now.rules.ok.0, (rw c.in-Some.is at c.requires.tile).1) in
+    let within : k < length c.args.table.now.rules.items = omega (arith, c.args.table.now.rules.ok.0, (rw c.in-Some.is at c.requires.sought.tile).1) in
     let rule_is = rule_read g.S.Numbered.number c.args.table.now k c.index-rule.result.now within c.index-rule.ensures in
     let moved : plain c.step.new.entries.items ≡ stack_after stack (rule_at d k).target =
     c.in_ok-step.ensures.moved ∙ ap (stack_after stack) c.target_state.ensures ∙ sym (ap (λ (x : Rule). stack_after stack x.target) rule_is) in
-    ap₂ (λ p s. let made : Scanned = record { definition = d; text = c.args.text.now; place = p; stack = s } in made) (sym c.new.ensures.end) moved
+    ap₂ (λ p s. let made : Scanned = record { definition = d; text = c.args.text.now; place = p; stack = s; most_cells = most_cells_by c.args.table.now c.args.text.now } in made) (sym c.new.ensures.end) moved
 
 pub returns-clause-cursor : goal.returns-clause-cursor
 returns-clause-cursor g c =
@@ -113,9 +122,9 @@ returns-clause-cursor g c =
     let place = c.args.cursor.now.place in
     let stack = plain c.args.cursor.now.stack.items in
     let t : Tile = record { rule = c.in-Some.tile.rule; len = c.in-Some.tile.len } in
-    let within : t.rule < length c.args.table.now.rules.items = omega (arith, c.args.table.now.rules.ok.0, (rw c.in-Some.is at c.requires.tile).1) in
+    let within : t.rule < length c.args.table.now.rules.items = omega (arith, c.args.table.now.rules.ok.0, (rw c.in-Some.is at c.requires.sought.tile).1) in
     let rule_is = rule_read g.S.Numbered.number c.args.table.now t.rule c.index-rule.result.now within c.index-rule.ensures in
-    let wins = wins_at d c.args.cursor.now.rules.state stack (drop place text) (drop place text) t c.requires.cursor.state refl (rw c.in-Some.is at c.requires.winner) in
+    let wins = wins_at d c.args.cursor.now.rules.state stack (drop place text) (drop place text) t c.requires.cursor.state refl (rw c.in-Some.is at c.requires.sought.wins) in
     let has_target : lacks_target d (rule_at d t.rule) ≡ false = ap (lacks_target d) rule_is ∙ sym c.if-lacks_target.ensures in
     let moved : plain c.step.new.entries.items ≡ stack_after stack (rule_at d t.rule).target =
     c.in_ok-step.ensures.moved ∙ ap (stack_after stack) c.target_state.ensures ∙ sym (ap (λ (x : Rule). stack_after stack x.target) rule_is) in
@@ -123,7 +132,7 @@ returns-clause-cursor g c =
     record {
       stands = record {
         boundary =
-            IsCharBoundary-from_rest text place t.len c.requires.cursor.stands.boundary.0 (rw c.in-Some.is at c.requires.tile).0;
+            IsCharBoundary-from_rest text place t.len c.requires.cursor.stands.boundary.0 (rw c.in-Some.is at c.requires.sought.tile).0;
         entries = c.in_ok-step.ensures.entries;
         states = subst (AreStates d) (sym moved) sound.states;
         some = omega (arith, sound.some, ap length moved);
@@ -133,6 +142,9 @@ returns-clause-cursor g c =
       rules = c.enter.ensures.rules;
       state = c.enter.ensures.state ∙ c.top_of.ensures ∙ ap (λ s. top (plain s)) c.deref.ensures.value;
       searcher = c.requires.cursor.searcher;
+      sought = tt;
+      worked = λ kept. linear_later (most_tables c.args.table.now.tables.items) c.args.cursor.now.from (sought_to place c.args.cursor.now.sought) (place + t.len) c.args.cursor.now.searcher.ends
+          (c.requires.cursor.worked kept) (omega (arith, rw c.in-Some.is at c.requires.within, wins.some));
     }
 
 pub enter-requires-clause-id : goal.enter-requires-clause-id
@@ -140,7 +152,7 @@ enter-requires-clause-id g c =
     let d = definition_by g.S.Numbered.number c.args.table.now in
     let stack = plain c.args.cursor.now.stack.items in
     let k = c.in-Some.tile.rule in
-    let within : k < length c.args.table.now.rules.items = omega (arith, c.args.table.now.rules.ok.0, (rw c.in-Some.is at c.requires.tile).1) in
+    let within : k < length c.args.table.now.rules.items = omega (arith, c.args.table.now.rules.ok.0, (rw c.in-Some.is at c.requires.sought.tile).1) in
     let rule_is = rule_read g.S.Numbered.number c.args.table.now k c.index-rule.result.now within c.index-rule.ensures in
     let has_target : lacks_target d (rule_at d k) ≡ false = ap (lacks_target d) rule_is ∙ sym c.if-lacks_target.ensures in
     let moved : plain c.step.new.entries.items ≡ stack_after stack (rule_at d k).target =

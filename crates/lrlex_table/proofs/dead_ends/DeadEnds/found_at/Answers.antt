@@ -1,6 +1,6 @@
 use Rattle.std.proofs.Common.{sym, subst, IsUtf8}
 use Rattle.std.proofs.lemmas.Str.{IsCharBoundary-from_drop}
-use Rattle.lrlex_table.specs.Linear.{HasLinearWork}
+use Rattle.lrlex_table.specs.Linear.{HasWorkedTo}
 use Rattle.lrlex_table.specs.declared.dead_ends.DeadEnds.{DeadEnds}
 use Rattle.lrlex_table.proofs.dead_ends.DeadEnds.found_at.Goals as goal
 use Rattle.lrlex_table.proofs.dead_ends.DeadEnds.found_at.Goals.{then-has_more, else-has_more, then-self-list, else-self-list, then-is_spent, else-is_spent}
@@ -10,7 +10,7 @@ look_ahead-requires-clause-boundary c = IsCharBoundary-from_drop c.args.self.now
 
 pub returns-clause-linear : goal.returns-clause-linear
 returns-clause-linear c most from before =
-    let Work : DeadEnds → Type 0 = λ e. HasLinearWork most from c.args.place e in
+    let Work : DeadEnds → Type 0 = λ e. HasWorkedTo most from c.args.place e in
     let counted : Work c.if-has_more.self = elim c.if-has_more.branch [
       | then-has_more w ↦ subst Work (sym w.self-is) (record { onward = before.onward; walks = before.walks; ahead = before.ahead; near = before.near })
       | else-has_more w ↦ subst Work (sym w.self-is) before

@@ -7,7 +7,7 @@ use Rattle.lrlex_table.specs.Tables.{len_of}
 use Rattle.lrlex_table.specs.Work.{cells, IsLook}
 use Rattle.lrlex_table.proofs.WinnerLemmas.{decided_all}
 use Rattle.lrlex_table.proofs.WorkLemmas.{look_near, look_far, look_again}
-use Rattle.lrlex_table.specs.Linear.{HasLinearWork}
+use Rattle.lrlex_table.specs.Linear.{HasWorkedTo}
 use Rattle.lrlex_table.proofs.LinearLemmas.{linear_after, look_from}
 use Rattle.lrlex_table.proofs.dead_ends.DeadEnds.winner_at.Goals as goal
 use Rattle.lrlex_table.proofs.dead_ends.DeadEnds.winner_at.Goals.{then-place-self+in_default, else-place-self, then-scan-le-FAR-via-then-scan-le-FAR, then-scan-le-FAR-via-else-scan-le-FAR+then-not-is_far, then-place-self-2+else-scan-le-FAR+else-not-is_far, else-place-self-2}
@@ -89,9 +89,9 @@ returns-then-scan-le-FAR-clause-linear c ps most from are le is =
       | then-place-self+in_default w ↦ subst (λ s. HasSameEnds old s) (sym w.self-is) w.found_at.ensures.ends
       | else-place-self w ↦ subst (λ s. HasSameEnds old s) (sym w.self-is) (record { known = refl; forgot = refl; looked = refl })
     ] in
-    let here : HasLinearWork most from place before = elim c.if-place-self.branch [
-      | then-place-self+in_default w ↦ subst (λ s. HasLinearWork most from place s) (sym w.self-is) (w.found_at.ensures.linear most from is)
-      | else-place-self w ↦ subst (λ s. HasLinearWork most from place s) (sym w.self-is) is
+    let here : HasWorkedTo most from place before = elim c.if-place-self.branch [
+      | then-place-self+in_default w ↦ subst (λ s. HasWorkedTo most from place s) (sym w.self-is) (w.found_at.ensures.linear most from is)
+      | else-place-self w ↦ subst (λ s. HasWorkedTo most from place s) (sym w.self-is) is
     ] in
     linear_after most parts from place len before c.count.new.self here le c.count.ensures.ahead (λ was. c.count.ensures.forgot ∙ was)
     (λ kept. look_from parts len old before c.count.new.self same (returns-then-scan-le-FAR-clause-work c ps are kept))
@@ -108,9 +108,9 @@ returns-clause-linear c ps most from are le is =
       | then-place-self+in_default w ↦ subst (λ s. HasSameEnds old s) (sym w.self-is) w.found_at.ensures.ends
       | else-place-self w ↦ subst (λ s. HasSameEnds old s) (sym w.self-is) (record { known = refl; forgot = refl; looked = refl })
     ] in
-    let here : HasLinearWork most from place before = elim c.if-place-self.branch [
-      | then-place-self+in_default w ↦ subst (λ s. HasLinearWork most from place s) (sym w.self-is) (w.found_at.ensures.linear most from is)
-      | else-place-self w ↦ subst (λ s. HasLinearWork most from place s) (sym w.self-is) is
+    let here : HasWorkedTo most from place before = elim c.if-place-self.branch [
+      | then-place-self+in_default w ↦ subst (λ s. HasWorkedTo most from place s) (sym w.self-is) (w.found_at.ensures.linear most from is)
+      | else-place-self w ↦ subst (λ s. HasWorkedTo most from place s) (sym w.self-is) is
     ] in
     let ahead : c.if-place-self-2.self.ahead ≡ before.ahead = elim c.if-place-self-2.branch [
       | then-place-self-2+else-scan-le-FAR+else-not-is_far w ↦ ap (λ s. s.ahead) w.self-is ∙ w.count.ensures.ahead

@@ -4,7 +4,7 @@ use Rattle.lrlex.specs.Changes.{HasChanged}
 use Rattle.lrlex.specs.Views.{definition_by, items_by}
 use Rattle.lrlex_base.specs.Spans.{span}
 use Rattle.lrlex.specs.LexRun.{Run}
-use Rattle.lrlex.proofs.DocumentLemmas.{edited_counts, edited_laws, still_lexed}
+use Rattle.lrlex.proofs.DocumentLemmas.{edited_counts, edited_laws, edited_linear, still_lexed}
 use Rattle.lrlex.proofs.editing.document.Document.edit.Goals as goal
 
 pub invariant_of-self : goal.invariant_of-self
@@ -33,3 +33,8 @@ returns-clause-changed g c =
     subst (λ (v : Run _ _). OnOk c.edit_bytes.result (HasChanged (definition_by number table) v.text (string_bytes it.text) removed c.args.put.now (items_by number seen v.items)
     (items_by number seen it.lexed.items.items) v.boundaries it.lexed.boundaries it.lexed.changed it.lexed.recut)) c.self.view_is
     c.edit_bytes.ensures.changed
+
+pub returns-clause-linear : goal.returns-clause-linear
+returns-clause-linear g c =
+    edited_linear g.L.StorageT.Id.number g.L.LexemeT.Lexeme.seen c.self.inside.definition.now.table (span c.args.from c.args.to) c.args.put.now c.self.inside.held c.edit_bytes.new.it
+    c.edit_bytes.result c.edit_bytes.ensures.made

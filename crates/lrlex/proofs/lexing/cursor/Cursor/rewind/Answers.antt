@@ -3,6 +3,7 @@ use Rattle.std.proofs.lemmas.Str.{IsCharBoundary-start}
 use Rattle.lrlex_boundaries.specs.Entries.{plain, AreEntries}
 use Rattle.lrlex_rules.specs.Matchers.{AreMatchers}
 use Rattle.lrlex.specs.Searcher.{AreOf}
+use Rattle.lrlex.specs.StateTables.{most_tables}
 use Rattle.lrlex.specs.Tiling.{top}
 use Rattle.lrlex.specs.Views.{definition_by}
 use Rattle.lrlex.proofs.EntryLemmas.{entries-one}
@@ -31,4 +32,6 @@ returns-clause-cursor g c =
         lists = ap (λ ls. ls.now) c.rewind.ensures.lists ∙ was.searcher.lists;
         text = ap (λ t. t.now) c.rewind.ensures.text ∙ was.searcher.text;
       };
+      sought = tt;
+      worked = λ kept. c.rewind.ensures.linear (most_tables c.args.table.now.tables.items);
     }

@@ -10,13 +10,13 @@ next_step-requires g c = rw c.in-Some.is at c.self.invariant
 
 pub returns-clause-step : goal.returns-clause-step
 returns-clause-step g c =
-    let d = definition_by g.S.Numbered.number c.self.inside.table.now in
+    let table = c.self.inside.table.now in
     let text = c.self.inside.text.now in
     elim c.match-self.branch [
       | in-Some w ↦
-          let at : scanned_by d text w.in-Some.cursor ≡ c.args.self.now = ap (scanned d text) (sym w.in-Some.is) ∙ c.self.view_is in
+          let at : scanned_by g.S.Numbered.number table text w.in-Some.cursor ≡ c.args.self.now = ap (scanned g.S.Numbered.number table text) (sym w.in-Some.is) ∙ c.self.view_is in
           subst (λ r. IfOk r (IsStep g.S.Numbered.number c.args.self.now)) (sym w.result-is) (subst (λ s. IfOk w.next_step.result (IsStep g.S.Numbered.number s)) at w.next_step.ensures.step)
       | in-None w ↦
-          let at : scanned d text None ≡ c.args.self.now = ap (scanned d text) (sym w.in-None.is) ∙ c.self.view_is in
+          let at : scanned g.S.Numbered.number table text None ≡ c.args.self.now = ap (scanned g.S.Numbered.number table text) (sym w.in-None.is) ∙ c.self.view_is in
           subst (λ r. IfOk r (IsStep g.S.Numbered.number c.args.self.now)) (sym w.result-is) (subst (λ (s : Scanned). is_state s.definition 0 ≡ false) at (rw w.in-None.is at c.self.invariant))
     ]
