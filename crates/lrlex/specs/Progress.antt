@@ -1,5 +1,5 @@
 -- How each step of a run leaves what the run has found so far.
-use Rattle.std.specs.Prelude.{◌≡◌, ℕ, ◌+◌, ◌-◌, ◌^◌, ◌<◌, ◌≤◌, Bool, true, max, List, Option, Some, None, Result, [], ◌∷◌, ◌++◌, length, map, drop, take, slice_index, IsCharBoundary}
+use Rattle.std.specs.Prelude.{◌≡◌, ℕ, ◌+◌, ◌-◌, ◌^◌, ◌<◌, ◌≤◌, Bool, true, false, max, List, Option, Some, None, Result, [], ◌∷◌, ◌++◌, length, map, drop, take, slice_index, IsCharBoundary}
 use Rattle.lrlex_base.specs.LexemeParts.{LexemeParts}
 use Rattle.lrlex_base.specs.Spans.{Fits, as_span}
 use Rattle.lrlex_base.specs.Edits.{edited}
@@ -114,6 +114,12 @@ pub record HasEnded {S X : Type 0} (d : Definition) (number : S → ℕ) (seen :
 pub record HasSearched {S X : Type 0} (number : S → ℕ) (d : RuleTable S) (text : List ℕ) (f : Front) (old new : Progress X) : Type 0 where
   pub few : new.asked ≤ searches (definition_by number d) text (f.boundaries ++ old.boundaries)
   pub exact : new.asked ≡ old.asked + untabled_count d (top (plain old.stack.items))
+
+-- One step of a run, after which lexing goes on or not: it took one more tile or found no more, and made its searches.
+pub record HasTakenStep {S X : Type 0} (number : S → ℕ) (seen : X → LexemeParts S) (d : RuleTable S) (text : List ℕ) (old new : Progress X) (on : Bool) : Type 0 where
+  pub goes_on : on ≡ true → (f : Front) → IsUnderWay (definition_by number d) number seen text f old → HasAdvanced (definition_by number d) number seen text f old new
+  pub ends : on ≡ false → (f : Front) → IsUnderWay (definition_by number d) number seen text f old → HasEnded (definition_by number d) number seen text f old new
+  pub asked : (f : Front) → IsUnderWay (definition_by number d) number seen text f old → HasSearched number d text f old new
 
 -- The lists are those of a run of some text, and this edit makes the new text of that one.
 pub record IsEditOf {S X : Type 0} (number : S → ℕ) (seen : X → LexemeParts S) (d : RuleTable S) (found : List (Result X LRLexError)) (bounds : List Boundary)

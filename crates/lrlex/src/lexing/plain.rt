@@ -1,11 +1,11 @@
 //! A run takes many tiles at a time, where they were found ahead and their rules are plain.
-ghost use Rattle.std.specs.Prelude.{◌≡◌, ℕ, ◌+◌, ◌-◌, ◌^◌, ◌<◌, ◌≤◌, ◌++◌, true, false, length, map, max, Option, Some, None, vec_len, vec_capacity, if◌then◌else◌, IfOk, IfSome, OnOk};
+ghost use Rattle.std.specs.Prelude.{◌≡◌, ℕ, ◌+◌, ◌-◌, ◌^◌, ◌<◌, ◌≤◌, ◌++◌, length, map, max, Option, Some, None, vec_len, vec_capacity, if◌then◌else◌, IfOk, IfSome, OnOk};
 ghost use Rattle.lrlex.specs.Tiling.{lexeme_of, top};
 ghost use Rattle.lrlex_boundaries.specs.Entries.{plain, AreEntries};
 ghost use Rattle.lrlex_boundaries.specs.Boundaries.{last_entries};
 ghost use Rattle.lrlex.specs.Searcher.{AreOf, IsFoundAt, IsSearcherOf};
-ghost use Rattle.lrlex.specs.Plain.{IsRunning, id_or};
-ghost use Rattle.lrlex.specs.Progress.{Front, HasAdvanced, HasEnded, HasEntered, HasSearched, IsUnderWay};
+ghost use Rattle.lrlex.specs.Plain.{HasTakenMany, IsRunningIn, id_or};
+ghost use Rattle.lrlex.specs.Progress.{Front, HasEntered, HasTakenStep, IsUnderWay};
 ghost use Rattle.lrlex.specs.Views.{definition_by, item_of};
 ghost use Rattle.lrlex.specs.Work.{HasGoneOn, HasWorked};
 
@@ -102,19 +102,10 @@ fn take_plain<S: Numbered, X: Lexeme<S>>(
 ) -> Result<Option<Tile>, AllocError>
     requires ids { (other : Option S) × (ids.now ≡ map (id_or other) table.now.kinds.items) }
     requires rules { AreOf S.number table.now rules.state rules }
-    requires state { rules.state ≡ top (plain progress.old.stack.items) }
-    requires inside { progress.old.place < length text.now }
-    requires searcher { IsSearcherOf table.now text.now searcher.old }
-    requires running { IsRunning S.number X.seen table.now text.now progress.old }
-    ensures running { IfOk result (λ _. IsRunning S.number X.seen table.now text.now
-        progress.new) }
-    ensures state { IfOk result (λ _. rules.entry.state ≡ top (plain progress.new.stack.items)) }
-    ensures inside { IfOk result (λ _. progress.new.place < length text.now) }
-    ensures onward { IfOk result (λ _. progress.old.place ≤ progress.new.place) }
-    ensures searcher { IfOk result (λ _. IsSearcherOf table.now text.now searcher.new) }
-    ensures linear { IfOk result (λ _. (first : ℕ)
-        → HasWorked table.now first progress.old.place searcher.old.ends
-        → HasWorked table.now first progress.new.place searcher.new.ends) }
+    requires at { IsRunningIn S.number X.seen table.now text.now rules.state searcher.old
+        progress.old }
+    ensures taken { IfOk result (λ _. HasTakenMany S.number X.seen table.now text.now
+        rules.entry.state searcher.old searcher.new progress.old progress.new) }
     ensures tile { IfOk result (λ next. IfSome next (IsFoundAt S.number table.now
         rules.entry.state text.now progress.new.place)) }
 {
@@ -191,19 +182,10 @@ pub(crate) fn take_ahead<S: Numbered, X: Lexeme<S>>(
 ) -> Result<Option<Tile>, AllocError>
     requires ids { (other : Option S) × (ids.now ≡ map (id_or other) table.now.kinds.items) }
     requires rules { AreOf S.number table.now rules.state rules }
-    requires state { rules.state ≡ top (plain progress.old.stack.items) }
-    requires inside { progress.old.place < length text.now }
-    requires searcher { IsSearcherOf table.now text.now searcher.old }
-    requires running { IsRunning S.number X.seen table.now text.now progress.old }
-    ensures running { IfOk result (λ _. IsRunning S.number X.seen table.now text.now
-        progress.new) }
-    ensures state { IfOk result (λ _. rules.entry.state ≡ top (plain progress.new.stack.items)) }
-    ensures inside { IfOk result (λ _. progress.new.place < length text.now) }
-    ensures onward { IfOk result (λ _. progress.old.place ≤ progress.new.place) }
-    ensures searcher { IfOk result (λ _. IsSearcherOf table.now text.now searcher.new) }
-    ensures linear { IfOk result (λ _. (first : ℕ)
-        → HasWorked table.now first progress.old.place searcher.old.ends
-        → HasWorked table.now first progress.new.place searcher.new.ends) }
+    requires at { IsRunningIn S.number X.seen table.now text.now rules.state searcher.old
+        progress.old }
+    ensures taken { IfOk result (λ _. HasTakenMany S.number X.seen table.now text.now
+        rules.entry.state searcher.old searcher.new progress.old progress.new) }
     ensures tile { IfOk result (λ next. IfSome next (IsFoundAt S.number table.now
         rules.entry.state text.now progress.new.place)) }
 {
@@ -237,20 +219,8 @@ pub(crate) fn take_next<'d, S: Numbered, X: Lexeme<S>>(
         S.number X.seen text.now f progress.old }
     ensures held { IfOk result (λ _. AreOf S.number table.now rules.new.state rules.new
         × IsSearcherOf table.now text.now searcher.new) }
-    ensures goes_on { IfOk result (λ on. on ≡ true → (f : Front)
-        → IsUnderWay (definition_by S.number table.now) S.number
-        X.seen text.now f progress.old
-        → HasAdvanced (definition_by S.number table.now) S.number
-        X.seen text.now f progress.old progress.new) }
-    ensures ends { IfOk result (λ on. on ≡ false → (f : Front)
-        → IsUnderWay (definition_by S.number table.now) S.number
-        X.seen text.now f progress.old
-        → HasEnded (definition_by S.number table.now) S.number
-        X.seen text.now f progress.old progress.new) }
-    ensures asked { IfOk result (λ _. (f : Front)
-        → IsUnderWay (definition_by S.number table.now) S.number
-        X.seen text.now f progress.old
-        → HasSearched S.number table.now text.now f progress.old progress.new) }
+    ensures stepped { IfOk result (HasTakenStep S.number X.seen table.now text.now
+        progress.old progress.new) }
     ensures linear { IfOk result (λ on. (first : ℕ)
         → HasWorked table.now first progress.old.place searcher.old.ends
         → HasGoneOn table.now text.now first progress.new.place on searcher.new.ends) }

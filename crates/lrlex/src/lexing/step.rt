@@ -1,4 +1,4 @@
-ghost use Rattle.std.specs.Prelude.{◌≡◌, ℕ, ◌+◌, ◌-◌, ◌^◌, ◌<◌, ◌≤◌, true, false, [], ◌∷◌, ◌++◌, length, map, max, None, option_map, IfOk, OnOk};
+ghost use Rattle.std.specs.Prelude.{◌≡◌, ℕ, ◌+◌, ◌-◌, ◌^◌, ◌<◌, ◌≤◌, true, [], ◌∷◌, ◌++◌, length, map, max, None, option_map, IfOk, OnOk};
 ghost use Rattle.lrlex.specs.Active.{is_state, lexeme_id};
 ghost use Rattle.lrlex_rules.specs.RuleParts.{as_rule};
 ghost use Rattle.lrlex.specs.Searches.{untabled_count};
@@ -10,7 +10,7 @@ ghost use Rattle.lrlex.specs.Lookahead.{HasLooked, capped};
 ghost use Rattle.lrlex.specs.Searcher.{AreOf, IsSearcherOf};
 ghost use Rattle.lrlex.specs.Views.{definition_by, item_of, items_by};
 ghost use Rattle.lrlex.specs.Work.{HasGoneOn, HasWorked};
-ghost use Rattle.lrlex.specs.Progress.{Front, HasAdvanced, HasEnded, HasEntered, HasSearched, IsUnderWay};
+ghost use Rattle.lrlex.specs.Progress.{Front, HasEntered, HasTakenStep, IsUnderWay};
 
 use crate::definition::rule_table::{RuleTable, StateRules};
 use crate::errors::LRLexError;
@@ -162,20 +162,8 @@ pub(crate) fn advance<'d, S: Numbered, X: Lexeme<S>>(
         S.number X.seen text.now f progress.old }
     ensures held { IfOk result (λ _. AreOf S.number table.now rules.new.state rules.new
         × IsSearcherOf table.now text.now searcher.new) }
-    ensures goes_on { IfOk result (λ on. on ≡ true → (f : Front)
-        → IsUnderWay (definition_by S.number table.now) S.number
-        X.seen text.now f progress.old
-        → HasAdvanced (definition_by S.number table.now) S.number
-        X.seen text.now f progress.old progress.new) }
-    ensures ends { IfOk result (λ on. on ≡ false → (f : Front)
-        → IsUnderWay (definition_by S.number table.now) S.number
-        X.seen text.now f progress.old
-        → HasEnded (definition_by S.number table.now) S.number
-        X.seen text.now f progress.old progress.new) }
-    ensures asked { IfOk result (λ _. (f : Front)
-        → IsUnderWay (definition_by S.number table.now) S.number
-        X.seen text.now f progress.old
-        → HasSearched S.number table.now text.now f progress.old progress.new) }
+    ensures stepped { IfOk result (HasTakenStep S.number X.seen table.now text.now
+        progress.old progress.new) }
     ensures linear { IfOk result (λ on. (first : ℕ)
         → HasWorked table.now first progress.old.place searcher.old.ends
         → HasGoneOn table.now text.now first progress.new.place on searcher.new.ends) }

@@ -6,7 +6,7 @@ ghost use Rattle.lrlex_boundaries.specs.Boundaries.{last_entries};
 ghost use Rattle.lrlex.specs.Searcher.{HasAsked, IsScanOf};
 ghost use Rattle.lrlex.specs.Views.{definition_by};
 ghost use Rattle.lrlex.specs.Work.{won_bytes};
-ghost use Rattle.lrlex.specs.Progress.{Front, HasAdvanced, HasEnded, HasEntered, HasSearched, IsUnderWay};
+ghost use Rattle.lrlex.specs.Progress.{Front, HasEntered, HasTakenStep, IsUnderWay};
 
 use crate::definition::active::{lacks_id, lexeme_id};
 use crate::definition::rule_table::RuleTable;
@@ -65,20 +65,8 @@ pub(crate) fn take_scan<S: Numbered, X: Lexeme<S>>(
     requires asked { HasAsked S.number table.now state progress.old.asked asked }
     requires under_way { (f : Front) × IsUnderWay (definition_by S.number table.now)
         S.number X.seen text.now f progress.old }
-    ensures goes_on { IfOk result (λ on. on ≡ true → (f : Front)
-        → IsUnderWay (definition_by S.number table.now) S.number
-        X.seen text.now f progress.old
-        → HasAdvanced (definition_by S.number table.now) S.number
-        X.seen text.now f progress.old progress.new) }
-    ensures ends { IfOk result (λ on. on ≡ false → (f : Front)
-        → IsUnderWay (definition_by S.number table.now) S.number
-        X.seen text.now f progress.old
-        → HasEnded (definition_by S.number table.now) S.number
-        X.seen text.now f progress.old progress.new) }
-    ensures asked { IfOk result (λ _. (f : Front)
-        → IsUnderWay (definition_by S.number table.now) S.number
-        X.seen text.now f progress.old
-        → HasSearched S.number table.now text.now f progress.old progress.new) }
+    ensures stepped { IfOk result (HasTakenStep S.number X.seen table.now text.now
+        progress.old progress.new) }
     ensures place { IfOk result (λ on. on ≡ true
         → progress.new.place ≡ progress.old.place + max 1 (won_bytes scan.winner)) }
 {

@@ -121,18 +121,18 @@ returns-then-not-branch g c =
     (whole g.S.Numbered.number g.X.Lexeme.seen c.args.table.now c.args.old.now.items.now c.args.old.now.boundaries.now c.args.old.now.ahead.now c.args.edit.now.removed c.args.edit.now.put.now c.args.new.now k p) p.asked cut.under_way.reached cut.unmet
     (λ past j within at same. c.meets.ensures.none c.if-meets.false past j within at (same ∙ ap (λ xs. plain xs) (sym c.deref.ensures.value))) in
     let before = c.count_before-first.ensures.before ∙ ap (λ i. items_before i (items_by g.S.Numbered.number g.X.Lexeme.seen o.items.now)) c.place.ensures in
-    let searched = c.in_ok-advance.ensures.asked f cut.under_way in
+    let searched = c.in_ok-advance.ensures.stepped.asked f cut.under_way in
     let first = (boundary_at o.boundaries.now k).place in
     let gone = c.in_ok-advance.ensures.linear first c.tiles.invariant.worked in
     cut_stopped g.S.Numbered.number g.X.Lexeme.seen c.args.table.now c.args.old.now.items.now c.args.old.now.boundaries.now c.args.old.now.ahead.now c.args.edit.now.removed c.args.edit.now.put.now c.args.new.now k
     c.count_before-first.result c.count_before-first.ensures.within before c.looked-then-not-branch.result
     (linear_to_end c.args.table.now c.args.new.now first gone.0 c.looked-then-not-branch.result gone.1 (c.looked-then-not-branch.ensures c.args.new.now first gone.0 c.in_ok-advance.ensures.held.1 gone.3 gone.1))
-    p c.advance.new.progress cut none (c.in_ok-advance.ensures.ends c.if-not-branch.true f cut.under_way) c.tiles-test.true searched.exact searched.few
+    p c.advance.new.progress cut none (c.in_ok-advance.ensures.stepped.ends c.if-not-branch.true f cut.under_way) c.tiles-test.true searched.exact searched.few
 
 pub tiles-smaller : goal.tiles-smaller
 tiles-smaller g c =
     let f = front g.S.Numbered.number g.X.Lexeme.seen c.args.table.now c.args.old.now.items.now c.args.old.now.boundaries.now c.args.old.now.ahead.now c.args.edit.now.removed c.args.edit.now.put.now c.args.new.now c.last_safe-index.result in
-    omega (arith, (c.in_ok-advance.ensures.goes_on c.if-not-branch.false f c.tiles.invariant.cut.under_way).grows, c.tiles-test.true)
+    omega (arith, (c.in_ok-advance.ensures.stepped.goes_on c.if-not-branch.false f c.tiles.invariant.cut.under_way).grows, c.tiles-test.true)
 
 pub tiles-preserved : goal.tiles-preserved
 tiles-preserved g c =
@@ -146,11 +146,11 @@ tiles-preserved g c =
     let none = none_met D c.args.new.now o.boundaries.now edit.removed.start edit.removed.end (length edit.put.now) p.place p.stack.items (f.items ++ items_by g.S.Numbered.number g.X.Lexeme.seen p.items.items)
     (whole g.S.Numbered.number g.X.Lexeme.seen c.args.table.now c.args.old.now.items.now c.args.old.now.boundaries.now c.args.old.now.ahead.now c.args.edit.now.removed c.args.edit.now.put.now c.args.new.now k p) p.asked cut.under_way.reached cut.unmet
     (λ past j within at same. c.meets.ensures.none c.if-meets.false past j within at (same ∙ ap (λ xs. plain xs) (sym c.deref.ensures.value))) in
-    let on = c.in_ok-advance.ensures.goes_on c.if-not-branch.false f cut.under_way in
+    let on = c.in_ok-advance.ensures.stepped.goes_on c.if-not-branch.false f cut.under_way in
     record {
       searcher = c.in_ok-advance.ensures.held.1;
       rules = c.in_ok-advance.ensures.held.0;
-      cut = one_cut g.S.Numbered.number g.X.Lexeme.seen c.args.table.now c.args.old.now.items.now c.args.old.now.boundaries.now c.args.old.now.ahead.now c.args.edit.now.removed c.args.edit.now.put.now c.args.new.now k p c.advance.new.progress cut none on c.tiles-test.true (c.in_ok-advance.ensures.asked f cut.under_way).exact;
+      cut = one_cut g.S.Numbered.number g.X.Lexeme.seen c.args.table.now c.args.old.now.items.now c.args.old.now.boundaries.now c.args.old.now.ahead.now c.args.edit.now.removed c.args.edit.now.put.now c.args.new.now k p c.advance.new.progress cut none on c.tiles-test.true (c.in_ok-advance.ensures.stepped.asked f cut.under_way).exact;
       cursor = c.meets.ensures.at.cursor;
       behind = λ j lt. omega (arith, c.meets.ensures.at.behind j lt, on.grows);
       worked =

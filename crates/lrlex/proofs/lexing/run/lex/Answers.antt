@@ -33,24 +33,24 @@ tiles-init g c =
 
 pub tiles-preserved : goal.tiles-preserved
 tiles-preserved g c =
-    let u = c.in_ok-next.ensures.running.under_way in
+    let u = c.in_ok-next.ensures.taken.at.running.under_way in
     let on : c.in_ok-goes_on.goes_on ≡ true = c.if-not-goes_on.false in
     let p = c.take_ahead.new.progress in
     let d = definition_by g.S.Numbered.number c.args.table.now in
     let found = items_by g.S.Numbered.number g.X.Lexeme.seen p.items.items in
     let r = u.reached in
     let some = u.some in
-    let more = (c.in_ok-goes_on.ensures.goes_on on no_front u).more in
+    let more = (c.in_ok-goes_on.ensures.stepped.goes_on on no_front u).more in
     record {
       rules = c.in_ok-goes_on.ensures.held.0;
       searcher = c.in_ok-goes_on.ensures.held.1;
-      boundary = (c.in_ok-goes_on.ensures.goes_on on no_front u).under_way.boundary;
-      reached = (c.in_ok-goes_on.ensures.goes_on on no_front u).under_way.reached;
-      looked = (c.in_ok-goes_on.ensures.goes_on on no_front u).under_way.looked;
-      exact = next_asked c.args.table.now c.args.text.now d p.place p.stack.items found p.boundaries p.asked r 0 some c.in_ok-next.ensures.running.exact c.take_next.new.progress.asked more.0 c.take_next.new.progress.boundaries
-          c.in_ok-next.ensures.inside (c.in_ok-goes_on.ensures.asked no_front u).exact more.1;
+      boundary = (c.in_ok-goes_on.ensures.stepped.goes_on on no_front u).under_way.boundary;
+      reached = (c.in_ok-goes_on.ensures.stepped.goes_on on no_front u).under_way.reached;
+      looked = (c.in_ok-goes_on.ensures.stepped.goes_on on no_front u).under_way.looked;
+      exact = next_asked c.args.table.now c.args.text.now d p.place p.stack.items found p.boundaries p.asked r 0 some c.in_ok-next.ensures.taken.at.running.exact c.take_next.new.progress.asked more.0 c.take_next.new.progress.boundaries
+          c.in_ok-next.ensures.taken.at.inside (c.in_ok-goes_on.ensures.stepped.asked no_front u).exact more.1;
       linear =
-          let gone = c.in_ok-goes_on.ensures.linear 0 (c.in_ok-next.ensures.linear 0 c.tiles.invariant.linear) in
+          let gone = c.in_ok-goes_on.ensures.linear 0 (c.in_ok-next.ensures.taken.linear 0 c.tiles.invariant.linear) in
           subst (λ n. HasWorked c.args.table.now 0 n c.take_next.new.searcher.ends) (gone.2 on) gone.3;
     }
 
@@ -81,21 +81,21 @@ returns-clause-asked g c =
 
 pub returns-then-not-goes_on-clause-run : goal.returns-then-not-goes_on-clause-run
 returns-then-not-goes_on-clause-run g c =
-    let u = c.in_ok-next.ensures.running.under_way in
+    let u = c.in_ok-next.ensures.taken.at.running.under_way in
     let d = definition_by g.S.Numbered.number c.args.table.now in
     let p = c.take_next.new.progress in
     let off : c.in_ok-goes_on.goes_on ≡ false = c.if-not-goes_on.true in
     subst (λ xs. IsRun d c.args.text.now (items_by g.S.Numbered.number g.X.Lexeme.seen xs) c.finished.result.boundaries) (sym c.finished.ensures.items)
     (subst (IsRun d c.args.text.now (items_by g.S.Numbered.number g.X.Lexeme.seen p.items.items)) (sym c.finished.ensures.boundaries)
-    (run_of d c.args.text.now (items_by g.S.Numbered.number g.X.Lexeme.seen p.items.items) p.boundaries u.reached.initial (c.in_ok-goes_on.ensures.ends off no_front u).lexed))
+    (run_of d c.args.text.now (items_by g.S.Numbered.number g.X.Lexeme.seen p.items.items) p.boundaries u.reached.initial (c.in_ok-goes_on.ensures.stepped.ends off no_front u).lexed))
 
 pub returns-then-not-goes_on-clause-few : goal.returns-then-not-goes_on-clause-few
 returns-then-not-goes_on-clause-few g c =
-    let u = c.in_ok-next.ensures.running.under_way in
+    let u = c.in_ok-next.ensures.taken.at.running.under_way in
     let d = definition_by g.S.Numbered.number c.args.table.now in
     let off : c.in_ok-goes_on.goes_on ≡ false = c.if-not-goes_on.true in
     few_searches d c.args.text.now c.take_ahead.new.progress.boundaries c.finished.result.boundaries c.take_next.new.progress.asked c.finished.result.asked
-    (c.in_ok-goes_on.ensures.asked no_front u).few c.finished.ensures.asked (c.finished.ensures.boundaries ∙ (c.in_ok-goes_on.ensures.ends off no_front u).same)
+    (c.in_ok-goes_on.ensures.stepped.asked no_front u).few c.finished.ensures.asked (c.finished.ensures.boundaries ∙ (c.in_ok-goes_on.ensures.stepped.ends off no_front u).same)
 
 pub take_next-requires-clause-rules : goal.take_next-requires-clause-rules
 take_next-requires-clause-rules g c = c.enter.ensures.rules
@@ -112,38 +112,38 @@ returns-clause-exact g c =
 
 pub returns-then-not-goes_on-clause-exact : goal.returns-then-not-goes_on-clause-exact
 returns-then-not-goes_on-clause-exact g c =
-    let u = c.in_ok-next.ensures.running.under_way in
+    let u = c.in_ok-next.ensures.taken.at.running.under_way in
     let p = c.take_ahead.new.progress in
     let d = definition_by g.S.Numbered.number c.args.table.now in
     let found = items_by g.S.Numbered.number g.X.Lexeme.seen p.items.items in
     let r = u.reached in
     let some = u.some in
     c.finished.ensures.asked
-    ∙ more_asked c.args.table.now c.args.text.now d p.place p.stack.items found p.boundaries p.asked r 0 some c.in_ok-next.ensures.running.exact c.take_next.new.progress.asked c.in_ok-next.ensures.inside (c.in_ok-goes_on.ensures.asked no_front u).exact
-    ∙ ap (asks_by c.args.table.now c.args.text.now) (sym (c.finished.ensures.boundaries ∙ (c.in_ok-goes_on.ensures.ends c.if-not-goes_on.true no_front u).same))
+    ∙ more_asked c.args.table.now c.args.text.now d p.place p.stack.items found p.boundaries p.asked r 0 some c.in_ok-next.ensures.taken.at.running.exact c.take_next.new.progress.asked c.in_ok-next.ensures.taken.at.inside (c.in_ok-goes_on.ensures.stepped.asked no_front u).exact
+    ∙ ap (asks_by c.args.table.now c.args.text.now) (sym (c.finished.ensures.boundaries ∙ (c.in_ok-goes_on.ensures.stepped.ends c.if-not-goes_on.true no_front u).same))
 
 pub take_next-requires-clause-under_way : goal.take_next-requires-clause-under_way
 take_next-requires-clause-under_way g c =
-    let u = c.in_ok-next.ensures.running.under_way in
+    let u = c.in_ok-next.ensures.taken.at.running.under_way in
     (no_front, u)
 
 pub returns-then-not-goes_on-clause-asked : goal.returns-then-not-goes_on-clause-asked
 returns-then-not-goes_on-clause-asked g c =
-    let u = c.in_ok-next.ensures.running.under_way in
+    let u = c.in_ok-next.ensures.taken.at.running.under_way in
     let d = definition_by g.S.Numbered.number c.args.table.now in
-    subst (λ ms. c.finished.result.asked ≤ searches d c.args.text.now ms) (sym (c.finished.ensures.boundaries ∙ (c.in_ok-goes_on.ensures.ends c.if-not-goes_on.true no_front u).same))
-    (omega (arith, c.finished.ensures.asked, (c.in_ok-goes_on.ensures.asked no_front u).few))
+    subst (λ ms. c.finished.result.asked ≤ searches d c.args.text.now ms) (sym (c.finished.ensures.boundaries ∙ (c.in_ok-goes_on.ensures.stepped.ends c.if-not-goes_on.true no_front u).same))
+    (omega (arith, c.finished.ensures.asked, (c.in_ok-goes_on.ensures.stepped.asked no_front u).few))
 
 pub tiles-smaller : goal.tiles-smaller
 tiles-smaller g c =
-    let u = c.in_ok-next.ensures.running.under_way in
-    omega (arith, (c.in_ok-goes_on.ensures.goes_on c.if-not-goes_on.false no_front u).grows, c.in_ok-next.ensures.onward, c.tiles-test.true)
+    let u = c.in_ok-next.ensures.taken.at.running.under_way in
+    omega (arith, (c.in_ok-goes_on.ensures.stepped.goes_on c.if-not-goes_on.false no_front u).grows, c.in_ok-next.ensures.taken.onward, c.tiles-test.true)
 
 pub returns-then-not-goes_on-clause-looks : goal.returns-then-not-goes_on-clause-looks
 returns-then-not-goes_on-clause-looks g c =
-    let u = c.in_ok-next.ensures.running.under_way in
+    let u = c.in_ok-next.ensures.taken.at.running.under_way in
     let d = definition_by g.S.Numbered.number c.args.table.now in
-    let e = c.in_ok-goes_on.ensures.ends c.if-not-goes_on.true no_front u in
+    let e = c.in_ok-goes_on.ensures.stepped.ends c.if-not-goes_on.true no_front u in
     subst (λ ns. LooksAhead d c.args.text.now c.finished.result.boundaries ns) (sym (c.finished.ensures.ahead ∙ e.ahead))
     (subst (λ ms. LooksAhead d c.args.text.now ms c.take_ahead.new.progress.ahead.items) (sym (c.finished.ensures.boundaries ∙ e.same)) u.looked.looks)
 
@@ -177,7 +177,7 @@ pub returns-then-not-goes_on-clause-linear : goal.returns-then-not-goes_on-claus
 returns-then-not-goes_on-clause-linear g c =
     let table = c.args.table.now in
     let text = c.args.text.now in
-    let gone = c.in_ok-goes_on.ensures.linear 0 (c.in_ok-next.ensures.linear 0 c.tiles.invariant.linear) in
+    let gone = c.in_ok-goes_on.ensures.linear 0 (c.in_ok-next.ensures.taken.linear 0 c.tiles.invariant.linear) in
     subst (IsLinearIn table text (length text)) (sym c.finished.ensures.looked)
     (linear_in_all table text 0 gone.0 c.looked.result gone.1 (c.looked.ensures text 0 gone.0 c.in_ok-goes_on.ensures.held.1 gone.3 gone.1))
 

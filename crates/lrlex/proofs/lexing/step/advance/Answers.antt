@@ -1,4 +1,4 @@
-use Rattle.std.proofs.Common.{◌≡◌, ◌+◌, ◌++◌, ◌∷◌, [], Result, Ok, Err, IfOk, max, not, length, drop, refl, sym, ap, ◌∙◌, subst, arith}
+use Rattle.std.proofs.Common.{◌≡◌, ◌+◌, ◌++◌, ◌∷◌, [], Result, Ok, Err, IfOk, true≢false, max, not, length, drop, refl, sym, ap, ◌∙◌, subst, arith}
 use Rattle.std.proofs.lemmas.List.{length-map}
 use Rattle.regex_hir.specs.Text.{is_some_and}
 use Rattle.lrlex_rules.specs.RuleParts.{as_rule}
@@ -50,8 +50,8 @@ returns-in-Some-clause-held g c = if_ok c.take_scan.result _ (c.enter.ensures.ru
 pub returns-clause-held : goal.returns-clause-held
 returns-clause-held g c = if_ok c.take_scan-2.result _ (c.enter.ensures.rules, c.in_ok-scan.ensures.searcher c.args.text.now (c.ahead.ensures.searcher c.args.text.now c.requires.searcher))
 
-pub returns-then-kind-clause-goes_on : goal.returns-then-kind-clause-goes_on
-returns-then-kind-clause-goes_on g c on f u =
+pub returns-then-kind-clause-stepped : goal.returns-then-kind-clause-stepped
+returns-then-kind-clause-stepped g c =
     let table = c.args.table.now in
     let p = c.args.progress.now in
     let tile = c.in-Some.tile in
@@ -70,24 +70,20 @@ returns-then-kind-clause-goes_on g c on f u =
     } in
     let n = c.stay.new.progress in
     let e = c.in_ok-stay.ensures in
-    advanced g.S.Numbered.number g.X.Lexeme.seen d text f p n u c.requires.inside t (tile.len + 1) taken at.cuts
-    (subst (λ q. IsDecided d q (drop p.place text) (tile.len + 1)) on_top at.decided)
-    (omega (arith, e.asked))
-    (ap (items_by g.S.Numbered.number g.X.Lexeme.seen) e.items ∙ c.in_ok-push_lexeme.ensures
-    ∙ ap (λ o. items_by g.S.Numbered.number g.X.Lexeme.seen p.items.items ++ lexeme_of o p.place tile.len) (sym rule.gives))
-    e.place e.entries (e.moved ∙ ap (stack_after (plain p.stack.items)) (sym target))
-    e.lookahead (e.ahead ∙ ap (λ i. p.ahead.items ++ capped i ∷ []) (sym e.lookahead)) e.kept
-
-pub returns-then-kind-clause-asked : goal.returns-then-kind-clause-asked
-returns-then-kind-clause-asked g c f u =
-    let table = c.args.table.now in
-    let p = c.args.progress.now in
-    let tile = c.in-Some.tile in
-    let at : IsFoundAt g.S.Numbered.number table c.enter.new.rules.state c.args.text.now p.place tile = c.in-Some.ensures.tile c.args.text.now c.requires.searcher in
-    let on_top : c.enter.new.rules.state ≡ top (plain p.stack.items) = c.enter.ensures.state ∙ c.top_of.ensures ∙ ap (λ s. top (plain s)) c.deref.ensures.value in
-    let e = c.in_ok-stay.ensures in
-    searched g.S.Numbered.number g.X.Lexeme.seen table c.args.text.now f p c.stay.new.progress u c.requires.inside (omega (arith, e.asked))
-    (omega (arith, e.asked, ap (untabled_count table) on_top, at.tabled))
+    record {
+      goes_on = λ _ f u.
+          advanced g.S.Numbered.number g.X.Lexeme.seen d text f p n u c.requires.inside t (tile.len + 1) taken at.cuts
+          (subst (λ q. IsDecided d q (drop p.place text) (tile.len + 1)) on_top at.decided)
+          (omega (arith, e.asked))
+          (ap (items_by g.S.Numbered.number g.X.Lexeme.seen) e.items ∙ c.in_ok-push_lexeme.ensures
+          ∙ ap (λ o. items_by g.S.Numbered.number g.X.Lexeme.seen p.items.items ++ lexeme_of o p.place tile.len) (sym rule.gives))
+          e.place e.entries (e.moved ∙ ap (stack_after (plain p.stack.items)) (sym target))
+          e.lookahead (e.ahead ∙ ap (λ i. p.ahead.items ++ capped i ∷ []) (sym e.lookahead)) e.kept;
+      ends = λ is. absurd (true≢false is);
+      asked = λ f u.
+          searched g.S.Numbered.number g.X.Lexeme.seen table text f p n u c.requires.inside (omega (arith, e.asked))
+          (omega (arith, e.asked, ap (untabled_count table) on_top, at.tabled));
+    }
 
 pub take_scan-requires-clause-scan : goal.take_scan-requires-clause-scan
 take_scan-requires-clause-scan g c =
