@@ -17,5 +17,7 @@ pub use crate::faults::Fault;
 pub use crate::memory::peak;
 pub use crate::spread::{Spread, spread_of};
 pub use crate::tasks::{Request, Task, asked};
-pub use crate::telling::{Counts, Lexed, Relexed, Scanned, Sizes, Typed, Typing, tell_anew, tell_usage};
+pub use crate::telling::{
+    Counts, Lexed, Relexed, Scanned, Sizes, Typed, Typing, tell_anew, tell_usage,
+};
 pub use crate::texts::{boundary_from, lexemes, lines_times};

@@ -15,7 +15,7 @@ use Rattle.lrlex.specs.ItemLaws.{is_error}
 use Rattle.lrlex.specs.Reach.{IsRun}
 use Rattle.lrlex_rules.specs.LexBuildResult.{seen, settings, refused_by, as_faults}
 use Rattle.lrlex.specs.Scanner.{IsAtFront, Scanned, at_front}
-use Rattle.lrlex.specs.Tiling.{Tile, Item, Lexeme, Error, End, Done, NoMatch, NoId, NoTarget, items, tile_items, lexeme_of}
+use Rattle.lrlex.specs.Tiling.{Tile, Item, Error, End, Done, NoMatch, NoId, NoTarget, items, tile_items, lexeme_of}
 use Rattle.lrlex_base.specs.LexemeParts.{LexemeParts}
 use Rattle.lrlex.specs.Views.{item_of, items_by}
 use Rattle.lrlex_cli.specs.Engine.{Request, Lexing, lines_in, IsEngineRun, EndsWriting, EndsLexing}

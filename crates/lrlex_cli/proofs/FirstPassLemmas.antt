@@ -1,19 +1,15 @@
 -- What the first pass over a text finds on its way.
-use Rattle.std.proofs.Common.{◌≡◌, ℕ, ◌+◌, ◌-◌, ◌<◌, ◌≤◌, Bool, true, false, true≢false, List, [], ◌∷◌, ◌++◌, length, drop, Option, Some, None, option_map, is_some, Result, Ok, Err, refl, sym, ap, ap₂, ◌∙◌, subst, arith, append_assoc, append-nil, length-append}
+use Rattle.std.proofs.Common.{◌≡◌, ℕ, ◌+◌, ◌-◌, ◌<◌, ◌≤◌, true, false, true≢false, List, [], ◌∷◌, ◌++◌, length, Option, Some, None, option_map, is_some, refl, sym, ap, ap₂, ◌∙◌, subst, arith, append_assoc, append-nil, length-append}
 use Rattle.std.proofs.lemmas.Bool.{cond-true}
-use Rattle.std.proofs.lemmas.List.{drop-drop}
-use Rattle.std.proofs.lemmas.List.Folds.{list_any-append}
-use Rattle.std.specs.List.{All, list_any}
-use Rattle.std.specs.Prelude.{IsUtf8}
+use Rattle.std.specs.List.{list_any}
 use Rattle.lrlex_base.specs.Spans.{Span, span_end, span_start}
-use Rattle.lrlex.specs.Boundaries.{Boundary}
 use Rattle.lrlex_rules.specs.Definition.{Definition}
 use Rattle.lrlex_rules.specs.RuleParts.{state_number}
 use Rattle.lrlex.specs.Active.{is_state, lacks_id, lexeme_id, rule_at}
-use Rattle.lrlex.specs.ItemLaws.{FitsText, is_error}
+use Rattle.lrlex.specs.ItemLaws.{is_error}
 use Rattle.lrlex.specs.Reach.{IsRun}
 use Rattle.lrlex.specs.Scanner.{EndsBy, IsAtFront, IsStep, IsTileAt, Scanned, at_front, left, past}
-use Rattle.lrlex.specs.Tiling.{Item, Error, Tile, End, IsEnd, IsTaken, IsTiling, end_items, items, lexeme_of, lexemes, stack_after, stack_past, tile_items}
+use Rattle.lrlex.specs.Tiling.{Item, Error, Tile, End, IsEnd, IsTiling, end_items, items, lexeme_of, lexemes, tile_items}
 use Rattle.lrlex.specs.Tiling.{Done as Whole, NoMatch as Stuck, NoId as LacksId, NoTarget as LacksTarget}
 use Rattle.lrlex.specs.declared.lexing.scanner.ScannedTile.{ScannedTile}
 use Rattle.lrlex.specs.declared.lexing.scanner.ScanEnd.{ScanEnd}
@@ -21,7 +17,7 @@ use Rattle.lrlex.specs.declared.lexing.scanner.ScanEnd.TheVariants.{Done, NoMatc
 use Rattle.lrlex.specs.declared.lexing.scanner.Step.TheVariants.{Tile as Found}
 use Rattle.lrlex.proofs.ScannedRuns.{HasFound, found_front, found_more, run_found}
 use Rattle.lrlex.proofs.ScannerLemmas.{less_left}
-use Rattle.lrlex_cli.specs.Scanning.{Finds, IsErrorAt, IsFirstPass, error_place, last_lexeme, last_tile, lexeme_by}
+use Rattle.lrlex_cli.specs.Scanning.{IsErrorAt, IsFirstPass, error_place, last_lexeme, last_tile, lexeme_by}
 use Rattle.lrlex_cli.specs.declared.scanning.FirstPass.{FirstPass}
 
 -- ---- lexemes

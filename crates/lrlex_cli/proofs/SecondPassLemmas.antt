@@ -1,14 +1,13 @@
 -- What the second pass over a text finds on its way, and what it has written.
-use Rattle.std.proofs.Common.{◌≡◌, ◌∙◌, ℕ, ◌+◌, ◌-◌, ◌<◌, ◌≤◌, Bool, List, [], ◌∷◌, ◌++◌, length, take, drop, Option, Some, None, option_map, is_some, Result, Ok, Err, refl, sym, ap, subst, arith, append_assoc, append-nil, length-append}
+use Rattle.std.proofs.Common.{◌≡◌, ◌∙◌, ℕ, ◌+◌, ◌-◌, ◌<◌, ◌≤◌, List, [], ◌∷◌, ◌++◌, length, take, drop, Option, Some, None, is_some, Result, refl, sym, ap, subst, arith, append_assoc, append-nil, length-append}
 use Rattle.std.proofs.KnownBytes.{Appends-nil}
 use Rattle.std.proofs.lemmas.List.{drop-drop, get_or_append_left}
 use Rattle.std.proofs.lemmas.List.Concat.{flat_map-append}
 use Rattle.std.proofs.lemmas.List.Elements.{All-tail}
-use Rattle.std.specs.Io.KnownBytes.{Appends}
 use Rattle.std.specs.List.{All, list_any}
 use Rattle.std.specs.Prelude.{IsUtf8, unwrap_or}
 use Rattle.std.specs.Result.{IsErr}
-use Rattle.lrlex_base.specs.Spans.{Span, span_end, span_start}
+use Rattle.lrlex_base.specs.Spans.{Span, span_end}
 use Rattle.lrlex.specs.Boundaries.{Boundary}
 use Rattle.lrlex_rules.specs.Definition.{Definition, Rule}
 use Rattle.lrlex.specs.Active.{rule_at}
@@ -24,10 +23,10 @@ use Rattle.lrlex.proofs.ItemLemmas.{have_laws}
 use Rattle.lrlex.proofs.TilingLemmas.{one_winner}
 use Rattle.lrlex_cli.specs.Lines.{line, lines}
 use Rattle.lrlex_cli.specs.Scanning.{Finds, IsErrorAt, IsFirstPass, WritesRun, last_lexeme, lexeme_by, stop_line}
-use Rattle.lrlex_cli.specs.Writing.{AppendsFront, Passes, Writes, WritesUpTo}
+use Rattle.lrlex_cli.specs.Writing.{AppendsFront, Writes, WritesUpTo}
 use Rattle.lrlex_cli.specs.declared.scanning.FirstPass.{FirstPass}
 use Rattle.lrlex_cli.proofs.FirstPassLemmas.{tile_lexeme}
-use Rattle.lrlex_cli.proofs.WritingLemmas.{begun_fails, up_to_end, up_to_fails, up_to_more, writes_cut}
+use Rattle.lrlex_cli.proofs.WritingLemmas.{up_to_end, up_to_fails, up_to_more, writes_cut}
 
 -- ---- parts of a list
 

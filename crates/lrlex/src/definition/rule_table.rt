@@ -172,11 +172,8 @@ pub(crate) struct StateRules<'d> {
 
 impl<S: Numbered> RuleTable<S> {
     ghost use Rattle.lrlex.specs.Views.{definition_by};
-    ghost use Rattle.std.specs.Prelude.{Some, slice_get};
-    ghost use Rattle.lrlex_table.specs.Tables.{AreTablesOf};
-    ghost use Rattle.lrlex.specs.StateTables.{patterns_on};
+    ghost use Rattle.std.specs.Prelude.{Some};
     ghost use Rattle.lrlex.specs.Searcher.{AreOf};
-    ghost use Rattle.lrlex.specs.Searches.{untabled_count};
 
     /// Whether a state has the id.
     #[inline(always)]

@@ -1,5 +1,5 @@
 //! The tables of each list of rules.
-ghost use Rattle.std.specs.Prelude.{◌≡◌, ◌+◌, ◌<◌, ◌≤◌, ◌^◌, ℕ, List, All, [], ◌∷◌, map, length, IfOk, OnOk, IfSome};
+ghost use Rattle.std.specs.Prelude.{◌≡◌, ◌+◌, ◌<◌, ◌≤◌, ◌^◌, ℕ, [], ◌∷◌, map, length, IfOk, OnOk, IfSome};
 ghost use Rattle.regex.specs.Patterns.{Re};
 ghost use Rattle.lrlex_table.specs.Table.{IsTableOf};
 ghost use Rattle.lrlex_table.specs.Linear.{count_of_rows};

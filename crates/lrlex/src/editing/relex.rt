@@ -15,7 +15,7 @@ ghost use Rattle.lrlex.specs.LexRun.{IsRunOf, HasItemLaws};
 ghost use Rattle.lrlex.specs.Changes.{HasChanged};
 ghost use Rattle.lrlex.specs.Relex.{AreCountsOf, WasRelexed};
 ghost use Rattle.lrlex.specs.Views.{definition_by, definition_of, items_by, item_of};
-ghost use Rattle.lrlex.specs.Work.{HasLinearRecut, HasLinearWork, HasWorked, IsLinearIn};
+ghost use Rattle.lrlex.specs.Work.{HasLinearRecut, HasLinearWork, IsLinearIn};
 ghost use Rattle.lrlex.specs.Progress.{HasRecut, HasSame, IsEditOf, HasReplacedTail, HasReplacedMiddle, TellsMeeting};
 
 use crate::definition::rule_table::RuleTable;

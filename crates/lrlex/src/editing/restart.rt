@@ -1,14 +1,13 @@
-ghost use Rattle.std.specs.Prelude.{◌≡◌, ℕ, ◌+◌, ◌-◌, ◌<◌, ◌≤◌, true, false, max, List, [], ◌∷◌, ◌++◌, All, IfOk, OnOk, IsCharBoundary, map, take, drop, length, slice_index};
-ghost use Rattle.lrlex_base.specs.Spans.{span, span_start, as_span, Fits};
+ghost use Rattle.std.specs.Prelude.{◌≡◌, ℕ, ◌+◌, ◌-◌, ◌<◌, ◌≤◌, true, false, max, List, [], ◌∷◌, ◌++◌, IfOk, take, drop, length};
+ghost use Rattle.lrlex_base.specs.Spans.{span};
 ghost use Rattle.lrlex_base.specs.Edits.{edited};
 ghost use Rattle.lrlex_rules.specs.Definition.{Definition};
 ghost use Rattle.lrlex_table.specs.Reach.{IsText};
 ghost use Rattle.lrlex.specs.Active.{is_state};
 ghost use Rattle.lrlex.specs.Tiling.{Item};
 ghost use Rattle.lrlex_boundaries.specs.Boundaries.{Boundary, boundary_at};
-ghost use Rattle.lrlex.specs.Reach.{IsLexed, IsRun, Reached};
-ghost use Rattle.lrlex.specs.Searches.{IsLastSafe};
-ghost use Rattle.lrlex.specs.Lookahead.{IsDecided, IsDecidedAt, AreDecided, LooksAhead, IsSafe, GoesOn, BeginAlike, HasLooked, AreRaised};
+ghost use Rattle.lrlex.specs.Reach.{IsLexed};
+ghost use Rattle.lrlex.specs.Lookahead.{IsDecided, IsDecidedAt, AreDecided, LooksAhead, IsSafe, GoesOn, BeginAlike, AreRaised};
 ghost use Rattle.lrlex_boundaries.specs.Moves.{AreSorted};
 ghost use Rattle.lrlex.specs.Progress.{StandsAt};
 

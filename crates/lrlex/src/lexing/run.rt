@@ -1,9 +1,9 @@
-ghost use Rattle.std.specs.Prelude.{◌≡◌, ℕ, ◌+◌, ◌-◌, ◌*◌, ◌<◌, ◌≤◌, false, List, [], length, vec_len, IfOk, Some, option_map, slice_index};
+ghost use Rattle.std.specs.Prelude.{◌≡◌, ℕ, ◌-◌, ◌*◌, ◌<◌, ◌≤◌, false, List, [], length, vec_len, IfOk, Some, option_map, slice_index};
 ghost use Rattle.lrlex_rules.specs.Definition.{Definition};
 ghost use Rattle.lrlex.specs.Active.{is_state};
 ghost use Rattle.lrlex_boundaries.specs.Boundaries.{boundary_at, last_entries, most_entries};
 ghost use Rattle.lrlex_boundaries.specs.Entries.{AreEntries};
-ghost use Rattle.lrlex.specs.Reach.{Reached, IsLexed, IsRun, searches};
+ghost use Rattle.lrlex.specs.Reach.{IsRun, searches};
 ghost use Rattle.lrlex.specs.Searches.{asks, asks_by};
 ghost use Rattle.lrlex.specs.Lookahead.{LooksAhead};
 ghost use Rattle.lrlex.specs.Views.{definition_by, definition_of, items_by};

@@ -1,12 +1,8 @@
-ghost use Rattle.std.specs.Prelude.{◌≡◌, ℕ, ◌+◌, ◌-◌, ◌^◌, ◌<◌, ◌≤◌, true, [], ◌∷◌, ◌++◌, length, map, max, None, option_map, IfOk, OnOk};
-ghost use Rattle.lrlex.specs.Active.{is_state, lexeme_id};
-ghost use Rattle.lrlex_rules.specs.RuleParts.{as_rule};
-ghost use Rattle.lrlex.specs.Searches.{untabled_count};
-ghost use Rattle.lrlex.specs.Tiling.{Error, top, stack_after, lexeme_of};
-ghost use Rattle.lrlex_boundaries.specs.Entries.{plain, AreEntries};
-ghost use Rattle.lrlex_boundaries.specs.Boundaries.{Boundary, last_entries};
-ghost use Rattle.lrlex.specs.Reach.{Reached, IsLexed, searches};
-ghost use Rattle.lrlex.specs.Lookahead.{HasLooked, capped};
+ghost use Rattle.std.specs.Prelude.{◌≡◌, ℕ, ◌+◌, ◌-◌, ◌^◌, ◌<◌, true, [], ◌∷◌, ◌++◌, length, map, max, None, option_map, IfOk, OnOk};
+ghost use Rattle.lrlex.specs.Tiling.{Error, stack_after, lexeme_of};
+ghost use Rattle.lrlex_boundaries.specs.Entries.{AreEntries};
+ghost use Rattle.lrlex_boundaries.specs.Boundaries.{last_entries};
+ghost use Rattle.lrlex.specs.Lookahead.{capped};
 ghost use Rattle.lrlex.specs.Searcher.{AreOf, IsSearcherOf};
 ghost use Rattle.lrlex.specs.Views.{definition_by, item_of, items_by};
 ghost use Rattle.lrlex.specs.Work.{HasGoneOn, HasWorked};

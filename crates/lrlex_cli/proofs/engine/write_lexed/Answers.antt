@@ -1,8 +1,7 @@
 -- What the first pass found, the second has written.
-use Rattle.std.proofs.Common.{◌≡◌, ◌∙◌, ap, subst, sym, true}
+use Rattle.std.proofs.Common.{◌∙◌, ap, subst}
 use Rattle.lrlex.specs.Active.{is_state}
 use Rattle.lrlex.specs.Scanner.{Scanned}
-use Rattle.lrlex.specs.Views.{definition_of}
 use Rattle.lrlex_cli.specs.Engine.{EndsWriting}
 use Rattle.lrlex_cli.specs.Scanning.{IsFirstPass}
 use Rattle.lrlex_cli.proofs.EngineLemmas.{lexing_without_memory, own_front, passes_end}

@@ -3,7 +3,6 @@ use Rattle.lrlex_boundaries.specs.Entries.{AreEntries, plain}
 use Rattle.lrlex_rules.specs.RuleParts.{state_number}
 use Rattle.lrlex.specs.Scanner.{Scanned, scanned, scanned_by, top_state}
 use Rattle.lrlex.specs.Tiling.{top}
-use Rattle.lrlex.specs.Views.{definition_by}
 use Rattle.lrlex.proofs.ScannedRuns.{on_top}
 use Rattle.lrlex.proofs.lexing.scanner.Scanner.state.Goals as goal
 
