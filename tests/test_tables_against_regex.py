@@ -103,6 +103,11 @@ class TablesAgainstRegex(replay.TestCase):
             with self.subTest(rows=rows):
                 self.assertEqual(answers.last("tables"), wanted)
 
+    def test_states_with_the_same_rules_share_a_table(self):
+        # the table of a rule of one letter has three rows
+        answers = replay.answer(from_text("%x a b c\n%%\n<INITIAL,a,b,c>x 'X'\n").case(["definition"]))
+        self.assertEqual(answers.last("tables"), [1, 3, 0])
+
     def test_four_thousand_states_with_a_rule_each(self):
         answers = replay.answer(from_text(many_states(4_000, True)).case(["run", "x" * 10_000, []]))
         tiles, *_, searches = answers.last("run")
