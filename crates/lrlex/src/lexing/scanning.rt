@@ -57,8 +57,8 @@ pub(crate) fn take_tile<'d, S: Numbered>(
     Ok(Step::Tile(found))
 }
 
-/// Takes the next step, where what wins was sought before.
-#[inline(never)]
+/// Takes the next step, where what wins was sought before. In line, as all of a step is: out of line, each result would go through memory.
+#[inline(always)]
 pub(crate) fn take_sought<'d, S: Numbered>(
     table: &'d RuleTable<S>,
     text: &str,
