@@ -19,9 +19,10 @@ abbrev pub is_last : {S : Type 0} → Step S → Bool
 is_last (Found x) = false
 is_last (Over e) = true
 
--- The next one is what the scanner says, and the scanner stands past it. After the end, and after refused memory, none comes.
+-- The next one is what the scanner says, and the scanner stands past it. After the end, and after refused memory, none comes, and
+-- nothing changes any more.
 abbrev pub HasStepped : {S : Type 0} → (S → ℕ) → Steps S → Option (Result (Step S) AllocError) → Steps S → Type 0
-HasStepped number old None new = old.ended ≡ true
+HasStepped number old None new = (old.ended ≡ true) × (new ≡ old)
 HasStepped number old (Some (Ok step)) new =
     (old.ended ≡ false) × IsStep number old.scanner step × (new.scanner ≡ after_step old.scanner step) × (new.ended ≡ is_last step)
 HasStepped number old (Some (Err e)) new = (old.ended ≡ false) × (new.scanner ≡ old.scanner) × (new.ended ≡ true)
