@@ -1,5 +1,5 @@
 -- Token ids by name: the first rule with an id or a name, and what a map of names to ids does to rules.
-use Rattle.std.specs.Prelude.{◌≡◌, ◌≢◌, ℕ, ◌==◌, Bool, false, not, ◌&&◌, List, [], map, Option, Some, None, is_some, slice_get, option_map, string_bytes}
+use Rattle.std.specs.Prelude.{◌≡◌, ◌≢◌, ℕ, ◌≤◌, ◌==◌, Bool, false, not, ◌&&◌, List, [], map, Option, Some, None, is_some, slice_get, option_map, string_bytes}
 use Rattle.std.specs.Option.{option_and_then, option_map_or}
 use Rattle.std.specs.List.{find, list_any}
 use Rattle.std.specs.Str.{bytes_eq}
@@ -38,9 +38,13 @@ gives id r = has_id id r && is_some r.name
 abbrev pub name_of : List Rule → ℕ → Option (List ℕ)
 name_of rules id = option_and_then (λ (r : Rule). r.name) (find (gives id) rules)
 
--- the rule's id, if it has one, is this place
-abbrev pub HasOwnId : {S : Type 0} → (S → ℕ) → RuleParts S → ℕ → Type 0
-HasOwnId number r i = (id : _) → r.tok_id ≡ Some id → number id ≡ i
+-- the rule's id, if it has one, is this place, which is no greater than the greatest id
+abbrev pub HasOwnId : {S : Type 0} → (S → ℕ) → (greatest : ℕ) → RuleParts S → ℕ → Type 0
+HasOwnId number greatest r i = (id : _) → r.tok_id ≡ Some id → (number id ≡ i) × (i ≤ greatest)
+
+-- the same of each rule and its place
+abbrev pub HaveOwnIds : {S : Type 0} → (S → ℕ) → (greatest : ℕ) → List (RuleParts S) → Type 0
+HaveOwnIds number greatest rules = (i : ℕ) (r : RuleParts _) → slice_get rules i ≡ Some r → HasOwnId number greatest r i
 
 -- no two rules have the same id
 abbrev pub HaveDistinctIds : {S : Type 0} → List (RuleParts S) → Type 0

@@ -1,4 +1,4 @@
-ghost use Rattle.std.specs.Prelude.{◌≡◌, ◌<◌, ◌==◌, ◌∷◌, ◌++◌, [], ℕ, All, List, if◌then◌else◌, length, map, option_map, IfOk, IsTrue};
+ghost use Rattle.std.specs.Prelude.{◌≡◌, ◌↔◌, ◌<◌, ◌==◌, ◌∷◌, ◌++◌, [], ℕ, All, List, if◌then◌else◌, length, map, option_map, IfOk, IsTrue};
 ghost use Rattle.std.specs.List.{find, list_any, position};
 ghost use Rattle.std.specs.Option.{option_copied};
 ghost use Rattle.lrlex.specs.Active.{is_inclusive, is_active_where, active_places, lacks_id, lexeme_id, lists_none, lists_state, merged, places_from};
@@ -31,7 +31,7 @@ pub(crate) fn lexeme_id<S: Numbered>(rule: &Rule<S>) -> Option<S>
 
 /// Whether the id of each state is its place.
 pub(crate) fn are_placed(states: &[StartState]) -> bool
-    ensures { IsTrue result → ArePlaced states.now }
+    ensures { IsTrue result ↔ ArePlaced states.now }
 {
     'states: for index in 0..states.len() {
         if states[index].id() != index {

@@ -1,9 +1,10 @@
 //! The name of a lexeme's rule.
-ghost use Rattle.std.specs.Prelude.{◌≡◌, Some, IfSome, IsTrue, map, option_map};
+ghost use Rattle.std.specs.Prelude.{◌≡◌, ◌↔◌, Some, IfSome, IsTrue, is_some, map, option_map, slice_get};
 ghost use Rattle.std.specs.List.{find};
 ghost use Rattle.std.specs.Option.{option_copied};
+ghost use Rattle.regex_hir.specs.Text.{is_some_and};
 ghost use Rattle.lrlex_rules.specs.RuleParts.{as_rule};
-ghost use Rattle.lrlex.specs.Ids.{gives, name_of, HasOwnId, HaveDistinctIds};
+ghost use Rattle.lrlex.specs.Ids.{gives, name_of, HasOwnId, HaveDistinctIds, HaveOwnIds};
 
 use lrlex_base::Numbered;
 use lrlex_rules::Rule;
@@ -28,7 +29,7 @@ fn first_with<S: Numbered>(rules: &[Rule<S>], id: S) -> Option<&Rule<S>>
 
 /// Whether the rule's id, if it has one, is this place.
 fn has_own_id<S: Numbered>(rule: &Rule<S>, place: usize) -> bool
-    ensures { IsTrue result → HasOwnId S.number rule.now place }
+    ensures { IsTrue result ↔ HasOwnId S.number S.greatest rule.now place }
 {
     match rule.tok_id() {
         Some(id) => match S::of_count(place) {
@@ -41,7 +42,8 @@ fn has_own_id<S: Numbered>(rule: &Rule<S>, place: usize) -> bool
 
 /// Whether the id of each rule that has one is its place.
 pub(crate) fn have_own_ids<S: Numbered>(rules: &[Rule<S>]) -> bool
-    ensures { IsTrue result → HaveDistinctIds rules.now }
+    ensures own { IsTrue result ↔ HaveOwnIds S.number S.greatest rules.now }
+    ensures distinct { IsTrue result → HaveDistinctIds rules.now }
 {
     'rules: for index in 0..rules.len() {
         if !has_own_id(&rules[index], index) {
@@ -51,13 +53,15 @@ pub(crate) fn have_own_ids<S: Numbered>(rules: &[Rule<S>]) -> bool
     true
 }
 
-/// The rule whose place is the id's number, if it has a name and this id. No other rule has this id.
-fn rule_at<S: Numbered>(rules: &[Rule<S>], id: S) -> Option<&Rule<S>>
+/// The rule at this place, if it has a name and this id. No other rule has this id.
+fn rule_at<S: Numbered>(rules: &[Rule<S>], place: usize, id: S) -> Option<&Rule<S>>
     requires { HaveDistinctIds rules.now }
-    ensures { IfSome result (λ rule. Some rule.now
+    ensures here { is_some result ≡ is_some_and (slice_get rules.now place)
+        (λ r. gives (S.number id) (as_rule S.number r)) }
+    ensures first { IfSome result (λ rule. Some rule.now
         ≡ find (λ r. gives (S.number id) (as_rule S.number r)) rules.now) }
 {
-    let rule = rules.get(id.as_count()?)?;
+    let rule = rules.get(place)?;
     if gives(rule, id) { Some(rule) } else { None }
 }
 
@@ -68,8 +72,10 @@ fn rule_of<S: Numbered>(rules: &[Rule<S>], own_ids: bool, id: S) -> Option<&Rule
         rules.now }
 {
     if own_ids {
-        if let Some(rule) = rule_at(rules, id) {
-            return Some(rule);
+        if let Some(place) = id.as_count() {
+            if let Some(rule) = rule_at(rules, place, id) {
+                return Some(rule);
+            }
         }
     }
     first_with(rules, id)

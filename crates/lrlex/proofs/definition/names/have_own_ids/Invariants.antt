@@ -5,4 +5,4 @@ use Rattle.lrlex.specs.Ids.{HasOwnId}
 use Rattle.lrlex.proofs.definition.names.have_own_ids.Given as goal
 
 abbrev pub invariant-rules : goal.invariant-rules
-invariant-rules g l = (i : ℕ) (r : RuleParts g.row.S.Denot) → i < l.index → slice_get l.rules i ≡ Some r → HasOwnId g.S.Numbered.number r i
+invariant-rules g l = (i : ℕ) (r : RuleParts g.row.S.Denot) → i < l.index → slice_get l.rules i ≡ Some r → HasOwnId g.S.Numbered.number g.S.Numbered.greatest r i

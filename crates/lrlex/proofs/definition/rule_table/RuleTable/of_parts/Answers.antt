@@ -6,7 +6,7 @@ use Rattle.lrlex_rules.specs.RuleParts.{as_rule, as_state}
 use Rattle.lrlex.proofs.definition.rule_table.RuleTable.of_parts.Goals as goal
 
 pub invariant_of-result-clause-at_places : goal.invariant_of-result-clause-at_places
-invariant_of-result-clause-at_places g c placed = subst ArePlaced c.deref.ensures.value (c.are_placed-placed.ensures placed)
+invariant_of-result-clause-at_places g c placed = subst ArePlaced c.deref.ensures.value (c.are_placed-placed.ensures.0 placed)
 
 pub invariant_of-result-clause-listed : goal.invariant_of-result-clause-listed
 invariant_of-result-clause-listed g c =

@@ -20,7 +20,7 @@ invariant_of-self g c =
     let back = taken_back new (drop (length new) table.rules.items) table.rules.len
     (omega (arith, c.take_ids.auto.rules, c.as_mut_slice.ensures.len)) in
     record {
-      distinct = λ is. subst HaveDistinctIds c.deref.ensures.value (c.have_own_ids-self.ensures is);
+      distinct = λ is. subst HaveDistinctIds c.deref.ensures.value (c.have_own_ids-self.ensures.distinct is);
       kinded = ∣ taken_back kinds (drop (length kinds) table.kinds.items) table.kinds.len (omega (arith, c.set_kinds.auto.kinds, c.as_mut_slice-2.ensures.len)) ∙ c.set_kinds.ensures ∙ ap (map kind_of) c.deref-2.ensures.value ∣₁;
       at_places = table.at_places;
       listed = table.listed
