@@ -1,5 +1,6 @@
 -- A scanner, and what its steps say.
-use Rattle.std.specs.Prelude.{◌≡◌, ℕ, ◌+◌, ◌^◌, ◌<◌, max, true, false, List, All, [], ◌∷◌, ◌++◌, length, drop, vec_len, Option, Some, None, IfSome, MatchOption, option_map, if◌then◌else◌, IsCharBoundary}
+use Rattle.std.specs.Prelude.{◌≡◌, ℕ, ◌+◌, ◌^◌, ◌<◌, max, true, false, List, All, [], ◌∷◌, ◌++◌, length, drop, vec_len, Option, Some, None, IfSome, MatchOption, Result, IfOk, OnErr, option_map, if◌then◌else◌, IsCharBoundary}
+use Rattle.std.specs.declared.alloc.AllocError.{AllocError}
 use Rattle.lrlex_base.specs.Spans.{as_span, span, span_end}
 use Rattle.lrlex_boundaries.specs.Entries.{plain, AreEntries}
 use Rattle.lrlex_rules.specs.Definition.{Definition}
@@ -136,6 +137,13 @@ standing d text p most = record { definition = d; text = text; place = p.place; 
 pub record StayedAt (old new : Cursor) : Type 0 where
   pub place : new.place ≡ old.place
   pub stack : new.stack.items ≡ old.stack.items
+
+-- A step was given: it says what comes at the place, and the cursor stands past it. After refused memory it stands where it stood.
+pub record HasGivenStep {S : Type 0} (number : S → ℕ) (table : RuleTable S) (text : List ℕ) (old : Cursor) (result : Result (Step S) AllocError) (new : Cursor) : Type 0 where
+  pub cursor : IsCursorOf number table text new
+  pub step : IfOk result (IsStep number (scanned_by number table text old))
+  pub moved : IfOk result (λ s. scanned_by number table text new ≡ after_step (scanned_by number table text old) s)
+  pub stayed : OnErr result (StayedAt old new)
 
 -- From the front of its text these tiles lead a scanner here.
 pub record AreScanned (ts : List Tile) (s : Scanned) : Type 0 where

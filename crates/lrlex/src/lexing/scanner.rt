@@ -1,7 +1,7 @@
 //! A lexer that is pulled: one tile at a time, and no list is kept.
 ghost use Rattle.std.specs.Prelude.{◌≡◌, ◌≤◌, OnErr, IfOk, IfSome, option_map};
 ghost use Rattle.lrlex_rules.specs.RuleParts.{state_number};
-ghost use Rattle.lrlex.specs.Scanner.{IsCursorOf, IsPlaceOf, IsStep, StayedAt, after_step, at_front, scanned_by, standing, top_state};
+ghost use Rattle.lrlex.specs.Scanner.{HasGivenStep, IsCursorOf, IsPlaceOf, IsStep, after_step, at_front, standing, top_state};
 ghost use Rattle.lrlex.specs.Views.{definition_by, definition_of};
 ghost use Rattle.lrlex.specs.Work.{most_cells_by, most_cells_of};
 
@@ -58,12 +58,7 @@ fn next_step<'d, S: Numbered>(
     cursor: &mut Cursor<'d, '_>,
 ) -> Result<Step<S>, AllocError>
     requires { IsCursorOf S.number table.now text.now cursor.old }
-    ensures cursor { IsCursorOf S.number table.now text.now cursor.new }
-    ensures step { IfOk result (IsStep S.number
-        (scanned_by S.number table.now text.now cursor.old)) }
-    ensures moved { IfOk result (λ s. scanned_by S.number table.now text.now cursor.new
-        ≡ after_step (scanned_by S.number table.now text.now cursor.old) s) }
-    ensures stayed { OnErr result (StayedAt cursor.old cursor.new) }
+    ensures { HasGivenStep S.number table.now text.now cursor.old result cursor.new }
 {
     if let Some(winner) = cursor.sought {
         return take_sought(table, text, cursor, winner);

@@ -1,6 +1,6 @@
 //! A scanner's step where its tile wasn't found ahead, or its rule isn't plain.
-ghost use Rattle.std.specs.Prelude.{◌≡◌, ◌+◌, ◌≤◌, max, None, Some, IfOk, OnErr};
-ghost use Rattle.lrlex.specs.Scanner.{IsCursorOf, IsSought, IsStep, StayedAt, after_step, scanned_by, sought_to};
+ghost use Rattle.std.specs.Prelude.{◌≡◌, ◌+◌, ◌≤◌, max, None, Some};
+ghost use Rattle.lrlex.specs.Scanner.{HasGivenStep, IsCursorOf, IsSought, sought_to};
 ghost use Rattle.lrlex.specs.Work.{won_bytes};
 
 use crate::definition::active::{lacks_id, lexeme_id};
@@ -26,12 +26,7 @@ pub(crate) fn take_tile<'d, S: Numbered>(
         winner }
     requires within { sought_to cursor.old.place cursor.old.sought
         ≤ cursor.old.place + max 1 (won_bytes winner) }
-    ensures cursor { IsCursorOf S.number table.now text.now cursor.new }
-    ensures step { IfOk result (IsStep S.number
-        (scanned_by S.number table.now text.now cursor.old)) }
-    ensures moved { IfOk result (λ s. scanned_by S.number table.now text.now cursor.new
-        ≡ after_step (scanned_by S.number table.now text.now cursor.old) s) }
-    ensures stayed { OnErr result (StayedAt cursor.old cursor.new) }
+    ensures { HasGivenStep S.number table.now text.now cursor.old result cursor.new }
 {
     let Some(tile) = winner else {
         let state = StartStateId::new(cursor.rules.state);
@@ -67,12 +62,7 @@ pub(crate) fn take_sought<'d, S: Numbered>(
 ) -> Result<Step<S>, AllocError>
     requires cursor { IsCursorOf S.number table.now text.now cursor.old }
     requires sought { cursor.old.sought ≡ Some winner }
-    ensures cursor { IsCursorOf S.number table.now text.now cursor.new }
-    ensures step { IfOk result (IsStep S.number
-        (scanned_by S.number table.now text.now cursor.old)) }
-    ensures moved { IfOk result (λ s. scanned_by S.number table.now text.now cursor.new
-        ≡ after_step (scanned_by S.number table.now text.now cursor.old) s) }
-    ensures stayed { OnErr result (StayedAt cursor.old cursor.new) }
+    ensures { HasGivenStep S.number table.now text.now cursor.old result cursor.new }
 {
     take_tile(table, text, cursor, winner)
 }
@@ -87,12 +77,7 @@ pub(crate) fn seek<'d, S: Numbered>(
 ) -> Result<Step<S>, AllocError>
     requires cursor { IsCursorOf S.number table.now text.now cursor.old }
     requires unsought { cursor.old.sought ≡ None }
-    ensures cursor { IsCursorOf S.number table.now text.now cursor.new }
-    ensures step { IfOk result (IsStep S.number
-        (scanned_by S.number table.now text.now cursor.old)) }
-    ensures moved { IfOk result (λ s. scanned_by S.number table.now text.now cursor.new
-        ≡ after_step (scanned_by S.number table.now text.now cursor.old) s) }
-    ensures stayed { OnErr result (StayedAt cursor.old cursor.new) }
+    ensures { HasGivenStep S.number table.now text.now cursor.old result cursor.new }
 {
     let place = cursor.place;
     if place == text.len() {

@@ -22,66 +22,54 @@ index-kind-requires g c =
     let at : IsFoundAt g.S.Numbered.number table p.rules.state c.args.text.now p.place tile = c.in-Some-ahead.ensures.tile c.args.text.now c.requires.searcher in
     omega (arith, at.rule, kinds_len table, table.kinds.ok.0)
 
-pub returns-then-kind-clause-cursor : goal.returns-then-kind-clause-cursor
-returns-then-kind-clause-cursor g c =
+pub returns-then-kind : goal.returns-then-kind
+returns-then-kind g c =
     let table = c.args.table.now in
+    let text = c.args.text.now in
     let p = c.args.cursor.now in
     let tile = c.in-Some-ahead.tile in
-    let at : IsFoundAt g.S.Numbered.number table p.rules.state c.args.text.now p.place tile = c.in-Some-ahead.ensures.tile c.args.text.now c.requires.searcher in
+    let at : IsFoundAt g.S.Numbered.number table p.rules.state text p.place tile = c.in-Some-ahead.ensures.tile text c.requires.searcher in
     let unsought : p.lost ≡ false → HasWorked table p.from p.place c.ahead.new.self.ends = λ kept. c.in-Some-ahead.ensures.linear p.from p.place (subst (λ o. HasWorked table p.from (sought_to p.place o) p.searcher.ends) c.in_default.is (c.requires.worked kept)) in
-    record {
-      stands = record {
-        boundary = IsCharBoundary-from_rest c.args.text.now p.place tile.len c.requires.stands.boundary.0 at.cuts;
-        entries = c.requires.stands.entries;
-        states = c.requires.stands.states;
-        some = c.requires.stands.some;
-        room = omega (arith, c.requires.stands.room);
-      };
-      initial = c.requires.initial;
-      rules = c.requires.rules;
-      state = c.requires.state;
-      searcher = c.in-Some-ahead.ensures.searcher c.args.text.now c.requires.searcher;
-      sought = subst (λ o. IfSome o (IsSought g.S.Numbered.number table c.args.text.now (p.place + tile.len) p.rules.state)) (sym c.in_default.is) tt;
-      worked = λ kept. subst (λ o. HasWorked table p.from (sought_to (p.place + tile.len) o) c.ahead.new.self.ends) (sym c.in_default.is)
-          (linear_later (most_tables table.tables.items) p.from p.place (p.place + tile.len) c.ahead.new.self.ends (unsought kept) (omega arith));
-    }
-
-pub returns-then-kind-clause-step : goal.returns-then-kind-clause-step
-returns-then-kind-clause-step g c =
-    let table = c.args.table.now in
-    let p = c.args.cursor.now in
-    let tile = c.in-Some-ahead.tile in
-    let at : IsFoundAt g.S.Numbered.number table p.rules.state c.args.text.now p.place tile = c.in-Some-ahead.ensures.tile c.args.text.now c.requires.searcher in
     let d = definition_by g.S.Numbered.number table in
     let t : Tile = record { rule = tile.rule; len = tile.len } in
-    let on_top : p.rules.state ≡ top (plain p.stack.items) = c.requires.state in
+    let stack = plain p.stack.items in
+    let on_top : p.rules.state ≡ top stack = c.requires.state in
     let kind = c.index-kind.result.now in
     let rule = plain_rule g.S.Numbered.number table tile.rule kind at.rule c.index-kind.ensures c.if-kind.true in
-    let target = no_target_at g.S.Numbered.number table tile.rule kind at.rule c.index-kind.ensures c.if-kind.true in (
-      t,
-      record {
-        rule = refl;
-        id = sym rule.gives;
-        bytes = ap₂ span c.new.ensures.start c.new.ensures.end;
-      },
-      record {
-        wins = subst (λ q. Wins d q (drop p.place c.args.text.now) tile.rule tile.len) on_top at.wins;
-        has_id = rule.has_id;
-        has_target = ap (λ o. is_some_and o (λ s. not (is_state d s.0))) target;
-      },
-    )
-
-pub returns-then-kind-clause-moved : goal.returns-then-kind-clause-moved
-returns-then-kind-clause-moved g c =
-    let table = c.args.table.now in
-    let p = c.args.cursor.now in
-    let tile = c.in-Some-ahead.tile in
-    let at : IsFoundAt g.S.Numbered.number table p.rules.state c.args.text.now p.place tile = c.in-Some-ahead.ensures.tile c.args.text.now c.requires.searcher in
-    let d = definition_by g.S.Numbered.number table in
-    let stack = plain p.stack.items in
-    let target = no_target_at g.S.Numbered.number table tile.rule c.index-kind.result.now at.rule c.index-kind.ensures c.if-kind.true in
-    ap₂ (λ p s. let made : Scanned = record { definition = d; text = c.args.text.now; place = p; stack = s; most_cells = most_cells_by c.args.table.now c.args.text.now } in made) (sym c.new.ensures.end)
-    (sym (stays stack (rule_at d tile.rule).target target))
+    let target = no_target_at g.S.Numbered.number table tile.rule kind at.rule c.index-kind.ensures c.if-kind.true in
+    record {
+      cursor = record {
+        stands = record {
+          boundary = IsCharBoundary-from_rest text p.place tile.len c.requires.stands.boundary.0 at.cuts;
+          entries = c.requires.stands.entries;
+          states = c.requires.stands.states;
+          some = c.requires.stands.some;
+          room = omega (arith, c.requires.stands.room);
+        };
+        initial = c.requires.initial;
+        rules = c.requires.rules;
+        state = c.requires.state;
+        searcher = c.in-Some-ahead.ensures.searcher text c.requires.searcher;
+        sought = subst (λ o. IfSome o (IsSought g.S.Numbered.number table text (p.place + tile.len) p.rules.state)) (sym c.in_default.is) tt;
+        worked = λ kept. subst (λ o. HasWorked table p.from (sought_to (p.place + tile.len) o) c.ahead.new.self.ends) (sym c.in_default.is)
+            (linear_later (most_tables table.tables.items) p.from p.place (p.place + tile.len) c.ahead.new.self.ends (unsought kept) (omega arith));
+      };
+      step = (
+        t,
+        record {
+          rule = refl;
+          id = sym rule.gives;
+          bytes = ap₂ span c.new.ensures.start c.new.ensures.end;
+        },
+        record {
+          wins = subst (λ q. Wins d q (drop p.place text) tile.rule tile.len) on_top at.wins;
+          has_id = rule.has_id;
+          has_target = ap (λ o. is_some_and o (λ s. not (is_state d s.0))) target;
+        },
+      );
+      moved = ap₂ (λ p s. let made : Scanned = record { definition = d; text = text; place = p; stack = s; most_cells = most_cells_by table text } in made) (sym c.new.ensures.end) (sym (stays stack (rule_at d tile.rule).target target));
+      stayed = tt;
+    }
 
 pub take_tile-requires-clause-cursor : goal.take_tile-requires-clause-cursor
 take_tile-requires-clause-cursor g c = record {
