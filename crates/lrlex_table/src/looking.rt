@@ -1,11 +1,14 @@
 //! Which pattern wins at a place, where matches that were looked for ahead tell it.
 ghost use Rattle.std.specs.Prelude.{◌≡◌, ℕ, ◌+◌, ◌<◌, ◌≤◌, List, [], length, drop, Some, IfSome, IsCharBoundary, slice_get};
 ghost use Rattle.regex.specs.Patterns.{Re};
+ghost use Rattle.lrlex_table.specs.Chain.{IsChainOfLists};
 ghost use Rattle.lrlex_table.specs.Reach.{IsDecidedBy};
 ghost use Rattle.lrlex_table.specs.Looking.{HasSameEnds};
 ghost use Rattle.lrlex_table.specs.Linear.{HasWorkedTo};
 ghost use Rattle.lrlex_table.specs.Tables.{is_tabled, AreTablesOf, IsBestAmong};
 
+use crate::ahead::{MOST_WAIT, TRY_AGAIN};
+use crate::chain::Chain;
 use crate::dead_ends::DeadEnds;
 use crate::tables::Tables;
 use crate::walk::PatternMatch;
@@ -36,7 +39,7 @@ impl<'d, 't> DeadEnds<'d, 't> {
     {
         let _ = tables;
         let _ = text;
-        if self.ahead.begin != place || self.ahead.list != list {
+        if self.ahead.begin != place {
             return None;
         }
         let at = self.ahead.at;
@@ -44,6 +47,9 @@ impl<'d, 't> DeadEnds<'d, 't> {
             return None;
         }
         let found = self.ahead.found[at];
+        if found.list as usize != list {
+            return None;
+        }
         let end = self.ahead.from + found.end as usize;
         self.ahead.at = at + 1;
         self.ahead.begin = end;
@@ -74,17 +80,16 @@ impl<'d, 't> DeadEnds<'d, 't> {
         self.take(tables, list, place, text)
     }
 
-    /// Passes the matches that were found ahead for this list, up to the first that begins at this place or after it.
-    fn pass_to(&mut self, tables: &Tables, list: usize, place: usize)
-        requires tables { slice_get self.old.lists.now list ≡ Some tables.now }
-        requires list { self.old.ahead.list ≡ list }
+    /// Passes the matches that were found ahead, up to the first that begins at this place or after it.
+    fn pass_to(&mut self, place: usize, text: &str)
+        requires text { text.now ≡ self.old.text.now }
         ensures lists { self.new.lists ≡ self.old.lists }
         ensures text { self.new.text ≡ self.old.text }
         ensures ends { HasSameEnds self.old self.new }
         ensures counted { self.old.ahead.cells ≤ self.new.ahead.cells }
         ensures linear { (most from at : ℕ) → HasWorkedTo most from at self.old → HasWorkedTo most from at self.new }
     {
-        let _ = tables;
+        let _ = text;
         let most = self.ahead.found.len();
         let first = self.ahead.begin;
         let mut at = self.ahead.at;
@@ -101,9 +106,9 @@ impl<'d, 't> DeadEnds<'d, 't> {
         self.ahead.begin = begin;
     }
 
-    /// Looks ahead in this text from this place on, if that is due and the list has a chain.
-    fn look_ahead(&mut self, tables: &Tables, list: usize, place: usize, text: &str)
-        requires tables { slice_get self.old.lists.now list ≡ Some tables.now }
+    /// Looks ahead in this text from this place on, if that is due and the list is in the chain.
+    fn look_ahead(&mut self, chain: Option<&Chain>, list: usize, place: usize, text: &str)
+        requires chain { IfSome chain (λ c. IsChainOfLists self.old.lists.now c.now) }
         requires text { text.now ≡ self.old.text.now }
         requires inside { place ≤ length text.now }
         requires boundary { IsCharBoundary text.now place }
@@ -113,14 +118,18 @@ impl<'d, 't> DeadEnds<'d, 't> {
         ensures counted { self.old.ahead.cells ≤ self.new.ahead.cells }
         ensures linear { (most from : ℕ) → HasWorkedTo most from place self.old → HasWorkedTo most from place self.new }
     {
-        if !self.ahead.is_due(list, place) {
+        if !self.ahead.is_due(place) {
             return;
         }
-        let Some(chain) = &tables.chain else {
-            self.ahead.put_off(place);
+        let Some(chain) = chain else {
+            self.ahead.put_off(place, MOST_WAIT);
             return;
         };
-        self.ahead.look(chain, text.as_bytes(), place);
+        let Some(begin) = chain.start_of(list) else {
+            self.ahead.put_off(place, TRY_AGAIN);
+            return;
+        };
+        self.ahead.look(chain, begin, text.as_bytes(), place);
     }
 
     /// Which pattern wins at this place, where the next match that was found ahead doesn't begin behind it: passes what isn't of use any more,
@@ -147,15 +156,14 @@ impl<'d, 't> DeadEnds<'d, 't> {
         ensures counted { self.old.ahead.cells ≤ self.new.ahead.cells }
         ensures linear { (most from : ℕ) → HasWorkedTo most from place self.old → HasWorkedTo most from place self.new }
     {
+        let chain = self.chain;
         let text = self.text;
         if self.ahead.has_more() {
             self.ahead.missed = self.ahead.missed.saturating_add(1);
         }
-        if self.ahead.list == list {
-            self.pass_to(tables, list, place);
-        }
-        if self.ahead.is_spent(list, place) {
-            self.look_ahead(tables, list, place, text);
+        self.pass_to(place, text);
+        if self.ahead.is_spent(place) {
+            self.look_ahead(chain, list, place, text);
         }
         self.ahead_at(tables, list, place)
     }

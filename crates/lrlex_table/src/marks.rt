@@ -1,7 +1,7 @@
 //! The walk through a chain, which finds many matches in a row without a branch that depends on the text.
-ghost use Rattle.std.specs.Prelude.{◌≡◌, ◌+◌, ◌<◌, ◌≤◌, All, length, vec_len, vec_capacity};
+ghost use Rattle.std.specs.Prelude.{◌≡◌, ℕ, ◌+◌, ◌<◌, ◌≤◌, All, length, vec_len, vec_capacity};
 ghost use Rattle.lrlex_table.specs.Ahead.{AreNamed};
-ghost use Rattle.lrlex_table.specs.Chain.{row_behind, IsChainOf, AreMarksOf};
+ghost use Rattle.lrlex_table.specs.Chain.{row_behind, BeginsIn, IsChainOf, AreMarksOf};
 ghost use Rattle.lrlex_table.specs.declared.table.Table.{Table};
 
 use crate::chain::Chain;
@@ -16,9 +16,17 @@ pub(crate) struct Mark {
     pub(crate) end: u16,
 }
 
-/// A match that was found ahead: the place in the list of the pattern that wins, and where the match ends.
+/// A pattern by its list, and its place there.
+#[derive(Clone, Copy)]
+pub(crate) struct Name {
+    pub(crate) list: u16,
+    pub(crate) pattern: u16,
+}
+
+/// A match that was found ahead: the list, the place in the list of the pattern that wins, and where the match ends.
 #[derive(Clone, Copy)]
 pub(crate) struct Found {
+    pub(crate) list: u16,
     pub(crate) pattern: u16,
     pub(crate) end: u16,
 }
@@ -48,23 +56,32 @@ pub(crate) fn begun(row: usize, fresh: usize) -> usize
 }
 
 impl Chain {
-    /// Marks where matches end in so many bytes of the text from `from` on: the first begins there, and each other where the one
+    /// Marks where matches end in so many bytes of the text from `from` on: the first begins there, in this row, and each other where the one
     /// before it ends. Returns how many matches were found. What the list has after these is left over.
     #[inline(never)]
-    pub(crate) fn mark(&self, text: &[u8], from: usize, many: usize, marks: &mut [Mark]) -> usize
+    pub(crate) fn mark(
+        &self,
+        begin: usize,
+        text: &[u8],
+        from: usize,
+        many: usize,
+        marks: &mut [Mark],
+    ) -> usize
+        requires row { begin < vec_len self.now.bases }
+        requires begins { (t : Table) (l : ℕ) → IsChainOf t l self.now → BeginsIn t l self.now begin }
         requires inside { from + many ≤ length text.now }
         requires short { many ≤ 8192 }
         requires room { many < length marks.old }
         ensures count { result ≤ many }
         ensures room { length marks.new ≡ length marks.old }
-        ensures marks { (t : Table) → IsChainOf t self.now →
-            AreMarksOf t self.now text.now from 0 marks.new result }
+        ensures marks { (t : Table) (l : ℕ) → IsChainOf t l self.now →
+            AreMarksOf t l self.now text.now from 0 marks.new result }
     {
         let cells = self.cells.as_slice();
         let columns = self.columns.as_slice();
         let height = self.bases.len();
         let fresh = self.fresh;
-        let mut row = self.start;
+        let mut row = begin;
         let mut count = 0usize;
         'bytes: for at in 0..many {
             let behind = next(cells, columns, height, row, text[from + at]);
@@ -88,15 +105,20 @@ impl Chain {
         ensures named { AreNamed self.now marks.now result.items }
     {
         found.clear();
-        let wins = self.wins.as_slice();
+        let names = self.names.as_slice();
+        let none = Name {
+            list: 0,
+            pattern: 0,
+        };
         'matches: for at in 0..count {
             let mark = marks[at];
-            let pattern = match wins.get(mark.row as usize) {
-                Some(pattern) => *pattern,
-                None => 0,
+            let name = match names.get(mark.row as usize) {
+                Some(name) => *name,
+                None => none,
             };
             found.push_reserved(Found {
-                pattern,
+                list: name.list,
+                pattern: name.pattern,
                 end: mark.end,
             });
         }

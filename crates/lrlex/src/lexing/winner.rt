@@ -175,7 +175,7 @@ impl<'d, 't> Searcher<'d, 't> {
         ensures linear { IfOk result (λ s. (first : ℕ) → HasWorked table.now first first s.ends) }
     {
         let matchers = empty_matchers(alloc, &table.rules)?;
-        let ends = DeadEnds::new(alloc, &table.tables, text);
+        let ends = DeadEnds::new(alloc, &table.tables, table.chain.as_ref(), text);
         Ok(Searcher { matchers, ends })
     }
 

@@ -15,7 +15,7 @@ returns-clause-found c =
       from_is = c.has_room.ensures.from;
       begin = λ some. refl;
       named = c.name.ensures.named;
-      cut = λ t is.
-          subst (AreMarksOf t c.args.chain.now c.args.text.now c.args.from 0 c.deref.result.now) (sym c.name.ensures.count)
-          (subst (λ xs. AreMarksOf t c.args.chain.now c.args.text.now c.args.from 0 xs m.result) (sym marks) (m.ensures.marks t is));
+      cut = λ t l is.
+          subst (AreMarksOf t l c.args.chain.now c.args.text.now c.args.from 0 c.deref.result.now) (sym c.name.ensures.count)
+          (subst (λ xs. AreMarksOf t l c.args.chain.now c.args.text.now c.args.from 0 xs m.result) (sym marks) (m.ensures.marks t l is));
     }
