@@ -1,7 +1,8 @@
 """Matches that are found ahead, in blocks of the text and in two lanes, against plain maximal munch over a stack of start states.
 
 Blocks have 256 bytes at first, and then twice as many each time, up to 8,192. From 1,024 bytes on a second lane begins behind a line's end
-near the middle. What is found is of one list of rules, so it is of use until a rule changes the start state.
+near the middle, in the first list of rules. Where a match ends, the next one is looked for in the list that probably follows. After a pop
+that is the last other one with a rule that pushes the state.
 """
 
 import functools
@@ -90,7 +91,7 @@ FURTHER = stateless(
     [(r"[0-9]+(\.[0-9]+)?", "NUMBER"), (r"[a-z]+(-+!)?", "WORD"), (r"[.]", "DOT"), (r"-", "DASH"), (r"[ \n]+", None)]
 )
 
-# Strings with escapes, and comments that nest.
+# Strings with escapes, and comments that nest. After a pop of a comment the guess is that no other is left.
 NESTED = Rules(
     [
         ("", r'"', "OPEN", "+STR"),
@@ -109,7 +110,7 @@ NESTED = Rules(
     exclusive=["STR", "REM"],
 )
 
-# A value is in a state that replaces the stack. A string is pushed in it and outside of it.
+# A value is in a state that replaces the stack. A string is pushed in it and outside of it: there the guess after the pop is wrong.
 VALUES = Rules(
     [
         ("VAL", r"\n", "LINE", "INITIAL"),
@@ -250,7 +251,7 @@ STATE_ROWS = (
     + [(BOTTOM, LINE * 300 + "(" + LINE * many + ") a " + LINE * 300) for many in (100, 300, 1_000, 3_000)]
     # comments end within others
     + [(NESTED, ("/* a " * many + "*/ b " * many + "c\n") * (800 // many)) for many in (1, 2, 5, 50, 400)]
-    # after a pop another state follows: never, each time, and now and then
+    # after a pop another state follows than is guessed: never, each time, and now and then
     + [(BELOW, opening + '"a b" lamb\n' * 900 + closing) for opening, closing in ("()", "[]")]
     + [(BELOW, ('("a" lamb "b" moon) ' * many + '["a" lamb "b" moon]\n' * few) * 40) for many, few in ((1, 1), (1, 9), (9, 1))]
     # a pop at the bottom of the stack
@@ -266,7 +267,7 @@ STATE_ROWS = (
         for rules in (ABOVE_HAS_NO_TABLE, BELOW_HAS_NO_TABLE)
         for text in ("a(a b a\na)a\n", "(" + LINE * 9 + ")" + LINE * 9 + "a\n")
     ]
-    # many states
+    # many states, and more than a chain has
     + [
         (ring(count), "! abcdefg" + " hello? abc? defgh. ij. world!\n" * many)
         for count, many in ((2, 20), (40, 20), (40, 600), (300, 20), (300, 600))
@@ -275,7 +276,7 @@ STATE_ROWS = (
 
 # Rows that are long enough for several blocks, and short enough to be matched by `regex`.
 MODERATE = [row for row in STATE_ROWS[590:] if len(row[1]) < 4_000]
-# How many rows the tables may have: none, fewer than are needed, and so many that some of the lists have a chain.
+# How many rows the tables may have: none, fewer than are needed, and so many that there is a chain of some of the lists.
 BUDGETS = [(0, 0), *((rows, WORK) for rows in (20, 40, 60, 80, 100, 140, 200, 400))]
 
 

@@ -16,7 +16,7 @@ use Rattle.lrlex_rules.specs.Patterns.{pattern_of}
 use Rattle.lrlex_rules.specs.RuleParts.{RuleParts, as_rule, as_state}
 use Rattle.lrlex_rules.specs.declared.states.StartState as start
 use Rattle.lrlex_table.specs.Table.{next_rows, pattern_at, IsTableOf, IsLongest, NoneMatches}
-use Rattle.lrlex_table.specs.Tables.{AreCached, is_among, is_tabled, AreRising, ArePartsOf, AreTablesOf, IsBestAmong}
+use Rattle.lrlex_table.specs.Tables.{AreCached, is_among, is_tabled, AreRising, AreTablesOf, IsBestAmong}
 use Rattle.lrlex_table.specs.declared.cached_table.CachedTable.{CachedTable}
 use Rattle.lrlex_table.specs.declared.table.Table.{Table}
 use Rattle.lrlex_table.specs.declared.merged_tables.Part.{Part}
@@ -408,23 +408,6 @@ served_more rules lists tables new s own j t is = elim (cases_lt j (length table
       subst (λ u. AreTablesOf (patterns_on (map (as_rule (λ _. 0)) rules) (list_in lists j)) u) now
       (subst (λ n. AreTablesOf (patterns_on (map (as_rule (λ _. 0)) rules) (list_in lists n)) new) last own)
 ]
-
--- the same tables, with chains or without
-pub served_alike : {S : Type 0} (rules : List (RuleParts S)) (lists : List (List ℕ)) (old new : List Tables) → map (λ t. t.parts) new ≡ map (λ t. t.parts) old →
-    map (λ t. t.asked) new ≡ map (λ t. t.asked) old → AreServed rules lists old → AreServed rules lists new
-served_alike rules lists old new parts asked s j t is =
-    let qs = patterns_on (map (as_rule (λ _. 0)) rules) (list_in lists j) in
-    let len : length old ≡ length new = sym (length-map old (λ u. u.parts)) ∙ ap length (sym parts) ∙ length-map new (λ u. u.parts) in
-    let within : j < length new = slice_get_within new j t is in
-    let was = get_or old j t in
-    let here : slice_get old j ≡ Some was = slice_get-get_or old j t (omega arith) in
-    let p : Some was.parts ≡ Some t.parts =
-    sym (slice_get-map (λ u. u.parts) old j ∙ ap (option_map (λ u. u.parts)) here) ∙ ap (λ xs. slice_get xs j) (sym parts) ∙ slice_get-map (λ u. u.parts) new j ∙ ap (option_map (λ u. u.parts)) is in
-    let q : Some was.asked ≡ Some t.asked =
-    sym (slice_get-map (λ u. u.asked) old j ∙ ap (option_map (λ u. u.asked)) here) ∙ ap (λ xs. slice_get xs j) (sym asked) ∙ slice_get-map (λ u. u.asked) new j ∙ ap (option_map (λ u. u.asked)) is in
-    let same_parts : was.parts ≡ t.parts = cc in
-    let same_asked : was.asked ≡ t.asked = cc in
-    subst (λ v. ArePartsOf qs 0 (length qs) t.parts.items v.items) same_asked (subst (λ v. ArePartsOf qs 0 (length qs) v.items was.asked.items) same_parts (s j was here))
 
 -- where one passes, the first that does has a place
 pub first_place : {A : Type 0} (p : A → Bool) (xs : List A) (o : Option ℕ) (i : ℕ) → list_any p xs ≡ true → o ≡ position p xs → i ≡ unwrap_or o 0 → Some i ≡ position p xs

@@ -6,6 +6,7 @@ use Rattle.lrlex_base.specs.Places.{AreBreaksOf}
 use Rattle.lrlex_base.specs.LexemeParts.{LexemeParts}
 use Rattle.lrlex_base.specs.Spans.{Span}
 use Rattle.lrlex.specs.Searches.{asks_by}
+use Rattle.lrlex.specs.LexRun.{Run}
 use Rattle.lrlex.specs.Lookahead.{LooksAhead}
 use Rattle.lrlex.specs.Reach.{IsRun}
 use Rattle.lrlex.specs.Relex.{AreCountsOf}
@@ -16,6 +17,7 @@ use Rattle.lrlex.specs.Work.{HasLinearRecut}
 use Rattle.lrlex_boundaries.specs.Boundaries.{Boundary}
 use Rattle.lrlex_positions.specs.Lines.{AreLinesOf}
 use Rattle.lrlex.specs.declared.errors.LRLexError.{LRLexError}
+use Rattle.lrlex.specs.declared.definition.non_streaming.LRNonStreamingLexerDef.{LRNonStreamingLexerDef}
 use Rattle.lrlex.specs.declared.definition.rule_table.RuleTable.{RuleTable}
 use Rattle.lrlex.specs.declared.editing.document.LexedText.{LexedText}
 
@@ -28,6 +30,20 @@ lexed_items t = t.lexed.items.items
 
 abbrev pub lexed_boundaries : {X : Type 0} → LexedText X → List Boundary
 lexed_boundaries t = t.lexed.boundaries
+
+-- all that a document of it shows, by the definition that it was lexed by
+abbrev pub shown_by : {L X S E P Q : Type 0} → LRNonStreamingLexerDef L X S E P Q → LexedText X → Run (LRNonStreamingLexerDef L X S E P Q) X
+shown_by d t = record {
+  definition = d;
+  text = lexed_bytes t;
+  items = lexed_items t;
+  boundaries = lexed_boundaries t;
+  ahead = t.lexed.ahead.items;
+  asked = t.lexed.asked;
+  recut = t.lexed.recut;
+  looked = t.lexed.looked;
+  changed = t.lexed.changed;
+}
 
 -- the newlines and the lines are those of the text, and what was found is what it gives
 abbrev pub IsLexedBy : {S X : Type 0} → (S → ℕ) → (X → LexemeParts S) → RuleTable S → LexedText X → Type 0

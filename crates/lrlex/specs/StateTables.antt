@@ -7,7 +7,9 @@ use Rattle.lrlex_rules.specs.Definition.{Rule}
 use Rattle.lrlex_rules.specs.RuleParts.{RuleParts, as_rule, as_state}
 use Rattle.lrlex_rules.specs.Patterns.{pattern_of}
 use Rattle.lrlex_rules.specs.declared.states.StartState as start
+use Rattle.lrlex_table.specs.Rows.{chain_rows}
 use Rattle.lrlex_table.specs.Tables.{AreTablesOf}
+use Rattle.lrlex_table.specs.declared.chain.Chain.{Chain}
 use Rattle.lrlex_table.specs.declared.tables.Tables.{Tables}
 use Rattle.lrlex.specs.Active.{no_rule}
 
@@ -51,3 +53,7 @@ count_of_asked tables = sum_by (λ t. vec_len t.asked) tables
 abbrev pub most_tables : List Tables → ℕ
 most_tables [] = 0
 most_tables (t ∷ ts) = max (vec_len t.parts) (most_tables ts)
+
+-- the rows that these chains are paid as
+abbrev pub chains_rows : List Chain → ℕ
+chains_rows chains = sum_by (λ c. chain_rows (Some c)) chains

@@ -1,9 +1,11 @@
 -- What a definition of the program says, and what a run of it answers.
-use Rattle.std.specs.Prelude.{ℕ, List, option_map, Result, Ok, Err, map}
+use Rattle.std.specs.Prelude.{ℕ, ◌+◌, List, option_map, Result, Ok, Err, map}
 use Rattle.lrlex_base.specs.Spans.{span_start, span_end}
 use Rattle.lrlex_base.specs.LexemeParts.{LexemeParts}
 use Rattle.lrlex_rules.specs.Definition.{Definition}
+use Rattle.lrlex_table.specs.Rows as held
 use Rattle.lrlex_table.specs.declared.tables.Tables.{Tables}
+use Rattle.lrlex.specs.StateTables.{chains_rows}
 use Rattle.lrlex.specs.Errors.{lex_error_span, lex_error_state}
 use Rattle.lrlex_rules.specs.RuleParts.{RuleParts, as_rule, as_state, state_number}
 use Rattle.lrlex.specs.Tiling.{Item, Lexeme, Error}
@@ -34,6 +36,10 @@ definition_states d = d.table.start_states.items
 -- the tables of each list of rules that are active in a state
 abbrev pub definition_tables : {L X S E P Q : Type 0} → LRNonStreamingLexerDef L X S E P Q → List Tables
 definition_tables d = d.table.tables.items
+
+-- how many rows its tables and their chain hold, as a budget counts them
+abbrev pub rows_held : {L X S E P Q : Type 0} → LRNonStreamingLexerDef L X S E P Q → ℕ
+rows_held d = held.rows_held d.table.tables.items + chains_rows d.table.chains.items
 
 -- an item of the program, by the number that an id stands for and what can be seen of a lexeme
 abbrev pub item_of : {S X : Type 0} → (S → ℕ) → (X → LexemeParts S) → Result X LRLexError → Item

@@ -18,6 +18,11 @@ pub trait Id: Copy + Debug + Display + Eq + Hash + PrimInt + Unsigned + TryFrom<
         ensures value { IfSome result (λ id. number id ≡ n) }
         ensures none { IsNone result ↔ (greatest < n) };
 
+    /// The id's number as a count, or none where it doesn't fit `usize`.
+    fn to_count(self) -> Option<usize>
+        ensures value { IfSome result (λ n. number self ≡ n) }
+        ensures none { IsNone result ↔ (2 ^ 64 ≤ number self) };
+
     // Two ids are the same exactly where their numbers are.
     ghost same_law: { (a b : Self) → number a ≡ number b → a ≡ b };
 
@@ -34,6 +39,10 @@ impl Id for u8 {
         u8::try_from(n).ok()
     }
 
+    fn to_count(self) -> Option<usize> {
+        Some(self as usize)
+    }
+
     ghost same_law = { λ a b e. e };
 
     ghost equal_law = { Prim.search rules };
@@ -46,6 +55,10 @@ impl Id for u16 {
 
     fn from_count(n: usize) -> Option<u16> {
         u16::try_from(n).ok()
+    }
+
+    fn to_count(self) -> Option<usize> {
+        Some(self as usize)
     }
 
     ghost same_law = { λ a b e. e };
@@ -62,6 +75,10 @@ impl Id for u32 {
         u32::try_from(n).ok()
     }
 
+    fn to_count(self) -> Option<usize> {
+        Some(self as usize)
+    }
+
     ghost same_law = { λ a b e. e };
 
     ghost equal_law = { Prim.search rules };
@@ -74,6 +91,10 @@ impl Id for u64 {
 
     fn from_count(n: usize) -> Option<u64> {
         Some(n as u64)
+    }
+
+    fn to_count(self) -> Option<usize> {
+        Some(self as usize)
     }
 
     ghost same_law = { λ a b e. e };
@@ -90,6 +111,10 @@ impl Id for u128 {
         Some(n as u128)
     }
 
+    fn to_count(self) -> Option<usize> {
+        usize::try_from(self).ok()
+    }
+
     ghost same_law = { λ a b e. e };
 
     ghost equal_law = { Prim.search rules };
@@ -102,6 +127,10 @@ impl Id for usize {
 
     fn from_count(n: usize) -> Option<usize> {
         Some(n)
+    }
+
+    fn to_count(self) -> Option<usize> {
+        Some(self)
     }
 
     ghost same_law = { λ a b e. e };

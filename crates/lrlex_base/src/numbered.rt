@@ -1,4 +1,4 @@
-ghost use Rattle.std.specs.Prelude.{◌≡◌, ◌<◌, ◌↔◌, ℕ, IfSome, IsNone, IsTrue};
+ghost use Rattle.std.specs.Prelude.{◌≡◌, ◌<◌, ◌≤◌, ◌^◌, ◌↔◌, ℕ, IfSome, IsNone, IsTrue};
 
 use crate::ids::Id;
 
@@ -22,7 +22,8 @@ pub trait Numbered: Copy {
 
     /// The value's number as a count, or none where it doesn't fit `usize`.
     fn as_count(self) -> Option<usize>
-        ensures { IfSome result (λ n. number self ≡ n) };
+        ensures value { IfSome result (λ n. number self ≡ n) }
+        ensures none { IsNone result ↔ (2 ^ 64 ≤ number self) };
 
     // Two values are the same exactly where their numbers are.
     ghost same_law: { (a b : Self) → number a ≡ number b → a ≡ b };
@@ -42,12 +43,7 @@ impl<S: Id> Numbered for S {
     }
 
     fn as_count(self) -> Option<usize> {
-        let n = self.to_usize()?;
-        if S::from_count(n)? == self {
-            Some(n)
-        } else {
-            None
-        }
+        self.to_count()
     }
 
     ghost same_law = { S.same_law };

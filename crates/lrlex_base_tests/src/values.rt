@@ -88,4 +88,9 @@ fn numbers_of_ids_are_told_apart_and_read_back(rt: HostRuntime) {
     let counted = u8::MAX.as_count() == Some(255) && u64::MAX.as_count() == Some(usize::MAX);
     let none = u128::MAX.as_count().is_none();
     assert!(rt; apart && counted && none);
+    let small = u8::MAX.to_count() == Some(255) && u16::MAX.to_count() == Some(65_535);
+    let usual = u32::MAX.to_count() == Some(4_294_967_295) && 9usize.to_count() == Some(9);
+    let most = 18_446_744_073_709_551_615u128.to_count() == Some(usize::MAX);
+    let past = 18_446_744_073_709_551_616u128.to_count().is_none();
+    assert!(rt; small && usual && most && past);
 }

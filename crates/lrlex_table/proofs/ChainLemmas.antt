@@ -1,4 +1,4 @@
--- Where a chain's marks cut, the table's longest matches begin and end.
+-- Where a chain's marks cut, the longest matches of the tables begin and end.
 use Rattle.std.proofs.Common.{◌≡◌, zero, suc, ℕ, ◌+◌, ◌-◌, ◌<◌, ◌≤◌, Bool, true, false, List, length, take, drop, get_or, Some, None, slice_get, slice_index_or, set, refl, sym, ap, ◌∙◌, subst, inl, inr, arith, add-one, true≢false, get_or-set_other, get_or-set_same}
 use Rattle.std.proofs.lemmas.Bool.{cases_lt}
 use Rattle.std.proofs.lemmas.Option.{slice_get-get_or}
@@ -6,7 +6,7 @@ use Rattle.std.proofs.lemmas.List.{length-drop, get_or-drop}
 use Rattle.lrlex_table.specs.Cell.{wins_at}
 use Rattle.lrlex_table.specs.Table.{next_rows, next_of, EndsInRow}
 use Rattle.lrlex_table.specs.Reach.{row_after}
-use Rattle.lrlex_table.specs.Chain.{base_of, GoesTo, IsCut, no_mark, end_of, row_of, begin_of, IsCutAt, AreMarksOf, AreJoined}
+use Rattle.lrlex_table.specs.Chain.{list_of, base_of, BeginsIn, GoesTo, IsCut, no_mark, end_of, row_of, begin_of, IsCutAt, AreMarksOf, AreJoined}
 use Rattle.lrlex_table.specs.declared.table.Table.{Table}
 use Rattle.lrlex_table.specs.declared.chain.Chain.{Chain}
 use Rattle.lrlex_table.specs.declared.marks.Mark.{Mark}
@@ -65,18 +65,19 @@ module _ (t : Table) (text : List ℕ) where
       let by_last : Stands (next_rows t) t.wins.items t.start text n at n at = subst (Stands (next_rows t) t.wins.items t.start text n at n) here.1 by_n in
       stands_dead (next_rows t) t.wins.items t.start text n r n r 0 (subst (λ x. Stands (next_rows t) t.wins.items t.start text n x n x) cut.2 by_last) (omega (arith, cut.1)) (sym cut.4) refl
 
--- the chain's walk over the text from place `from + p` on, where a match begins, has come to the row at `from + at`
-pub record IsOnWay (t : Table) (c : Chain) (text : List ℕ) (from p at row : ℕ) : Type 0 where
+-- The chain's walk over the text from place `from + p` on, where a match begins, has come to the row at `from + at`. If the row is of list l,
+-- so has the table's.
+pub record IsOnWay (t : Table) (l : ℕ) (c : Chain) (text : List ℕ) (from p at row : ℕ) : Type 0 where
   pub behind : p ≤ at
-  pub stands_for : base_of c row ≡ row_after (next_rows t) t.start (take (at - p) (drop (from + p) text))
+  pub stands_for : list_of c row ≡ l → base_of c row ≡ row_after (next_rows t) t.start (take (at - p) (drop (from + p) text))
 
 -- at the beginning
-pub on_way_first : (t : Table) (c : Chain) (text : List ℕ) (from p row : ℕ) → base_of c row ≡ t.start → IsOnWay t c text from p p row
-on_way_first t c text from p row is =
+pub on_way_first : (t : Table) (l : ℕ) (c : Chain) (text : List ℕ) (from p row : ℕ) → BeginsIn t l c row → IsOnWay t l c text from p p row
+on_way_first t l c text from p row is =
     let none : 0 ≡ p - p = omega arith in
-    record { behind = omega arith; stands_for = is ∙ ap (λ i. row_after (next_rows t) t.start (take i (drop (from + p) text))) none }
+    record { behind = omega arith; stands_for = λ of_l. is of_l ∙ ap (λ i. row_after (next_rows t) t.start (take i (drop (from + p) text))) none }
 
-module _ (t : Table) (c : Chain) (text : List ℕ) (from : ℕ) where
+module _ (t : Table) (l : ℕ) (c : Chain) (text : List ℕ) (from : ℕ) where
   byte_at : (p at : ℕ) → p ≤ at → from + at < length text → slice_get (drop (from + p) text) (at - p) ≡ Some (get_or text (from + at) 0)
   byte_at p at le lt =
       let rest = length-drop (from + p) text in
@@ -84,8 +85,8 @@ module _ (t : Table) (c : Chain) (text : List ℕ) (from : ℕ) where
       slice_get-get_or (drop (from + p) text) (at - p) 0 (omega arith) ∙ ap Some (get_or-drop (from + p) text (at - p) 0 ∙ ap (λ i. get_or text i 0) same)
 
   -- one byte further, within a match
-  pub goes_on : (p at row to : ℕ) → IsOnWay t c text from p at row → from + at < length text →
-      base_of c to ≡ next_of (next_rows t) (base_of c row) (Some (get_or text (from + at) 0)) → IsOnWay t c text from p (at + 1) to
+  pub goes_on : (p at row to : ℕ) → IsOnWay t l c text from p at row → from + at < length text →
+      (list_of c to ≡ list_of c row) × (list_of c row ≡ l → base_of c to ≡ next_of (next_rows t) (base_of c row) (Some (get_or text (from + at) 0))) → IsOnWay t l c text from p (at + 1) to
   goes_on p at row to w lt goes =
       let hay = drop (from + p) text in
       let rest = length-drop (from + p) text in
@@ -93,12 +94,14 @@ module _ (t : Table) (c : Chain) (text : List ℕ) (from : ℕ) where
       let more : at - p + 1 ≡ at + 1 - p = omega arith in
       record {
         behind = omega arith;
-        stands_for = goes ∙ ap (next_of (next_rows t) (base_of c row)) (sym (byte_at p at le lt)) ∙ sym (row_next t hay (at - p) (base_of c row) w.stands_for (omega arith))
+        stands_for = λ of_l.
+            let also = sym goes.0 ∙ of_l in
+            goes.1 also ∙ ap (next_of (next_rows t) (base_of c row)) (sym (byte_at p at le lt)) ∙ sym (row_next t hay (at - p) (base_of c row) (w.stands_for also) (omega arith))
             ∙ ap (λ i. row_after (next_rows t) t.start (take i hay)) more;
       }
 
   -- one byte further, where the next match begins
-  pub begins : (at to : ℕ) → from + at < length text → base_of c to ≡ next_of (next_rows t) t.start (Some (get_or text (from + at) 0)) → IsOnWay t c text from at (at + 1) to
+  pub begins : (at to : ℕ) → from + at < length text → (list_of c to ≡ l → base_of c to ≡ next_of (next_rows t) t.start (Some (get_or text (from + at) 0))) → IsOnWay t l c text from at (at + 1) to
   begins at to lt goes =
       let hay = drop (from + at) text in
       let rest = length-drop (from + at) text in
@@ -106,37 +109,41 @@ module _ (t : Table) (c : Chain) (text : List ℕ) (from : ℕ) where
       let one : 0 + 1 ≡ at + 1 - at = omega arith in
       record {
         behind = omega arith;
-        stands_for = goes ∙ ap (next_of (next_rows t) t.start) (sym (byte_at at at (omega arith) lt) ∙ ap (slice_get hay) none) ∙ sym (row_next t hay 0 t.start refl (omega arith))
+        stands_for = λ of_l. goes of_l ∙ ap (next_of (next_rows t) t.start) (sym (byte_at at at (omega arith) lt) ∙ ap (slice_get hay) none) ∙ sym (row_next t hay 0 t.start refl (omega arith))
             ∙ ap (λ i. row_after (next_rows t) t.start (take i hay)) one;
       }
 
   -- the match that ends there
-  pub cuts : (p at row to : ℕ) → IsOnWay t c text from p at row → from + at < length text → GoesTo t c row (get_or text (from + at) 0) to → c.fresh ≤ to →
-      (p < at) × IsCut t (drop (from + p) text) (at - p) (base_of c row)
-  cuts p at row to w lt goes fresh =
-      let g = goes.1 fresh in
-      let rest = length-drop (from + p) text in
-      let le = w.behind in
-      let some : p < at = elim (cases_lt p at) [
-        | inl before ↦ before
-        | inr past ↦
-            let none : at - p ≡ 0 = omega arith in
-            let first : base_of c row ≡ t.start = w.stands_for ∙ ap (λ i. row_after (next_rows t) t.start (take i (drop (from + p) text))) none in
-            absurd (g.3 (g.2 ∙ ap (λ r. next_of (next_rows t) r (Some (get_or text (from + at) 0))) (sym first) ∙ g.0))
-      ] in
-      let cut : IsCut t (drop (from + p) text) (at - p) (base_of c row) = (
-        omega arith,
-        omega (arith, rest),
-        sym w.stands_for,
-        g.1,
-        ap (next_of (next_rows t) (base_of c row)) (byte_at p at le lt) ∙ g.0,
-      ) in
-      (some, cut)
+  pub cuts : (p at row to : ℕ) → IsOnWay t l c text from p at row → from + at < length text → row < length c.bases.items → GoesTo t l c row (get_or text (from + at) 0) to → c.fresh ≤ to →
+      IsCutAt t l c text from p at row
+  cuts p at row to w lt inside goes fresh = (
+    inside,
+    (omega (arith, lt), λ here. (goes.1 fresh).2),
+    λ of_l.
+        let g = (goes.1 fresh).0 of_l in
+        let rest = length-drop (from + p) text in
+        let le = w.behind in
+        let some : p < at = elim (cases_lt p at) [
+          | inl before ↦ before
+          | inr past ↦
+              let none : at - p ≡ 0 = omega arith in
+              let first : base_of c row ≡ t.start = w.stands_for of_l ∙ ap (λ i. row_after (next_rows t) t.start (take i (drop (from + p) text))) none in
+              absurd (g.2 first)
+        ] in
+        let cut : IsCut t (drop (from + p) text) (at - p) (base_of c row) = (
+          omega arith,
+          omega (arith, rest),
+          sym (w.stands_for of_l),
+          g.1,
+          ap (next_of (next_rows t) (base_of c row)) (byte_at p at le lt) ∙ g.0,
+        ) in
+        (some, cut),
+  )
 
   -- the same by equal numbers
-  cut_as : (p e r q f s : ℕ) → q ≡ p → f ≡ e → s ≡ r → IsCutAt t c text from p e r → IsCutAt t c text from q f s
+  cut_as : (p e r q f s : ℕ) → q ≡ p → f ≡ e → s ≡ r → IsCutAt t l c text from p e r → IsCutAt t l c text from q f s
   cut_as p e r q f s begin end row is =
-      subst (λ x. IsCutAt t c text from x f s) (sym begin) (subst (λ x. IsCutAt t c text from p x s) (sym end) (subst (λ x. IsCutAt t c text from p e x) (sym row) is))
+      subst (λ x. IsCutAt t l c text from x f s) (sym begin) (subst (λ x. IsCutAt t l c text from p x s) (sym end) (subst (λ x. IsCutAt t l c text from p e x) (sym row) is))
 
   -- what is written behind a mark changes none
   kept_mark : (marks : List Mark) (count : ℕ) (m : Mark) (k : ℕ) → k < count → get_or (set marks count m) k no_mark ≡ get_or marks k no_mark
@@ -146,20 +153,20 @@ module _ (t : Table) (c : Chain) (text : List ℕ) (from : ℕ) where
   kept_begin first marks count m zero le = refl
   kept_begin first marks count m (suc k) le = ap (λ (x : Mark). x.end) (kept_mark marks count m k (omega (arith, le)))
 
-  kept_marks : (first : ℕ) (marks : List Mark) (count : ℕ) (m : Mark) → AreMarksOf t c text from first marks count → AreMarksOf t c text from first (set marks count m) count
+  kept_marks : (first : ℕ) (marks : List Mark) (count : ℕ) (m : Mark) → AreMarksOf t l c text from first marks count → AreMarksOf t l c text from first (set marks count m) count
   kept_marks first marks count m are k lt =
       let same = kept_mark marks count m k lt in
       cut_as (begin_of first marks k) (end_of marks k) (row_of marks k) _ _ _ (kept_begin first marks count m k (omega (arith, lt))) (ap (λ (x : Mark). x.end) same) (ap (λ (x : Mark). x.row) same) (are k lt)
 
   -- and one more
-  more_marks : (first : ℕ) (marks : List Mark) (count : ℕ) (m : Mark) → AreMarksOf t c text from first marks count → count < length marks →
-      IsCutAt t c text from (begin_of first marks count) m.end m.row → AreMarksOf t c text from first (set marks count m) (count + 1)
+  more_marks : (first : ℕ) (marks : List Mark) (count : ℕ) (m : Mark) → AreMarksOf t l c text from first marks count → count < length marks →
+      IsCutAt t l c text from (begin_of first marks count) m.end m.row → AreMarksOf t l c text from first (set marks count m) (count + 1)
   more_marks first marks count m are room cut k lt = elim (cases_lt k count) [
     | inl before ↦ kept_marks first marks count m are k before
     | inr last ↦
         let is : k ≡ count = omega arith in
         let same = get_or-set_same marks count m no_mark room in
-        subst (λ i. IsCutAt t c text from (begin_of first (set marks count m) i) (end_of (set marks count m) i) (row_of (set marks count m) i)) (sym is)
+        subst (λ i. IsCutAt t l c text from (begin_of first (set marks count m) i) (end_of (set marks count m) i) (row_of (set marks count m) i)) (sym is)
         (cut_as (begin_of first marks count) m.end m.row _ _ _ (kept_begin first marks count m count (omega arith)) (ap (λ (x : Mark). x.end) same) (ap (λ (x : Mark). x.row) same) cut)
   ]
 
@@ -170,13 +177,13 @@ module _ (t : Table) (c : Chain) (text : List ℕ) (from : ℕ) where
 
   -- a lane's marks, and where its walk has come to at `at`
   abbrev pub IsLane : ℕ → List Mark → ℕ → ℕ → ℕ → Type 0
-  IsLane first marks count at row = AreMarksOf t c text from first marks count × IsOnWay t c text from (begin_of first marks count) at row
+  IsLane first marks count at row = AreMarksOf t l c text from first marks count × IsOnWay t l c text from (begin_of first marks count) at row
 
   -- a lane goes one byte further
-  pub passes : (first : ℕ) (marks : List Mark) (count at row to more : ℕ) → IsLane first marks count at row → from + at < length text → count < length marks →
-      GoesTo t c row (get_or text (from + at) 0) to → (c.fresh ≤ to → more ≡ 1) → (to < c.fresh → more ≡ 0) →
+  pub passes : (first : ℕ) (marks : List Mark) (count at row to more : ℕ) → IsLane first marks count at row → from + at < length text → row < length c.bases.items → count < length marks →
+      GoesTo t l c row (get_or text (from + at) 0) to → (c.fresh ≤ to → more ≡ 1) → (to < c.fresh → more ≡ 0) →
       IsLane first (set marks count (record { row = row; end = at })) (count + more) (at + 1) to
-  passes first marks count at row to more lane here room goes one none =
+  passes first marks count at row to more lane here inside room goes one none =
       let m : Mark = record { row = row; end = at } in
       let p = begin_of first marks count in
       elim (cases_lt to c.fresh) [
@@ -184,12 +191,12 @@ module _ (t : Table) (c : Chain) (text : List ℕ) (from : ℕ) where
             let same : count ≡ count + more = omega (arith, none lt) in
             let stays = kept_begin first marks count m count (omega arith) in
             subst (λ n. IsLane first (set marks count m) n (at + 1) to) same
-            (kept_marks first marks count m lane.0, subst (λ q. IsOnWay t c text from q (at + 1) to) (sym stays) (goes_on p at row to lane.1 here (goes.0 lt)))
+            (kept_marks first marks count m lane.0, subst (λ q. IsOnWay t l c text from q (at + 1) to) (sym stays) (goes_on p at row to lane.1 here (goes.0 lt)))
         | inr ge ↦
             let same : count + 1 ≡ count + more = omega (arith, one ge) in
             let is_there = next_begin first marks count m room in
             subst (λ n. IsLane first (set marks count m) n (at + 1) to) same
-            (more_marks first marks count m lane.0 room (cuts p at row to lane.1 here goes ge), subst (λ q. IsOnWay t c text from q (at + 1) to) (sym is_there) (begins at to here (goes.1 ge).2))
+            (more_marks first marks count m lane.0 room (cuts p at row to lane.1 here inside goes ge), subst (λ q. IsOnWay t l c text from q (at + 1) to) (sym is_there) (begins at to here (goes.1 ge).1))
       ]
 
   -- marks of two lanes that meet
@@ -208,7 +215,7 @@ module _ (t : Table) (c : Chain) (text : List ℕ) (from : ℕ) where
         let also : suc (j.passed + k) ≡ j.passed + suc k = omega arith in
         ap (begin_of 0 marks) one ∙ ap (λ (x : Mark). x.end) (j.behind k (omega (arith, lt))) ∙ ap (begin_of apart second) also
 
-    pub joined_marks : AreMarksOf t c text from 0 first count → AreMarksOf t c text from apart second others → AreMarksOf t c text from 0 marks total
+    pub joined_marks : AreMarksOf t l c text from 0 first count → AreMarksOf t l c text from apart second others → AreMarksOf t l c text from 0 marks total
     joined_marks are also k lt = elim (cases_lt k j.kept) [
       | inl before ↦
           let same = j.before k before in
@@ -219,7 +226,7 @@ module _ (t : Table) (c : Chain) (text : List ℕ) (from : ℕ) where
           let is : j.kept + n ≡ k = omega arith in
           let some : n < j.taken = omega (arith, lt, j.all) in
           let same = j.behind n some in
-          subst (λ i. IsCutAt t c text from (begin_of 0 marks i) (end_of marks i) (row_of marks i)) is
+          subst (λ i. IsCutAt t l c text from (begin_of 0 marks i) (end_of marks i) (row_of marks i)) is
           (cut_as (begin_of apart second (j.passed + n)) (end_of second (j.passed + n)) (row_of second (j.passed + n)) _ _ _ (begin_behind n some) (ap (λ (x : Mark). x.end) same)
           (ap (λ (x : Mark). x.row) same) (also (j.passed + n) (omega (arith, some, j.of_second))))
     ]

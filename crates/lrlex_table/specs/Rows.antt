@@ -1,5 +1,5 @@
 -- What the budget's rows pay for: the rows of tables, and of a chain one row for each 256 cells.
-use Rattle.std.specs.Prelude.{ℕ, ◌+◌, List, Option, Some, None, vec_len}
+use Rattle.std.specs.Prelude.{ℕ, List, Option, Some, None, vec_len}
 use Rattle.std.specs.List.{sum_by}
 use Rattle.std.specs.Int.{div_ceil}
 use Rattle.lrlex_table.specs.Tables.{rows_of}
@@ -28,10 +28,10 @@ chain_rows (Some c) = div_ceil (vec_len c.cells) 256
 abbrev pub cached_rows : List CachedTable → ℕ
 cached_rows cache = sum_by (λ s. table_rows s.table) cache
 
--- the rows of the tables of a list of patterns, and of their chain
+-- the rows of the tables of a list of patterns
 abbrev pub tables_rows : Tables → ℕ
-tables_rows t = rows_of t.parts.items + chain_rows t.chain
+tables_rows t = rows_of t.parts.items
 
--- the rows of all tables and chains of these lists
+-- the rows of all tables of these lists
 abbrev pub rows_held : List Tables → ℕ
 rows_held lists = sum_by tables_rows lists

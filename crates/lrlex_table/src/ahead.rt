@@ -1,35 +1,36 @@
 //! Matches that were found ahead, one behind the other, and where it is worth while to look for more.
-ghost use Rattle.std.specs.Prelude.{◌≡◌, ◌↔◌, ◌+◌, ◌-◌, ◌*◌, ◌^◌, ◌<◌, ◌≤◌, min, [], length, vec_len, true, IsTrue};
+ghost use Rattle.std.specs.Prelude.{◌≡◌, ◌↔◌, ℕ, ◌+◌, ◌-◌, ◌*◌, ◌^◌, ◌<◌, ◌≤◌, min, length, vec_len, true, IsTrue};
 ghost use Rattle.lrlex_table.specs.Ahead.{IsFoundIn, bytes_ahead};
+ghost use Rattle.lrlex_table.specs.Chain.{BeginsIn, IsChainOf};
+ghost use Rattle.lrlex_table.specs.declared.table.Table.{Table};
 
 use crate::chain::Chain;
-use crate::marks::{Found, MOST_BYTES, Mark};
+use crate::marks::{MOST_BYTES, Mark};
 use std::alloc::Global;
 use std::mem;
 
 /// How many bytes are looked at ahead at first.
 const FIRST_BYTES: usize = 256;
 
-/// How many bytes are passed before it is tried with another list.
-const TRY_AGAIN: usize = 64;
+/// How many bytes are passed before it is tried again, where the list isn't in the chain.
+pub(crate) const TRY_AGAIN: usize = 64;
 
 /// How many bytes are passed at most before it is tried again, where little of what was found was of use.
-const MOST_WAIT: usize = 65_536;
+pub(crate) const MOST_WAIT: usize = 65_536;
 
-/// Matches that were found ahead from this place on, by the chain of this list: those from `at` on are left. The next one begins at `begin`,
+/// Matches that were found ahead from this place on, by the chain: the first `count` marks, of which those from `at` on are left. The next one begins at `begin`,
 /// and each where the one before it ends. Where none is left, it isn't looked ahead before `begin`, and never before `limit`: a look of so
 /// many bytes isn't followed by another in the first half of them. So looks take at most four cells for each byte of the text.
 #[derive(Drop)]
 pub(crate) struct Ahead {
     alloc: Global,
-    pub(crate) list: usize,
     pub(crate) from: usize,
     pub(crate) begin: usize,
     pub(crate) at: usize,
-    pub(crate) found: Vec<Found>,
+    pub(crate) count: usize,
     /// Where the last match ends that was found.
     end: usize,
-    marks: Vec<Mark>,
+    pub(crate) marks: Vec<Mark>,
     /// Those of the second lane.
     more: Vec<Mark>,
     /// How many bytes are looked at the next time: more each time, so long as most of what was found is of use.
@@ -38,7 +39,7 @@ pub(crate) struct Ahead {
     looked: usize,
     /// How many of these bytes were passed without a match that was asked for.
     pub(crate) passed: usize,
-    /// How many matches were asked for that weren't the next one found, as where lists take turns.
+    /// How many matches were asked for that weren't the next one found, as where another list follows than was guessed.
     pub(crate) missed: usize,
     /// How many bytes are passed before it is tried again.
     wait: usize,
@@ -51,17 +52,16 @@ pub(crate) struct Ahead {
 impl Ahead {
     /// Nothing found ahead yet, and no room for it.
     pub(crate) fn new(alloc: Global) -> Ahead
-        ensures none { result.found.items ≡ [] }
+        ensures none { result.count ≡ 0 }
         ensures cells { result.cells ≡ 0 }
         ensures limit { result.limit ≡ 0 }
     {
         Ahead {
             alloc,
-            list: usize::MAX,
             from: 0,
             begin: 0,
             at: 0,
-            found: Vec::new(alloc),
+            count: 0,
             end: 0,
             marks: Vec::new(alloc),
             more: Vec::new(alloc),
@@ -77,48 +77,40 @@ impl Ahead {
 
     /// Nothing found ahead any more, as for another pass over the text. The room that it has is kept.
     pub(crate) fn rewind(&mut self)
-        ensures none { self.new.found.items ≡ [] }
+        ensures none { self.new.count ≡ 0 }
         ensures cells { self.new.cells ≡ 0 }
         ensures limit { self.new.limit ≡ 0 }
     {
-        let mut kept = mem::replace(self, Ahead::new(self.alloc));
-        kept.found.clear();
-        self.found = kept.found;
+        let kept = mem::replace(self, Ahead::new(self.alloc));
         self.marks = kept.marks;
         self.more = kept.more;
     }
 
     /// Whether a match is left.
     pub(crate) fn has_more(&self) -> bool {
-        self.at < self.found.len()
+        self.at < self.count
     }
 
-    /// Whether nothing that was found is of use for this list from this place on.
-    pub(crate) fn is_spent(&self, list: usize, place: usize) -> bool {
-        if !self.has_more() {
-            return place >= self.begin;
-        }
-        self.list != list && place >= self.end
+    /// Whether nothing that was found is left at this place, and it isn't put off.
+    pub(crate) fn is_spent(&self, place: usize) -> bool {
+        !self.has_more() && place >= self.begin
     }
 
-    /// Whether to look ahead for matches of this list from this place on. Else it is put off, as it is before `limit`. Nothing that was
-    /// found is left.
-    pub(crate) fn is_due(&mut self, list: usize, place: usize) -> bool
-        ensures list { result ≡ true → self.new.list ≡ list }
-        ensures none { self.new.found.items ≡ [] }
+    /// Whether to look ahead for matches from this place on. Else it is put off, as it is before `limit`. Nothing that was found is left.
+    pub(crate) fn is_due(&mut self, place: usize) -> bool
+        ensures none { self.new.count ≡ 0 }
         ensures due { result ≡ true → self.old.limit ≤ place }
         ensures cells { self.new.cells ≡ self.old.cells }
         ensures limit { self.new.limit ≡ self.old.limit }
     {
-        if self.has_more() {
-            let left = self.end.saturating_sub(self.begin);
-            self.passed = self.passed.saturating_add(left);
-        }
-        let count = self.found.len();
-        self.found.clear();
+        let count = self.count;
+        self.count = 0;
         self.at = 0;
         if self.looked > 0 {
-            let is_of_use = self.passed <= self.looked / 4 && self.missed <= count / 4;
+            let reached = self.end.saturating_sub(self.from);
+            let is_of_use = self.passed <= self.looked / 4
+                && self.missed <= count / 4
+                && reached >= self.looked / 4;
             self.looked = 0;
             if !is_of_use {
                 self.bytes = FIRST_BYTES;
@@ -129,11 +121,6 @@ impl Ahead {
             self.bytes = self.bytes.saturating_mul(2).min(MOST_BYTES);
             self.wait = FIRST_BYTES;
         }
-        if self.list != list {
-            self.list = list;
-            self.begin = place.saturating_add(TRY_AGAIN);
-            return false;
-        }
         if place < self.limit {
             self.begin = self.limit;
             return false;
@@ -141,29 +128,28 @@ impl Ahead {
         true
     }
 
-    /// Doesn't look ahead from this place on for some time.
-    pub(crate) fn put_off(&mut self, place: usize)
-        ensures none { self.new.found.items ≡ [] }
+    /// Doesn't look ahead from this place on for so many bytes.
+    pub(crate) fn put_off(&mut self, place: usize, bytes: usize)
+        ensures none { self.new.count ≡ 0 }
         ensures cells { self.new.cells ≡ self.old.cells }
         ensures limit { self.new.limit ≡ self.old.limit }
     {
-        self.found.clear();
+        self.count = 0;
         self.at = 0;
-        self.begin = place.saturating_add(MOST_WAIT);
+        self.begin = place.saturating_add(bytes);
     }
 
     /// Makes room for what is found in so many bytes. Whether there is room.
     fn has_room(&mut self, bytes: usize) -> bool
         requires { bytes ≤ 8192 }
-        ensures list { self.new.list ≡ self.old.list }
-        ensures none { self.new.found.items ≡ [] }
+        ensures none { self.new.count ≡ 0 }
         ensures at { self.new.at ≡ 0 }
         ensures from { self.new.from ≡ self.old.from }
         ensures room { IsTrue result ↔ (bytes < vec_len self.new.marks) × (bytes < vec_len self.new.more) }
         ensures cells { self.new.cells ≡ self.old.cells }
         ensures limit { self.new.limit ≡ self.old.limit }
     {
-        self.found.clear();
+        self.count = 0;
         self.at = 0;
         if self.marks.len() > bytes && self.more.len() > bytes {
             return true;
@@ -172,12 +158,14 @@ impl Ahead {
         self.marks.resize(bytes + 1, none).is_ok() && self.more.resize(bytes + 1, none).is_ok()
     }
 
-    /// Looks for matches in the text from this place on. Where there is no room for them, nothing is looked at.
+    /// Looks for matches in the text from this place on, where a walk of the chain begins in this row. Where there is no room for them,
+    /// nothing is looked at.
     #[inline(never)]
-    pub(crate) fn look(&mut self, chain: &Chain, text: &[u8], from: usize)
+    pub(crate) fn look(&mut self, chain: &Chain, begin: usize, text: &[u8], from: usize)
+        requires row { begin < vec_len chain.now.bases }
+        requires begins { (t : Table) (l : ℕ) → IsChainOf t l chain.now → BeginsIn t l chain.now begin }
         requires inside { from ≤ length text.now }
         requires due { self.old.limit ≤ from }
-        ensures list { self.new.list ≡ self.old.list }
         ensures found { IsFoundIn chain.now text.now from self.new }
         ensures counted { bytes_ahead self.old text.now from < vec_len self.new.marks → bytes_ahead self.old text.now from < vec_len self.new.more →
             self.new.cells ≡ min (self.old.cells + 2 * bytes_ahead self.old text.now from) (2 ^ 64 - 1) }
@@ -194,12 +182,11 @@ impl Ahead {
         }
         self.cells = self.cells.saturating_add(2 * many);
         self.limit = from + many.div_ceil(2);
-        let count = chain.mark_in_lanes(text, from, many, &mut self.marks, &mut self.more);
-        if count == 0 || self.found.reserve(count).is_err() {
+        let count = chain.mark_in_lanes(begin, text, from, many, &mut self.marks, &mut self.more);
+        if count == 0 {
             return;
         }
-        let found = mem::replace(&mut self.found, Vec::new(self.alloc));
-        self.found = chain.name(&self.marks, count, found);
+        self.count = count;
         self.begin = from;
         self.end = from.saturating_add(self.marks[count - 1].end as usize);
         self.looked = many;

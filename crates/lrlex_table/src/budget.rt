@@ -45,6 +45,13 @@ impl Budget {
         self.rows
     }
 
+    /// How much work is left.
+    pub(crate) fn work(&self) -> usize
+        ensures { result ≡ self.now.work }
+    {
+        self.work
+    }
+
     /// Gives back so many rows, which are no longer held.
     pub fn free_rows(&mut self, rows: usize)
         ensures left { self.old.rows + rows < 2 ^ 64 → self.new.rows ≡ self.old.rows + rows }

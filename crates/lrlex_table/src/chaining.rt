@@ -1,29 +1,77 @@
-//! Builds the chain of a table. What comes out is checked, so nothing has to be shown of how it is built.
-ghost use Rattle.std.specs.Prelude.{◌≡◌, ◌+◌, ◌≤◌, IfOk, OnOk, IfSome, map};
-ghost use Rattle.lrlex_table.specs.Rows.{chain_rows, tables_rows, rows_held};
-ghost use Rattle.lrlex_table.specs.Chain.{IsChainOf, NamesWinners, IsChainOfAll};
+//! Builds the chain of lists of patterns. What comes out is checked, so nothing has to be shown of how it is built.
+ghost use Rattle.std.specs.Prelude.{◌≡◌, ◌+◌, ◌≤◌, IfOk, IfSome};
+ghost use Rattle.lrlex_table.specs.Rows.{chain_rows};
+ghost use Rattle.lrlex_table.specs.Chain.{IsChainOfLists};
 
 use crate::budget::Budget;
 use crate::chain::Chain;
+use crate::checking::{begins_character, only_part};
 use crate::hash::hash_with;
+use crate::marks::Name;
 use crate::merged_tables::Part;
-use crate::table::Table;
 use crate::tables::Tables;
 use std::alloc::{AllocError, Global};
 
-/// The most rows of a table that gets a chain. A fresh row for each byte is added at most.
+/// The most lists that are in a chain.
+const MOST_LISTS: usize = 256;
+
+/// The most rows of the tables of a chain. For each list a fresh row for each byte is added at most.
 const MOST_ROWS: usize = 32_768;
 
 /// What it costs to build and to check the cells of a row for all bytes, in the budget's units of work.
 const WORK_OF_A_ROW: usize = 1_500;
 
-/// For each byte a hash of where all rows go on it.
-fn hashes_of(table: &Table) -> [u64; 256] {
+/// No row, and no list.
+const NONE: u16 = u16::MAX;
+
+/// The tables of a chain, for each list: those of the first so many lists of which each has one table for all its patterns. A table with
+/// more rows than are left for it is left out.
+fn parts_of<'l>(
+    alloc: Global,
+    lists: &'l [Tables],
+    many: usize,
+) -> Result<Vec<Option<&'l Part>>, AllocError> {
+    let mut parts = Vec::with_capacity(alloc, lists.len())?;
+    let mut left = MOST_ROWS;
+    for list in 0..lists.len().min(many) {
+        let mut part = only_part(lists, list);
+        if let Some(only) = part {
+            if only.table.rows() > left {
+                part = None;
+            } else {
+                left -= only.table.rows();
+            }
+        }
+        parts.push(part)?;
+    }
+    Ok(parts)
+}
+
+/// How many rows the tables have.
+fn rows_of(parts: &[Option<&Part>]) -> usize {
+    let mut rows = 0usize;
+    for part in parts {
+        if let Some(part) = part {
+            rows = rows.saturating_add(part.table.rows());
+        }
+    }
+    rows
+}
+
+/// For each byte a hash of where all rows go on it, and of whether a character may begin with it.
+fn hashes_of(parts: &[Option<&Part>]) -> [u64; 256] {
     let mut hashes = [0u64; 256];
-    let (rows, _) = table.cells.as_chunks::<256>();
-    for row in rows {
-        for byte in 0..256usize {
-            hashes[byte] = hash_with(hashes[byte], row[byte] as u64);
+    for byte in 0..256usize {
+        hashes[byte] = begins_character(byte as u8) as u64;
+    }
+    for part in parts {
+        if let Some(part) = part {
+            let (rows, _) = part.table.cells.as_chunks::<256>();
+            for row in rows {
+                for byte in 0..256usize {
+                    hashes[byte] = hash_with(hashes[byte], row[byte] as u64);
+                }
+            }
         }
     }
     hashes
@@ -44,72 +92,153 @@ fn firsts_of(hashes: &[u64; 256]) -> [u8; 256] {
     firsts
 }
 
+/// The number in 16 bits, or the greatest one.
+fn narrow(number: usize) -> u16 {
+    number.min(NONE as usize) as u16
+}
+
+/// The first row from this one on that stands for the table's row, or how many rows there are.
+fn row_for(bases: &[u16], from: usize, base: u16) -> usize {
+    for row in from..bases.len() {
+        if bases[row] == base {
+            return row;
+        }
+    }
+    bases.len()
+}
+
 /// A chain in the making.
 #[derive(Drop)]
 struct Links {
-    /// For each row the table's row that it stands for: first all rows of the table, then the fresh ones.
+    /// For each row the row of its list's table that it stands for: first all rows of all tables, then the fresh ones.
     bases: Vec<u16>,
-    /// For each byte the fresh row at which a match begins with it, or 0 where none does.
-    fresh: Vec<u16>,
-}
-
-/// The fresh row that stands for this row of the table, of which there are so many. It is added where it lacks.
-fn fresh_row(bases: &mut Vec<u16>, rows: usize, base: u16) -> Result<u16, AllocError> {
-    for row in rows..bases.len() {
-        if bases[row] == base {
-            return Ok(row.min(u16::MAX as usize) as u16);
-        }
-    }
-    let row = bases.len();
-    bases.push(base)?;
-    Ok(row.min(u16::MAX as usize) as u16)
-}
-
-/// The rows of the table's chain.
-fn links_of(alloc: Global, table: &Table) -> Result<Links, AllocError> {
-    let rows = table.rows().min(MOST_ROWS);
-    let mut bases = Vec::with_capacity(alloc, rows + 256)?;
-    for row in 0..rows {
-        bases.push(row as u16)?;
-    }
-    let mut fresh = Vec::with_capacity(alloc, 256)?;
-    for byte in 0..256usize {
-        let base = table.next_of(table.start, byte as u8);
-        let row = match base {
-            0 => 0,
-            _ => fresh_row(&mut bases, rows, base)?,
-        };
-        fresh.push(row)?;
-    }
-    Ok(Links { bases, fresh })
+    names: Vec<Name>,
+    /// For each row the list that follows, where a match may end in it.
+    follows: Vec<u16>,
+    /// For each list the row that stands for row 0 of its table.
+    dead: Vec<u16>,
+    /// For each list the row that stands for its table's start.
+    starts: Vec<u16>,
+    /// For each list, for each byte, the fresh row at which a match begins with it.
+    begins: Vec<u16>,
 }
 
 impl Links {
-    /// Appends the column of this byte: each row goes on it as the table's row does, and where that goes nowhere and a pattern matches
-    /// there, where the next match begins.
-    fn add_column(&self, table: &Table, byte: u8, cells: &mut Vec<u16>) -> Result<(), AllocError> {
-        let fresh = match self.fresh.get(byte as usize) {
-            Some(row) => *row,
-            None => 0,
+    /// Of no list yet.
+    fn new(alloc: Global) -> Links {
+        Links {
+            bases: Vec::new(alloc),
+            names: Vec::new(alloc),
+            follows: Vec::new(alloc),
+            dead: Vec::new(alloc),
+            starts: Vec::new(alloc),
+            begins: Vec::new(alloc),
+        }
+    }
+
+    /// Adds a row of the list's table.
+    fn add_row(
+        &mut self,
+        list: usize,
+        part: &Part,
+        base: u16,
+        follow: &[Vec<usize>],
+    ) -> Result<(), AllocError> {
+        let won = match part.table.win_of(base) {
+            Some(won) => part.patterns.get(won as usize).copied(),
+            None => None,
         };
-        cells.reserve(self.bases.len())?;
-        for base in &self.bases {
-            let on = table.next_of(*base, byte);
-            let to = if on == 0 && table.win_of(*base).is_some() {
-                fresh
-            } else {
-                on
-            };
-            cells.push(to)?;
+        let pattern = won.unwrap_or(0);
+        let mut follows = NONE;
+        if won.is_some() && base != part.table.start {
+            if let Some(lists) = follow.get(list) {
+                follows = narrow(lists.get(pattern).copied().unwrap_or(NONE as usize));
+            }
+        }
+        self.bases.push(base)?;
+        self.names.push(Name {
+            list: narrow(list),
+            pattern: narrow(pattern),
+        })?;
+        self.follows.push(follows)?;
+        Ok(())
+    }
+
+    /// Adds all rows of the list's table.
+    fn add_table(
+        &mut self,
+        list: usize,
+        part: &Part,
+        follow: &[Vec<usize>],
+    ) -> Result<(), AllocError> {
+        let dead = self.bases.len();
+        for row in 0..part.table.rows() {
+            self.add_row(list, part, narrow(row), follow)?;
+        }
+        self.dead.push(narrow(dead))?;
+        let start = dead.saturating_add(part.table.start as usize);
+        self.starts.push(narrow(start))?;
+        Ok(())
+    }
+
+    /// Adds the fresh rows of the list: one for each row of its table at which a match begins.
+    fn add_fresh(
+        &mut self,
+        list: usize,
+        part: &Part,
+        follow: &[Vec<usize>],
+    ) -> Result<(), AllocError> {
+        let from = self.bases.len();
+        for byte in 0..256usize {
+            let base = part.table.next_of(part.table.start, byte as u8);
+            let mut row = NONE as usize;
+            if base != 0 {
+                row = row_for(&self.bases, from, base);
+                if row == self.bases.len() {
+                    self.add_row(list, part, base, follow)?;
+                }
+            }
+            self.begins.push(narrow(row))?;
         }
         Ok(())
+    }
+
+    /// The row to which this one goes on the byte, where its table goes nowhere: where the next match begins, if one ends.
+    fn next_match(&self, row: usize, byte: u8) -> Option<u16> {
+        if !begins_character(byte) {
+            return None;
+        }
+        let list = *self.follows.get(row)? as usize;
+        let begin = *self.begins.get(list * 256 + byte as usize)?;
+        if begin == NONE { None } else { Some(begin) }
+    }
+
+    /// The row to which this one goes on the byte.
+    fn next(&self, parts: &[Option<&Part>], row: usize, byte: u8) -> u16 {
+        let list = match self.names.get(row) {
+            Some(name) => name.list as usize,
+            None => 0,
+        };
+        let dead = self.dead.get(list).copied().unwrap_or(0);
+        let base = self.bases.get(row).copied().unwrap_or(0);
+        let on = match parts.get(list) {
+            Some(Some(part)) => part.table.next_of(base, byte),
+            _ => 0,
+        };
+        if on != 0 {
+            return dead.saturating_add(on);
+        }
+        match self.next_match(row, byte) {
+            Some(begin) => begin,
+            None => dead,
+        }
     }
 
     /// The cells by columns, and for each byte where its column begins.
     fn cells(
         &self,
         alloc: Global,
-        table: &Table,
+        parts: &[Option<&Part>],
         firsts: &[u8; 256],
     ) -> Result<(Vec<u16>, Vec<u32>), AllocError> {
         let mut cells = Vec::new(alloc);
@@ -121,116 +250,104 @@ impl Links {
                 continue;
             }
             columns.push(cells.len().min(u32::MAX as usize) as u32)?;
-            self.add_column(table, byte as u8, &mut cells)?;
+            cells.reserve(self.bases.len())?;
+            for row in 0..self.bases.len() {
+                cells.push(self.next(parts, row, byte as u8))?;
+            }
         }
         Ok((cells, columns))
     }
-
-    /// For each row the place in the list of the pattern that wins there, where one does.
-    fn wins(&self, alloc: Global, part: &Part) -> Result<Vec<u16>, AllocError> {
-        let mut wins = Vec::with_capacity(alloc, self.bases.len())?;
-        for base in &self.bases {
-            let place = match part.table.win_of(*base) {
-                Some(won) => part.patterns.get(won as usize).copied(),
-                None => None,
-            };
-            let place = match place {
-                Some(place) => place.min(u16::MAX as usize) as u16,
-                None => 0,
-            };
-            wins.push(place)?;
-        }
-        Ok(wins)
-    }
 }
 
-/// The chain of the part, paid from the budget: a row for each 256 cells. None where its table has too many rows, and where the
-/// budget is spent.
-pub(crate) fn chain_of(
+/// The rows of the chain of these tables, and how many of them aren't fresh.
+fn links_of(
     alloc: Global,
-    part: &Part,
+    parts: &[Option<&Part>],
+    follow: &[Vec<usize>],
+) -> Result<(Links, usize), AllocError> {
+    let mut links = Links::new(alloc);
+    for list in 0..parts.len() {
+        match parts[list] {
+            Some(part) => links.add_table(list, part, follow)?,
+            None => {
+                links.dead.push(0)?;
+                links.starts.push(NONE)?;
+            }
+        }
+    }
+    let fresh = links.bases.len();
+    for list in 0..parts.len() {
+        match parts[list] {
+            Some(part) => links.add_fresh(list, part, follow)?,
+            None => {
+                for _ in 0..256usize {
+                    links.begins.push(NONE)?;
+                }
+            }
+        }
+    }
+    Ok((links, fresh))
+}
+
+/// The chain of those of the first so many lists that can be in one, paid from the budget: a row for each 256 cells. None where the
+/// budget has too little left, or no list can be in it.
+fn chain_of(
+    alloc: Global,
+    lists: &[Tables],
+    many: usize,
+    follow: &[Vec<usize>],
     budget: &mut Budget,
 ) -> Result<Option<Chain>, AllocError>
-    ensures chain { IfOk result (λ o.
-        IfSome o (λ c. IsChainOf part.now.table c × NamesWinners part.now c)) }
+    ensures chain { IfOk result (λ o. IfSome o (IsChainOfLists lists.now)) }
     ensures paid { IfOk result (λ o. chain_rows o + budget.new.rows ≤ budget.old.rows) }
 {
-    let table = &part.table;
-    let rows = table.rows();
-    if rows > MOST_ROWS
-        || rows > budget.rows()
-        || !budget.pay_work(rows.saturating_mul(WORK_OF_A_ROW))
-    {
+    let parts = parts_of(alloc, lists, many)?;
+    let rows = rows_of(&parts);
+    let work = rows.saturating_mul(WORK_OF_A_ROW);
+    if rows == 0 || rows > budget.rows() || work > budget.work() || !budget.pay_work(work) {
         return Ok(None);
     }
-    let firsts = firsts_of(&hashes_of(table));
-    let links = links_of(alloc, table)?;
-    let (cells, columns) = links.cells(alloc, table, &firsts)?;
-    let wins = links.wins(alloc, part)?;
-    let made = Chain::of_parts(
-        cells,
-        columns,
-        links.bases,
-        wins,
-        rows,
-        table.start as usize,
-    );
-    let Some(chain) = made else {
-        return Ok(None);
+    let firsts = firsts_of(&hashes_of(&parts));
+    let (links, fresh) = links_of(alloc, &parts, follow)?;
+    let (cells, columns) = links.cells(alloc, &parts, &firsts)?;
+    let Links {
+        bases,
+        names,
+        starts,
+        ..
+    } = links;
+    let Some(chain) = Chain::of_parts(cells, columns, bases, names, starts, fresh) else {
+        return Ok(None)
     };
     let held = chain.cells.len().div_ceil(256);
     if held > budget.rows() || !budget.pay_rows(held) {
         return Ok(None);
     }
-    if chain.is_of(table, &firsts) && chain.names_winners(part) {
+    if chain.is_of(lists, &firsts) {
         Ok(Some(chain))
     } else {
         Ok(None)
     }
 }
 
-impl Tables {
-    /// The chain of the only table, where each pattern is in it and the budget pays for the chain.
-    fn chain_for(&self, alloc: Global, budget: &mut Budget) -> Result<Option<Chain>, AllocError>
-        ensures chain { IfOk result (λ o.
-            IfSome o (IsChainOfAll self.now.parts.items self.now.asked.items)) }
-        ensures paid { IfOk result (λ o. chain_rows o + budget.new.rows ≤ budget.old.rows) }
-    {
-        if self.asked.len() > 0 {
-            return Ok(None);
-        }
-        let Some(part) = self.only() else {
-            return Ok(None)
-        };
-        chain_of(alloc, part, budget)
-    }
-
-    /// Adds the chain of the only table, where each pattern is in it and the budget pays for the chain.
-    fn add_chain(&mut self, alloc: Global, budget: &mut Budget) -> Result<(), AllocError>
-        ensures parts { self.new.parts ≡ self.old.parts }
-        ensures asked { self.new.asked ≡ self.old.asked }
-        ensures paid { OnOk result (tables_rows self.new + budget.new.rows
-            ≤ tables_rows self.old + budget.old.rows) }
-    {
-        let made = self.chain_for(alloc, budget)?;
-        self.chain = made;
-        Ok(())
-    }
-}
-
-/// Adds chains to these lists of tables, where the budget pays for them.
-pub fn add_chains(
+/// The chain of these lists, where the budget pays for it, or of the first half of them, and so on. `follow` has for each list, for each of
+/// its patterns, the place of the list that probably follows where the pattern wins. A wrong guess costs time, and changes no match.
+pub fn chain_for(
     alloc: Global,
-    lists: &mut [Tables],
+    lists: &[Tables],
+    follow: &[Vec<usize>],
     budget: &mut Budget,
-) -> Result<(), AllocError>
-    ensures parts { map (λ t. t.parts) lists.new ≡ map (λ t. t.parts) lists.old }
-    ensures asked { map (λ t. t.asked) lists.new ≡ map (λ t. t.asked) lists.old }
-    ensures paid { OnOk result (rows_held lists.new + budget.new.rows
-        ≤ rows_held lists.old + budget.old.rows) }
+) -> Result<Option<Chain>, AllocError>
+    ensures chain { IfOk result (λ o. IfSome o (IsChainOfLists lists.now)) }
+    ensures paid { IfOk result (λ o. chain_rows o + budget.new.rows ≤ budget.old.rows) }
 {
-    'lists: for index in 0..lists.len() {
-        lists[index].add_chain(alloc, budget)?;
+    let mut many = lists.len().min(MOST_LISTS);
+    'fewer: while many > 0 {
+        let chain = chain_of(alloc, lists, many, follow, budget)?;
+        if chain.is_some() {
+            return Ok(chain);
+        }
+        many /= 2;
     }
-    Ok(())
+    Ok(None)
 }

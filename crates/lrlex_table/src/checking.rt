@@ -1,13 +1,15 @@
-//! Checks that a chain is one of a table, for one byte of each class.
-ghost use Rattle.std.specs.Prelude.{◌≡◌, ℕ, ◌+◌, ◌*◌, ◌<◌, true, Some, length, vec_len, slice_index_or};
+//! Checks that a chain is one of lists of patterns, for one byte of each class.
+ghost use Rattle.std.specs.Prelude.{◌≡◌, ℕ, ◌+◌, ◌*◌, ◌<◌, ◌≤◌, ◌∷◌, [], true, false, Some, None, IfSome, length, vec_len, slice_index_or};
 ghost use Rattle.lrlex_table.specs.Cell.{row_in};
 ghost use Rattle.lrlex_table.specs.Table.{next_rows, next_of};
-ghost use Rattle.lrlex_table.specs.Chain.{row_behind, base_of, GoesTo, IsChainOf, NamesWinners};
+ghost use Rattle.lrlex_table.specs.Chain.{row_behind, list_of, base_of, start_of, name_of, IsIn, IsOnly, BeginsIn, GoesTo, NamesWinners, IsChainOfLists};
+ghost use Rattle.lrlex_table.specs.declared.merged_tables.Part.{Part};
 
 use crate::chain::Chain;
 use crate::marks::next;
 use crate::merged_tables::Part;
 use crate::table::Table;
+use crate::tables::Tables;
 
 /// Whether each cell of a row equals that of the first byte of its class.
 fn is_alike(cells: &[u16], firsts: &[u8; 256]) -> bool
@@ -17,6 +19,18 @@ fn is_alike(cells: &[u16], firsts: &[u8; 256]) -> bool
 {
     'bytes: for byte in 0..256usize {
         if cells[byte] != cells[firsts[byte] as usize] {
+            return false;
+        }
+    }
+    true
+}
+
+/// Whether a character may begin with each byte, if it may with the first of its class.
+fn begin_alike(firsts: &[u8; 256]) -> bool
+    ensures { result ≡ true → (b : ℕ) → b < 256 → (128 ≤ slice_index_or firsts.now b 0 → 192 ≤ slice_index_or firsts.now b 0) → 128 ≤ b → 192 ≤ b }
+{
+    'bytes: for byte in 0..256usize {
+        if begins_character(firsts[byte]) && !begins_character(byte as u8) {
             return false;
         }
     }
@@ -38,8 +52,42 @@ impl Table {
     }
 }
 
+/// Whether a character may begin with this byte.
+#[inline(always)]
+pub(crate) fn begins_character(byte: u8) -> bool
+    ensures begins { result ≡ true → 128 ≤ byte → 192 ≤ byte }
+    ensures goes_on { result ≡ false → (128 ≤ byte) × (byte < 192) }
+{
+    byte < 128 || byte >= 192
+}
+
+/// The only table of the list, where each of its patterns is in it.
+pub(crate) fn only_part(lists: &[Tables], list: usize) -> Option<&Part>
+    ensures { IfSome result (λ p. IsOnly lists.now list p.now) }
+{
+    let tables = lists.get(list)?;
+    if tables.asked.len() > 0 {
+        return None;
+    }
+    tables.only()
+}
+
 impl Chain {
-    /// The table's row for which the row stands.
+    /// The row where a walk for the list begins, if the list is in the chain.
+    pub(crate) fn start_of(&self, list: usize) -> Option<usize>
+        ensures row { IfSome result (λ r. r ≡ start_of self.now list) }
+        ensures within { IfSome result (λ _. IsIn self.now list) }
+        ensures without { result ≡ None → vec_len self.now.bases ≤ start_of self.now list }
+    {
+        let row = *self.starts.get(list)? as usize;
+        if row < self.bases.len() {
+            Some(row)
+        } else {
+            None
+        }
+    }
+
+    /// The row of its list's table for which the row stands.
     #[inline(always)]
     pub(crate) fn base_of(&self, row: usize) -> u16
         ensures { result ≡ base_of self.now row }
@@ -50,40 +98,60 @@ impl Chain {
         }
     }
 
-    /// Whether the row goes on the byte as the table says.
+    /// The list of the row.
     #[inline(always)]
-    fn goes_as(&self, table: &Table, row: usize, byte: u8) -> bool
+    pub(crate) fn list_of(&self, row: usize) -> usize
+        ensures { result ≡ list_of self.now row }
+    {
+        match self.names.get(row) {
+            Some(name) => name.list as usize,
+            None => 0,
+        }
+    }
+
+    /// Whether the row goes on the byte as the tables of the lists say.
+    #[inline(always)]
+    fn goes_as(&self, lists: &[Tables], row: usize, byte: u8) -> bool
         requires { row < vec_len self.now.bases }
-        ensures { result ≡ true → GoesTo table.now self.now row byte
+        ensures { result ≡ true → (l : ℕ) (p : Part) → IsOnly lists.now l p → GoesTo p.table l self.now row byte
             (row_behind self.now.cells.items self.now.columns.items row byte) }
     {
         let to = next(&self.cells, &self.columns, self.bases.len(), row, byte);
+        let list = self.list_of(row);
+        let Some(part) = only_part(lists, list) else {
+            return false
+        };
         let base = self.base_of(row);
-        let on = table.next_of(base, byte);
+        let on = part.table.next_of(base, byte);
+        let then = self.list_of(to);
         let stands_for = self.base_of(to);
         if to < self.fresh {
-            return stands_for == on;
+            return then == list && stands_for == on;
         }
+        let Some(other) = only_part(lists, then) else {
+            return false
+        };
         on == 0
-            && table.win_of(base).is_some()
-            && stands_for == table.next_of(table.start, byte)
-            && stands_for != 0
+            && begins_character(byte)
+            && part.table.win_of(base).is_some()
+            && base != part.table.start
+            && stands_for == other.table.next_of(other.table.start, byte)
     }
 
-    /// Whether each row goes on the byte as the table says.
-    fn all_go_as(&self, table: &Table, byte: u8) -> bool
-        ensures { result ≡ true → (r : ℕ) → r < vec_len self.now.bases → GoesTo table.now self.now r byte
-            (row_behind self.now.cells.items self.now.columns.items r byte) }
+    /// Whether each row goes on the byte as the tables of the lists say.
+    fn all_go_as(&self, lists: &[Tables], byte: u8) -> bool
+        ensures { result ≡ true → (r : ℕ) → r < vec_len self.now.bases → (l : ℕ) (p : Part) → IsOnly lists.now l p →
+            GoesTo p.table l self.now r byte (row_behind self.now.cells.items self.now.columns.items r byte) }
     {
         'rows: for row in 0..self.bases.len() {
-            if !self.goes_as(table, row, byte) {
+            if !self.goes_as(lists, row, byte) {
                 return false;
             }
         }
         true
     }
 
-    /// Whether each byte has the column of the first byte of its class, which is the first of its own.
+    /// Whether the byte has the same column as the first one of its class.
     fn has_column_of(&self, first: usize, byte: usize) -> bool
         requires first { first < 256 }
         requires byte { byte < 256 }
@@ -93,45 +161,116 @@ impl Chain {
         self.columns[byte] == self.columns[first]
     }
 
-    /// Whether it is a chain of this table, where these are the first bytes of the classes of all bytes.
-    pub(crate) fn is_of(&self, table: &Table, firsts: &[u8; 256]) -> bool
-        ensures { result ≡ true → IsChainOf table.now self.now }
+    /// Whether each row goes on each byte as on the first of its class, which is the first of its own, and on that as the tables of the lists
+    /// say.
+    fn goes_by_classes(&self, lists: &[Tables], firsts: &[u8; 256]) -> bool
+        ensures { result ≡ true → (r b : ℕ) → r < vec_len self.now.bases → b < 256 → (l : ℕ) (p : Part) → IsOnly lists.now l p →
+            GoesTo p.table l self.now r (slice_index_or firsts.now b 0) (row_behind self.now.cells.items self.now.columns.items r b) }
     {
-        if !table.are_classes(firsts) {
-            return false;
-        }
         'bytes: for byte in 0..256usize {
             let first = firsts[byte] as usize;
             if first == byte {
-                if !self.all_go_as(table, byte as u8) {
+                if !self.all_go_as(lists, byte as u8) {
                     return false;
                 }
             } else if firsts[first] as usize != first || !self.has_column_of(first, byte) {
                 return false;
             }
         }
-        if self.base_of(self.start) != table.start {
-            return false;
+        true
+    }
+
+    /// Whether the list, if it is in the chain, has one table of all its patterns, which goes alike on bytes of one class, and whether
+    /// its walks begin where that of their list does.
+    fn begins_as(&self, lists: &[Tables], list: usize, firsts: &[u8; 256]) -> bool
+        ensures only { result ≡ true → IsIn self.now list → (p : Part) × IsOnly lists.now list p }
+        ensures classes { result ≡ true → IsIn self.now list → (p : Part) → IsOnly lists.now list p → (r b : ℕ) → b < 256 →
+            next_of (next_rows p.table) r (Some b) ≡ next_of (next_rows p.table) r (Some (slice_index_or firsts.now b 0)) }
+        ensures begins { result ≡ true → IsIn self.now list → (l : ℕ) (p : Part) → IsOnly lists.now l p →
+            BeginsIn p.table l self.now (start_of self.now list) }
+    {
+        let Some(row) = self.start_of(list) else {
+            return true
+        };
+        let Some(part) = only_part(lists, list) else {
+            return false
+        };
+        self.list_of(row) == list
+            && self.base_of(row) == part.table.start
+            && part.table.are_classes(firsts)
+    }
+
+    /// Whether all lists in the chain begin as they do, and each row is of one of them.
+    fn begins_as_lists(&self, lists: &[Tables], firsts: &[u8; 256]) -> bool
+        ensures only { result ≡ true → (m : ℕ) → IsIn self.now m → (p : Part) × IsOnly lists.now m p }
+        ensures classes { result ≡ true → (m : ℕ) → IsIn self.now m → (p : Part) → IsOnly lists.now m p → (r b : ℕ) → b < 256 →
+            next_of (next_rows p.table) r (Some b) ≡ next_of (next_rows p.table) r (Some (slice_index_or firsts.now b 0)) }
+        ensures begins { result ≡ true → (m : ℕ) → IsIn self.now m → (l : ℕ) (p : Part) → IsOnly lists.now l p →
+            BeginsIn p.table l self.now (start_of self.now m) }
+    {
+        'lists: for list in 0..self.starts.len() {
+            if !self.begins_as(lists, list, firsts) {
+                return false;
+            }
         }
         true
     }
 
-    /// Whether it names the part's winners.
-    pub(crate) fn names_winners(&self, part: &Part) -> bool
-        ensures { result ≡ true → NamesWinners part.now self.now }
+    /// Whether each row is of a list in the chain.
+    fn rows_are_in(&self) -> bool
+        ensures { result ≡ true → (r : ℕ) → r < vec_len self.now.bases → IsIn self.now (list_of self.now r) }
     {
         'rows: for row in 0..self.bases.len() {
-            if let Some(won) = part.table.win_of(self.bases[row]) {
-                let named = self.wins.get(row).copied();
-                let place = part.patterns.get(won as usize).copied();
-                if named.is_none()
-                    || place.is_none()
-                    || named.map(|n: u16| -> usize { n as usize }) != place
-                {
-                    return false;
-                }
+            if self.start_of(self.list_of(row)).is_none() {
+                return false;
             }
         }
         true
+    }
+
+    /// Whether the row, where a pattern wins, has its place in its list.
+    fn is_named(&self, lists: &[Tables], row: usize) -> bool
+        requires { row < vec_len self.now.bases }
+        ensures { result ≡ true → (l : ℕ) (p : Part) (k : ℕ) → IsOnly lists.now l p → list_of self.now row ≡ l →
+            slice_index_or p.table.wins.items (base_of self.now row) None ≡ Some k → name_of self.now row ≡ slice_index_or p.patterns.items k 0 }
+    {
+        let Some(part) = only_part(lists, self.list_of(row)) else {
+            return false
+        };
+        let Some(won) = part.table.win_of(self.base_of(row)) else {
+            return true
+        };
+        let Some(name) = self.names.get(row) else {
+            return false
+        };
+        let Some(place) = part.patterns.get(won as usize) else {
+            return false
+        };
+        name.pattern as usize == *place
+    }
+
+    /// Whether each row where a pattern wins has its place in its list.
+    fn names_winners(&self, lists: &[Tables]) -> bool
+        ensures { result ≡ true → (l : ℕ) (p : Part) → IsOnly lists.now l p → NamesWinners p l self.now }
+    {
+        'rows: for row in 0..self.bases.len() {
+            if !self.is_named(lists, row) {
+                return false;
+            }
+        }
+        true
+    }
+
+    /// Whether it is a chain of these lists, where these are the first bytes of the classes of all bytes.
+    pub(crate) fn is_of(&self, lists: &[Tables], firsts: &[u8; 256]) -> bool
+        ensures { result ≡ true → IsChainOfLists lists.now self.now }
+    {
+        if !self.begins_as_lists(lists, firsts) || !self.rows_are_in() {
+            return false;
+        }
+        if !begin_alike(firsts) || !self.goes_by_classes(lists, firsts) {
+            return false;
+        }
+        self.names_winners(lists)
     }
 }

@@ -1,15 +1,18 @@
 //! Dead ends of a text: rows and places from which a walk goes on in vain. A later walk that comes to one stops there.
 ghost use Rattle.std.specs.Prelude.{◌≡◌, ◌≢◌, ℕ, ◌+◌, ◌-◌, ◌*◌, ◌^◌, ◌<◌, ◌≤◌, min, List, length, drop, Some, None, IfSome, MatchOption, slice_get, vec_len, true, false, [], IsCharBoundary};
 ghost use Rattle.std.specs.HashMap.{hash_map_len};
+ghost use Rattle.std.specs.Option.{ForSome};
 ghost use Rattle.regex.specs.Patterns.{Re};
 ghost use Rattle.lrlex_table.specs.Table.{EndsInRowOf};
 ghost use Rattle.lrlex_table.specs.Reach.{IsDecidedBy};
 ghost use Rattle.lrlex_table.specs.Tables.{is_among, is_tabled, IsPartOf, AreTablesOf, IsBestAmong, IsTableScanOf, len_of};
 ghost use Rattle.lrlex_table.specs.Work.{cells, reach_of, IsLook};
-ghost use Rattle.lrlex_table.specs.Ahead.{AreAheadIn};
+ghost use Rattle.lrlex_table.specs.Ahead.{AreAheadIn, AreWonAhead};
+ghost use Rattle.lrlex_table.specs.Chain.{IsChainOfLists};
 ghost use Rattle.lrlex_table.specs.DeadEnds.{table_at, more_of, AreDeadEndsIn, AreUpTo, AreWithin, HasNoneFrom, IsDeadEndIn, IsDue, IsStop, IsVainPast, IsWithin};
 
 use crate::ahead::Ahead;
+use crate::chain::Chain;
 use crate::merged_tables::{Part, combined};
 use crate::table::{MARK, Table, row_of};
 use crate::tables::Tables;
@@ -35,6 +38,8 @@ pub struct DeadEnd {
 #[derive(Drop)]
 pub struct DeadEnds<'d, 't> {
     pub(crate) lists: &'d [Tables],
+    /// The chain of those lists that are in it.
+    pub(crate) chain: Option<&'d Chain>,
     pub(crate) text: &'t str,
     /// How many bytes are read from a dead end on, by its list, part, row and place.
     pub(crate) known: HashMap<(usize, usize, u16, usize), usize>,
@@ -48,7 +53,9 @@ pub struct DeadEnds<'d, 't> {
     ghost right: { AreDeadEndsIn lists.now text.now known },
     ghost up_to: { AreUpTo known_to known },
     ghost within: { AreWithin lists.now text.now known },
-    ghost marked: { AreAheadIn lists.now text.now ahead },
+    ghost marked: { AreAheadIn text.now ahead },
+    ghost won: { ForSome chain (λ c. AreWonAhead lists.now c.now text.now ahead) },
+    ghost chained: { ForSome chain (λ c. IsChainOfLists lists.now c.now) },
 }
 
 /// Whether a dead end is kept at this place, so many bytes after the walk's last match.

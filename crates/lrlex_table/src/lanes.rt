@@ -1,10 +1,10 @@
 //! Marks in a block of the text, found in two lanes: where the second meets the first, its marks go on with the first's.
-ghost use Rattle.std.specs.Prelude.{◌≡◌, ◌+◌, ◌<◌, ◌≤◌, length, vec_len, IfSome};
-ghost use Rattle.lrlex_table.specs.Chain.{begin_of, IsChainOf, AreMarksOf, AreJoined};
+ghost use Rattle.std.specs.Prelude.{◌≡◌, ℕ, ◌+◌, ◌<◌, ◌≤◌, length, vec_len, IfSome};
+ghost use Rattle.lrlex_table.specs.Chain.{begin_of, BeginsIn, IsChainOf, AreMarksOf, AreJoined};
 ghost use Rattle.lrlex_table.specs.declared.table.Table.{Table};
 
 use crate::chain::Chain;
-use crate::marks::{Mark, begun, next};
+use crate::marks::{Mark, Name, begun, next};
 
 /// The fewest bytes in which there are two lanes.
 const LEAST_BYTES: usize = 1024;
@@ -46,16 +46,25 @@ fn begin_in(marks: &[Mark], first: usize, at: usize) -> usize
     marks[at - 1].end as usize
 }
 
-/// Behind how many marks of the first lane, and how many of the second, a match of both begins at one place: where they first meet.
-/// All marks of both, where they don't.
+/// The list of the row in which a match is, or at last no list's number.
+fn list_in(names: &[Name], mark: Mark) -> u16 {
+    match names.get(mark.row as usize) {
+        Some(name) => name.list,
+        None => u16::MAX,
+    }
+}
+
+/// Behind how many marks of the first lane, and how many of the second, a match of both begins at one place, in one list: where they first
+/// meet. All marks of both, where they don't.
 fn meeting(
+    names: &[Name],
     first: &[Mark],
     count: usize,
     apart: usize,
     second: &[Mark],
     others: usize,
 ) -> (usize, usize)
-    requires count { count ≤ length first.now }
+    requires count { count < length first.now }
     requires others { others ≤ length second.now }
     ensures first { result.0 ≤ count }
     ensures second { result.1 ≤ others }
@@ -70,7 +79,7 @@ fn meeting(
     'marks: while at <= count && then < others {
         let here = begin_in(first, 0, at);
         let there = begin_in(second, apart, then);
-        if here == there {
+        if here == there && list_in(names, first[at]) == list_in(names, second[then]) {
             return (at, then);
         }
         if here < there {
@@ -84,14 +93,21 @@ fn meeting(
 
 /// Goes on from the first lane's marks with the second's, from where the lanes meet. Returns how many marks there are then: those of the
 /// first lane alone, where they don't meet.
-fn join(first: &mut [Mark], count: usize, apart: usize, second: &[Mark], others: usize) -> usize
-    requires count { count ≤ length first.old }
+fn join(
+    names: &[Name],
+    first: &mut [Mark],
+    count: usize,
+    apart: usize,
+    second: &[Mark],
+    others: usize,
+) -> usize
+    requires count { count < length first.old }
     requires others { others ≤ length second.now }
     ensures room { length first.new ≡ length first.old }
     ensures within { result ≤ length first.new }
     ensures joined { AreJoined first.old count apart second.now others first.new result }
 {
-    let (at, then) = meeting(first, count, apart, second, others);
+    let (at, then) = meeting(names, first, count, apart, second, others);
     let more = (others - then).min(first.len() - at);
     'marks: for next in 0..more {
         first[at + next] = second[then + next];
@@ -101,10 +117,12 @@ fn join(first: &mut [Mark], count: usize, apart: usize, second: &[Mark], others:
 
 impl Chain {
     /// Marks where matches end as `mark` does, in two lanes side by side of so many bytes each: one from `from` on, and one that begins
-    /// `apart` bytes later. Neither waits for the other, so both take little longer than one. Returns how many matches were found in each.
+    /// `apart` bytes later, in these rows. Neither waits for the other, so both take little longer than one. Returns how many matches were found in each.
     #[inline(never)]
     pub(crate) fn mark_both(
         &self,
+        begin: usize,
+        later: usize,
         text: &[u8],
         from: usize,
         apart: usize,
@@ -112,6 +130,10 @@ impl Chain {
         first: &mut [Mark],
         second: &mut [Mark],
     ) -> (usize, usize)
+        requires row { begin < vec_len self.now.bases }
+        requires begins { (t : Table) (l : ℕ) → IsChainOf t l self.now → BeginsIn t l self.now begin }
+        requires row_later { later < vec_len self.now.bases }
+        requires begins_later { (t : Table) (l : ℕ) → IsChainOf t l self.now → BeginsIn t l self.now later }
         requires inside { from + apart + many ≤ length text.now }
         requires short { apart + many ≤ 8192 }
         requires room_first { many < length first.old }
@@ -120,18 +142,18 @@ impl Chain {
         ensures others { result.1 ≤ many }
         ensures room_first { length first.new ≡ length first.old }
         ensures room_second { length second.new ≡ length second.old }
-        ensures first { (t : Table) → IsChainOf t self.now →
-            AreMarksOf t self.now text.now from 0 first.new result.0 }
-        ensures second { (t : Table) → IsChainOf t self.now →
-            AreMarksOf t self.now text.now from apart second.new result.1 }
+        ensures first { (t : Table) (l : ℕ) → IsChainOf t l self.now →
+            AreMarksOf t l self.now text.now from 0 first.new result.0 }
+        ensures second { (t : Table) (l : ℕ) → IsChainOf t l self.now →
+            AreMarksOf t l self.now text.now from apart second.new result.1 }
     {
         let cells = self.cells.as_slice();
         let columns = self.columns.as_slice();
         let height = self.bases.len();
         let fresh = self.fresh;
-        let mut row = self.start;
+        let mut row = begin;
         let mut count = 0usize;
-        let mut other = self.start;
+        let mut other = later;
         let mut others = 0usize;
         'bytes: for at in 0..many {
             let behind = next(cells, columns, height, row, text[from + at]);
@@ -141,11 +163,11 @@ impl Chain {
             };
             count += begun(behind, fresh);
             row = behind;
-            let later = apart + at;
-            let after = next(cells, columns, height, other, text[from + later]);
+            let behind_it = apart + at;
+            let after = next(cells, columns, height, other, text[from + behind_it]);
             second[others] = Mark {
                 row: other as u16,
-                end: later as u16,
+                end: behind_it as u16,
             };
             others += begun(after, fresh);
             other = after;
@@ -154,15 +176,18 @@ impl Chain {
     }
 
     /// Marks where matches end in so many bytes of the text from `from` on, as `mark` does, and in two lanes where there is a place for
-    /// the second to begin.
+    /// the second to begin. It begins with the first of all lists, in which a line mostly begins, or else in this row.
     pub(crate) fn mark_in_lanes(
         &self,
+        begin: usize,
         text: &[u8],
         from: usize,
         many: usize,
         marks: &mut [Mark],
         more: &mut [Mark],
     ) -> usize
+        requires row { begin < vec_len self.now.bases }
+        requires begins { (t : Table) (l : ℕ) → IsChainOf t l self.now → BeginsIn t l self.now begin }
         requires inside { from + many ≤ length text.now }
         requires short { many ≤ 8192 }
         requires room { many < length marks.old }
@@ -170,13 +195,26 @@ impl Chain {
         ensures count { result ≤ length marks.new }
         ensures room { length marks.new ≡ length marks.old }
         ensures room_for_more { length more.new ≡ length more.old }
-        ensures marks { (t : Table) → IsChainOf t self.now →
-            AreMarksOf t self.now text.now from 0 marks.new result }
+        ensures marks { (t : Table) (l : ℕ) → IsChainOf t l self.now →
+            AreMarksOf t l self.now text.now from 0 marks.new result }
     {
         let Some(apart) = second_start(text, from, many) else {
-            return self.mark(text, from, many, marks);
+            return self.mark(begin, text, from, many, marks);
         };
-        let (count, others) = self.mark_both(text, from, apart, many - apart, marks, more);
-        join(marks, count, apart, more, others)
+        let later = match self.start_of(0) {
+            Some(row) => row,
+            None => begin,
+        };
+        let (count, others) = self.mark_both(
+            begin,
+            later,
+            text,
+            from,
+            apart,
+            many - apart,
+            marks,
+            more,
+        );
+        join(&self.names, marks, count, apart, more, others)
     }
 }

@@ -31,7 +31,7 @@ mod walk;
 pub use budget::Budget;
 pub use cached_table::CachedTable;
 pub use chain::Chain;
-pub use chaining::add_chains;
+pub use chaining::chain_for;
 pub use dead_ends::{DeadEnd, DeadEnds};
 pub use merged_tables::{Part, joined_tables, tables_between};
 pub use never::may_win_in;

@@ -2,12 +2,14 @@
 ghost use Rattle.std.specs.Prelude.{◌≡◌, ℕ, ◌+◌, ◌-◌, ◌*◌, ◌/◌, ◌^◌, ◌<◌, ◌≤◌, max, min, List, length, drop, Some, None, IfSome, MatchOption, slice_get, vec_len, true, false, [], if◌then◌else◌};
 ghost use Rattle.std.specs.HashMap.{hash_map_len};
 ghost use Rattle.regex.specs.Patterns.{Re};
+ghost use Rattle.lrlex_table.specs.Chain.{IsChainOfLists};
 ghost use Rattle.lrlex_table.specs.Reach.{IsDecidedBy};
 ghost use Rattle.lrlex_table.specs.Tables.{is_tabled, AreTablesOf, IsBestAmong, len_of};
 ghost use Rattle.lrlex_table.specs.Work.{IsLook};
 ghost use Rattle.lrlex_table.specs.Linear.{HasWorkedTo, count_of_rows, most_cells};
 
 use crate::ahead::Ahead;
+use crate::chain::Chain;
 use crate::dead_ends::DeadEnds;
 use crate::tables::Tables;
 use crate::walk::{FAR, TableScan};
@@ -15,14 +17,16 @@ use std::alloc::Global;
 use std::collections::HashMap;
 
 impl<'d, 't> DeadEnds<'d, 't> {
-    /// No dead ends yet, for this text and the tables of these lists.
-    pub fn new(alloc: Global, lists: &'d [Tables], text: &'t str) -> Self
+    /// No dead ends yet, for this text, the tables of these lists, and their chain.
+    pub fn new(alloc: Global, lists: &'d [Tables], chain: Option<&'d Chain>, text: &'t str) -> Self
+        requires chain { IfSome chain (λ c. IsChainOfLists lists.now c.now) }
         ensures lists { result.lists.now ≡ lists.now }
         ensures text { result.text.now ≡ text.now }
         ensures linear { (most from : ℕ) → HasWorkedTo most from from result }
     {
         DeadEnds {
             lists,
+            chain,
             text,
             known: HashMap::new(alloc),
             known_to: 0,

@@ -6,6 +6,8 @@ ghost use Rattle.lrlex_table.specs.Looking.{HasSameEnds};
 ghost use Rattle.lrlex_table.specs.Linear.{HasWorkedTo};
 ghost use Rattle.lrlex_table.specs.Tables.{is_tabled, AreTablesOf, IsBestAmong};
 
+use crate::ahead::{MOST_WAIT, TRY_AGAIN};
+use crate::chain::Chain;
 use crate::dead_ends::DeadEnds;
 use crate::tables::Tables;
 use crate::walk::PatternMatch;
@@ -15,11 +17,13 @@ impl<'d, 't> DeadEnds<'d, 't> {
     #[inline(always)]
     fn take(
         &mut self,
+        chain: Option<&Chain>,
         tables: &Tables,
         list: usize,
         place: usize,
         text: &str,
     ) -> Option<PatternMatch>
+        requires chain { chain ≡ self.old.chain }
         requires tables { slice_get self.old.lists.now list ≡ Some tables.now }
         requires text { text.now ≡ self.old.text.now }
         ensures tabled { IfSome result (λ _. tables.now.asked.items ≡ []) }
@@ -36,19 +40,28 @@ impl<'d, 't> DeadEnds<'d, 't> {
     {
         let _ = tables;
         let _ = text;
-        if self.ahead.begin != place || self.ahead.list != list {
+        if self.ahead.begin != place {
             return None;
         }
         let at = self.ahead.at;
-        if at >= self.ahead.found.len() {
+        if at >= self.ahead.count {
             return None;
         }
-        let found = self.ahead.found[at];
-        let end = self.ahead.from + found.end as usize;
+        let mark = self.ahead.marks[at];
+        let Some(chain) = chain else {
+            return None;
+        };
+        let Some(name) = chain.name_of(mark.row) else {
+            return None;
+        };
+        if name.list as usize != list {
+            return None;
+        }
+        let end = self.ahead.from + mark.end as usize;
         self.ahead.at = at + 1;
         self.ahead.begin = end;
         Some(PatternMatch {
-            pattern: found.pattern as usize,
+            pattern: name.pattern as usize,
             len: end - place,
         })
     }
@@ -70,27 +83,27 @@ impl<'d, 't> DeadEnds<'d, 't> {
         ensures counted { self.old.ahead.cells ≤ self.new.ahead.cells }
         ensures linear { (most from at : ℕ) → HasWorkedTo most from at self.old → HasWorkedTo most from at self.new }
     {
+        let chain = self.chain;
         let text = self.text;
-        self.take(tables, list, place, text)
+        self.take(chain, tables, list, place, text)
     }
 
-    /// Passes the matches that were found ahead for this list, up to the first that begins at this place or after it.
-    fn pass_to(&mut self, tables: &Tables, list: usize, place: usize)
-        requires tables { slice_get self.old.lists.now list ≡ Some tables.now }
-        requires list { self.old.ahead.list ≡ list }
+    /// Passes the matches that were found ahead, up to the first that begins at this place or after it.
+    fn pass_to(&mut self, place: usize, text: &str)
+        requires text { text.now ≡ self.old.text.now }
         ensures lists { self.new.lists ≡ self.old.lists }
         ensures text { self.new.text ≡ self.old.text }
         ensures ends { HasSameEnds self.old self.new }
         ensures counted { self.old.ahead.cells ≤ self.new.ahead.cells }
         ensures linear { (most from at : ℕ) → HasWorkedTo most from at self.old → HasWorkedTo most from at self.new }
     {
-        let _ = tables;
-        let most = self.ahead.found.len();
+        let _ = text;
+        let most = self.ahead.count;
         let first = self.ahead.begin;
         let mut at = self.ahead.at;
         let mut begin = first;
         'passed: while at < most && begin < place {
-            begin = self.ahead.from + self.ahead.found[at].end as usize;
+            begin = self.ahead.from + self.ahead.marks[at].end as usize;
             at += 1;
         }
         self.ahead.passed = self
@@ -101,9 +114,9 @@ impl<'d, 't> DeadEnds<'d, 't> {
         self.ahead.begin = begin;
     }
 
-    /// Looks ahead in this text from this place on, if that is due and the list has a chain.
-    fn look_ahead(&mut self, tables: &Tables, list: usize, place: usize, text: &str)
-        requires tables { slice_get self.old.lists.now list ≡ Some tables.now }
+    /// Looks ahead in this text from this place on, if that is due and the list is in the chain.
+    fn look_ahead(&mut self, chain: Option<&Chain>, list: usize, place: usize, text: &str)
+        requires chain { chain ≡ self.old.chain }
         requires text { text.now ≡ self.old.text.now }
         requires inside { place ≤ length text.now }
         requires boundary { IsCharBoundary text.now place }
@@ -113,14 +126,18 @@ impl<'d, 't> DeadEnds<'d, 't> {
         ensures counted { self.old.ahead.cells ≤ self.new.ahead.cells }
         ensures linear { (most from : ℕ) → HasWorkedTo most from place self.old → HasWorkedTo most from place self.new }
     {
-        if !self.ahead.is_due(list, place) {
+        if !self.ahead.is_due(place) {
             return;
         }
-        let Some(chain) = &tables.chain else {
-            self.ahead.put_off(place);
+        let Some(chain) = chain else {
+            self.ahead.put_off(place, MOST_WAIT);
             return;
         };
-        self.ahead.look(chain, text.as_bytes(), place);
+        let Some(begin) = chain.start_of(list) else {
+            self.ahead.put_off(place, TRY_AGAIN);
+            return;
+        };
+        self.ahead.look(chain, begin, text.as_bytes(), place);
     }
 
     /// Which pattern wins at this place, where the next match that was found ahead doesn't begin behind it: passes what isn't of use any more,
@@ -151,11 +168,10 @@ impl<'d, 't> DeadEnds<'d, 't> {
         if self.ahead.has_more() {
             self.ahead.missed = self.ahead.missed.saturating_add(1);
         }
-        if self.ahead.list == list {
-            self.pass_to(tables, list, place);
-        }
-        if self.ahead.is_spent(list, place) {
-            self.look_ahead(tables, list, place, text);
+        self.pass_to(place, text);
+        if self.ahead.is_spent(place) {
+            let chain = self.chain;
+            self.look_ahead(chain, list, place, text);
         }
         self.ahead_at(tables, list, place)
     }

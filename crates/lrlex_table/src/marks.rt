@@ -1,7 +1,6 @@
 //! The walk through a chain, which finds many matches in a row without a branch that depends on the text.
-ghost use Rattle.std.specs.Prelude.{◌≡◌, ◌+◌, ◌<◌, ◌≤◌, All, length, vec_len, vec_capacity};
-ghost use Rattle.lrlex_table.specs.Ahead.{AreNamed};
-ghost use Rattle.lrlex_table.specs.Chain.{row_behind, IsChainOf, AreMarksOf};
+ghost use Rattle.std.specs.Prelude.{◌≡◌, ℕ, ◌+◌, ◌<◌, ◌≤◌, All, length, vec_len, IfSome};
+ghost use Rattle.lrlex_table.specs.Chain.{row_behind, list_of, name_of, BeginsIn, IsChainOf, AreMarksOf};
 ghost use Rattle.lrlex_table.specs.declared.table.Table.{Table};
 
 use crate::chain::Chain;
@@ -16,11 +15,11 @@ pub(crate) struct Mark {
     pub(crate) end: u16,
 }
 
-/// A match that was found ahead: the place in the list of the pattern that wins, and where the match ends.
+/// A pattern by its list, and its place there.
 #[derive(Clone, Copy)]
-pub(crate) struct Found {
+pub(crate) struct Name {
+    pub(crate) list: u16,
     pub(crate) pattern: u16,
-    pub(crate) end: u16,
 }
 
 /// The row behind this one on the byte.
@@ -48,23 +47,40 @@ pub(crate) fn begun(row: usize, fresh: usize) -> usize
 }
 
 impl Chain {
-    /// Marks where matches end in so many bytes of the text from `from` on: the first begins there, and each other where the one
+    /// The list of the row, and the place in the list of the pattern that wins there, if one does.
+    #[inline(always)]
+    pub(crate) fn name_of(&self, row: u16) -> Option<Name>
+        ensures { IfSome result (λ n. (n.list ≡ list_of self.now row) × (n.pattern ≡ name_of self.now row)) }
+    {
+        self.names.get(row as usize).copied()
+    }
+
+    /// Marks where matches end in so many bytes of the text from `from` on: the first begins there, in this row, and each other where the one
     /// before it ends. Returns how many matches were found. What the list has after these is left over.
     #[inline(never)]
-    pub(crate) fn mark(&self, text: &[u8], from: usize, many: usize, marks: &mut [Mark]) -> usize
+    pub(crate) fn mark(
+        &self,
+        begin: usize,
+        text: &[u8],
+        from: usize,
+        many: usize,
+        marks: &mut [Mark],
+    ) -> usize
+        requires row { begin < vec_len self.now.bases }
+        requires begins { (t : Table) (l : ℕ) → IsChainOf t l self.now → BeginsIn t l self.now begin }
         requires inside { from + many ≤ length text.now }
         requires short { many ≤ 8192 }
         requires room { many < length marks.old }
         ensures count { result ≤ many }
         ensures room { length marks.new ≡ length marks.old }
-        ensures marks { (t : Table) → IsChainOf t self.now →
-            AreMarksOf t self.now text.now from 0 marks.new result }
+        ensures marks { (t : Table) (l : ℕ) → IsChainOf t l self.now →
+            AreMarksOf t l self.now text.now from 0 marks.new result }
     {
         let cells = self.cells.as_slice();
         let columns = self.columns.as_slice();
         let height = self.bases.len();
         let fresh = self.fresh;
-        let mut row = self.start;
+        let mut row = begin;
         let mut count = 0usize;
         'bytes: for at in 0..many {
             let behind = next(cells, columns, height, row, text[from + at]);
@@ -76,30 +92,5 @@ impl Chain {
             row = behind;
         }
         count
-    }
-
-    /// The matches of the first marks, in the list that is handed in, without those that it has. It is handed in whole, so that its length
-    /// needn't be written at each match.
-    #[inline(always)]
-    pub(crate) fn name(&self, marks: &[Mark], count: usize, mut found: Vec<Found>) -> Vec<Found>
-        requires marks { count ≤ length marks.now }
-        requires room { count ≤ vec_capacity found }
-        ensures count { length result.items ≡ count }
-        ensures named { AreNamed self.now marks.now result.items }
-    {
-        found.clear();
-        let wins = self.wins.as_slice();
-        'matches: for at in 0..count {
-            let mark = marks[at];
-            let pattern = match wins.get(mark.row as usize) {
-                Some(pattern) => *pattern,
-                None => 0,
-            };
-            found.push_reserved(Found {
-                pattern,
-                end: mark.end,
-            });
-        }
-        found
     }
 }

@@ -145,11 +145,7 @@ fn alone(
         }
         None => asked.push(index)?,
     }
-    Ok(Tables {
-        parts,
-        asked,
-        chain: None,
-    })
+    Ok(Tables { parts, asked })
 }
 
 /// The tables of the patterns of both, where those of `right` come after those of `left` in the list: as few as can be had
@@ -173,11 +169,7 @@ pub fn joined_tables(
         put(alloc, &mut parts, part, budget)?;
     }
     asked.extend_from_slice(&right.asked)?;
-    Ok(Tables {
-        parts,
-        asked,
-        chain: None,
-    })
+    Ok(Tables { parts, asked })
 }
 
 /// How many rows the table at this place of the cache has, or 1 where there is none.
@@ -373,7 +365,6 @@ impl Tables {
         Ok(Tables {
             parts: Vec::new(alloc),
             asked,
-            chain: None,
         })
     }
 

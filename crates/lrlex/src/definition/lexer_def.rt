@@ -214,10 +214,10 @@ impl<L: LexerTypes> LRNonStreamingLexerDef<L> {
     ghost use Rattle.lrlex_rules.specs.LexBuildError.{IsPlaced};
     ghost use Rattle.lrlex_rules.specs.DefinitionLaws.{IsLawful};
     ghost use Rattle.lrlex.specs.Active.{is_state};
-    ghost use Rattle.lrlex.specs.Views.{definition_of, definition_rules, definition_tables};
-    ghost use Rattle.lrlex_table.specs.Rows.{rows_held};
+    ghost use Rattle.lrlex.specs.Views.{definition_of, definition_rules, rows_held};
 
-    /// Reads a rule text with these flags. The inner `Err` has each fault of the text, and there is at least one.
+    /// Reads a rule text with these flags. The inner `Err` has each fault of the text, and there is at least one. The tables of the
+    /// definition and their chain hold at most 7,000 rows, as under a budget of so many.
     pub fn new_with_options(
         alloc: Global,
         text: &str,
@@ -232,6 +232,7 @@ impl<L: LexerTypes> LRNonStreamingLexerDef<L> {
             (λ d. IsLawful text.now (definition_of L.StorageT.number d))) }
         ensures initial { IfOk result (λ built. IfOk built
             (λ d. is_state (definition_of L.StorageT.number d) 0 ≡ true)) }
+        ensures within { IfOk result (λ built. IfOk built (λ d. rows_held d ≤ 7000)) }
     {
         LRNonStreamingLexerDef::new_with_budget(alloc, text, flags, usual_budget())
     }
@@ -254,7 +255,7 @@ impl<L: LexerTypes> LRNonStreamingLexerDef<L> {
     }
 
     /// Reads a rule text with these flags, as `new_with_options` does, and makes tables that cost no more than the budget.
-    /// They and their chains hold at most the budget's rows, a chain one for each 256 cells. Under a budget of nothing each rule
+    /// They and their chain hold at most the budget's rows, the chain one for each 256 cells. Under a budget of nothing each rule
     /// is matched by `regex`. No answer depends on the budget.
     pub fn new_with_budget(
         alloc: Global,
@@ -272,7 +273,7 @@ impl<L: LexerTypes> LRNonStreamingLexerDef<L> {
         ensures initial { IfOk result (λ built. IfOk built
             (λ d. is_state (definition_of L.StorageT.number d) 0 ≡ true)) }
         ensures within { IfOk result (λ built. IfOk built
-            (λ d. rows_held (definition_tables d) ≤ budget.rows)) }
+            (λ d. rows_held d ≤ budget.rows)) }
     {
         match RuleTable::read(alloc, text, flags, budget)? {
             Ok(table) => Ok(Ok(LRNonStreamingLexerDef { table })),

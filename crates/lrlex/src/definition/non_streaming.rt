@@ -17,20 +17,19 @@ pub struct LRNonStreamingLexerDef<L: LexerTypes> {
 }
 
 impl<L: LexerTypes> LRNonStreamingLexerDef<L> {
-    ghost use Rattle.lrlex.specs.Views.{definition_of, definition_tables};
+    ghost use Rattle.lrlex.specs.Views.{definition_of, definition_tables, rows_held};
     ghost use Rattle.std.specs.Prelude.{Some, option_map, min, IfOk, ◌-◌, ◌^◌};
     ghost use Rattle.lrlex.specs.StateTables.{count_of_tables, count_of_asked, most_tables};
     ghost use Rattle.lrlex_table.specs.Linear.{count_of_rows, most_cells};
-    ghost use Rattle.lrlex_table.specs.Rows.{rows_held};
     ghost use Rattle.lrlex.specs.Ids.{name_of};
 
-    /// This definition with tables that cost no more than the budget. They and their chains hold at most its rows, a chain one
-    /// for each 256 cells. Under a budget of nothing each rule is matched by `regex`. No answer changes. `new_with_budget` makes
+    /// This definition with tables that cost no more than the budget. They and their chain hold at most its rows, the chain
+    /// one for each 256 cells. Under a budget of nothing each rule is matched by `regex`. No answer changes. `new_with_budget` makes
     /// such a definition at once.
     pub fn with_budget(self, alloc: Global, budget: Budget) -> Result<Self, AllocError>
         ensures same { IfOk result (λ d. definition_of L.StorageT.number d
             ≡ definition_of L.StorageT.number self) }
-        ensures within { IfOk result (λ d. rows_held (definition_tables d) ≤ budget.rows) }
+        ensures within { IfOk result (λ d. rows_held d ≤ budget.rows) }
     {
         let table = self.table.within(alloc, budget)?;
         Ok(LRNonStreamingLexerDef { table })

@@ -1,19 +1,20 @@
-ghost use Rattle.std.specs.Prelude.{◌≡◌, ◌<◌, ◌≤◌, All, length, map, true, IsTrue};
+ghost use Rattle.std.specs.Prelude.{◌≡◌, ◌+◌, ◌<◌, ◌≤◌, All, length, map, true, IsTrue};
 ghost use Rattle.lrlex.specs.Active.{active_places, is_state, lacks_target};
 ghost use Rattle.lrlex_rules.specs.RuleParts.{as_rule, as_state};
-ghost use Rattle.lrlex.specs.StateTables.{AreServed, ArePlaced, list_in};
+ghost use Rattle.lrlex.specs.StateTables.{AreServed, ArePlaced, chains_rows, list_in};
+ghost use Rattle.lrlex_table.specs.Chain.{IsChainOfLists};
 ghost use Rattle.lrlex_table.specs.Rows.{rows_held};
 ghost use Rattle.lrlex.specs.Ids.{HaveDistinctIds};
 ghost use Rattle.lrlex.specs.Kinds.{kind_of};
 
 use crate::definition::active::{are_placed, has_state, position_of};
 use crate::definition::active_lists::lists_for;
+use crate::definition::followers::chained_tables;
 use crate::definition::kinds::{Kind, kinds_of};
 use crate::definition::names::have_own_ids;
-use crate::definition::state_tables::tables_for;
 use lrlex_base::Numbered;
 use lrlex_rules::{LexBuildResult, LexFlags, Rule, RuleFile, StartState, parse_rule_file};
-use lrlex_table::{Budget, Tables};
+use lrlex_table::{Budget, Chain, Tables};
 use std::alloc::{AllocError, Global};
 
 /// What the tables of a definition may cost: rows, of some 512 bytes each, and work, in units of about a nanosecond.
@@ -22,7 +23,9 @@ const MOST_ROWS: usize = 7_000;
 const MOST_WORK: usize = 40_000_000;
 
 /// The usual budget.
-pub(crate) fn usual_budget() -> Budget {
+pub(crate) fn usual_budget() -> Budget
+    ensures { result.rows ≡ 7000 }
+{
     Budget::new(MOST_ROWS, MOST_WORK)
 }
 
@@ -42,6 +45,8 @@ pub(crate) struct RuleTable<S> {
     pub(crate) lists: Vec<Vec<usize>>,
     /// The tables of each list.
     pub(crate) tables: Vec<Tables>,
+    /// Their chain, if there is one. It isn't an `Option`: dropping one in a struct with facts costs callers a proof.
+    pub(crate) chains: Vec<Chain>,
     /// Which of the lists each state has.
     pub(crate) list_at: Vec<usize>,
     ghost distinct: { IsTrue own_ids → HaveDistinctIds rules.items },
@@ -50,6 +55,7 @@ pub(crate) struct RuleTable<S> {
     ghost listed: { map (list_in (map (λ v. v.items) lists.items)) list_at.items ≡ map (λ s. active_places (map as_state start_states.items) (map (as_rule (λ _. 0)) rules.items) (as_state s).id) start_states.items },
     ghost served: { ∥ AreServed rules.items (map (λ v. v.items) lists.items) tables.items ∥₁ },
     ghost each: { length tables.items ≡ length lists.items },
+    ghost chained: { All (IsChainOfLists tables.items) chains.items },
     ghost within: { All (λ j. j < length lists.items) list_at.items },
 }
 
@@ -69,11 +75,19 @@ impl<S: Copy> RuleTable<S> {
         ensures rules { IfOk result (λ t. t.rules ≡ rules) }
         ensures states { IfOk result (λ t. t.start_states ≡ start_states) }
         ensures flags { IfOk result (λ t. t.flags ≡ flags) }
-        ensures paid { IfOk result (λ t. rows_held t.tables.items ≤ budget.rows) }
+        ensures paid { IfOk result (λ t. rows_held t.tables.items + chains_rows t.chains.items ≤ budget.rows) }
     {
         let placed = are_placed(&start_states);
         let (lists, list_at) = lists_for(alloc, &start_states, placed, &rules)?;
-        let tables = tables_for(alloc, &rules, &lists, budget)?;
+        let (tables, chains) = chained_tables(
+            alloc,
+            &start_states,
+            placed,
+            &rules,
+            &lists,
+            &list_at,
+            budget,
+        )?;
         let kinds = kinds_of(alloc, &rules)?;
         Ok(RuleTable {
             rules,
@@ -84,6 +98,7 @@ impl<S: Copy> RuleTable<S> {
             placed,
             lists,
             tables,
+            chains,
             list_at,
         })
     }
@@ -107,7 +122,7 @@ impl<S: Numbered> RuleTable<S> {
         ensures rules { IfOk result (λ t. t.rules ≡ rules) }
         ensures states { IfOk result (λ t. t.start_states ≡ start_states) }
         ensures flags { IfOk result (λ t. t.flags ≡ flags) }
-        ensures paid { IfOk result (λ t. rows_held t.tables.items ≤ budget.rows) }
+        ensures paid { IfOk result (λ t. rows_held t.tables.items + chains_rows t.chains.items ≤ budget.rows) }
     {
         let own_ids = have_own_ids(&rules);
         RuleTable::of_parts(alloc, start_states, rules, flags, own_ids, budget)
@@ -130,7 +145,7 @@ impl<S: Numbered> RuleTable<S> {
         ensures initial { IfOk result (λ built. IfOk built
             (λ t. is_state (definition_by S.number t) 0 ≡ true)) }
         ensures paid { IfOk result (λ built. IfOk built
-            (λ t. rows_held t.tables.items ≤ budget.rows)) }
+            (λ t. rows_held t.tables.items + chains_rows t.chains.items ≤ budget.rows)) }
     {
         match parse_rule_file::<S>(alloc, text, flags)? {
             Ok(file) => {
@@ -148,7 +163,7 @@ impl<S: Numbered> RuleTable<S> {
     /// A table with these rules, start states and flags, with tables that cost no more than this.
     pub(crate) fn within(self, alloc: Global, budget: Budget) -> Result<Self, AllocError>
         ensures same { IfOk result (λ t. definition_by S.number t ≡ definition_by S.number self) }
-        ensures paid { IfOk result (λ t. rows_held t.tables.items ≤ budget.rows) }
+        ensures paid { IfOk result (λ t. rows_held t.tables.items + chains_rows t.chains.items ≤ budget.rows) }
     {
         let RuleTable {
             rules,

@@ -3,7 +3,8 @@ ghost use Rattle.std.specs.Prelude.{◌≡◌, ◌+◌, ◌<◌, ◌≤◌, ◌^
 ghost use Rattle.regex.specs.Patterns.{Re};
 ghost use Rattle.lrlex_table.specs.Table.{IsTableOf};
 ghost use Rattle.lrlex_table.specs.Linear.{count_of_rows};
-ghost use Rattle.lrlex_table.specs.Rows.{table_rows, cached_rows, tables_rows, rows_held};
+ghost use Rattle.lrlex_table.specs.Chain.{IsChainOfLists};
+ghost use Rattle.lrlex_table.specs.Rows.{table_rows, cached_rows, tables_rows, rows_held, chain_rows};
 ghost use Rattle.lrlex_table.specs.Tables.{AreCached, ArePartsOf, AreTablesOf};
 ghost use Rattle.lrlex_rules.specs.RuleParts.{as_rule};
 ghost use Rattle.lrlex_rules.specs.Patterns.{pattern_of};
@@ -11,7 +12,8 @@ ghost use Rattle.lrlex.specs.StateTables.{pattern_in, patterns_on, AreServed, co
 
 use lrlex_rules::Rule;
 use lrlex_table::{
-    Budget, CachedTable, Source, Table, Tables, add_chains, joined_tables, table_of, tables_between,
+    Budget, CachedTable, Chain, Source, Table, Tables, chain_for, joined_tables, table_of,
+    tables_between,
 };
 use std::alloc::{AllocError, Global};
 
@@ -159,17 +161,19 @@ fn singles_in(alloc: Global, lists: &[usize]) -> Result<Vec<CachedTable>, AllocE
     Ok(singles)
 }
 
-/// Tables for each of the lists of rules, which are at these places.
+/// Tables for each of the lists of rules, which are at these places, and their chain, which goes by the lists that probably follow.
 pub(crate) fn tables_for<S>(
     alloc: Global,
     rules: &[Rule<S>],
     lists: &[Vec<usize>],
+    follow: &[Vec<usize>],
     mut budget: Budget,
-) -> Result<Vec<Tables>, AllocError>
-    ensures served { IfOk result (λ tables. AreServed rules.now (map (λ v. v.items) lists.now)
-        tables.items) }
-    ensures each { IfOk result (λ tables. length tables.items ≡ length lists.now) }
-    ensures paid { IfOk result (λ tables. rows_held tables.items ≤ budget.rows) }
+) -> Result<(Vec<Tables>, Option<Chain>), AllocError>
+    ensures served { IfOk result (λ r. AreServed rules.now (map (λ v. v.items) lists.now)
+        r.0.items) }
+    ensures each { IfOk result (λ r. length r.0.items ≡ length lists.now) }
+    ensures chained { IfOk result (λ r. IfSome r.1 (IsChainOfLists r.0.items)) }
+    ensures paid { IfOk result (λ r. rows_held r.0.items + chain_rows r.1 ≤ budget.rows) }
 {
     let counts = lists_with(alloc, rules.len(), lists)?;
     let mut singles = singles_in(alloc, &counts)?;
@@ -179,8 +183,8 @@ pub(crate) fn tables_for<S>(
         let made = tables_on(alloc, rules, places, &mut singles, &mut budget)?;
         tables.push(made)?;
     }
-    add_chains(alloc, tables.as_mut_slice(), &mut budget)?;
-    Ok(tables)
+    let chain = chain_for(alloc, &tables, follow, &mut budget)?;
+    Ok((tables, chain))
 }
 
 /// How many tables the lists have.

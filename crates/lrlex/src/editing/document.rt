@@ -1,10 +1,11 @@
 //! A text that is edited, with what lexing it gives.
-ghost use Rattle.std.specs.Prelude.{◌≡◌, ◌↔◌, ℕ, ◌+◌, ◌-◌, ◌≤◌, [], length, IfOk, IfErr, IfSome, IsNone, OnOk, OnErr, IsCharBoundary, IsUtf8, option_map, slice_range};
+ghost use Rattle.std.specs.Prelude.{◌≡◌, ◌↔◌, ℕ, ◌+◌, ◌-◌, ◌≤◌, false, [], length, IfOk, IfErr, IfSome, IsNone, OnOk, OnErr, IsCharBoundary, IsUtf8, option_map, slice_range};
 ghost use Rattle.std.specs.String.{string_bytes, string_len, string_capacity};
 ghost use Rattle.lrlex_base.specs.Edits.{edited};
 ghost use Rattle.lrlex_base.specs.Places.{AreBreaksOf, place_of};
 ghost use Rattle.lrlex_base.specs.Spans.{Fits, as_span, span, span_start, span_end};
-ghost use Rattle.lrlex.specs.Document.{HasChangedText, IsLexedBy, WasEdited, WasLeft, lexed_boundaries, lexed_bytes, lexed_items};
+ghost use Rattle.lrlex.specs.Active.{is_state};
+ghost use Rattle.lrlex.specs.Document.{HasChangedText, IsLexedBy, WasEdited, WasLeft, lexed_boundaries, lexed_bytes, lexed_items, shown_by};
 ghost use Rattle.lrlex.specs.Lookahead.{LooksAhead};
 ghost use Rattle.lrlex.specs.Nearest.{IsNearest, FitsAt};
 ghost use Rattle.lrlex.specs.Pieces.{ArePieces, ArePiecesIn};
@@ -181,6 +182,8 @@ fn edit_in_place<S: Numbered, X: Lexeme<S>>(
         edit.now.put.now it.old it.new) }
     ensures changed { OnOk result (HasChangedText S.number X.seen table.now
         (as_span edit.now.removed) edit.now.put.now it.old it.new) }
+    ensures stateless { is_state (definition_by S.number table.now) 0 ≡ false →
+        OnOk result (it.new.lexed.recut ≡ 0) }
     ensures kept { OnErr result (WasLeft it.old it.new) }
 {
     let (newlines, gone) = prepared(alloc, &mut it.text, &it.newlines, edit.removed, edit.put)?;
@@ -220,6 +223,8 @@ fn edit_bytes<S: Numbered, X: Lexeme<S>>(
         it.new) }
     ensures changed { OnOk result (HasChangedText S.number X.seen table.now (span from to) put.now
         it.old it.new) }
+    ensures stateless { is_state (definition_by S.number table.now) 0 ≡ false →
+        OnOk result (it.new.lexed.recut ≡ 0) }
     ensures refused { IfErr result (λ e. e ≡ DoesNotFit
         ↔ ¬ (FitsAt (string_bytes it.old.text) from to)) }
     ensures kept { OnErr result (WasLeft it.old it.new) }
@@ -298,6 +303,7 @@ impl<'lexer, L: LexerTypes<LexErrorT = LRLexError>> Document<'lexer, L> {
         ensures text { result.text ≡ lexed_bytes held }
         ensures items { result.items ≡ lexed_items held }
         ensures boundaries { result.boundaries ≡ lexed_boundaries held }
+        ensures shown { result ≡ shown_by definition.now held }
     {
         Document { definition, held }
     }
@@ -309,6 +315,7 @@ impl<'lexer, L: LexerTypes<LexErrorT = LRLexError>> Document<'lexer, L> {
         ensures text { lexed_bytes result ≡ self.entry.text }
         ensures items { lexed_items result ≡ self.entry.items }
         ensures boundaries { lexed_boundaries result ≡ self.entry.boundaries }
+        ensures shown { shown_by self.entry.definition result ≡ self.entry }
     {
         let Document { held, .. } = self;
         held
@@ -335,6 +342,8 @@ impl<'lexer, L: LexerTypes<LexErrorT = LRLexError>> Document<'lexer, L> {
             self.old.ahead (span from to) put.now self.new) }
         ensures changed { OnOk result (WasChanged L.StorageT.number L.LexemeT.seen (span from to)
             put.now self.old self.new) }
+        ensures stateless { is_state (definition_of L.StorageT.number self.old.definition) 0 ≡ false →
+            OnOk result (self.new.recut ≡ 0) }
         ensures linear { OnOk result (HasLinearWork self.new.definition self.new.text self.new.looked) }
         ensures recut { OnOk result (HasLinearRecut self.new.definition.table self.new.text
             self.new.boundaries self.new.changed.pieces self.new.looked) }

@@ -13,7 +13,7 @@ ghost use Rattle.lrlex.specs.Lookahead.{LooksAhead, items_before};
 ghost use Rattle.lrlex.specs.Searches.{asks_by};
 ghost use Rattle.lrlex.specs.LexRun.{IsRunOf, HasItemLaws};
 ghost use Rattle.lrlex.specs.Changes.{HasChanged};
-ghost use Rattle.lrlex.specs.Relex.{AreCountsOf, WasRelexed};
+ghost use Rattle.lrlex.specs.Relex.{AreCountsOf, WasChanged, WasRelexed};
 ghost use Rattle.lrlex.specs.Views.{definition_by, definition_of, items_by, item_of};
 ghost use Rattle.lrlex.specs.Work.{HasLinearRecut, HasLinearWork, IsLinearIn};
 ghost use Rattle.lrlex.specs.Progress.{HasRecut, HasSame, IsEditOf, HasReplacedTail, HasReplacedMiddle, TellsMeeting};
@@ -476,6 +476,14 @@ fn relexed<S: Numbered, X: Lexeme<S>>(
         (as_span edit.now.removed) edit.now.put.now new.now r.boundaries r.asked r.recut) }
     ensures stateless { is_state (definition_by S.number table.now) 0 ≡ false →
         IfOk result (λ r. r.recut ≡ 0) }
+    ensures changed { IfOk result (λ r. (known : IsEditOf S.number X.seen table.now
+        old.now.items.items old.now.boundaries old.now.ahead.items edit.now.removed
+        edit.now.put.now new.now)
+        → HasChanged (definition_by S.number table.now) known.text new.now
+        (as_span edit.now.removed) edit.now.put.now
+        (items_by S.number X.seen old.now.items.items)
+        (items_by S.number X.seen r.items.items) old.now.boundaries r.boundaries
+        r.changed r.recut) }
     ensures linear { IfOk result (λ r. IsLinearIn table.now new.now (length new.now) r.looked) }
     ensures recut { IfOk result (λ r. HasLinearRecut table.now new.now r.boundaries
         r.changed.pieces r.looked) }
@@ -512,6 +520,8 @@ impl<'lexer, L: LexerTypes<LexErrorT = LRLexError>> LexRun<'lexer, '_, L> {
             self.now.ahead (as_span edit.now.removed) edit.now.put.now) }
         ensures stateless { is_state (definition_of L.StorageT.number self.now.definition) 0 ≡ false →
             IfOk result (λ r. r.recut ≡ 0) }
+        ensures changed { IfOk result (WasChanged L.StorageT.number L.LexemeT.seen
+            (as_span edit.now.removed) edit.now.put.now self.now) }
         ensures linear { IfOk result (λ r. HasLinearWork self.now.definition new.now r.looked) }
         ensures recut { IfOk result (λ r. HasLinearRecut self.now.definition.table new.now
             r.boundaries r.changed.pieces r.looked) }

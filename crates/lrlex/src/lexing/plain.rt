@@ -4,7 +4,7 @@ ghost use Rattle.lrlex.specs.Tiling.{lexeme_of, top};
 ghost use Rattle.lrlex_boundaries.specs.Entries.{plain, AreEntries};
 ghost use Rattle.lrlex_boundaries.specs.Boundaries.{last_entries};
 ghost use Rattle.lrlex.specs.Searcher.{AreOf, IsFoundAt, IsSearcherOf};
-ghost use Rattle.lrlex.specs.Plain.{HasTakenMany, IsRunningIn, id_or};
+ghost use Rattle.lrlex.specs.Plain.{HasTakenMany, IsRunningIn, slot_of};
 ghost use Rattle.lrlex.specs.Progress.{Front, HasEntered, HasTakenStep, IsUnderWay};
 ghost use Rattle.lrlex.specs.Views.{definition_by, item_of};
 ghost use Rattle.lrlex.specs.Work.{HasGoneOn, HasWorked};
@@ -21,20 +21,46 @@ use std::alloc::{AllocError, Global};
 /// The most tiles that are taken at a time.
 const MOST_TILES: usize = 1024;
 
-/// For each kind the id of its lexemes, or the other one where it has none. So an id is read without asking whether there is one.
-pub(crate) fn ids_of<S: Copy>(
+/// A kind as a run reads it for each tile: the id of its lexemes, or another one where it has none, whether it has one, and whether it is plain.
+/// So an id is read without asking whether there is one, and all of it in one look.
+#[derive(Clone, Copy)]
+pub(crate) struct Slot<S> {
+    id: S,
+    named: bool,
+    plain: bool,
+}
+
+/// That of a kind, with the other id where it has none.
+fn slot_of<S: Copy>(kind: Kind<S>, other: S) -> Slot<S>
+    ensures { result ≡ slot_of other kind }
+{
+    match kind.id {
+        Some(id) => Slot {
+            id,
+            named: true,
+            plain: kind.plain,
+        },
+        None => Slot {
+            id: other,
+            named: false,
+            plain: kind.plain,
+        },
+    }
+}
+
+/// Those of the kinds, in order.
+pub(crate) fn slots_of<S: Copy>(
     alloc: Global,
     kinds: &[Kind<S>],
-    other: Option<S>,
-) -> Result<Vec<Option<S>>, AllocError>
-    ensures { IfOk result (λ ids. ids.items ≡ map (id_or other) kinds.now) }
+    other: S,
+) -> Result<Vec<Slot<S>>, AllocError>
+    ensures { IfOk result (λ slots. slots.items ≡ map (slot_of other) kinds.now) }
 {
-    let mut ids = Vec::with_capacity(alloc, kinds.len())?;
+    let mut slots = Vec::with_capacity(alloc, kinds.len())?;
     'kinds: for index in 0..kinds.len() {
-        let id = kinds[index].id;
-        ids.push(if id.is_some() { id } else { other })?;
+        slots.push(slot_of(kinds[index], other))?;
     }
-    Ok(ids)
+    Ok(slots)
 }
 
 /// Gives a lexeme with the id, if it has a name. There is room. It is stored first, and then counted or not: a branch on whether it has a name
@@ -62,17 +88,17 @@ fn store_lexeme<S: Numbered, X: Lexeme<S>>(
     }
 }
 
-/// Enters the next boundary, with the same stack, behind a tile of so many bytes. The byte behind it decided it, and no tile before it looked
-/// farther. There is room for its number.
+/// Enters the next boundary at this place, with the same stack, behind a tile of so many bytes. The byte behind it decided it, and no tile before
+/// it looked farther. There is room for its number.
 #[inline(always)]
 #[tactic(auto, unfolding(crate::specs::Tiling::stack_after))]
-fn pass<X: Copy>(progress: &mut Progress<X>, len: usize) -> Result<(), AllocError>
-    requires place { progress.old.place + len < 2 ^ 64 }
+fn pass<X: Copy>(progress: &mut Progress<X>, place: usize, len: usize) -> Result<(), AllocError>
+    requires place { place ≡ progress.old.place + len }
     requires near { progress.old.lookahead ≤ 1 }
     requires entries { AreEntries progress.old.stack.items }
     requires last { last_entries progress.old.boundaries ≡ progress.old.stack.items }
     requires room { vec_len progress.old.ahead < vec_capacity progress.old.ahead }
-    ensures entered { OnOk result (HasEntered progress.old progress.new None (progress.old.place + len)
+    ensures entered { OnOk result (HasEntered progress.old progress.new None place
         (max progress.old.lookahead (len + 1) - len)) }
     ensures near { progress.new.lookahead ≡ 1 }
     ensures items { (vec_len progress.new.items ≡ vec_len progress.old.items)
@@ -80,7 +106,7 @@ fn pass<X: Copy>(progress: &mut Progress<X>, len: usize) -> Result<(), AllocErro
     ensures numbers { (vec_len progress.new.ahead ≡ vec_len progress.old.ahead + 1)
         × (vec_capacity progress.new.ahead ≡ vec_capacity progress.old.ahead) }
 {
-    let place = progress.place + len;
+    let _ = len;
     progress.place = place;
     progress.lookahead = 1;
     progress.ahead.push_reserved(1);
@@ -94,13 +120,13 @@ fn pass<X: Copy>(progress: &mut Progress<X>, len: usize) -> Result<(), AllocErro
 #[inline(never)]
 fn take_plain<S: Numbered, X: Lexeme<S>>(
     table: &RuleTable<S>,
-    ids: &[Option<S>],
+    slots: &[Slot<S>],
     text: &str,
     rules: StateRules<'_>,
     searcher: &mut Searcher<'_, '_>,
     progress: &mut Progress<X>,
 ) -> Result<Option<Tile>, AllocError>
-    requires ids { (other : Option S) × (ids.now ≡ map (id_or other) table.now.kinds.items) }
+    requires slots { (other : S) × (slots.now ≡ map (slot_of other) table.now.kinds.items) }
     requires rules { AreOf S.number table.now rules.state rules }
     requires at { IsRunningIn S.number X.seen table.now text.now rules.state searcher.old
         progress.old }
@@ -116,21 +142,17 @@ fn take_plain<S: Numbered, X: Lexeme<S>>(
     progress.items.reserve(most)?;
     progress.ahead.reserve(most)?;
     'tiles: for step in 0..most {
-        let Some(tile) = searcher.ahead(table, rules, progress.place) else {
+        let place = progress.place;
+        let Some(tile) = searcher.ahead(table, &rules, place) else {
             return Ok(None);
         };
-        let kind = table.kinds[tile.rule];
-        let stored = ids[tile.rule];
-        let Some(id) = stored else {
-            return Ok(Some(tile));
-        };
-        if !kind.plain {
+        let slot = slots[tile.rule];
+        if !slot.plain {
             return Ok(Some(tile));
         }
-        let place = progress.place;
         let items = &mut progress.items;
-        store_lexeme::<S, X>(items, id, kind.id.is_some(), place, tile.len);
-        pass(progress, tile.len)?;
+        store_lexeme::<S, X>(items, slot.id, slot.named, place, tile.len);
+        pass(progress, place + tile.len, tile.len)?;
     }
     Ok(None)
 }
@@ -138,7 +160,8 @@ fn take_plain<S: Numbered, X: Lexeme<S>>(
 /// How many steps there are at most between two tries to take many tiles.
 const MOST_STEPS: usize = 15;
 
-/// How many steps are left to the next try to take many tiles: more each time, so long as none was found ahead.
+/// How many steps are left to the next try to take many tiles: more each time, so long as none is taken, as where none was found ahead,
+/// or where the rule of the first isn't plain.
 #[derive(Clone, Copy)]
 pub(crate) struct Pace {
     left: usize,
@@ -173,14 +196,14 @@ impl Pace {
 #[inline(always)]
 pub(crate) fn take_ahead<S: Numbered, X: Lexeme<S>>(
     table: &RuleTable<S>,
-    ids: &[Option<S>],
+    slots: &[Slot<S>],
     text: &str,
     rules: StateRules<'_>,
     searcher: &mut Searcher<'_, '_>,
     progress: &mut Progress<X>,
     pace: &mut Pace,
 ) -> Result<Option<Tile>, AllocError>
-    requires ids { (other : Option S) × (ids.now ≡ map (id_or other) table.now.kinds.items) }
+    requires slots { (other : S) × (slots.now ≡ map (slot_of other) table.now.kinds.items) }
     requires rules { AreOf S.number table.now rules.state rules }
     requires at { IsRunningIn S.number X.seen table.now text.now rules.state searcher.old
         progress.old }
@@ -193,7 +216,7 @@ pub(crate) fn take_ahead<S: Numbered, X: Lexeme<S>>(
         return Ok(None);
     }
     let before = progress.place;
-    let next = take_plain(table, ids, text, rules, searcher, progress)?;
+    let next = take_plain(table, slots, text, rules, searcher, progress)?;
     pace.note(progress.place > before);
     Ok(next)
 }

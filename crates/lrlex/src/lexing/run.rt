@@ -17,7 +17,7 @@ use crate::definition::non_streaming::LRNonStreamingLexerDef;
 use crate::definition::rule_table::RuleTable;
 use crate::editing::changes::Changed;
 use crate::errors::LRLexError;
-use crate::lexing::plain::{Pace, ids_of, take_ahead, take_next};
+use crate::lexing::plain::{Pace, slots_of, take_ahead, take_next};
 use crate::lexing::stack::top_of;
 use crate::lexing::step::{Progress, begin, push_error};
 use crate::lexing::winner::Searcher;
@@ -330,12 +330,12 @@ pub(crate) fn lex<S: Numbered, X: Lexeme<S>>(
     let mut progress = begin(alloc, text)?;
     let mut rules = table.rules_in(0);
     let mut pace = Pace::new();
-    let ids = ids_of(alloc, &table.kinds, S::of_count(0))?;
+    let slots = slots_of(alloc, &table.kinds, S::of_count(0).unwrap())?;
     'tiles: while progress.place < text.len() {
         table.enter(&mut rules, top_of(progress.stack.as_slice()));
         let next = take_ahead(
             table,
-            &ids,
+            &slots,
             text,
             rules,
             &mut searcher,
@@ -379,6 +379,8 @@ impl<L: LexerTypes<LexErrorT = LRLexError>> LRNonStreamingLexerDef<L> {
         ensures exact { IfOk result (λ r. r.asked ≡ asks self.now text.now r.boundaries) }
         ensures lexed { IfOk result (λ r. r.recut ≡ length r.boundaries - 1) }
         ensures linear { IfOk result (λ r. HasLinearWork self.now text.now r.looked) }
+        ensures changed { IfOk result (λ r. r.changed ≡ all_new (length r.items)
+            (length r.boundaries - 1)) }
     {
         let lexed = lex(alloc, &self.table, text)?;
         Ok(LexRun {

@@ -64,7 +64,7 @@ fn next_step<'d, S: Numbered>(
         return take_sought(table, text, cursor, winner);
     }
     let place = cursor.place;
-    if let Some(tile) = cursor.searcher.ahead(table, cursor.rules, place) {
+    if let Some(tile) = cursor.searcher.ahead(table, &cursor.rules, place) {
         let kind = table.kinds[tile.rule];
         if kind.plain {
             let end = place + tile.len;

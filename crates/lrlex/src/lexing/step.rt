@@ -167,7 +167,7 @@ pub(crate) fn advance<'d, S: Numbered, X: Lexeme<S>>(
     let place = progress.place;
     table.enter(rules, top_of(&progress.stack));
     let state = rules.state;
-    if let Some(tile) = searcher.ahead(table, *rules, place) {
+    if let Some(tile) = searcher.ahead(table, rules, place) {
         let kind = table.kinds[tile.rule];
         if kind.plain {
             push_lexeme::<S, X>(&mut progress.items, kind.id, place, tile.len)?;

@@ -175,7 +175,7 @@ impl<'d, 't> Searcher<'d, 't> {
         ensures linear { IfOk result (λ s. (first : ℕ) → HasWorked table.now first first s.ends) }
     {
         let matchers = empty_matchers(alloc, &table.rules)?;
-        let ends = DeadEnds::new(alloc, &table.tables, text);
+        let ends = DeadEnds::new(alloc, &table.tables, table.chains.first(), text);
         Ok(Searcher { matchers, ends })
     }
 
@@ -205,13 +205,13 @@ impl<'d, 't> Searcher<'d, 't> {
     pub(crate) fn ahead<S: Numbered>(
         &mut self,
         table: &RuleTable<S>,
-        rules: StateRules<'_>,
+        rules: &StateRules<'_>,
         place: usize,
     ) -> Option<Tile>
-        requires rules { AreOf S.number table.now rules.state rules }
+        requires rules { AreOf S.number table.now rules.now.state rules.now }
         requires searcher { (input : List ℕ) × IsSearcherOf table.now input self.old }
         ensures tile { (input : List ℕ) → IsSearcherOf table.now input self.old
-            → IfSome result (IsFoundAt S.number table.now rules.entry.state input place) }
+            → IfSome result (IsFoundAt S.number table.now rules.now.state input place) }
         ensures searcher { (input : List ℕ) → IsSearcherOf table.now input self.old
             → IsSearcherOf table.now input self.new }
         ensures linear { (first at : ℕ) → HasWorked table.now first at self.old.ends

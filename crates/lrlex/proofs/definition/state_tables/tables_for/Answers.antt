@@ -1,15 +1,14 @@
 use Rattle.std.proofs.Common.{rules, ◌≡◌, [], map, length, option_map, refl, sym, ap, ◌∙◌, subst, arith}
 use Rattle.std.proofs.lemmas.Grind.{common_steps}
 use Rattle.std.proofs.lemmas.List.Sums.{sum_by_push}
-use Rattle.std.proofs.lemmas.List.{length-map, length_push}
+use Rattle.std.proofs.lemmas.List.{length_push}
 use Rattle.std.proofs.lemmas.Option.{slice_get-map, slice_get_read, get_or_from_slice_get}
 use Rattle.lrlex_rules.specs.RuleParts.{as_rule}
 use Rattle.lrlex.specs.StateTables.{AreServed, list_in, patterns_on, pattern_in}
 use Rattle.lrlex_table.specs.Rows.{cached_rows, tables_rows, rows_held}
 use Rattle.lrlex_table.specs.Tables.{AreCached, AreTablesOf}
-use Rattle.lrlex_table.specs.declared.tables.Tables.{Tables}
 use Rattle.lrlex_table.proofs.AheadLemmas.{written_back}
-use Rattle.lrlex.proofs.TableLemmas.{single_back, served_more, served_alike}
+use Rattle.lrlex.proofs.TableLemmas.{single_back, served_more}
 use Rattle.lrlex.proofs.definition.state_tables.tables_for.Goals as goal
 
 pub lists-init : goal.lists-init
@@ -54,33 +53,7 @@ lists-preserved g c =
     }
 
 pub returns-clause-served : goal.returns-clause-served
-returns-clause-served g c =
-    let rules = c.args.rules.now in
-    let lists = map (λ v. v.items) c.args.lists.now in
-    let old = c.lists.tables.items in
-    let new = c.add_chains.new.lists in
-    let was = c.as_mut_slice.ensures.value in
-    let parts = c.add_chains.ensures.parts ∙ ap (map (λ (t : Tables). t.parts)) was in
-    let asked = c.add_chains.ensures.asked ∙ ap (map (λ (t : Tables). t.asked)) was in
-    let len : length new ≡ length old = sym (length-map new (λ (t : Tables). t.parts)) ∙ ap length parts ∙ length-map old (λ (t : Tables). t.parts) in
-    let same = written_back new old c.lists.tables.len (omega (arith, c.lists.tables.ok.0)) len in
-    subst (AreServed rules lists) (sym same) (served_alike rules lists old new parts asked c.lists.invariant.served)
-
-pub returns-clause-paid : goal.returns-clause-paid
-returns-clause-paid g c =
-    let old = c.lists.tables.items in
-    let new = c.add_chains.new.lists in
-    let was = c.as_mut_slice.ensures.value in
-    let parts = c.add_chains.ensures.parts ∙ ap (map (λ (t : Tables). t.parts)) was in
-    let len : length new ≡ length old = sym (length-map new (λ (t : Tables). t.parts)) ∙ ap length parts ∙ length-map old (λ (t : Tables). t.parts) in
-    let same = written_back new old c.lists.tables.len (omega (arith, c.lists.tables.ok.0)) len in
-    omega (arith, ap rows_held same, ap rows_held was, c.in_ok-add_chains.ensures.paid, c.lists.invariant.paid)
+returns-clause-served g c = c.lists.invariant.served
 
 pub returns-clause-each : goal.returns-clause-each
-returns-clause-each g c =
-    let old = c.lists.tables.items in
-    let new = c.add_chains.new.lists in
-    let parts = c.add_chains.ensures.parts ∙ ap (map (λ (t : Tables). t.parts)) c.as_mut_slice.ensures.value in
-    let len : length new ≡ length old = sym (length-map new (λ (t : Tables). t.parts)) ∙ ap length parts ∙ length-map old (λ (t : Tables). t.parts) in
-    let same = written_back new old c.lists.tables.len (omega (arith, c.lists.tables.ok.0)) len in
-    omega (arith, ap length same, len, c.lists.invariant.made, c.lists-test.false)
+returns-clause-each g c = omega (arith, c.lists.invariant.made, c.lists-test.false)

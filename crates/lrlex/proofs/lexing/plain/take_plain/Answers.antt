@@ -1,9 +1,9 @@
-use Rattle.std.proofs.Common.{◌≡◌, ℕ, ◌+◌, ◌^◌, ◌<◌, ◌++◌, ◌∷◌, [], Bool, List, Some, None, if◌then◌else◌, not, length, drop, refl, sym, ap, ◌∙◌, subst, arith, rules}
+use Rattle.std.proofs.Common.{◌≡◌, ℕ, ◌+◌, ◌^◌, ◌<◌, ◌++◌, ◌∷◌, [], true, get_or, List, Some, None, if◌then◌else◌, not, length, drop, refl, sym, ap, ◌∙◌, subst, arith, rules}
 use Rattle.std.proofs.lemmas.List.{length-map}
 use Rattle.regex_hir.specs.Text.{is_some_and}
 use Rattle.lrlex.specs.Active.{is_state, lexeme_id, rule_at}
 use Rattle.lrlex.specs.Lookahead.{IsDecided, capped}
-use Rattle.lrlex.specs.Plain.{HasTakenMany, id_or}
+use Rattle.lrlex.specs.Plain.{HasTakenMany, slot_of}
 use Rattle.lrlex.specs.Progress.{no_front, HasAdvanced}
 use Rattle.lrlex.specs.Searcher.{IsFoundAt, IsSearcherOf}
 use Rattle.lrlex.specs.Searches.{untabled_count}
@@ -12,13 +12,14 @@ use Rattle.lrlex_boundaries.specs.Entries.{plain}
 use Rattle.lrlex.specs.Views.{definition_by, items_by}
 use Rattle.lrlex.specs.Work.{HasWorked}
 use Rattle.lrlex.specs.declared.definition.rule_table.RuleTable.{RuleTable}
+use Rattle.lrlex.specs.declared.lexing.plain.Slot.{Slot}
 use Rattle.lrlex.specs.declared.lexing.step.Progress.{Progress}
 use Rattle.lrlex.specs.declared.lexing.winner.Searcher.{Searcher}
 use Rattle.lrlex_base.specs.LexemeParts.{LexemeParts}
 use Rattle.lrlex_table.proofs.LinearLemmas.{linear_later}
 use Rattle.lrlex.proofs.AdvanceLemmas.{advanced}
 use Rattle.lrlex.proofs.KindLemmas.{kinds_len, plain_rule, no_target_at, stays}
-use Rattle.lrlex.proofs.PlainLemmas.{gives_own, stored_at}
+use Rattle.lrlex.proofs.PlainLemmas.{gives_own, kind_at}
 use Rattle.lrlex.proofs.ReachLemmas.{entries_now}
 use Rattle.lrlex.proofs.SearchLemmas.{next_asked}
 use Rattle.lrlex.proofs.lexing.plain.take_plain.Goals as goal
@@ -33,29 +34,20 @@ looked w is later = record {
   linear = λ first was. later first (w.linear first was);
 }
 
-pub returns-in_default-stored-clause-tile : goal.returns-in_default-stored-clause-tile
-returns-in_default-stored-clause-tile g c = c.in-Some.ensures.tile c.args.text.now c.tiles.invariant.taken.at.searcher
+pub returns-then-not-slot-clause-tile : goal.returns-then-not-slot-clause-tile
+returns-then-not-slot-clause-tile g c = c.in-Some.ensures.tile c.args.text.now c.tiles.invariant.taken.at.searcher
 
-pub returns-then-not-kind-clause-tile : goal.returns-then-not-kind-clause-tile
-returns-then-not-kind-clause-tile g c = c.in-Some.ensures.tile c.args.text.now c.tiles.invariant.taken.at.searcher
-
-pub index-requires : goal.index-requires
-index-requires g c =
+pub offset_bounds-slots-tile : goal.offset_bounds-slots-tile
+offset_bounds-slots-tile g c =
     let table = c.args.table.now in
     let at : IsFoundAt g.S.Numbered.number table c.args.rules.state c.args.text.now c.tiles.progress.place c.in-Some.tile = c.in-Some.ensures.tile c.args.text.now c.tiles.invariant.taken.at.searcher in
-    omega (arith, at.rule, kinds_len table, table.kinds.ok.0)
+    omega (arith, at.rule, kinds_len table, ap length c.requires.slots.1, length-map table.kinds.items (slot_of c.requires.slots.0))
 
-pub offset_bounds-ids-tile : goal.offset_bounds-ids-tile
-offset_bounds-ids-tile g c =
+pub bounds-slots-tile : goal.bounds-slots-tile
+bounds-slots-tile g c =
     let table = c.args.table.now in
     let at : IsFoundAt g.S.Numbered.number table c.args.rules.state c.args.text.now c.tiles.progress.place c.in-Some.tile = c.in-Some.ensures.tile c.args.text.now c.tiles.invariant.taken.at.searcher in
-    omega (arith, at.rule, kinds_len table, ap length c.requires.ids.1, length-map table.kinds.items (id_or c.requires.ids.0))
-
-pub bounds-ids-tile : goal.bounds-ids-tile
-bounds-ids-tile g c =
-    let table = c.args.table.now in
-    let at : IsFoundAt g.S.Numbered.number table c.args.rules.state c.args.text.now c.tiles.progress.place c.in-Some.tile = c.in-Some.ensures.tile c.args.text.now c.tiles.invariant.taken.at.searcher in
-    omega (arith, at.rule, kinds_len table, ap length c.requires.ids.1, length-map table.kinds.items (id_or c.requires.ids.0))
+    omega (arith, at.rule, kinds_len table, ap length c.requires.slots.1, length-map table.kinds.items (slot_of c.requires.slots.0))
 
 pub store_lexeme-requires-clause-fits : goal.store_lexeme-requires-clause-fits
 store_lexeme-requires-clause-fits g c =
@@ -63,8 +55,8 @@ store_lexeme-requires-clause-fits g c =
     let small : length c.args.text.now < 2 ^ 64 = search rules in
     omega (arith, at.within, small)
 
-pub pass-requires-clause-place : goal.pass-requires-clause-place
-pass-requires-clause-place g c =
+pub overflow_add-place : goal.overflow_add-place
+overflow_add-place g c =
     let at : IsFoundAt g.S.Numbered.number c.args.table.now c.args.rules.state c.args.text.now c.tiles.progress.place c.in-Some.tile = c.in-Some.ensures.tile c.args.text.now c.tiles.invariant.taken.at.searcher in
     let small : length c.args.text.now < 2 ^ 64 = search rules in
     omega (arith, at.within, small)
@@ -86,13 +78,14 @@ tiles-preserved g c =
     let at : IsFoundAt g.S.Numbered.number table c.args.rules.state text p.place tile = c.in-Some.ensures.tile text w.at.searcher in
     let on_top : c.args.rules.state ≡ top (plain p.stack.items) = w.at.state in
     let t : Tile = record { rule = tile.rule; len = tile.len } in
-    let kind = c.index.result.now in
-    let id = c.in-Some-stored.id in
-    let rule = plain_rule g.S.Numbered.number table tile.rule kind at.rule c.index.ensures c.if-not-kind.false in
-    let target = no_target_at g.S.Numbered.number table tile.rule kind at.rule c.index.ensures c.if-not-kind.false in
     let within : tile.rule < length table.kinds.items = omega (arith, at.rule, kinds_len table) in
-    let own = gives_own g.S.Numbered.number c.requires.ids.0 kind.id id
-    (stored_at c.requires.ids.0 table.kinds.items c.args.ids.now tile.rule kind c.index-ids-tile.result within c.requires.ids.1 c.index.ensures c.index-ids-tile.is ∙ c.in-Some-stored.is) in
+    let slot = c.index-slots-tile.result in
+    let made = kind_at c.requires.slots.0 table.kinds.items tile.rule slot within (c.index-slots-tile.is ∙ ap (λ xs. get_or xs tile.rule slot) c.requires.slots.1) in
+    let kind = made.0 in
+    let is_plain : kind.plain ≡ true = sym (ap (λ (s : Slot _). s.plain) made.2) ∙ c.if-not-slot.false in
+    let rule = plain_rule g.S.Numbered.number table tile.rule kind at.rule made.1 is_plain in
+    let target = no_target_at g.S.Numbered.number table tile.rule kind at.rule made.1 is_plain in
+    let own = gives_own g.S.Numbered.number c.requires.slots.0 kind.id ∙ sym (ap (λ (s : Slot _). if s.named then Some (g.S.Numbered.number s.id) else None) made.2) in
     let taken : IsTaken d (drop p.place text) (plain p.stack.items) t = record {
       wins = subst (λ q. Wins d q (drop p.place text) tile.rule tile.len) on_top at.wins;
       has_id = rule.has_id;
@@ -103,7 +96,6 @@ tiles-preserved g c =
     let found = items_by g.S.Numbered.number g.X.Lexeme.seen p.items.items in
     let items : items_by g.S.Numbered.number g.X.Lexeme.seen n.items.items ≡ found ++ lexeme_of (lexeme_id (rule_at d tile.rule)) p.place tile.len =
     ap (items_by g.S.Numbered.number g.X.Lexeme.seen) e.items ∙ c.store_lexeme.ensures.items
-    ∙ ap (λ (b : Bool). found ++ lexeme_of (if b then Some (g.S.Numbered.number id) else None) p.place tile.len) c.is_some.ensures
     ∙ ap (λ o. found ++ lexeme_of o p.place tile.len) (sym own ∙ sym rule.gives) in
     let went : HasAdvanced d g.S.Numbered.number g.X.Lexeme.seen text no_front p n =
     advanced g.S.Numbered.number g.X.Lexeme.seen d text no_front p n u w.at.inside t (tile.len + 1) taken at.cuts
@@ -137,12 +129,7 @@ returns-in_default-clause-taken g c =
     let w = c.tiles.invariant.taken in
     looked w (c.ahead.ensures.searcher c.args.text.now w.at.searcher) (λ first was. c.in_default.ensures.linear first c.tiles.progress.place was)
 
-pub returns-in_default-stored-clause-taken : goal.returns-in_default-stored-clause-taken
-returns-in_default-stored-clause-taken g c =
-    let w = c.tiles.invariant.taken in
-    looked w (c.in-Some.ensures.searcher c.args.text.now w.at.searcher) (λ first was. c.in-Some.ensures.linear first c.tiles.progress.place was)
-
-pub returns-then-not-kind-clause-taken : goal.returns-then-not-kind-clause-taken
-returns-then-not-kind-clause-taken g c =
+pub returns-then-not-slot-clause-taken : goal.returns-then-not-slot-clause-taken
+returns-then-not-slot-clause-taken g c =
     let w = c.tiles.invariant.taken in
     looked w (c.in-Some.ensures.searcher c.args.text.now w.at.searcher) (λ first was. c.in-Some.ensures.linear first c.tiles.progress.place was)

@@ -1,4 +1,4 @@
-use Rattle.std.proofs.Common.{◌≡◌, ◌-◌, ◌<◌, ◌≤◌, true, false, length, sym, ap, ◌∙◌, subst, arith, append-nil, IsCharBoundary}
+use Rattle.std.proofs.Common.{◌≡◌, ℕ, ◌-◌, ◌<◌, ◌≤◌, Option, Some, None, IsSome, IsNone, true, false, refl, length, sym, ap, ◌∙◌, subst, arith, append-nil, IsCharBoundary}
 use Rattle.std.proofs.lemmas.Str.{IsCharBoundary-start}
 use Rattle.lrlex.specs.Tiling.{Done}
 use Rattle.lrlex.specs.Lookahead.{LooksAhead}
@@ -17,6 +17,14 @@ use Rattle.lrlex.specs.Work.{HasWorked, IsLinearIn}
 use Rattle.lrlex.proofs.LinearLemmas.{linear_in_all}
 use Rattle.lrlex.proofs.lexing.run.lex.Goals as goal
 
+some_of : {S : Type 0} (o : Option S) (n : ℕ) → (IsNone o → n < 0) → IsSome o
+some_of None n none = absurd (omega (arith, none refl))
+some_of (Some x) n none = refl
+
+-- each type of ids has one with the number 0
+pub unwrap-requires : goal.unwrap-requires
+unwrap-requires g c = some_of c.of_count.result g.S.Numbered.greatest c.of_count.ensures.none.0
+
 pub tiles-init : goal.tiles-init
 tiles-init g c =
     let p = c.in_ok-progress.progress in
@@ -29,6 +37,26 @@ tiles-init g c =
       looked = begun_looking (definition_by g.S.Numbered.number c.args.table.now) c.args.text.now p.boundaries p.ahead.items p.place p.lookahead e.boundaries e.ahead e.place e.lookahead;
       exact = e.asked ∙ sym (asks_nowhere c.args.table.now c.args.text.now p.boundaries 0 (length p.boundaries - 1) (omega (arith, ap length e.boundaries)));
       linear = subst (λ n. HasWorked c.args.table.now 0 n c.in_ok-searcher.searcher.ends) (sym e.place) (c.in_ok-searcher.ensures.linear 0);
+    }
+
+pub take_ahead-requires-clause-at : goal.take_ahead-requires-clause-at
+take_ahead-requires-clause-at g c =
+    let p = c.tiles.progress in
+    let is = c.tiles.invariant in
+    let found = items_by g.S.Numbered.number g.X.Lexeme.seen p.items.items in
+    record {
+      running = record {
+        under_way = record {
+          boundary = is.boundary;
+          some = omega (arith, length_now (definition_by g.S.Numbered.number c.args.table.now) c.args.text.now p.place p.stack.items found p.boundaries p.asked is.reached);
+          reached = is.reached;
+          looked = is.looked;
+        };
+        exact = is.exact;
+      };
+      state = c.enter.ensures.state ∙ c.top_of.ensures ∙ ap (λ s. top (plain s)) c.as_slice.ensures.value;
+      inside = omega (arith, c.tiles-test.true);
+      searcher = is.searcher;
     }
 
 pub tiles-preserved : goal.tiles-preserved

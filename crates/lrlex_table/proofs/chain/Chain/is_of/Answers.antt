@@ -1,63 +1,25 @@
-use Rattle.std.proofs.Common.{◌≡◌, ℕ, ◌+◌, ◌<◌, get_or, sym, ap, ◌∙◌, subst, inl, inr, arith}
-use Rattle.std.proofs.lemmas.Bool.{cases_lt}
-use Rattle.lrlex_table.specs.Chain.{row_behind, GoesTo}
-use Rattle.lrlex_table.proofs.CheckingLemmas.{goes_alike}
+use Rattle.std.proofs.Common.{arith}
+use Rattle.lrlex_table.proofs.CheckingLemmas.{goes_alike, in_lists, of_all_lists}
 use Rattle.lrlex_table.proofs.chain.Chain.is_of.Goals as goal
-use Rattle.lrlex_table.proofs.chain.Chain.is_of.Goals.{then-first-byte+else-not-all_go_as, else-first-byte+else-firsts-first+else-not-has_column_of}
-
-pub bytes-preserved : goal.bytes-preserved
-bytes-preserved c =
-    let self = c.args.self.now in
-    let firsts = c.args.firsts.now in
-    let columns = self.columns.items in
-    let byte = c.bytes.byte in
-    let inv = c.bytes.invariant in
-    record {
-      goes = λ b lt is r inside. elim (cases_lt b byte) [
-        | inl before ↦ inv.goes b before is r inside
-        | inr last ↦
-            let same : byte ≡ b = omega arith in
-            elim c.if-first-byte.branch [
-              | then-first-byte+else-not-all_go_as w ↦
-                  subst (λ x. GoesTo c.args.table.now self r x (row_behind self.cells.items columns r x)) same (w.all_go_as.ensures w.if-not-all_go_as.false r (omega (arith, inside, self.bases.ok.0)))
-              | else-first-byte+else-firsts-first+else-not-has_column_of w ↦ absurd (w.if-first-byte.false (subst (λ x. get_or firsts x 0 ≡ x) (sym same) is))
-            ]
-      ];
-      first = λ b lt. elim (cases_lt b byte) [
-        | inl before ↦ inv.first b before
-        | inr last ↦
-            let same : byte ≡ b = omega arith in
-            subst (λ x. get_or firsts (get_or firsts x 0) 0 ≡ get_or firsts x 0) same (elim c.if-first-byte.branch [
-              | then-first-byte+else-not-all_go_as w ↦ ap (λ x. get_or firsts x 0) w.if-first-byte.true
-              | else-first-byte+else-firsts-first+else-not-has_column_of w ↦ w.if-firsts-first.false
-            ])
-      ];
-      column = λ b lt. elim (cases_lt b byte) [
-        | inl before ↦ inv.column b before
-        | inr last ↦
-            let same : byte ≡ b = omega arith in
-            subst (λ x. get_or columns x 0 ≡ get_or columns (get_or firsts x 0) 0) same (elim c.if-first-byte.branch [
-              | then-first-byte+else-not-all_go_as w ↦ ap (λ x. get_or columns x 0) (sym w.if-first-byte.true)
-              | else-first-byte+else-firsts-first+else-not-has_column_of w ↦ w.has_column_of.ensures w.if-not-has_column_of.false
-            ])
-      ];
-    }
 
 pub returns : goal.returns
-returns c is = (
-  sym c.base_of.ensures ∙ c.if-base_of-table.false,
-  λ r b inside small.
-      let self = c.args.self.now in
-      let t = c.args.table.now in
-      let firsts = c.args.firsts.now in
-      let cells = self.cells.items in
-      let columns = self.columns.items in
-      let f = get_or firsts b 0 in
-      let inv = c.bytes.invariant in
-      let low : f < 256 = omega (arith, c.fits-firsts b) in
-      let passed : b < c.bytes.byte = omega (arith, c.bytes-test.false, small) in
-      let goes = inv.goes f (omega (arith, c.bytes-test.false, low)) (inv.first b passed) r inside in
-      let alike = λ (q : ℕ). c.are_classes.ensures c.if-not-are_classes.false q b small in
-      goes_alike t self r b f (row_behind cells columns r b) alike
-      (subst (λ x. GoesTo t self r f (get_or cells (x + r) 0)) (sym (inv.column b passed)) goes),
-)
+returns c named =
+    let self = c.args.self.now in
+    let lists = c.args.lists.now in
+    let begun = c.begins_as_lists.ensures in
+    let goes = c.goes_by_classes.ensures in
+    let held = c.if-not-begins_as_lists.false in
+    let only = begun.only held in
+    record {
+      within = in_lists lists self only;
+      each = λ l ts here there. of_all_lists lists self only l ts here there (λ p one. (
+        (
+          λ m in_it. begun.begins held m in_it l p one,
+          λ r b inside small.
+              goes_alike p.table l self r b _ _ (λ q. begun.classes held l here p one q b small)
+              (c.begin_alike.ensures c.if-not-begin_alike.false b small) (goes c.if-not-goes_by_classes.false r b (omega (arith, inside, self.bases.ok.0)) small l p one),
+        ),
+        c.names_winners.ensures named l p one,
+      ));
+      rows = λ r inside. c.rows_are_in.ensures c.if-not-rows_are_in.false r (omega (arith, inside, self.bases.ok.0));
+    }

@@ -7,10 +7,10 @@ use Rattle.lrlex_table.proofs.chain.Chain.mark.Goals as goal
 
 pub bytes-init : goal.bytes-init
 bytes-init c = record {
-  row = omega (arith, c.args.self.now.begins);
+  row = omega (arith, c.requires.row, c.args.self.now.bases.ok.0);
   count = omega arith;
   room = refl;
-  lane = λ t is. (λ k lt. absurd (omega arith), on_way_first t c.args.self.now c.args.text.now c.args.from 0 c.args.self.now.start is.0);
+  lane = λ t l is. (λ k lt. absurd (omega arith), on_way_first t l c.args.self.now c.args.text.now c.args.from 0 c.args.begin (c.requires.begins t l is));
 }
 
 pub bytes-preserved : goal.bytes-preserved
@@ -36,10 +36,10 @@ bytes-preserved c =
         | inr ge ↦ omega (arith, c.begun-count.ensures.one ge, inv.count)
       ];
       room = length-set marks count (record { row = row; end = at }) ∙ inv.room;
-      lane = λ t is.
-          let goes : GoesTo t self row byte to = subst (GoesTo t self row byte) is_row (is.1 row byte inv.row (omega (arith, c.type_inv.text (from + at)))) in
-          passes t self text from 0 marks count at row to c.begun-count.result (inv.lane t is) here room goes c.begun-count.ensures.one c.begun-count.ensures.none;
+      lane = λ t l is.
+          let goes : GoesTo t l self row byte to = subst (GoesTo t l self row byte) is_row (is.1 row byte inv.row (omega (arith, c.type_inv.text (from + at)))) in
+          passes t l self text from 0 marks count at row to c.begun-count.result (inv.lane t l is) here inv.row room goes c.begun-count.ensures.one c.begun-count.ensures.none;
     }
 
 pub returns-clause-marks : goal.returns-clause-marks
-returns-clause-marks c t is = (c.bytes.invariant.lane t is).0
+returns-clause-marks c t l is = (c.bytes.invariant.lane t l is).0

@@ -11,15 +11,15 @@ bytes-init c =
     let apart = c.args.apart in
     let none : apart ≡ apart + 0 = omega arith in
     record {
-      row = omega (arith, self.begins);
+      row = omega (arith, c.requires.row, self.bases.ok.0);
       count = omega arith;
       room_first = refl;
-      first = λ t is. (λ k lt. absurd (omega arith), on_way_first t self c.args.text.now c.args.from 0 self.start is.0);
-      other = omega (arith, self.begins);
+      first = λ t l is. (λ k lt. absurd (omega arith), on_way_first t l self c.args.text.now c.args.from 0 c.args.begin (c.requires.begins t l is));
+      other = omega (arith, c.requires.row_later, self.bases.ok.0);
       others = omega arith;
       room_second = refl;
-      second = λ t is. subst (λ at. IsLane t self c.args.text.now c.args.from apart c.args.second.now 0 at self.start) none
-          (λ k lt. absurd (omega arith), on_way_first t self c.args.text.now c.args.from apart self.start is.0);
+      second = λ t l is. subst (λ at. IsLane t l self c.args.text.now c.args.from apart c.args.second.now 0 at c.args.later) none
+          (λ k lt. absurd (omega arith), on_way_first t l self c.args.text.now c.args.from apart c.args.later (c.requires.begins_later t l is));
     }
 
 pub bytes-preserved : goal.bytes-preserved
@@ -55,23 +55,23 @@ bytes-preserved c =
         | inr ge ↦ omega (arith, c.begun-count.ensures.one ge, inv.count)
       ];
       room_first = length-set first count (record { row = row; end = at }) ∙ inv.room_first;
-      first = λ t is.
-          let goes : GoesTo t self row byte to = subst (GoesTo t self row byte) is_row (is.1 row byte inv.row (omega (arith, c.type_inv.text (from + at)))) in
-          passes t self text from 0 first count at row to c.begun-count.result (inv.first t is) (omega (arith, inside)) room_first goes c.begun-count.ensures.one c.begun-count.ensures.none;
+      first = λ t l is.
+          let goes : GoesTo t l self row byte to = subst (GoesTo t l self row byte) is_row (is.1 row byte inv.row (omega (arith, c.type_inv.text (from + at)))) in
+          passes t l self text from 0 first count at row to c.begun-count.result (inv.first t l is) (omega (arith, inside)) inv.row room_first goes c.begun-count.ensures.one c.begun-count.ensures.none;
       other = omega (arith, c.next-after.ensures.row, c.len-height.ensures, self.bases.ok.0);
       others = elim (cases_lt after self.fresh) [
         | inl lt ↦ omega (arith, c.begun-others.ensures.none lt, inv.others)
         | inr ge ↦ omega (arith, c.begun-others.ensures.one ge, inv.others)
       ];
       room_second = length-set second others (record { row = other; end = later }) ∙ inv.room_second;
-      second = λ t is.
-          let goes : GoesTo t self other also after = subst (GoesTo t self other also) is_other (is.1 other also inv.other (omega (arith, c.type_inv.text (from + later)))) in
-          subst (λ n. IsLane t self text from c.args.apart (set second others (record { row = other; end = later })) (others + c.begun-others.result) n after) on
-          (passes t self text from c.args.apart second others later other after c.begun-others.result (inv.second t is) inside room_second goes c.begun-others.ensures.one c.begun-others.ensures.none);
+      second = λ t l is.
+          let goes : GoesTo t l self other also after = subst (GoesTo t l self other also) is_other (is.1 other also inv.other (omega (arith, c.type_inv.text (from + later)))) in
+          subst (λ n. IsLane t l self text from c.args.apart (set second others (record { row = other; end = later })) (others + c.begun-others.result) n after) on
+          (passes t l self text from c.args.apart second others later other after c.begun-others.result (inv.second t l is) inside inv.other room_second goes c.begun-others.ensures.one c.begun-others.ensures.none);
     }
 
 pub returns-clause-first : goal.returns-clause-first
-returns-clause-first c t is = (c.bytes.invariant.first t is).0
+returns-clause-first c t l is = (c.bytes.invariant.first t l is).0
 
 pub returns-clause-second : goal.returns-clause-second
-returns-clause-second c t is = (c.bytes.invariant.second t is).0
+returns-clause-second c t l is = (c.bytes.invariant.second t l is).0

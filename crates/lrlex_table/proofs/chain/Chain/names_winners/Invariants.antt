@@ -1,8 +1,9 @@
 use Rattle.std.proofs.Common.{◌≡◌, ◌<◌, ℕ, Some, None, slice_index_or}
-use Rattle.lrlex_table.specs.Chain.{base_of}
+use Rattle.lrlex_table.specs.Chain.{list_of, base_of, name_of, IsOnly}
+use Rattle.lrlex_table.specs.declared.merged_tables.Part.{Part}
 use Rattle.lrlex_table.proofs.chain.Chain.names_winners.Given as goal
 
 abbrev pub invariant-rows : goal.invariant-rows
 invariant-rows l =
-    (r k : ℕ) → r < l.row → slice_index_or l.part.table.wins.items (base_of l.self r) None ≡ Some k →
-    slice_index_or l.self.wins.items r 0 ≡ slice_index_or l.part.patterns.items k 0
+    (r : ℕ) → r < l.row → (m : ℕ) (p : Part) (k : ℕ) → IsOnly l.lists m p → list_of l.self r ≡ m →
+    slice_index_or p.table.wins.items (base_of l.self r) None ≡ Some k → name_of l.self r ≡ slice_index_or p.patterns.items k 0

@@ -15,6 +15,8 @@ invariant_of-self c = record {
   up_to = up_to_stays c.args.self.now.known c.insert.new.self (same c) c.args.self.now.known_to c.max-self.result c.args.self.now.up_to (omega (arith, c.max-self.ensures));
   within = within_stays c.args.self.now.known c.insert.new.self (same c) c.args.self.now.lists.now c.args.self.now.text.now c.args.self.now.within;
   marked = c.args.self.now.marked;
+  won = c.args.self.now.won;
+  chained = c.args.self.now.chained;
 }
 
 pub invariant_of-self-else-is_err : goal.invariant_of-self-else-is_err
@@ -23,6 +25,8 @@ invariant_of-self-else-is_err c = record {
   up_to = up_to_after c.args.self.now.known c.insert.new.self c.args.end (put c) c.args.self.now.known_to c.max-self.result c.args.self.now.up_to (omega (arith, c.max-self.ensures)) (omega (arith, c.max-self.ensures));
   within = within_after c.args.self.now.known c.insert.new.self c.args.end (put c) c.args.self.now.lists.now c.args.self.now.text.now c.args.self.now.within c.requires.within;
   marked = c.args.self.now.marked;
+  won = c.args.self.now.won;
+  chained = c.args.self.now.chained;
 }
 
 pub returns-else-is_err-clause-elsewhere : goal.returns-else-is_err-clause-elsewhere

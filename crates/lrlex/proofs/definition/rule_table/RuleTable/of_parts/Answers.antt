@@ -1,4 +1,4 @@
-use Rattle.std.proofs.Common.{◌≡◌, ◌∙◌, map, ap, subst}
+use Rattle.std.proofs.Common.{◌≡◌, ◌∙◌, map, sym, ap, subst}
 use Rattle.lrlex.specs.Kinds.{kind_of}
 use Rattle.lrlex.specs.Active.{active_places}
 use Rattle.lrlex.specs.StateTables.{AreServed, ArePlaced, list_in}
@@ -18,8 +18,11 @@ invariant_of-result-clause-listed g c =
 
 pub invariant_of-result-clause-served : goal.invariant_of-result-clause-served
 invariant_of-result-clause-served g c =
-    ∣ subst (λ rules. AreServed rules (map (λ v. v.items) c.in_ok-lists.lists.items) c.in_ok-tables.tables.items) c.deref-4.ensures.value
-    (subst (λ lists. AreServed c.deref-4.result.now (map (λ v. v.items) lists) c.in_ok-tables.tables.items) c.deref-5.ensures.value c.in_ok-tables.ensures.served) ∣₁
+    ∣ subst (λ rules. AreServed rules (map (λ v. v.items) c.in_ok-lists.lists.items) c.in_ok-tables.tables.items) c.deref-5.ensures.value
+    (subst (λ lists. AreServed c.deref-5.result.now (map (λ v. v.items) lists) c.in_ok-tables.tables.items) c.deref-6.ensures.value c.in_ok-tables.ensures.served) ∣₁
 
 pub invariant_of-result-clause-kinded : goal.invariant_of-result-clause-kinded
-invariant_of-result-clause-kinded g c = ∣ c.in_ok-kinds.ensures ∙ ap (map kind_of) c.deref-6.ensures.value ∣₁
+invariant_of-result-clause-kinded g c = ∣ c.in_ok-kinds.ensures ∙ ap (map kind_of) c.deref-8.ensures.value ∣₁
+
+pub chained_tables-requires : goal.chained_tables-requires
+chained_tables-requires g c placed = subst ArePlaced (sym c.deref-4.ensures.value) (subst ArePlaced c.deref.ensures.value (c.are_placed-placed.ensures.0 placed))

@@ -32,6 +32,7 @@ invariant_of-self g c =
           (rw c.as_mut_slice.ensures.value at c.take_ids.ensures) (map (λ v. v.items) table.lists.items) table.tables.items));
       each = table.each;
       within = table.within;
+      chained = table.chained;
     }
 
 pub set_kinds-requires : goal.set_kinds-requires

@@ -12,15 +12,15 @@ use Rattle.lrlex.proofs.TableLemmas.{active_within, told_some, told_bytes, best_
 use Rattle.lrlex.proofs.lexing.winner.Searcher.ahead.Goals as goal
 
 pub ahead_at-requires : goal.ahead_at-requires
-ahead_at-requires g c = record { tables = ap (λ xs. slice_get xs c.args.rules.list) c.requires.searcher.1.lists ∙ c.requires.rules.list }
+ahead_at-requires g c = record { tables = ap (λ xs. slice_get xs c.args.rules.now.list) c.requires.searcher.1.lists ∙ c.requires.rules.list }
 
 pub active_place-rule-requires-clause-within : goal.active_place-rule-requires-clause-within
 active_place-rule-requires-clause-within g c =
     let d = definition_by g.S.Numbered.number c.args.table.now in
-    let q = c.args.rules.state in
+    let q = c.args.rules.now.state in
     let text = drop c.args.place c.args.self.now.ends.text.now in
-    let places = c.args.rules.active.now in
-    let t = c.args.rules.tables.now in
+    let places = c.args.rules.now.active.now in
+    let t = c.args.rules.now.tables.now in
     let found = c.in_ok-found.found in
     let told = told_some d q text places t.asked.items c.requires.rules.active t refl c.requires.rules.tables (Some found) c.in_ok-found.ensures.winner found refl in
     let some = told_bytes d q text places t.asked.items c.requires.rules.active t refl c.requires.rules.tables (Some found) c.in_ok-found.ensures.winner found refl in
@@ -31,16 +31,16 @@ active_place-rule-requires-clause-all g c same i lt =
     let d = definition_by g.S.Numbered.number c.args.table.now in
     let rules_len = length-map c.args.table.now.rules.items (as_rule g.S.Numbered.number) in
     let ok = c.args.table.now.rules.ok.0 in
-    let each = all_places (is_active d.states c.args.rules.state) 0 d.rules (omega (arith, ap length c.requires.rules.active, same, rules_len, ok, c.len.ensures)) i (omega (arith, lt, rules_len, ok, c.len.ensures)) in
+    let each = all_places (is_active d.states c.args.rules.now.state) 0 d.rules (omega (arith, ap length c.requires.rules.active, same, rules_len, ok, c.len.ensures)) i (omega (arith, lt, rules_len, ok, c.len.ensures)) in
     ap (λ xs. get_or xs i 0) c.requires.rules.active ∙ omega (arith, each)
 
 pub returns-clause-tile : goal.returns-clause-tile
 returns-clause-tile g c input is =
     let d = definition_by g.S.Numbered.number c.args.table.now in
-    let q = c.args.rules.state in
+    let q = c.args.rules.now.state in
     let text = drop c.args.place c.args.self.now.ends.text.now in
-    let places = c.args.rules.active.now in
-    let t = c.args.rules.tables.now in
+    let places = c.args.rules.now.active.now in
+    let t = c.args.rules.now.tables.now in
     let none = c.in_ok-found.ensures.tabled in
     let past : length t.asked.items ≤ 0 = omega (arith, ap length none) in
     let found = c.in_ok-found.found in
