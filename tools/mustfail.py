@@ -25,7 +25,7 @@ import processes
 import prover
 import rooms
 
-EDIT = re.compile(r"^## (\S+)\n\n`(\S+)`[^\n]*\n\n```\n((?:file: .*\nold: .*\nnew: .*\n)+)```$", re.M)
+EDIT = re.compile(r"^## (\S+)\n\n(?:`(\S+)`[^\n]*\n\n)?```\n((?:file: .*\n(?:old: .*\nnew: .*\n)+)+)```$", re.M)
 # How much the edits leave processor time to rt ci.
 BESIDE = 19
 LEFT = re.compile(r"`search` did not prove `([^`]+)`")
@@ -34,23 +34,53 @@ ACCEPTED = ("proved", "no holes", "depends on a hole")
 NOT_OF_A_GOAL = re.compile(r": error: (?:\d+ declarations? that depends? on |.*\b(?:module|record) .* has no )")
 
 
-def edits_of(crate):
-    """The edits of the crate: its name, theirs, function and changes."""
-    path = f"{crates.TOP}/crates/{crate}/must-fail/GATE.md"
+def read_edits(crate, file):
+    """The edits of one of the crate's two files: the name, function and text of each. None where it has no such file."""
+    path = f"{crates.TOP}/crates/{crate}/must-fail/{file}"
     if not os.path.isfile(path):
-        return []
+        return None
     with open(path, encoding="utf-8") as it:
         text = it.read()
     found = EDIT.findall(text)
     if len(found) != text.count("\n## "):
         sys.exit(f"edits: {path} has an edit that can't be read")
-    return [(crate, name, function, changes_of(changes)) for name, function, changes in found]
+    return found
+
+
+def edits_of(crate):
+    """The edits of the crate that the gate tries: its name, theirs, function and changes."""
+    return [(crate, name, function, changes_of(changes)) for name, function, changes in read_edits(crate, "GATE.md") or []]
 
 
 def changes_of(text):
     """The changes of an edit, each a file with an old and a new text."""
-    lines = [line.split(": ", 1)[1] for line in text.splitlines()]
-    return [tuple(lines[at : at + 3]) for at in range(0, len(lines), 3)]
+    found, file = [], ""
+    for key, words in (line.split(": ", 1) for line in text.splitlines()):
+        if key == "file":
+            file = words
+        elif key == "old":
+            found.append((file, words))
+        else:
+            found[-1] += (words,)
+    return found
+
+
+def not_made(crate):
+    """Which of the crate's edits can't be made, with why, or have the name of another one."""
+    lost, names = [], set()
+    for name, _, changes in [it for file in ("GATE.md", "MORE.md") for it in read_edits(crate, file) or []]:
+        texts = {}
+        for file, old, new in changes_of(changes):
+            if file not in texts:
+                with open(f"{crates.TOP}/crates/{crate}/{file}", encoding="utf-8") as it:
+                    texts[file] = it.read()
+            if texts[file].count(old) != 1:
+                lost.append(f"{name}: its old text stands {texts[file].count(old)} times in {file}")
+            texts[file] = texts[file].replace(old, new)
+        if name in names:
+            lost.append(f"{name}: another edit has this name")
+        names.add(name)
+    return lost
 
 
 def changed(folder, changes):
@@ -140,20 +170,7 @@ def by_function(names=(), proofs=None, is_unedited=False):
 
 def edits_for_rt(crate):
     """The edits of the crate that rt must-fail is to try, by name, as it reads them."""
-    found, name = {}, ""
-    for file in ("GATE.md", "MORE.md"):
-        path, is_inside = f"{crates.TOP}/crates/{crate}/must-fail/{file}", False
-        if not os.path.isfile(path):
-            continue
-        with open(path, encoding="utf-8") as it:
-            for line in it:
-                if line.startswith("## "):
-                    name = line.split()[1]
-                elif line.startswith("```"):
-                    is_inside = not is_inside
-                elif is_inside:
-                    found[name] = found.get(name, "") + line
-    return found
+    return {name: text for file in ("GATE.md", "MORE.md") for name, _, text in read_edits(crate, file) or []}
 
 
 def by_rt(crate, listed):

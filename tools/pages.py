@@ -2,7 +2,8 @@
 
 Each line of a program that README.md or a crate's page shows must be a line of a crate that the gate proves, each line of rules
 that docs/rules.md shows one of rules/, each contract that a crate's page quotes must be in src/, and the links, files, crates and
-commands that pages name must exist. A crate's pages are the files .md in its folder. The last line is 'pages: N passed, M failed'.
+commands that pages name must exist. A crate's pages are the files .md in its folder. Each must-fail edit must be one that can be
+made: its old text stands exactly once in its file. The last line is 'pages: N passed, M failed'.
 """
 
 import functools
@@ -10,6 +11,7 @@ import os
 import re
 
 import crates
+import mustfail
 
 # The crates that programs of the pages are taken from: the callers, and the examples.
 CALLERS = ("lrlex_doc_callers", "lrlex_examples")
@@ -187,6 +189,9 @@ def all_checks(commands):
             yield f"contracts of crates/{name}", [], "its pages quote none"
     for page in pages:
         yield f"names in {page}", dead_links(page) + not_there(page, commands), ""
+    for name in crates.read():
+        if found(f"crates/{name}/must-fail/*.md"):
+            yield f"edits of crates/{name}", mustfail.not_made(name), ""
     if os.path.exists(f"{crates.TOP}/CONTRIBUTING.md"):
         yield "map of CONTRIBUTING.md", not_mapped(), ""
 
