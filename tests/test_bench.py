@@ -55,7 +55,7 @@ TIMED = [
             *each(["run"], OF_BYTES), "lexemes by a scanner", "cells looked at by a scanner", *each(["scan", "lexer", "lines"], OF_BYTES),
             "peak kB before lexing", "peak kB",
         ],
-        {"bytes": "11", "rules": "3", "states": "1", "rules without a table": "0", "bytes lexed": "8", "lexemes": "2", "tiles": "4", "cells looked at": "33"},
+        {"bytes": "11", "rules": "3", "states": "1", "rules without a table": "0", "bytes lexed": "8", "lexemes": "2", "tiles": "4", "cells looked at": "13"},
     ),
     (
         "rules input 3 --no-tables",
@@ -65,14 +65,14 @@ TIMED = [
     (
         "rules input 3 --edits",
         ["run matches asked", "run median ns", *each(PLACES, OF_EDIT)],
-        # a blank in front, one between 1 and 23, and one behind the place where lexing stops: from there on to the end it is looked ahead
-        {"front cells looked at": "24", "middle cells looked at": "16", "end cells looked at": "9"},
+        # a blank in front, one between 1 and 23, and one behind the place where lexing stops
+        {"front cells looked at": "2", "middle cells looked at": "7", "end cells looked at": "1"},
     ),
     (
         "rules input 3 --keys",
         ["tiles", "peak kB before typing", *each(PLACES, OF_KEY), "peak kB"],
         # the third key makes aaaabc
-        {"tiles": "4", "front most tiles cut anew for a key": "1", "front most cells looked at for a key": "28"},
+        {"tiles": "4", "front most tiles cut anew for a key": "1", "front most cells looked at for a key": "7"},
     ),
 ]
 

@@ -9,21 +9,19 @@ from support.rule_texts import FAR, FAR_FOUR_TABLES, FAR_PAIRS, FAR_STATES, FAR_
 
 PROGRAM = "lrlex_bench"
 
-# A rule text, a text, and how many cells are looked at. Looking ahead counts as twice its bytes. Walks look, for each tile that isn't
-# found ahead, at its bytes and the one that no rule goes on with, where the text's end counts as one.
+# A rule text, a text, and how many cells its walks look at: for each tile its bytes and the one that no rule goes on with, where the
+# text's end counts as one.
 WORKED = [
     (WORDS, "", 0),
-    # the text's end decides the tile
-    (WORDS, "ab", 2 * 2 + 3),
-    # all but the last blank are found ahead, and from it on it is looked ahead once more
-    (WORDS, "ab c ", 2 * 5 + 2 * 1 + 2),
-    # no tile begins with the digit, so the blank isn't found ahead, and from it on it is looked ahead once more
-    (WORDS, "ab 1", 2 * 4 + 2 * 2 + 2 + 1),
-    (FAR, "aaab", 2 * 4 + 5),
+    (WORDS, "ab", 3),
+    (WORDS, "ab c ", 3 + 2 + 2 + 2),
+    # nothing matches the digit, which is looked at
+    (WORDS, "ab 1", 3 + 2 + 1),
+    (FAR, "aaab", 5),
     # each a looks to the end
-    (FAR, "aaa", 2 * 3 + 4 + 3 + 2),
+    (FAR, "aaa", 4 + 3 + 2),
     # each a looks to the end, each b at the next byte
-    (FAR_PAIRS, "abab", 2 * 4 + 5 + 2 + 3 + 2),
+    (FAR_PAIRS, "abab", 5 + 2 + 3 + 2),
     # two tables
     (FAR_TWO_TABLES, "a", 2 + 2),
     # the rule that has no table looks at no cell

@@ -33,6 +33,7 @@ pub mod ResumeLemmas
 pub mod DecidedLemmas
 pub mod LookaheadLemmas
 pub mod RaisedLemmas
+pub mod FoundLemmas
 pub mod FrontLemmas
 pub mod PutLemmas
 pub mod GoingLemmas
@@ -40,6 +41,7 @@ pub mod AdvanceLemmas
 pub mod PlainLemmas
 pub mod SearchLemmas
 pub mod RestLemmas
+pub mod RowKindLemmas
 pub mod PieceLemmas
 mod PieceLawLemmas
 pub mod DocumentLemmas

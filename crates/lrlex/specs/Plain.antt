@@ -1,5 +1,5 @@
 -- A run that takes tiles of plain rules, many at a time.
-use Rattle.std.specs.Prelude.{◌≡◌, ℕ, ◌-◌, ◌<◌, ◌≤◌, List, length, is_some, unwrap_or, slice_range}
+use Rattle.std.specs.Prelude.{◌≡◌, ℕ, ◌-◌, ◌<◌, ◌≤◌, List, length, slice_range}
 use Rattle.lrlex_base.specs.LexemeParts.{LexemeParts}
 use Rattle.lrlex_boundaries.specs.Entries.{plain}
 use Rattle.lrlex.specs.Progress.{IsUnderWay, no_front}
@@ -8,19 +8,9 @@ use Rattle.lrlex.specs.Searches.{asks_by}
 use Rattle.lrlex.specs.Tiling.{top}
 use Rattle.lrlex.specs.Views.{definition_by}
 use Rattle.lrlex.specs.Work.{HasWorked}
-use Rattle.lrlex.specs.declared.definition.kinds.Kind.{Kind}
 use Rattle.lrlex.specs.declared.definition.rule_table.RuleTable.{RuleTable}
-use Rattle.lrlex.specs.declared.lexing.plain.Slot.{Slot}
 use Rattle.lrlex.specs.declared.lexing.step.Progress.{Progress}
 use Rattle.lrlex.specs.declared.lexing.winner.Searcher.{Searcher}
-
--- what a run reads of the kind: its id, or the other one where it has none, whether it has one, and whether it is plain
-abbrev pub slot_of : {S : Type 0} → S → Kind S → Slot S
-slot_of other k = record {
-  id = unwrap_or k.id other;
-  named = is_some k.id;
-  plain = k.plain;
-}
 
 -- a run from the text's front on stands at its place, and made as many searches as its boundaries ask for
 pub record IsRunning {S X : Type 0} (number : S → ℕ) (seen : X → LexemeParts S) (d : RuleTable S) (text : List ℕ) (p : Progress X) : Type 0 where

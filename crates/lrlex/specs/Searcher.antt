@@ -1,18 +1,19 @@
 -- The rules of a start state, as lexing holds them from tile to tile.
-use Rattle.std.specs.Prelude.{◌≡◌, ℕ, ◌+◌, ◌<◌, ◌≤◌, List, MatchOption, Some, length, drop, slice_get, IsCharBoundary}
+use Rattle.std.specs.Prelude.{◌≡◌, ℕ, ◌+◌, ◌-◌, ◌<◌, ◌≤◌, List, MatchOption, Some, length, map, drop, option_copied, slice_get, IsCharBoundary}
 use Rattle.lrlex_rules.specs.Definition.{Definition}
 use Rattle.lrlex_table.specs.Tables.{AreTablesOf}
 use Rattle.lrlex.specs.Active.{active_count, active_places}
 use Rattle.lrlex.specs.Lookahead.{IsDecided}
 use Rattle.lrlex.specs.Tiling.{IsStuck, Wins}
 use Rattle.lrlex_rules.specs.Matchers.{AreMatchers}
-use Rattle.lrlex.specs.StateTables.{patterns_on}
+use Rattle.lrlex.specs.StateTables.{list_in, patterns_on}
 use Rattle.lrlex.specs.Searches.{untabled_count}
 use Rattle.lrlex.specs.Views.{definition_by}
 use Rattle.lrlex.specs.declared.definition.rule_table.RuleTable.{RuleTable}
 use Rattle.lrlex.specs.declared.definition.rule_table.StateRules.{StateRules}
 use Rattle.lrlex.specs.declared.lexing.winner.Searcher.{Searcher}
 use Rattle.lrlex.specs.declared.lexing.winner.Scan.{Scan}
+use Rattle.lrlex.specs.declared.lexing.winner.Found.{Found}
 use Rattle.lrlex.specs.declared.lexing.winner.Tile.{Tile}
 
 -- these are the rules that are active in state q of the definition, and their tables
@@ -20,14 +21,16 @@ pub record AreOf {S : Type 0} (number : S → ℕ) (d : RuleTable S) (q : ℕ) (
   pub active : rules.active.now ≡ active_places (definition_by number d).states (definition_by number d).rules q
   pub tables : ∥ AreTablesOf (patterns_on (definition_by number d).rules (active_places (definition_by number d).states (definition_by number d).rules q)) rules.tables.now ∥₁
   pub list : slice_get d.tables.items rules.list ≡ Some rules.tables.now
+  pub own : rules.active.now ≡ list_in (map (λ v. v.items) d.lists.items) rules.list
   pub untabled : length rules.tables.now.asked.items ≡ untabled_count d q
 
 -- this looks for winners in the text by the definition: its matchers are those of the rules, and its dead ends are of the
--- definition's tables and of the text
+-- definition's tables and chain, and of the text
 pub record IsSearcherOf {S : Type 0} (d : RuleTable S) (input : List ℕ) (s : Searcher) : Type 0 where
   pub matchers : AreMatchers d.rules.items s.matchers.items
   pub lists : s.ends.lists.now ≡ d.tables.items
   pub text : s.ends.text.now ≡ input
+  pub chain : option_copied s.ends.chain ≡ slice_get d.chains.items 0
 
 -- what wins in state q at the text's beginning, and that the first bytes, so many of them, decide it
 pub record IsScanOf (d : Definition) (q : ℕ) (text : List ℕ) (s : Scan) : Type 0 where
@@ -42,6 +45,10 @@ pub record IsFoundAt {S : Type 0} (number : S → ℕ) (d : RuleTable S) (q : �
   pub rule : t.rule < length d.rules.items
   pub within : place + t.len < length input
   pub tabled : untabled_count d q ≡ 0
+
+-- the tile that was found ahead at the place
+abbrev pub tile_of : {S : Type 0} → ℕ → Found S → Tile
+tile_of place f = record { rule = f.kind.rule; len = f.next.end - place }
 
 -- the searches of one look in state q: one for each active rule that the state's tables leave out
 pub record HasAsked {S : Type 0} (number : S → ℕ) (d : RuleTable S) (q before after : ℕ) : Type 0 where

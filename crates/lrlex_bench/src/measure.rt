@@ -72,9 +72,9 @@ fn time_scan(
     let mut lexemes = 0usize;
     watch.start(rt);
     let mut scanner = definition.scanner(alloc, text)?;
-    for _ in 0..=text.len() {
+    for _ in 0..text.len() + 1 {
         match scanner.next(alloc)? {
-            Step::Tile(tile) => lexemes = lexemes.saturating_add(tile.id.is_some() as usize),
+            Step::Tile(tile) => lexemes = lexemes.wrapping_add(tile.id.is_some() as usize),
             Step::End(_) => break,
         }
     }

@@ -10,10 +10,9 @@ use Rattle.lrlex_table.specs.Table.{next_rows, IsLongest}
 use Rattle.lrlex_table.specs.Reach.{IsText, IsDecidedBy}
 use Rattle.lrlex_table.specs.Tables.{is_among, is_tabled, patterns_at, AreTablesOf, IsBestAmong, IsPartOf}
 use Rattle.lrlex_table.specs.Chain.{list_of, name_of, row_at, IsIn, IsChainOf, NamesWinners, IsChainOfLists, IsCut, IsWonBy, no_mark, end_of, row_of, begin_of}
-use Rattle.lrlex_table.specs.Ahead.{IsFoundIn, IsWonAt, AreWonAhead, AreAheadIn}
+use Rattle.lrlex_table.specs.Ahead.{IsFoundIn, IsWonAt, AreWonAhead, AreAheadIn, IsBestUpTo}
 use Rattle.lrlex_table.specs.declared.chain.Chain.{Chain}
 use Rattle.lrlex_table.specs.declared.marks.Mark.{Mark}
-use Rattle.lrlex_table.specs.declared.marks.Name.{Name}
 use Rattle.lrlex_table.specs.declared.ahead.Ahead.{Ahead}
 use Rattle.lrlex_table.specs.declared.merged_tables.Part.{Part}
 use Rattle.lrlex_table.specs.declared.tables.Tables.{Tables}
@@ -157,21 +156,27 @@ none_ahead text a none = (omega (arith, none), λ k lt. absurd (omega (arith, no
 pub none_won : (lists : List Tables) (c : Chain) (text : List ℕ) (a : Ahead) → a.count ≡ 0 → AreWonAhead lists c text a
 none_won lists c text a none k lt = absurd (omega (arith, none, lt))
 
--- the next match, whose row has this name
-pub next_won : (lists : List Tables) (ts : Tables) (c : Chain) (text : List ℕ) (a : Ahead) (place : ℕ) (m : Mark) (n : Name) → AreAheadIn text a → AreWonAhead lists c text a → a.at < a.count → a.begin ≡ place →
-    m ≡ get_or a.marks.items a.at m → (n.list ≡ list_of c m.row) × (n.pattern ≡ name_of c m.row) → slice_get lists n.list ≡ Some ts → IsWonAt ts text place n.pattern (a.from + m.end - place)
-next_won lists ts c text a place m n are won lt begin read named there =
+-- the next match is the best of its list
+pub next_best : (lists : List Tables) (ts : Tables) (c : Chain) (text : List ℕ) → All (λ b. b < 256) text → IsUtf8 text → (a : Ahead) (place : ℕ) (m : Mark) → AreAheadIn text a → AreWonAhead lists c text a → a.at < a.count → a.begin ≡ place →
+    m ≡ get_or a.marks.items a.at m → slice_get lists (list_of c m.row) ≡ Some ts → IsBestUpTo ts text place (name_of c m.row) (a.from + m.end)
+next_best lists ts c text bytes utf8 a place m are won lt begin read there =
     let is : m ≡ get_or a.marks.items a.at no_mark = get_or_read a.marks.items a.at m (omega (arith, lt, are.0)) read no_mark in
     let row : m.row ≡ row_of a.marks.items a.at = ap (λ (x : Mark). x.row) is in
     let ends : m.end ≡ end_of a.marks.items a.at = ap (λ (x : Mark). x.end) is in
-    let list : list_of c (row_of a.marks.items a.at) ≡ n.list = ap (list_of c) (sym row) ∙ sym named.0 in
-    let pattern : name_of c (row_of a.marks.items a.at) ≡ n.pattern = ap (name_of c) (sym row) ∙ sym named.1 in
-    let w = won a.at lt ts (ap (slice_get lists) list ∙ there) in
+    let w = won a.at lt ts (ap (λ r. slice_get lists (list_of c r)) (sym row) ∙ there) in
     let begins : a.from + begin_of 0 a.marks.items a.at ≡ place = omega (arith, are.2 lt, begin) in
-    let bytes : end_of a.marks.items a.at - begin_of 0 a.marks.items a.at ≡ a.from + m.end - place = omega (arith, ends, begins, w.0) in
-    subst (λ k. IsWonAt ts text place k (a.from + m.end - place)) pattern
-    (subst (IsWonAt ts text place (name_of c (row_of a.marks.items a.at))) bytes
-    (subst (λ p. IsWonAt ts text p (name_of c (row_of a.marks.items a.at)) (end_of a.marks.items a.at - begin_of 0 a.marks.items a.at)) begins w.1))
+    let bytes_are : end_of a.marks.items a.at - begin_of 0 a.marks.items a.at ≡ a.from + m.end - place = omega (arith, ends, begins, w.0) in
+    let here : IsWonAt ts text place (name_of c m.row) (a.from + m.end - place) =
+    subst (λ r. IsWonAt ts text place (name_of c r) (a.from + m.end - place)) (sym row)
+    (subst (IsWonAt ts text place (name_of c (row_of a.marks.items a.at))) bytes_are
+    (subst (λ p. IsWonAt ts text p (name_of c (row_of a.marks.items a.at)) (end_of a.marks.items a.at - begin_of 0 a.marks.items a.at)) begins w.1)) in
+    record {
+      tabled = here.0;
+      some = omega (arith, ends, begins, w.0);
+      within = omega (arith, here.2, ends, begins, w.0);
+      best = λ ps are_of. (won_best ts text bytes utf8 place (name_of c m.row) (a.from + m.end - place) here ps are_of).1;
+      decided = λ ps are_of. won_decided ts text bytes utf8 place (name_of c m.row) (a.from + m.end - place) here ps are_of;
+    }
 
 -- no match ends behind the text
 pub ends_within : (text : List ℕ) (a : Ahead) (at : ℕ) (m : Mark) → AreAheadIn text a → at < a.count → m ≡ get_or a.marks.items at m → a.from + m.end ≤ length text

@@ -1,11 +1,15 @@
 -- Matches that were found ahead (Ahead).
 use Rattle.std.specs.Prelude.{◌≡◌, ℕ, ◌+◌, ◌-◌, ◌<◌, ◌≤◌, min, List, All, [], length, drop, Some, slice_get, IsCharBoundary}
+use Rattle.regex.specs.Patterns.{Re}
+use Rattle.lrlex_table.specs.Reach.{IsDecidedBy}
+use Rattle.lrlex_table.specs.Tables.{is_tabled, AreTablesOf, IsBestAmong}
 use Rattle.lrlex_table.specs.Chain.{IsChainOf, IsWonBy, list_of, name_of, begin_of, end_of, row_of, AreMarksOf}
 use Rattle.lrlex_table.specs.declared.table.Table.{Table}
 use Rattle.lrlex_table.specs.declared.chain.Chain.{Chain}
 use Rattle.lrlex_table.specs.declared.tables.Tables.{Tables}
 use Rattle.lrlex_table.specs.declared.marks.Mark.{Mark}
 use Rattle.lrlex_table.specs.declared.ahead.Ahead.{Ahead}
+use Rattle.lrlex_table.specs.declared.looking.MatchAhead.{MatchAhead}
 
 -- how many bytes of the text it looks at from `from` on
 abbrev pub bytes_ahead : Ahead → List ℕ → ℕ → ℕ
@@ -46,3 +50,23 @@ AreAheadIn text a =
     (a.count ≤ length a.marks.items)
     × ((k : ℕ) → k < a.count → IsCharBoundary text (a.from + end_of a.marks.items k))
     × (a.at < a.count → a.begin ≡ a.from + begin_of 0 a.marks.items a.at)
+
+-- this is the next match that was found ahead, and it begins at the place
+pub record IsNextAt (a : Ahead) (place : ℕ) (m : MatchAhead) : Type 0 where
+  pub left : a.at < a.count
+  pub begins : a.begin ≡ place
+  pub ends : m.end ≡ a.from + end_of a.marks.items a.at
+  pub row : m.row ≡ row_of a.marks.items a.at
+
+-- Each pattern of the list has a table. From the place to the end that lies behind it, pattern k wins, and the byte behind that decides it.
+pub record IsBestUpTo (ts : Tables) (text : List ℕ) (place k end : ℕ) : Type 0 where
+  pub tabled : ts.asked.items ≡ []
+  pub some : place < end
+  pub within : end < length text
+  pub best : (ps : List Re) → AreTablesOf ps ts → IsBestAmong ps (is_tabled ts.parts.items) (drop place text) k (end - place)
+  pub decided : (ps : List Re) → AreTablesOf ps ts → IsDecidedBy ps (drop place text) (end - place + 1)
+
+-- in the list of its row, the pattern that the chain has for the row wins at the place, up to where the match ends
+abbrev pub IsBestIn : List Tables → List ℕ → ℕ → MatchAhead → Chain → Type 0
+IsBestIn lists text place m c =
+    (ts : Tables) → slice_get lists (list_of c m.row) ≡ Some ts → IsBestUpTo ts text place (name_of c m.row) m.end

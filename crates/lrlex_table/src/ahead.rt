@@ -12,7 +12,7 @@ use std::mem;
 /// How many bytes are looked at ahead at first.
 const FIRST_BYTES: usize = 256;
 
-/// How many bytes are passed before it is tried again, where the list isn't in the chain.
+/// How many bytes are passed before the first look, and before it is tried again where the list isn't in the chain.
 pub(crate) const TRY_AGAIN: usize = 64;
 
 /// How many bytes are passed at most before it is tried again, where little of what was found was of use.
@@ -43,6 +43,8 @@ pub(crate) struct Ahead {
     pub(crate) missed: usize,
     /// How many bytes are passed before it is tried again.
     wait: usize,
+    /// Whether a match was asked for before. A short text, or an edit of a few tiles, is done without a look.
+    asked: bool,
     /// How many cells were looked at: twice the bytes of each look, since a second lane may walk in vain. It stays at the greatest number.
     pub(crate) cells: usize,
     /// It isn't looked ahead again before this place, in the middle of the bytes that were looked at last.
@@ -70,6 +72,7 @@ impl Ahead {
             passed: 0,
             missed: 0,
             wait: FIRST_BYTES,
+            asked: false,
             cells: 0,
             limit: 0,
         }
@@ -106,6 +109,11 @@ impl Ahead {
         let count = self.count;
         self.count = 0;
         self.at = 0;
+        if !self.asked {
+            self.asked = true;
+            self.begin = place.saturating_add(TRY_AGAIN);
+            return false;
+        }
         if self.looked > 0 {
             let reached = self.end.saturating_sub(self.from);
             let is_of_use = self.passed <= self.looked / 4

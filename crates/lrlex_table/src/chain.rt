@@ -73,4 +73,11 @@ impl Chain {
             fresh,
         })
     }
+
+    /// For each row its list, and the place in the list of the pattern that wins there, if one does.
+    pub fn names(&self) -> &[Name]
+        ensures { result.now ≡ self.now.names.items }
+    {
+        &self.names
+    }
 }

@@ -82,6 +82,7 @@ impl<'d, 't> DeadEnds<'d, 't> {
         requires new { more_of self.old.known end.list end.part end.row end.place ≡ None }
         ensures lists { self.new.lists ≡ self.old.lists }
         ensures text { self.new.text ≡ self.old.text }
+        ensures chain { self.new.chain ≡ self.old.chain }
         ensures looked { self.new.looked ≡ self.old.looked }
         ensures ahead { self.new.ahead ≡ self.old.ahead }
         ensures forgot { self.old.forgot ≡ true → self.new.forgot ≡ true }
@@ -178,6 +179,7 @@ impl<'d, 't> DeadEnds<'d, 't> {
         requires before { looked ≤ walk.reach }
         ensures lists { self.new.lists ≡ self.old.lists }
         ensures text { self.new.text ≡ self.old.text }
+        ensures chain { self.new.chain ≡ self.old.chain }
         ensures looked { self.new.looked ≡ self.old.looked }
         ensures ahead { self.new.ahead ≡ self.old.ahead }
         ensures forgot { self.old.forgot ≡ true → self.new.forgot ≡ true }
@@ -224,6 +226,7 @@ impl<'d, 't> DeadEnds<'d, 't> {
         ensures past { IfSome result.winner (λ t. t.len < result.reach) }
         ensures lists { self.new.lists ≡ self.old.lists }
         ensures text { self.new.text ≡ self.old.text }
+        ensures chain { self.new.chain ≡ self.old.chain }
         ensures looks { (n : ℕ) × IsStop self.old.known list index part.now.table place rest.now n × (n ≤ result.looked) }
         ensures looked { self.new.looked ≡ self.old.looked }
         ensures ahead { self.new.ahead ≡ self.old.ahead }
@@ -276,6 +279,7 @@ impl<'d, 't> DeadEnds<'d, 't> {
         ensures past { IfSome result.winner (λ t. t.len < result.reach) }
         ensures lists { self.new.lists ≡ self.old.lists }
         ensures text { self.new.text ≡ self.old.text }
+        ensures chain { self.new.chain ≡ self.old.chain }
         ensures looked { self.new.looked ≡ self.old.looked }
         ensures ahead { self.new.ahead ≡ self.old.ahead }
         ensures forgot { self.old.forgot ≡ true → self.new.forgot ≡ true }
@@ -302,6 +306,7 @@ impl<'d, 't> DeadEnds<'d, 't> {
     pub(crate) fn count(&mut self, looked: usize)
         ensures lists { self.new.lists ≡ self.old.lists }
         ensures text { self.new.text ≡ self.old.text }
+        ensures chain { self.new.chain ≡ self.old.chain }
         ensures known { self.new.known ≡ self.old.known }
         ensures forgot { self.new.forgot ≡ self.old.forgot }
         ensures ahead { self.new.ahead ≡ self.old.ahead }

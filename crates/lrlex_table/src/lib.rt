@@ -33,6 +33,8 @@ pub use cached_table::CachedTable;
 pub use chain::Chain;
 pub use chaining::chain_for;
 pub use dead_ends::{DeadEnd, DeadEnds};
+pub use looking::MatchAhead;
+pub use marks::Name;
 pub use merged_tables::{Part, joined_tables, tables_between};
 pub use never::may_win_in;
 pub use pattern_table::table_of;

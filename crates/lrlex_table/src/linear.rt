@@ -22,6 +22,7 @@ impl<'d, 't> DeadEnds<'d, 't> {
         requires chain { IfSome chain (λ c. IsChainOfLists lists.now c.now) }
         ensures lists { result.lists.now ≡ lists.now }
         ensures text { result.text.now ≡ text.now }
+        ensures chain { result.chain ≡ chain.entry }
         ensures linear { (most from : ℕ) → HasWorkedTo most from from result }
     {
         DeadEnds {
@@ -42,6 +43,7 @@ impl<'d, 't> DeadEnds<'d, 't> {
     pub fn rewind(&mut self)
         ensures lists { self.new.lists ≡ self.old.lists }
         ensures text { self.new.text ≡ self.old.text }
+        ensures chain { self.new.chain ≡ self.old.chain }
         ensures none { hash_map_len self.new.known ≡ 0 }
         ensures forgot { self.new.forgot ≡ false }
         ensures looked { self.new.looked ≡ 0 }
@@ -98,6 +100,7 @@ impl<'d, 't> DeadEnds<'d, 't> {
         ensures past { IfSome result.winner (λ t. t.len < result.reach) }
         ensures lists { self.new.lists ≡ self.old.lists }
         ensures text { self.new.text ≡ self.old.text }
+        ensures chain { self.new.chain ≡ self.old.chain }
         ensures counted { self.old.looked + result.looked < 2 ^ 64 → self.old.looked + result.looked ≤ self.new.looked }
         ensures ahead { self.old.ahead.cells ≤ self.new.ahead.cells }
         ensures forgot { self.old.forgot ≡ true → self.new.forgot ≡ true }

@@ -2,6 +2,8 @@
 ghost use Rattle.std.specs.Prelude.{◌≡◌, ℕ, ◌+◌, ◌<◌, ◌≤◌, List, [], length, drop, Some, IfSome, IsCharBoundary, slice_get};
 ghost use Rattle.regex.specs.Patterns.{Re};
 ghost use Rattle.lrlex_table.specs.Reach.{IsDecidedBy};
+ghost use Rattle.std.specs.Option.{ForSome};
+ghost use Rattle.lrlex_table.specs.Ahead.{IsBestIn, IsNextAt};
 ghost use Rattle.lrlex_table.specs.Looking.{HasSameEnds};
 ghost use Rattle.lrlex_table.specs.Linear.{HasWorkedTo};
 ghost use Rattle.lrlex_table.specs.Tables.{is_tabled, AreTablesOf, IsBestAmong};
@@ -12,26 +14,73 @@ use crate::dead_ends::DeadEnds;
 use crate::tables::Tables;
 use crate::walk::PatternMatch;
 
+/// A match that was found ahead: the row of the chain in which it ends, and where that is in the text, in bytes.
+#[derive(Clone, Copy)]
+pub struct MatchAhead {
+    pub row: u16,
+    pub end: usize,
+}
+
 impl<'d, 't> DeadEnds<'d, 't> {
-    /// The next match that was found ahead in this text, as `ahead_at` returns it.
+    /// The next match that was found ahead, if it begins at this place. It is of the list of its row: whoever looks for a match of another
+    /// list can't take it.
     #[inline(always)]
+    pub fn next_ahead(&self, place: usize) -> Option<MatchAhead>
+        ensures next { IfSome result (IsNextAt self.now.ahead place) }
+        ensures best { IfSome result (λ m. ForSome self.now.chain (λ c. IsBestIn self.now.lists.now self.now.text.now place m c.now)) }
+    {
+        self.next_in(self.text, place)
+    }
+
+    /// The same, in this text.
+    #[inline(always)]
+    fn next_in(&self, text: &str, place: usize) -> Option<MatchAhead>
+        requires text { text.now ≡ self.now.text.now }
+        ensures next { IfSome result (IsNextAt self.now.ahead place) }
+        ensures best { IfSome result (λ m. ForSome self.now.chain (λ c. IsBestIn self.now.lists.now text.now place m c.now)) }
+    {
+        let _ = text;
+        if self.ahead.begin != place || self.ahead.at >= self.ahead.count {
+            return None;
+        }
+        let mark = self.ahead.marks[self.ahead.at];
+        Some(MatchAhead {
+            row: mark.row,
+            end: self.ahead.from + mark.end as usize,
+        })
+    }
+
+    /// Passes the next match that was found ahead, which begins at this place.
+    #[inline(always)]
+    pub fn pass_ahead(&mut self, place: usize, next: MatchAhead)
+        requires { IsNextAt self.old.ahead place next }
+        ensures lists { self.new.lists ≡ self.old.lists }
+        ensures text { self.new.text ≡ self.old.text }
+        ensures ends { HasSameEnds self.old self.new }
+        ensures counted { self.old.ahead.cells ≤ self.new.ahead.cells }
+        ensures linear { (most from at : ℕ) → HasWorkedTo most from at self.old → HasWorkedTo most from at self.new }
+    {
+        let _ = place;
+        self.ahead.at += 1;
+        self.ahead.begin = next.end;
+    }
+
+    /// The next match that was found ahead in this text, as `ahead_at` returns it.
     fn take(
         &mut self,
         chain: Option<&Chain>,
         tables: &Tables,
         list: usize,
         place: usize,
-        text: &str,
     ) -> Option<PatternMatch>
         requires chain { chain ≡ self.old.chain }
         requires tables { slice_get self.old.lists.now list ≡ Some tables.now }
-        requires text { text.now ≡ self.old.text.now }
         ensures tabled { IfSome result (λ _. tables.now.asked.items ≡ []) }
         ensures winner { IfSome result (λ t. (ps : List Re) → AreTablesOf ps tables.now →
-            (0 < t.len) × IsBestAmong ps (is_tabled tables.now.parts.items) (drop place text.now) t.pattern t.len) }
+            (0 < t.len) × IsBestAmong ps (is_tabled tables.now.parts.items) (drop place self.old.text.now) t.pattern t.len) }
         ensures decided { IfSome result (λ t. (ps : List Re) → AreTablesOf ps tables.now →
-            IsDecidedBy ps (drop place text.now) (t.len + 1)) }
-        ensures within { IfSome result (λ t. place + t.len < length text.now) }
+            IsDecidedBy ps (drop place self.old.text.now) (t.len + 1)) }
+        ensures within { IfSome result (λ t. place + t.len < length self.old.text.now) }
         ensures lists { self.new.lists ≡ self.old.lists }
         ensures text { self.new.text ≡ self.old.text }
         ensures ends { HasSameEnds self.old self.new }
@@ -39,37 +88,21 @@ impl<'d, 't> DeadEnds<'d, 't> {
         ensures linear { (most from at : ℕ) → HasWorkedTo most from at self.old → HasWorkedTo most from at self.new }
     {
         let _ = tables;
-        let _ = text;
-        if self.ahead.begin != place {
-            return None;
-        }
-        let at = self.ahead.at;
-        if at >= self.ahead.count {
-            return None;
-        }
-        let mark = self.ahead.marks[at];
-        let Some(chain) = chain else {
-            return None;
-        };
-        let Some(name) = chain.name_of(mark.row) else {
-            return None;
-        };
+        let next = self.next_ahead(place)?;
+        let name = chain?.name_of(next.row)?;
         if name.list as usize != list {
             return None;
         }
-        let end = self.ahead.from + mark.end as usize;
-        self.ahead.at = at + 1;
-        self.ahead.begin = end;
+        self.pass_ahead(place, next);
         Some(PatternMatch {
             pattern: name.pattern as usize,
-            len: end - place,
+            len: next.end - place,
         })
     }
 
     /// Which pattern of the list wins at this place, where matches that were looked for ahead tell it. Then each pattern of the list has a table,
     /// and the byte behind the match decides.
-    #[inline(always)]
-    pub fn ahead_at(&mut self, tables: &Tables, list: usize, place: usize) -> Option<PatternMatch>
+    fn ahead_at(&mut self, tables: &Tables, list: usize, place: usize) -> Option<PatternMatch>
         requires tables { slice_get self.old.lists.now list ≡ Some tables.now }
         ensures tabled { IfSome result (λ _. tables.now.asked.items ≡ []) }
         ensures winner { IfSome result (λ t. (ps : List Re) → AreTablesOf ps tables.now →
@@ -84,8 +117,7 @@ impl<'d, 't> DeadEnds<'d, 't> {
         ensures linear { (most from at : ℕ) → HasWorkedTo most from at self.old → HasWorkedTo most from at self.new }
     {
         let chain = self.chain;
-        let text = self.text;
-        self.take(chain, tables, list, place, text)
+        self.take(chain, tables, list, place)
     }
 
     /// Passes the matches that were found ahead, up to the first that begins at this place or after it.

@@ -17,9 +17,9 @@ pub(crate) struct Mark {
 
 /// A pattern by its list, and its place there.
 #[derive(Clone, Copy)]
-pub(crate) struct Name {
-    pub(crate) list: u16,
-    pub(crate) pattern: u16,
+pub struct Name {
+    pub list: u16,
+    pub pattern: u16,
 }
 
 /// The row behind this one on the byte.

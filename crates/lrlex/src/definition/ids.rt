@@ -6,8 +6,8 @@ ghost use Rattle.std.specs.HashSet.{contains_by};
 ghost use Rattle.lrlex_rules.specs.RuleParts.{as_rule};
 ghost use Rattle.lrlex.specs.Ids.{is_named, ids_of, with_own_id, is_lacking, is_unused, is_unused_at, HoldsNames, HoldsTexts, HoldsPlaces};
 
-use crate::definition::kinds::set_kinds;
 use crate::definition::names::have_own_ids;
+use crate::definition::row_kinds::set_row_kinds;
 use crate::definition::rule_table::RuleTable;
 use lrlex_base::{Numbered, Span};
 use lrlex_rules::Rule;
@@ -134,7 +134,7 @@ impl<S: Numbered> RuleTable<S> {
     {
         take_ids(self.rules.as_mut_slice(), ids);
         self.own_ids = have_own_ids(&self.rules);
-        set_kinds(self.kinds.as_mut_slice(), &self.rules);
+        set_row_kinds(self.row_kinds.as_mut_slice(), &self.rules);
     }
 
     /// Gives each named rule the map's id for its name, or none. Answers the map's names that no rule has, and the names of

@@ -9,5 +9,6 @@ pub(crate) mod lookups;
 pub(crate) mod names;
 pub(crate) mod never;
 pub(crate) mod non_streaming;
+pub(crate) mod row_kinds;
 pub(crate) mod rule_table;
 pub(crate) mod state_tables;

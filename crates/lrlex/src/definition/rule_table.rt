@@ -5,13 +5,13 @@ ghost use Rattle.lrlex.specs.StateTables.{AreServed, ArePlaced, chains_rows, lis
 ghost use Rattle.lrlex_table.specs.Chain.{IsChainOfLists};
 ghost use Rattle.lrlex_table.specs.Rows.{rows_held};
 ghost use Rattle.lrlex.specs.Ids.{HaveDistinctIds};
-ghost use Rattle.lrlex.specs.Kinds.{kind_of};
+ghost use Rattle.lrlex.specs.RowKinds.{AreRowKinds};
 
 use crate::definition::active::{are_placed, has_state, position_of};
 use crate::definition::active_lists::lists_for;
 use crate::definition::followers::chained_tables;
-use crate::definition::kinds::{Kind, kinds_of};
 use crate::definition::names::have_own_ids;
+use crate::definition::row_kinds::{RowKind, row_kinds_of};
 use lrlex_base::Numbered;
 use lrlex_rules::{LexBuildResult, LexFlags, Rule, RuleFile, StartState, parse_rule_file};
 use lrlex_table::{Budget, Chain, Tables};
@@ -33,8 +33,6 @@ pub(crate) fn usual_budget() -> Budget
 #[derive(Drop)]
 pub(crate) struct RuleTable<S> {
     pub(crate) rules: Vec<Rule<S>>,
-    /// What lexing needs of each rule for each tile: a rule itself is large, and those of a definition are many.
-    pub(crate) kinds: Vec<Kind<S>>,
     pub(crate) start_states: Vec<StartState>,
     pub(crate) flags: LexFlags,
     /// Whether the id of each rule that has one is its place, as in every definition that was read.
@@ -47,19 +45,21 @@ pub(crate) struct RuleTable<S> {
     pub(crate) tables: Vec<Tables>,
     /// Their chain, if there is one. It isn't an `Option`: dropping one in a struct with facts costs callers a proof.
     pub(crate) chains: Vec<Chain>,
+    /// What lexing needs of the rule that wins at each row of the chain: a rule itself is large, and those of a definition are many.
+    pub(crate) row_kinds: Vec<RowKind<S>>,
     /// Which of the lists each state has.
     pub(crate) list_at: Vec<usize>,
     ghost distinct: { IsTrue own_ids → HaveDistinctIds rules.items },
-    ghost kinded: { ∥ kinds.items ≡ map kind_of rules.items ∥₁ },
     ghost at_places: { IsTrue placed → ArePlaced start_states.items },
     ghost listed: { map (list_in (map (λ v. v.items) lists.items)) list_at.items ≡ map (λ s. active_places (map as_state start_states.items) (map (as_rule (λ _. 0)) rules.items) (as_state s).id) start_states.items },
     ghost served: { ∥ AreServed rules.items (map (λ v. v.items) lists.items) tables.items ∥₁ },
     ghost each: { length tables.items ≡ length lists.items },
     ghost chained: { All (IsChainOfLists tables.items) chains.items },
     ghost within: { All (λ j. j < length lists.items) list_at.items },
+    ghost by_rows: { ∥ AreRowKinds rules.items (map (λ v. v.items) lists.items) chains.items row_kinds.items ∥₁ },
 }
 
-impl<S: Copy> RuleTable<S> {
+impl<S: Numbered> RuleTable<S> {
     ghost use Rattle.std.specs.Prelude.{IfOk};
 
     /// Of these start states and rules, in order, with tables that cost no more than this.
@@ -88,10 +88,9 @@ impl<S: Copy> RuleTable<S> {
             &list_at,
             budget,
         )?;
-        let kinds = kinds_of(alloc, &rules)?;
+        let row_kinds = row_kinds_of(alloc, &rules, &lists, &chains)?;
         Ok(RuleTable {
             rules,
-            kinds,
             start_states,
             flags,
             own_ids,
@@ -99,6 +98,7 @@ impl<S: Copy> RuleTable<S> {
             lists,
             tables,
             chains,
+            row_kinds,
             list_at,
         })
     }

@@ -1,67 +1,22 @@
 //! A run takes many tiles at a time, where they were found ahead and their rules are plain.
-ghost use Rattle.std.specs.Prelude.{◌≡◌, ℕ, ◌+◌, ◌-◌, ◌^◌, ◌<◌, ◌≤◌, ◌++◌, length, map, max, Option, Some, None, vec_len, vec_capacity, if◌then◌else◌, IfOk, IfSome, OnOk};
-ghost use Rattle.lrlex.specs.Tiling.{lexeme_of, top};
-ghost use Rattle.lrlex_boundaries.specs.Entries.{plain, AreEntries};
+ghost use Rattle.std.specs.Prelude.{◌≡◌, ◌+◌, ◌-◌, ◌^◌, ◌<◌, ◌≤◌, ◌++◌, map, max, Some, None, vec_len, vec_capacity, if◌then◌else◌, OnOk};
+ghost use Rattle.lrlex.specs.Tiling.{lexeme_of};
+ghost use Rattle.lrlex_boundaries.specs.Entries.{AreEntries};
 ghost use Rattle.lrlex_boundaries.specs.Boundaries.{last_entries};
-ghost use Rattle.lrlex.specs.Searcher.{AreOf, IsFoundAt, IsSearcherOf};
-ghost use Rattle.lrlex.specs.Plain.{HasTakenMany, IsRunningIn, slot_of};
-ghost use Rattle.lrlex.specs.Progress.{Front, HasEntered, HasTakenStep, IsUnderWay};
-ghost use Rattle.lrlex.specs.Views.{definition_by, item_of};
-ghost use Rattle.lrlex.specs.Work.{HasGoneOn, HasWorked};
+ghost use Rattle.lrlex.specs.Searcher.{AreOf};
+ghost use Rattle.lrlex.specs.Plain.{HasTakenMany, IsRunningIn};
+ghost use Rattle.lrlex.specs.Progress.{HasEntered};
+ghost use Rattle.lrlex.specs.Views.{item_of};
 
-use crate::definition::kinds::Kind;
 use crate::definition::rule_table::{RuleTable, StateRules};
 use crate::errors::LRLexError;
-use crate::lexing::step::{Progress, advance};
-use crate::lexing::taking::take_scan;
-use crate::lexing::winner::{Scan, Searcher, Tile};
+use crate::lexing::step::Progress;
+use crate::lexing::winner::Searcher;
 use lrlex_base::{Lexeme, Numbered};
-use std::alloc::{AllocError, Global};
+use std::alloc::AllocError;
 
 /// The most tiles that are taken at a time.
 const MOST_TILES: usize = 1024;
-
-/// A kind as a run reads it for each tile: the id of its lexemes, or another one where it has none, whether it has one, and whether it is plain.
-/// So an id is read without asking whether there is one, and all of it in one look.
-#[derive(Clone, Copy)]
-pub(crate) struct Slot<S> {
-    id: S,
-    named: bool,
-    plain: bool,
-}
-
-/// That of a kind, with the other id where it has none.
-fn slot_of<S: Copy>(kind: Kind<S>, other: S) -> Slot<S>
-    ensures { result ≡ slot_of other kind }
-{
-    match kind.id {
-        Some(id) => Slot {
-            id,
-            named: true,
-            plain: kind.plain,
-        },
-        None => Slot {
-            id: other,
-            named: false,
-            plain: kind.plain,
-        },
-    }
-}
-
-/// Those of the kinds, in order.
-pub(crate) fn slots_of<S: Copy>(
-    alloc: Global,
-    kinds: &[Kind<S>],
-    other: S,
-) -> Result<Vec<Slot<S>>, AllocError>
-    ensures { IfOk result (λ slots. slots.items ≡ map (slot_of other) kinds.now) }
-{
-    let mut slots = Vec::with_capacity(alloc, kinds.len())?;
-    'kinds: for index in 0..kinds.len() {
-        slots.push(slot_of(kinds[index], other))?;
-    }
-    Ok(slots)
-}
 
 /// Gives a lexeme with the id, if it has a name. There is room. It is stored first, and then counted or not: a branch on whether it has a name
 /// would often be guessed wrong.
@@ -114,47 +69,44 @@ fn pass<X: Copy>(progress: &mut Progress<X>, place: usize, len: usize) -> Result
     Ok(())
 }
 
-/// Takes the tiles that were found ahead, one behind the other, so long as their rules are plain. Answers the one behind them, if it was found ahead
-/// as well. Room is made once for all. None is taken where a tile before them looked past the byte at the place. Out of line, so that the loop has
-/// the registers for itself.
+/// Takes the tiles that were found ahead, one behind the other, so long as their rules are plain. Room is made once for all. None is taken where
+/// a tile before them looked past the byte at the place. Out of line, so that the loop has the registers for itself.
 #[inline(never)]
 fn take_plain<S: Numbered, X: Lexeme<S>>(
     table: &RuleTable<S>,
-    slots: &[Slot<S>],
     text: &str,
     rules: StateRules<'_>,
     searcher: &mut Searcher<'_, '_>,
     progress: &mut Progress<X>,
-) -> Result<Option<Tile>, AllocError>
-    requires slots { (other : S) × (slots.now ≡ map (slot_of other) table.now.kinds.items) }
+) -> Result<(), AllocError>
     requires rules { AreOf S.number table.now rules.state rules }
     requires at { IsRunningIn S.number X.seen table.now text.now rules.state searcher.old
         progress.old }
-    ensures taken { IfOk result (λ _. HasTakenMany S.number X.seen table.now text.now
+    ensures taken { OnOk result (HasTakenMany S.number X.seen table.now text.now
         rules.entry.state searcher.old searcher.new progress.old progress.new) }
-    ensures tile { IfOk result (λ next. IfSome next (IsFoundAt S.number table.now
-        rules.entry.state text.now progress.new.place)) }
 {
     if progress.lookahead > 1 {
-        return Ok(None);
+        return Ok(());
     }
     let most = MOST_TILES.min(text.len() - progress.place);
     progress.items.reserve(most)?;
     progress.ahead.reserve(most)?;
     'tiles: for step in 0..most {
         let place = progress.place;
-        let Some(tile) = searcher.ahead(table, &rules, place) else {
-            return Ok(None);
+        let Some(found) = searcher.ahead(table, &rules, place) else {
+            return Ok(());
         };
-        let slot = slots[tile.rule];
-        if !slot.plain {
-            return Ok(Some(tile));
+        let kind = found.kind;
+        if !kind.plain {
+            return Ok(());
         }
+        let end = found.next.end;
+        searcher.pass(table, place, found.next);
         let items = &mut progress.items;
-        store_lexeme::<S, X>(items, slot.id, slot.named, place, tile.len);
-        pass(progress, place + tile.len, tile.len)?;
+        store_lexeme::<S, X>(items, kind.id, kind.named, place, end - place);
+        pass(progress, end, end - place)?;
     }
-    Ok(None)
+    Ok(())
 }
 
 /// How many steps there are at most between two tries to take many tiles.
@@ -196,64 +148,23 @@ impl Pace {
 #[inline(always)]
 pub(crate) fn take_ahead<S: Numbered, X: Lexeme<S>>(
     table: &RuleTable<S>,
-    slots: &[Slot<S>],
     text: &str,
     rules: StateRules<'_>,
     searcher: &mut Searcher<'_, '_>,
     progress: &mut Progress<X>,
     pace: &mut Pace,
-) -> Result<Option<Tile>, AllocError>
-    requires slots { (other : S) × (slots.now ≡ map (slot_of other) table.now.kinds.items) }
+) -> Result<(), AllocError>
     requires rules { AreOf S.number table.now rules.state rules }
     requires at { IsRunningIn S.number X.seen table.now text.now rules.state searcher.old
         progress.old }
-    ensures taken { IfOk result (λ _. HasTakenMany S.number X.seen table.now text.now
+    ensures taken { OnOk result (HasTakenMany S.number X.seen table.now text.now
         rules.entry.state searcher.old searcher.new progress.old progress.new) }
-    ensures tile { IfOk result (λ next. IfSome next (IsFoundAt S.number table.now
-        rules.entry.state text.now progress.new.place)) }
 {
     if !pace.is_try() {
-        return Ok(None);
+        return Ok(());
     }
     let before = progress.place;
-    let next = take_plain(table, slots, text, rules, searcher, progress)?;
+    take_plain(table, text, rules, searcher, progress)?;
     pace.note(progress.place > before);
-    Ok(next)
-}
-
-/// Takes the tile that was found ahead at the place, or else what wins there, and answers whether lexing goes on after it.
-#[inline(always)]
-pub(crate) fn take_next<'d, S: Numbered, X: Lexeme<S>>(
-    alloc: Global,
-    table: &'d RuleTable<S>,
-    text: &str,
-    rules: &mut StateRules<'d>,
-    searcher: &mut Searcher<'d, '_>,
-    next: Option<Tile>,
-    progress: &mut Progress<X>,
-) -> Result<bool, AllocError>
-    requires rules { AreOf S.number table.now rules.old.state rules.old }
-    requires state { rules.old.state ≡ top (plain progress.old.stack.items) }
-    requires inside { progress.old.place < length text.now }
-    requires searcher { IsSearcherOf table.now text.now searcher.old }
-    requires tile { IfSome next (IsFoundAt S.number table.now rules.old.state text.now
-        progress.old.place) }
-    requires under_way { (f : Front) × IsUnderWay (definition_by S.number table.now)
-        S.number X.seen text.now f progress.old }
-    ensures held { IfOk result (λ _. AreOf S.number table.now rules.new.state rules.new
-        × IsSearcherOf table.now text.now searcher.new) }
-    ensures stepped { IfOk result (HasTakenStep S.number X.seen table.now text.now
-        progress.old progress.new) }
-    ensures linear { IfOk result (λ on. (first : ℕ)
-        → HasWorked table.now first progress.old.place searcher.old.ends
-        → HasGoneOn table.now text.now first progress.new.place on searcher.new.ends) }
-{
-    let Some(tile) = next else {
-        return advance(alloc, table, text, rules, searcher, progress);
-    };
-    let scan = Scan {
-        winner: Some(tile),
-        reach: tile.len + 1,
-    };
-    take_scan(table, text, rules.state, scan, progress.asked, progress)
+    Ok(())
 }

@@ -17,9 +17,9 @@ use crate::definition::non_streaming::LRNonStreamingLexerDef;
 use crate::definition::rule_table::RuleTable;
 use crate::editing::changes::Changed;
 use crate::errors::LRLexError;
-use crate::lexing::plain::{Pace, slots_of, take_ahead, take_next};
+use crate::lexing::plain::{Pace, take_ahead};
 use crate::lexing::stack::top_of;
-use crate::lexing::step::{Progress, begin, push_error};
+use crate::lexing::step::{Progress, advance, begin, push_error};
 use crate::lexing::winner::Searcher;
 use lrlex_base::{Lexeme, LexerTypes, Numbered};
 use lrlex_boundaries::Boundaries;
@@ -330,27 +330,10 @@ pub(crate) fn lex<S: Numbered, X: Lexeme<S>>(
     let mut progress = begin(alloc, text)?;
     let mut rules = table.rules_in(0);
     let mut pace = Pace::new();
-    let slots = slots_of(alloc, &table.kinds, S::of_count(0).unwrap())?;
     'tiles: while progress.place < text.len() {
         table.enter(&mut rules, top_of(progress.stack.as_slice()));
-        let next = take_ahead(
-            table,
-            &slots,
-            text,
-            rules,
-            &mut searcher,
-            &mut progress,
-            &mut pace,
-        )?;
-        let goes_on = take_next(
-            alloc,
-            table,
-            text,
-            &mut rules,
-            &mut searcher,
-            next,
-            &mut progress,
-        )?;
+        take_ahead(table, text, rules, &mut searcher, &mut progress, &mut pace)?;
+        let goes_on = advance(alloc, table, text, &mut rules, &mut searcher, &mut progress)?;
         if !goes_on {
             return Ok(finished(progress, searcher.looked(table)));
         }

@@ -11,6 +11,7 @@ use crate::errors::LRLexError;
 use crate::lexing::cursor::{Cursor, ScanPlace, cursor_at, cursor_of};
 use crate::lexing::scanning::{seek, take_sought, take_tile};
 use crate::lexing::stack::top_of;
+use crate::lexing::winner::Tile;
 use lrlex_base::{LexerTypes, Numbered, Span};
 use lrlex_rules::StartStateId;
 use std::alloc::{AllocError, Global};
@@ -64,17 +65,22 @@ fn next_step<'d, S: Numbered>(
         return take_sought(table, text, cursor, winner);
     }
     let place = cursor.place;
-    if let Some(tile) = cursor.searcher.ahead(table, &cursor.rules, place) {
-        let kind = table.kinds[tile.rule];
+    if let Some(found) = cursor.searcher.ahead(table, &cursor.rules, place) {
+        let kind = found.kind;
+        let end = found.next.end;
+        cursor.searcher.pass(table, place, found.next);
         if kind.plain {
-            let end = place + tile.len;
             cursor.place = end;
             return Ok(Step::Tile(ScannedTile {
-                rule: tile.rule,
-                id: kind.id,
+                rule: kind.rule,
+                id: kind.own_id(),
                 span: Span::new(place, end),
             }));
         }
+        let tile = Tile {
+            rule: kind.rule,
+            len: end - place,
+        };
         return take_tile(table, text, cursor, Some(tile));
     }
     seek(alloc, table, text, cursor)

@@ -12,7 +12,7 @@ use crate::definition::rule_table::{RuleTable, StateRules};
 use crate::errors::LRLexError;
 use crate::lexing::stack::top_of;
 use crate::lexing::taking::take_scan;
-use crate::lexing::winner::{Scan, Searcher};
+use crate::lexing::winner::{Scan, Searcher, Tile};
 use lrlex_base::{Lexeme, Numbered, Span};
 use lrlex_boundaries::Boundaries;
 use lrlex_boundaries::room::append;
@@ -167,16 +167,21 @@ pub(crate) fn advance<'d, S: Numbered, X: Lexeme<S>>(
     let place = progress.place;
     table.enter(rules, top_of(&progress.stack));
     let state = rules.state;
-    if let Some(tile) = searcher.ahead(table, rules, place) {
-        let kind = table.kinds[tile.rule];
+    if let Some(found) = searcher.ahead(table, rules, place) {
+        let kind = found.kind;
+        let len = found.next.end - place;
+        searcher.pass(table, place, found.next);
         if kind.plain {
-            push_lexeme::<S, X>(&mut progress.items, kind.id, place, tile.len)?;
-            stay(progress, tile.len)?;
+            push_lexeme::<S, X>(&mut progress.items, kind.own_id(), place, len)?;
+            stay(progress, len)?;
             return Ok(true);
         }
         let scan = Scan {
-            winner: Some(tile),
-            reach: tile.len + 1,
+            winner: Some(Tile {
+                rule: kind.rule,
+                len,
+            }),
+            reach: len + 1,
         };
         return take_scan(table, text, state, scan, progress.asked, progress);
     }

@@ -2,14 +2,19 @@
 ghost use Rattle.std.specs.Prelude.{◌≡◌, ℕ, length, slice_index, [], max, ◌+◌, ◌-◌, ◌^◌, ◌<◌, ◌≤◌, ◌⊎◌, true, false, vec_len, List, drop, IfOk, IfSome, IsCharBoundary};
 ghost use Rattle.lrlex_rules.specs.Matchers.{AreMatchers};
 ghost use Rattle.lrlex_table.specs.Linear.{HasWorkedTo};
-ghost use Rattle.lrlex.specs.Searcher.{AreOf, HasAsked, IsFoundAt, IsSearcherOf, IsScanOf};
+ghost use Rattle.lrlex_table.specs.Ahead.{IsNextAt};
+ghost use Rattle.lrlex.specs.Active.{rule_at};
+ghost use Rattle.lrlex.specs.Kinds.{IsPlain};
+ghost use Rattle.lrlex.specs.RowKinds.{own_kind};
+ghost use Rattle.lrlex.specs.Searcher.{AreOf, HasAsked, IsFoundAt, IsSearcherOf, IsScanOf, tile_of};
 ghost use Rattle.lrlex.specs.Views.{definition_by};
 ghost use Rattle.lrlex.specs.Work.{HasWorked, IsLinearIn, won_bytes};
 
+use crate::definition::row_kinds::RowKind;
 use crate::definition::rule_table::{RuleTable, StateRules};
 use lrlex_base::Numbered;
 use lrlex_rules::{empty_matchers, match_rule};
-use lrlex_table::DeadEnds;
+use lrlex_table::{DeadEnds, MatchAhead};
 use regex::Matcher;
 use std::alloc::{AllocError, Global};
 
@@ -71,7 +76,8 @@ fn tabled_winner<S: Numbered>(
         result }
     ensures tile { IfSome result.winner (λ t. IsCharBoundary text.now t.len
         × (t.rule < vec_len table.now.rules)) }
-    ensures ends { (ends.new.lists ≡ ends.old.lists) × (ends.new.text ≡ ends.old.text) }
+    ensures ends { (ends.new.lists ≡ ends.old.lists) × (ends.new.text ≡ ends.old.text)
+        × (ends.new.chain ≡ ends.old.chain) }
     ensures linear { (first : ℕ) → HasWorked table.now first from ends.old
         → HasWorked table.now first (from + max 1 (won_bytes result.winner)) ends.new }
 {
@@ -119,7 +125,8 @@ fn winner_with_search<'d, S: Numbered>(
     ensures asked { IfOk result (λ _. HasAsked S.number table.now state
         asked.old asked.new) }
     ensures matchers { AreMatchers table.now.rules.items matchers.new }
-    ensures ends { (ends.new.lists ≡ ends.old.lists) × (ends.new.text ≡ ends.old.text) }
+    ensures ends { (ends.new.lists ≡ ends.old.lists) × (ends.new.text ≡ ends.old.text)
+        × (ends.new.chain ≡ ends.old.chain) }
     ensures linear { IfOk result (λ s. (first : ℕ) → HasWorked table.now first from ends.old
         → HasWorked table.now first (from + max 1 (won_bytes s.winner)) ends.new) }
 {
@@ -154,6 +161,13 @@ fn winner_with_search<'d, S: Numbered>(
         len: best.len,
     });
     Ok(Scan { winner, reach })
+}
+
+/// A tile that was found ahead: its rule, with what lexing needs of it, and where it ends.
+#[derive(Clone, Copy)]
+pub(crate) struct Found<S> {
+    pub(crate) kind: RowKind<S>,
+    pub(crate) next: MatchAhead,
 }
 
 /// What a run needs to look for winners in a text: the matchers of the rules that have no table, as they come to be made,
@@ -194,6 +208,7 @@ impl<'d, 't> Searcher<'d, 't> {
         ensures matchers { self.new.matchers ≡ self.old.matchers }
         ensures lists { self.new.ends.lists ≡ self.old.ends.lists }
         ensures text { self.new.ends.text ≡ self.old.ends.text }
+        ensures chain { self.new.ends.chain ≡ self.old.ends.chain }
         ensures linear { (most : ℕ) → HasWorkedTo most 0 0 self.new.ends }
     {
         self.ends.rewind();
@@ -203,26 +218,39 @@ impl<'d, 't> Searcher<'d, 't> {
     /// decides it.
     #[inline(always)]
     pub(crate) fn ahead<S: Numbered>(
-        &mut self,
+        &self,
         table: &RuleTable<S>,
         rules: &StateRules<'_>,
         place: usize,
-    ) -> Option<Tile>
+    ) -> Option<Found<S>>
         requires rules { AreOf S.number table.now rules.now.state rules.now }
-        requires searcher { (input : List ℕ) × IsSearcherOf table.now input self.old }
-        ensures tile { (input : List ℕ) → IsSearcherOf table.now input self.old
-            → IfSome result (IsFoundAt S.number table.now rules.now.state input place) }
+        requires searcher { (input : List ℕ) × IsSearcherOf table.now input self.now }
+        ensures tile { (input : List ℕ) → IsSearcherOf table.now input self.now
+            → IfSome result (λ f. IsFoundAt S.number table.now rules.now.state input place (tile_of place f)) }
+        ensures next { IfSome result (λ f. IsNextAt self.now.ends.ahead place f.next) }
+        ensures some { IfSome result (λ f. place < f.next.end) }
+        ensures plain { IfSome result (λ f. f.kind.plain ≡ true → IsPlain S.number (own_kind f.kind).id
+            (rule_at (definition_by S.number table.now) f.kind.rule)) }
+    {
+        let next = self.ends.next_ahead(place)?;
+        let kind = table.row_kinds.get(next.row as usize).copied()?;
+        if kind.list as usize != rules.list {
+            return None;
+        }
+        Some(Found { kind, next })
+    }
+
+    /// Passes a tile that was found ahead at this place.
+    #[inline(always)]
+    pub(crate) fn pass<S>(&mut self, table: &RuleTable<S>, place: usize, next: MatchAhead)
+        requires { IsNextAt self.old.ends.ahead place next }
         ensures searcher { (input : List ℕ) → IsSearcherOf table.now input self.old
             → IsSearcherOf table.now input self.new }
         ensures linear { (first at : ℕ) → HasWorked table.now first at self.old.ends
             → HasWorked table.now first at self.new.ends }
     {
-        let found = self.ends.ahead_at(rules.tables, rules.list, place)?;
-        let rule = active_place(rules.active, table.rules.len(), found.pattern);
-        Some(Tile {
-            rule,
-            len: found.len,
-        })
+        let _ = table;
+        self.ends.pass_ahead(place, next);
     }
 
     /// The rule that wins at the place, from which on the rest of the text stands, among those that are active in the

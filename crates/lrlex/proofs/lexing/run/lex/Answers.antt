@@ -1,4 +1,4 @@
-use Rattle.std.proofs.Common.{◌≡◌, ℕ, ◌-◌, ◌<◌, ◌≤◌, Option, Some, None, IsSome, IsNone, true, false, refl, length, sym, ap, ◌∙◌, subst, arith, append-nil, IsCharBoundary}
+use Rattle.std.proofs.Common.{◌≡◌, ◌-◌, ◌<◌, ◌≤◌, true, false, length, sym, ap, ◌∙◌, subst, arith, append-nil, IsCharBoundary}
 use Rattle.std.proofs.lemmas.Str.{IsCharBoundary-start}
 use Rattle.lrlex.specs.Tiling.{Done}
 use Rattle.lrlex.specs.Lookahead.{LooksAhead}
@@ -16,14 +16,6 @@ use Rattle.lrlex.proofs.SearchLemmas.{asks_nowhere, more_asked, all_asked, next_
 use Rattle.lrlex.specs.Work.{HasWorked, IsLinearIn}
 use Rattle.lrlex.proofs.LinearLemmas.{linear_in_all}
 use Rattle.lrlex.proofs.lexing.run.lex.Goals as goal
-
-some_of : {S : Type 0} (o : Option S) (n : ℕ) → (IsNone o → n < 0) → IsSome o
-some_of None n none = absurd (omega (arith, none refl))
-some_of (Some x) n none = refl
-
--- each type of ids has one with the number 0
-pub unwrap-requires : goal.unwrap-requires
-unwrap-requires g c = some_of c.of_count.result g.S.Numbered.greatest c.of_count.ensures.none.0
 
 pub tiles-init : goal.tiles-init
 tiles-init g c =
@@ -61,7 +53,7 @@ take_ahead-requires-clause-at g c =
 
 pub tiles-preserved : goal.tiles-preserved
 tiles-preserved g c =
-    let u = c.in_ok-next.ensures.taken.at.running.under_way in
+    let u = c.in_ok-take_ahead.ensures.taken.at.running.under_way in
     let on : c.in_ok-goes_on.goes_on ≡ true = c.if-not-goes_on.false in
     let p = c.take_ahead.new.progress in
     let d = definition_by g.S.Numbered.number c.args.table.now in
@@ -75,11 +67,11 @@ tiles-preserved g c =
       boundary = (c.in_ok-goes_on.ensures.stepped.goes_on on no_front u).under_way.boundary;
       reached = (c.in_ok-goes_on.ensures.stepped.goes_on on no_front u).under_way.reached;
       looked = (c.in_ok-goes_on.ensures.stepped.goes_on on no_front u).under_way.looked;
-      exact = next_asked c.args.table.now c.args.text.now d p.place p.stack.items found p.boundaries p.asked r 0 some c.in_ok-next.ensures.taken.at.running.exact c.take_next.new.progress.asked more.0 c.take_next.new.progress.boundaries
-          c.in_ok-next.ensures.taken.at.inside (c.in_ok-goes_on.ensures.stepped.asked no_front u).exact more.1;
+      exact = next_asked c.args.table.now c.args.text.now d p.place p.stack.items found p.boundaries p.asked r 0 some c.in_ok-take_ahead.ensures.taken.at.running.exact c.advance.new.progress.asked more.0 c.advance.new.progress.boundaries
+          c.in_ok-take_ahead.ensures.taken.at.inside (c.in_ok-goes_on.ensures.stepped.asked no_front u).exact more.1;
       linear =
-          let gone = c.in_ok-goes_on.ensures.linear 0 (c.in_ok-next.ensures.taken.linear 0 c.tiles.invariant.linear) in
-          subst (λ n. HasWorked c.args.table.now 0 n c.take_next.new.searcher.ends) (gone.2 on) gone.3;
+          let gone = c.in_ok-goes_on.ensures.linear 0 (c.in_ok-take_ahead.ensures.taken.linear 0 c.tiles.invariant.linear) in
+          subst (λ n. HasWorked c.args.table.now 0 n c.advance.new.searcher.ends) (gone.2 on) gone.3;
     }
 
 pub returns-clause-run : goal.returns-clause-run
@@ -109,9 +101,9 @@ returns-clause-asked g c =
 
 pub returns-then-not-goes_on-clause-run : goal.returns-then-not-goes_on-clause-run
 returns-then-not-goes_on-clause-run g c =
-    let u = c.in_ok-next.ensures.taken.at.running.under_way in
+    let u = c.in_ok-take_ahead.ensures.taken.at.running.under_way in
     let d = definition_by g.S.Numbered.number c.args.table.now in
-    let p = c.take_next.new.progress in
+    let p = c.advance.new.progress in
     let off : c.in_ok-goes_on.goes_on ≡ false = c.if-not-goes_on.true in
     subst (λ xs. IsRun d c.args.text.now (items_by g.S.Numbered.number g.X.Lexeme.seen xs) c.finished.result.boundaries) (sym c.finished.ensures.items)
     (subst (IsRun d c.args.text.now (items_by g.S.Numbered.number g.X.Lexeme.seen p.items.items)) (sym c.finished.ensures.boundaries)
@@ -119,14 +111,14 @@ returns-then-not-goes_on-clause-run g c =
 
 pub returns-then-not-goes_on-clause-few : goal.returns-then-not-goes_on-clause-few
 returns-then-not-goes_on-clause-few g c =
-    let u = c.in_ok-next.ensures.taken.at.running.under_way in
+    let u = c.in_ok-take_ahead.ensures.taken.at.running.under_way in
     let d = definition_by g.S.Numbered.number c.args.table.now in
     let off : c.in_ok-goes_on.goes_on ≡ false = c.if-not-goes_on.true in
-    few_searches d c.args.text.now c.take_ahead.new.progress.boundaries c.finished.result.boundaries c.take_next.new.progress.asked c.finished.result.asked
+    few_searches d c.args.text.now c.take_ahead.new.progress.boundaries c.finished.result.boundaries c.advance.new.progress.asked c.finished.result.asked
     (c.in_ok-goes_on.ensures.stepped.asked no_front u).few c.finished.ensures.asked (c.finished.ensures.boundaries ∙ (c.in_ok-goes_on.ensures.stepped.ends off no_front u).same)
 
-pub take_next-requires-clause-rules : goal.take_next-requires-clause-rules
-take_next-requires-clause-rules g c = c.enter.ensures.rules
+pub advance-requires-clause-rules : goal.advance-requires-clause-rules
+advance-requires-clause-rules g c = c.enter.ensures.rules
 
 pub returns-clause-exact : goal.returns-clause-exact
 returns-clause-exact g c =
@@ -140,36 +132,36 @@ returns-clause-exact g c =
 
 pub returns-then-not-goes_on-clause-exact : goal.returns-then-not-goes_on-clause-exact
 returns-then-not-goes_on-clause-exact g c =
-    let u = c.in_ok-next.ensures.taken.at.running.under_way in
+    let u = c.in_ok-take_ahead.ensures.taken.at.running.under_way in
     let p = c.take_ahead.new.progress in
     let d = definition_by g.S.Numbered.number c.args.table.now in
     let found = items_by g.S.Numbered.number g.X.Lexeme.seen p.items.items in
     let r = u.reached in
     let some = u.some in
     c.finished.ensures.asked
-    ∙ more_asked c.args.table.now c.args.text.now d p.place p.stack.items found p.boundaries p.asked r 0 some c.in_ok-next.ensures.taken.at.running.exact c.take_next.new.progress.asked c.in_ok-next.ensures.taken.at.inside (c.in_ok-goes_on.ensures.stepped.asked no_front u).exact
+    ∙ more_asked c.args.table.now c.args.text.now d p.place p.stack.items found p.boundaries p.asked r 0 some c.in_ok-take_ahead.ensures.taken.at.running.exact c.advance.new.progress.asked c.in_ok-take_ahead.ensures.taken.at.inside (c.in_ok-goes_on.ensures.stepped.asked no_front u).exact
     ∙ ap (asks_by c.args.table.now c.args.text.now) (sym (c.finished.ensures.boundaries ∙ (c.in_ok-goes_on.ensures.stepped.ends c.if-not-goes_on.true no_front u).same))
 
-pub take_next-requires-clause-under_way : goal.take_next-requires-clause-under_way
-take_next-requires-clause-under_way g c =
-    let u = c.in_ok-next.ensures.taken.at.running.under_way in
+pub advance-requires-clause-under_way : goal.advance-requires-clause-under_way
+advance-requires-clause-under_way g c =
+    let u = c.in_ok-take_ahead.ensures.taken.at.running.under_way in
     (no_front, u)
 
 pub returns-then-not-goes_on-clause-asked : goal.returns-then-not-goes_on-clause-asked
 returns-then-not-goes_on-clause-asked g c =
-    let u = c.in_ok-next.ensures.taken.at.running.under_way in
+    let u = c.in_ok-take_ahead.ensures.taken.at.running.under_way in
     let d = definition_by g.S.Numbered.number c.args.table.now in
     subst (λ ms. c.finished.result.asked ≤ searches d c.args.text.now ms) (sym (c.finished.ensures.boundaries ∙ (c.in_ok-goes_on.ensures.stepped.ends c.if-not-goes_on.true no_front u).same))
     (omega (arith, c.finished.ensures.asked, (c.in_ok-goes_on.ensures.stepped.asked no_front u).few))
 
 pub tiles-smaller : goal.tiles-smaller
 tiles-smaller g c =
-    let u = c.in_ok-next.ensures.taken.at.running.under_way in
-    omega (arith, (c.in_ok-goes_on.ensures.stepped.goes_on c.if-not-goes_on.false no_front u).grows, c.in_ok-next.ensures.taken.onward, c.tiles-test.true)
+    let u = c.in_ok-take_ahead.ensures.taken.at.running.under_way in
+    omega (arith, (c.in_ok-goes_on.ensures.stepped.goes_on c.if-not-goes_on.false no_front u).grows, c.in_ok-take_ahead.ensures.taken.onward, c.tiles-test.true)
 
 pub returns-then-not-goes_on-clause-looks : goal.returns-then-not-goes_on-clause-looks
 returns-then-not-goes_on-clause-looks g c =
-    let u = c.in_ok-next.ensures.taken.at.running.under_way in
+    let u = c.in_ok-take_ahead.ensures.taken.at.running.under_way in
     let d = definition_by g.S.Numbered.number c.args.table.now in
     let e = c.in_ok-goes_on.ensures.stepped.ends c.if-not-goes_on.true no_front u in
     subst (λ ns. LooksAhead d c.args.text.now c.finished.result.boundaries ns) (sym (c.finished.ensures.ahead ∙ e.ahead))
@@ -205,7 +197,7 @@ pub returns-then-not-goes_on-clause-linear : goal.returns-then-not-goes_on-claus
 returns-then-not-goes_on-clause-linear g c =
     let table = c.args.table.now in
     let text = c.args.text.now in
-    let gone = c.in_ok-goes_on.ensures.linear 0 (c.in_ok-next.ensures.taken.linear 0 c.tiles.invariant.linear) in
+    let gone = c.in_ok-goes_on.ensures.linear 0 (c.in_ok-take_ahead.ensures.taken.linear 0 c.tiles.invariant.linear) in
     subst (IsLinearIn table text (length text)) (sym c.finished.ensures.looked)
     (linear_in_all table text 0 gone.0 c.looked.result gone.1 (c.looked.ensures text 0 gone.0 c.in_ok-goes_on.ensures.held.1 gone.3 gone.1))
 

@@ -1,46 +1,42 @@
-use Rattle.std.proofs.Common.{◌≡◌, ◌+◌, IfSome, false, not, drop, refl, sym, ap, ap₂, subst, arith}
+use Rattle.std.proofs.Common.{◌≡◌, ◌+◌, ◌-◌, ◌∙◌, IfSome, false, not, drop, option_map, refl, sym, ap, ap₂, subst, arith}
+use Rattle.std.specs.Prelude.{IsCharBoundary}
 use Rattle.std.proofs.lemmas.Str.{IsCharBoundary-from_rest}
 use Rattle.regex_hir.specs.Text.{is_some_and}
 use Rattle.lrlex_base.specs.Spans.{span}
 use Rattle.lrlex_boundaries.specs.Entries.{plain}
 use Rattle.lrlex.specs.Active.{is_state, rule_at}
 use Rattle.lrlex.specs.Scanner.{IsSought, Scanned, sought_to}
-use Rattle.lrlex.specs.Searcher.{IsFoundAt}
+use Rattle.lrlex.specs.RowKinds.{own_kind}
+use Rattle.lrlex.specs.Searcher.{IsFoundAt, tile_of}
 use Rattle.lrlex.specs.StateTables.{most_tables}
 use Rattle.lrlex.specs.Tiling.{Tile, Wins, top}
 use Rattle.lrlex.specs.Views.{definition_by}
 use Rattle.lrlex.specs.Work.{HasWorked, most_cells_by}
 use Rattle.lrlex_table.proofs.LinearLemmas.{linear_later}
-use Rattle.lrlex.proofs.KindLemmas.{kinds_len, plain_rule, no_target_at, stays}
+use Rattle.lrlex.proofs.KindLemmas.{no_target_of, stays}
 use Rattle.lrlex.proofs.lexing.scanner.next_step.Goals as goal
-
-pub index-kind-requires : goal.index-kind-requires
-index-kind-requires g c =
-    let table = c.args.table.now in
-    let p = c.args.cursor.now in
-    let tile = c.in-Some-ahead.tile in
-    let at : IsFoundAt g.S.Numbered.number table p.rules.state c.args.text.now p.place tile = c.in-Some-ahead.ensures.tile c.args.text.now c.requires.searcher in
-    omega (arith, at.rule, kinds_len table, table.kinds.ok.0)
 
 pub returns-then-kind : goal.returns-then-kind
 returns-then-kind g c =
     let table = c.args.table.now in
     let text = c.args.text.now in
     let p = c.args.cursor.now in
-    let tile = c.in-Some-ahead.tile in
-    let at : IsFoundAt g.S.Numbered.number table p.rules.state text p.place tile = c.in-Some-ahead.ensures.tile text c.requires.searcher in
-    let unsought : p.lost ≡ false → HasWorked table p.from p.place c.ahead.new.self.ends = λ kept. c.in-Some-ahead.ensures.linear p.from p.place (subst (λ o. HasWorked table p.from (sought_to p.place o) p.searcher.ends) c.in_default.is (c.requires.worked kept)) in
+    let found = c.in-Some-ahead.found in
+    let kind = found.kind in
+    let len = found.next.end - p.place in
+    let at : IsFoundAt g.S.Numbered.number table p.rules.state text p.place (tile_of p.place found) = c.in-Some-ahead.ensures.tile text c.requires.searcher in
+    let ends : p.place + len ≡ found.next.end = omega (arith, c.in-Some-ahead.ensures.some) in
+    let unsought : p.lost ≡ false → HasWorked table p.from p.place c.pass.new.self.ends = λ kept. c.pass.ensures.linear p.from p.place (subst (λ o. HasWorked table p.from (sought_to p.place o) p.searcher.ends) c.in_default.is (c.requires.worked kept)) in
     let d = definition_by g.S.Numbered.number table in
-    let t : Tile = record { rule = tile.rule; len = tile.len } in
+    let t : Tile = record { rule = kind.rule; len = len } in
     let stack = plain p.stack.items in
     let on_top : p.rules.state ≡ top stack = c.requires.state in
-    let kind = c.index-kind.result.now in
-    let rule = plain_rule g.S.Numbered.number table tile.rule kind at.rule c.index-kind.ensures c.if-kind.true in
-    let target = no_target_at g.S.Numbered.number table tile.rule kind at.rule c.index-kind.ensures c.if-kind.true in
+    let rule = c.in-Some-ahead.ensures.plain c.if-kind.true in
+    let target = no_target_of g.S.Numbered.number (own_kind kind).id (rule_at d kind.rule) rule in
     record {
       cursor = record {
         stands = record {
-          boundary = IsCharBoundary-from_rest text p.place tile.len c.requires.stands.boundary.0 at.cuts;
+          boundary = subst (IsCharBoundary text) ends (IsCharBoundary-from_rest text p.place len c.requires.stands.boundary.0 at.cuts);
           entries = c.requires.stands.entries;
           states = c.requires.stands.states;
           some = c.requires.stands.some;
@@ -49,25 +45,25 @@ returns-then-kind g c =
         initial = c.requires.initial;
         rules = c.requires.rules;
         state = c.requires.state;
-        searcher = c.in-Some-ahead.ensures.searcher text c.requires.searcher;
-        sought = subst (λ o. IfSome o (IsSought g.S.Numbered.number table text (p.place + tile.len) p.rules.state)) (sym c.in_default.is) tt;
-        worked = λ kept. subst (λ o. HasWorked table p.from (sought_to (p.place + tile.len) o) c.ahead.new.self.ends) (sym c.in_default.is)
-            (linear_later (most_tables table.tables.items) p.from p.place (p.place + tile.len) c.ahead.new.self.ends (unsought kept) (omega arith));
+        searcher = c.pass.ensures.searcher text c.requires.searcher;
+        sought = subst (λ o. IfSome o (IsSought g.S.Numbered.number table text found.next.end p.rules.state)) (sym c.in_default.is) tt;
+        worked = λ kept. subst (λ o. HasWorked table p.from (sought_to found.next.end o) c.pass.new.self.ends) (sym c.in_default.is)
+            (linear_later (most_tables table.tables.items) p.from p.place found.next.end c.pass.new.self.ends (unsought kept) (omega (arith, c.in-Some-ahead.ensures.some)));
       };
       step = (
         t,
         record {
           rule = refl;
-          id = sym rule.gives;
-          bytes = ap₂ span c.new.ensures.start c.new.ensures.end;
+          id = ap (option_map g.S.Numbered.number) c.own_id.ensures ∙ sym rule.gives;
+          bytes = ap₂ span c.new.ensures.start (c.new.ensures.end ∙ sym ends);
         },
         record {
-          wins = subst (λ q. Wins d q (drop p.place text) tile.rule tile.len) on_top at.wins;
+          wins = subst (λ q. Wins d q (drop p.place text) kind.rule len) on_top at.wins;
           has_id = rule.has_id;
           has_target = ap (λ o. is_some_and o (λ s. not (is_state d s.0))) target;
         },
       );
-      moved = ap₂ (λ p s. let made : Scanned = record { definition = d; text = text; place = p; stack = s; most_cells = most_cells_by table text } in made) (sym c.new.ensures.end) (sym (stays stack (rule_at d tile.rule).target target));
+      moved = ap₂ (λ p s. let made : Scanned = record { definition = d; text = text; place = p; stack = s; most_cells = most_cells_by table text } in made) (sym c.new.ensures.end) (sym (stays stack (rule_at d kind.rule).target target));
       stayed = tt;
     }
 
@@ -77,21 +73,7 @@ take_tile-requires-clause-cursor g c = record {
   initial = c.requires.initial;
   rules = c.requires.rules;
   state = c.requires.state;
-  searcher = c.in-Some-ahead.ensures.searcher c.args.text.now c.requires.searcher;
+  searcher = c.pass.ensures.searcher c.args.text.now c.requires.searcher;
   sought = c.requires.sought;
-  worked = λ kept. c.in-Some-ahead.ensures.linear c.args.cursor.now.from (sought_to c.args.cursor.now.place c.args.cursor.now.sought) (c.requires.worked kept);
-}
-
-pub seek-requires : goal.seek-requires
-seek-requires g c = record {
-  cursor = record {
-    stands = c.requires.stands;
-    initial = c.requires.initial;
-    rules = c.requires.rules;
-    state = c.requires.state;
-    searcher = c.in_default-ahead.ensures.searcher c.args.text.now c.requires.searcher;
-    sought = c.requires.sought;
-    worked = λ kept. c.in_default-ahead.ensures.linear c.args.cursor.now.from (sought_to c.args.cursor.now.place c.args.cursor.now.sought) (c.requires.worked kept);
-  };
-  unsought = c.in_default.is;
+  worked = λ kept. c.pass.ensures.linear c.args.cursor.now.from (sought_to c.args.cursor.now.place c.args.cursor.now.sought) (c.requires.worked kept);
 }

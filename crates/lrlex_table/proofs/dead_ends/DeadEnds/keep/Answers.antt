@@ -17,7 +17,7 @@ bytes-init c = (
   refl,
   refl,
   refl,
-  (refl, refl),
+  (refl, refl, refl),
   λ was. was,
   λ i from less inside due. c.requires.looked.unknown i less inside due,
   λ lists parts row here apart. refl,
@@ -71,8 +71,8 @@ bytes-preserved c =
       ],
       elim c.if-is_due.branch [
         | then-is_due w ↦
-            (ap (λ s. s.looked) w.self-is ∙ w.add.ensures.looked ∙ inv.3.0, ap (λ s. s.ahead) w.self-is ∙ w.add.ensures.ahead ∙ inv.3.1)
-        | else-is_due w ↦ (ap (λ s. s.looked) w.self-is ∙ inv.3.0, ap (λ s. s.ahead) w.self-is ∙ inv.3.1)
+            (ap (λ s. s.looked) w.self-is ∙ w.add.ensures.looked ∙ inv.3.0, ap (λ s. s.ahead) w.self-is ∙ w.add.ensures.ahead ∙ inv.3.1, ap (λ s. s.chain) w.self-is ∙ w.add.ensures.chain ∙ inv.3.2)
+        | else-is_due w ↦ (ap (λ s. s.looked) w.self-is ∙ inv.3.0, ap (λ s. s.ahead) w.self-is ∙ inv.3.1, ap (λ s. s.chain) w.self-is ∙ inv.3.2)
       ],
       λ was. elim c.if-is_due.branch [
         | then-is_due w ↦ ap (λ s. s.forgot) w.self-is ∙ w.add.ensures.forgot (inv.4 was)

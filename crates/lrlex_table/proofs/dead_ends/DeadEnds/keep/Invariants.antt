@@ -9,7 +9,7 @@ use Rattle.lrlex_table.proofs.dead_ends.DeadEnds.keep.Given as goal
 abbrev pub invariant-bytes : goal.invariant-bytes
 invariant-bytes l =
     (l.row ≡ row_after (next_rows l.table) l.table.start (take l.at l.rest)) × (l.self.lists ≡ l.initial.self.lists) × (l.self.text ≡ l.initial.self.text)
-    × ((l.self.looked ≡ l.initial.self.looked) × (l.self.ahead ≡ l.initial.self.ahead))
+    × ((l.self.looked ≡ l.initial.self.looked) × (l.self.ahead ≡ l.initial.self.ahead) × (l.self.chain ≡ l.initial.self.chain))
     × (l.initial.self.forgot ≡ true → l.self.forgot ≡ true)
     × ((i : ℕ) → l.at ≤ i → i < l.looked → i < length l.rest → (l.place + i) % 64 ≡ 0 →
     more_of l.self.known l.list l.part (row_after (next_rows l.table) l.table.start (take i l.rest)) (l.place + i) ≡ None)

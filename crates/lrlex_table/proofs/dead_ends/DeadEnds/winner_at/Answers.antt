@@ -23,7 +23,7 @@ returns-then-scan-le-FAR-clause-work c ps are kept =
     let scan = c.winner-scan.result in
     let same : HasSameEnds old c.if-place-self.self = elim c.if-place-self.branch [
       | then-place-self+in_default w ↦ subst (λ s. HasSameEnds old s) (sym w.self-is) w.found_at.ensures.ends
-      | else-place-self w ↦ subst (λ s. HasSameEnds old s) (sym w.self-is) (record { known = refl; forgot = refl; looked = refl })
+      | else-place-self w ↦ subst (λ s. HasSameEnds old s) (sym w.self-is) (record { known = refl; forgot = refl; looked = refl; chain = refl })
     ] in
     let near : scan.reach ≤ len_of scan.winner + 128 = elim c.then-scan-le-FAR.branch [
       | then-scan-le-FAR-via-then-scan-le-FAR w ↦ omega (arith, w.if-scan-le-FAR.true)
@@ -38,7 +38,7 @@ returns-clause-counted c less =
     let old = c.args.self.now in
     let same : HasSameEnds old c.if-place-self.self = elim c.if-place-self.branch [
       | then-place-self+in_default w ↦ subst (λ s. HasSameEnds old s) (sym w.self-is) w.found_at.ensures.ends
-      | else-place-self w ↦ subst (λ s. HasSameEnds old s) (sym w.self-is) (record { known = refl; forgot = refl; looked = refl })
+      | else-place-self w ↦ subst (λ s. HasSameEnds old s) (sym w.self-is) (record { known = refl; forgot = refl; looked = refl; chain = refl })
     ] in
     let up : min old.looked 18446744073709551615 ≤ c.if-place-self-2.self.looked = elim c.if-place-self-2.branch [
       | then-place-self-2+else-scan-le-FAR+else-not-is_far w ↦ omega (arith, ap (λ s. s.looked) w.self-is, w.count.ensures.looked, same.looked)
@@ -53,7 +53,7 @@ returns-clause-work c ps are kept =
     let scan = c.winner_of_parts_at-scan.result in
     let same : HasSameEnds old c.if-place-self.self = elim c.if-place-self.branch [
       | then-place-self+in_default w ↦ subst (λ s. HasSameEnds old s) (sym w.self-is) w.found_at.ensures.ends
-      | else-place-self w ↦ subst (λ s. HasSameEnds old s) (sym w.self-is) (record { known = refl; forgot = refl; looked = refl })
+      | else-place-self w ↦ subst (λ s. HasSameEnds old s) (sym w.self-is) (record { known = refl; forgot = refl; looked = refl; chain = refl })
     ] in
     let all = c.count-2.new.self.looked - old.looked in
     let after = hash_map_len c.count-2.new.self.known in
@@ -87,7 +87,7 @@ returns-then-scan-le-FAR-clause-linear c ps most from are le is =
     let len = len_of c.winner-scan.result.winner in
     let same : HasSameEnds old before = elim c.if-place-self.branch [
       | then-place-self+in_default w ↦ subst (λ s. HasSameEnds old s) (sym w.self-is) w.found_at.ensures.ends
-      | else-place-self w ↦ subst (λ s. HasSameEnds old s) (sym w.self-is) (record { known = refl; forgot = refl; looked = refl })
+      | else-place-self w ↦ subst (λ s. HasSameEnds old s) (sym w.self-is) (record { known = refl; forgot = refl; looked = refl; chain = refl })
     ] in
     let here : HasWorkedTo most from place before = elim c.if-place-self.branch [
       | then-place-self+in_default w ↦ subst (λ s. HasWorkedTo most from place s) (sym w.self-is) (w.found_at.ensures.linear most from is)
@@ -106,7 +106,7 @@ returns-clause-linear c ps most from are le is =
     let len = len_of c.winner_of_parts_at-scan.result.winner in
     let same : HasSameEnds old before = elim c.if-place-self.branch [
       | then-place-self+in_default w ↦ subst (λ s. HasSameEnds old s) (sym w.self-is) w.found_at.ensures.ends
-      | else-place-self w ↦ subst (λ s. HasSameEnds old s) (sym w.self-is) (record { known = refl; forgot = refl; looked = refl })
+      | else-place-self w ↦ subst (λ s. HasSameEnds old s) (sym w.self-is) (record { known = refl; forgot = refl; looked = refl; chain = refl })
     ] in
     let here : HasWorkedTo most from place before = elim c.if-place-self.branch [
       | then-place-self+in_default w ↦ subst (λ s. HasWorkedTo most from place s) (sym w.self-is) (w.found_at.ensures.linear most from is)

@@ -17,7 +17,7 @@ use Rattle.lrlex_table.proofs.dead_ends.DeadEnds.winner_of_parts_at.Goals as goa
 pub parts-init : goal.parts-init
 parts-init c =
     let parts = c.args.tables.now.parts.items in
-    (λ ps are. scan_start ps (is_tabled (take 0 parts)) c.args.rest.now (none_before parts) c.utf8.rest, tt, refl, refl, (refl, refl), λ was. was, λ ps are kept. (omega arith, omega arith), λ ps are kept none. (omega arith, omega arith), λ part row here le. refl)
+    (λ ps are. scan_start ps (is_tabled (take 0 parts)) c.args.rest.now (none_before parts) c.utf8.rest, tt, refl, refl, (refl, refl, refl), λ was. was, λ ps are kept. (omega arith, omega arith), λ ps are kept none. (omega arith, omega arith), λ part row here le. refl)
 
 pub parts-preserved : goal.parts-preserved
 parts-preserved c =
@@ -46,7 +46,7 @@ parts-preserved c =
       c.combined-scan.ensures.past inv.1 c.part_winner_at.ensures.past,
       c.part_winner_at.ensures.lists ∙ inv.2,
       c.part_winner_at.ensures.text ∙ inv.3,
-      (c.part_winner_at.ensures.looked ∙ inv.4.0, c.part_winner_at.ensures.ahead ∙ inv.4.1),
+      (c.part_winner_at.ensures.looked ∙ inv.4.0, c.part_winner_at.ensures.ahead ∙ inv.4.1, c.part_winner_at.ensures.chain ∙ inv.4.2),
       λ was. c.part_winner_at.ensures.forgot (inv.5 was),
       λ ps are kept.
           look_twice_more at (len_of c.parts.scan.winner) (len_of one.winner) (len_of both.winner) c.parts.scan.looked one.looked both.looked old now after len.0 len.1 c.combined-scan.ensures.looked

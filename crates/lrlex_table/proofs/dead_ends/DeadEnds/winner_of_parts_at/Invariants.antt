@@ -10,7 +10,7 @@ abbrev pub invariant-parts : goal.invariant-parts
 invariant-parts l =
     ((ps : List Re) → AreTablesOf ps l.tables → IsTableScanOf ps (is_tabled (take l.at l.tables.parts.items)) l.rest l.scan)
     × IfSome l.scan.winner (λ t. t.len < l.scan.reach) × (l.self.lists ≡ l.initial.self.lists) × (l.self.text ≡ l.initial.self.text)
-    × ((l.self.looked ≡ l.initial.self.looked) × (l.self.ahead ≡ l.initial.self.ahead))
+    × ((l.self.looked ≡ l.initial.self.looked) × (l.self.ahead ≡ l.initial.self.ahead) × (l.self.chain ≡ l.initial.self.chain))
     × (l.initial.self.forgot ≡ true → l.self.forgot ≡ true)
     × ((ps : List Re) → AreTablesOf ps l.tables → l.self.forgot ≡ false →
     IsLook 2 l.at (len_of l.scan.winner) l.scan.looked (hash_map_len l.initial.self.known) (hash_map_len l.self.known))

@@ -1,5 +1,5 @@
-use Rattle.std.proofs.Common.{◌≡◌, ◌∙◌, map, sym, ap, subst}
-use Rattle.lrlex.specs.Kinds.{kind_of}
+use Rattle.std.proofs.Common.{◌≡◌, map, sym, subst}
+use Rattle.lrlex.specs.RowKinds.{AreRowKinds}
 use Rattle.lrlex.specs.Active.{active_places}
 use Rattle.lrlex.specs.StateTables.{AreServed, ArePlaced, list_in}
 use Rattle.lrlex_rules.specs.RuleParts.{as_rule, as_state}
@@ -21,8 +21,12 @@ invariant_of-result-clause-served g c =
     ∣ subst (λ rules. AreServed rules (map (λ v. v.items) c.in_ok-lists.lists.items) c.in_ok-tables.tables.items) c.deref-5.ensures.value
     (subst (λ lists. AreServed c.deref-5.result.now (map (λ v. v.items) lists) c.in_ok-tables.tables.items) c.deref-6.ensures.value c.in_ok-tables.ensures.served) ∣₁
 
-pub invariant_of-result-clause-kinded : goal.invariant_of-result-clause-kinded
-invariant_of-result-clause-kinded g c = ∣ c.in_ok-kinds.ensures ∙ ap (map kind_of) c.deref-8.ensures.value ∣₁
+pub invariant_of-result-clause-by_rows : goal.invariant_of-result-clause-by_rows
+invariant_of-result-clause-by_rows g c =
+    let rows = c.in_ok-row_kinds.row_kinds.items in
+    ∣ subst (λ rules. AreRowKinds rules (map (λ v. v.items) c.in_ok-lists.lists.items) c.in_ok-tables.chains.items rows) c.deref-8.ensures.value
+    (subst (λ lists. AreRowKinds c.deref-8.result.now (map (λ v. v.items) lists) c.in_ok-tables.chains.items rows) c.deref-9.ensures.value
+    (subst (λ chains. AreRowKinds c.deref-8.result.now (map (λ v. v.items) c.deref-9.result.now) chains rows) c.deref-10.ensures.value c.in_ok-row_kinds.ensures)) ∣₁
 
 pub chained_tables-requires : goal.chained_tables-requires
 chained_tables-requires g c placed = subst ArePlaced (sym c.deref-4.ensures.value) (subst ArePlaced c.deref.ensures.value (c.are_placed-placed.ensures.0 placed))

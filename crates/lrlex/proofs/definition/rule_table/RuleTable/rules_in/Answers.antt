@@ -38,5 +38,6 @@ returns-clause-rules g c =
       tables = tables_at_state g.S.Numbered.number lists d.tables.items d.list_at.items d.start_states.items d.rules.items i j c.args.id c.index-tables.result.now
           d.listed d.served found at are;
       list = are;
+      own = c.deref-2.ensures.value ∙ sym places;
       untabled = untabled_here d c.args.id i j c.index-tables.result.now found at are;
     }

@@ -5,9 +5,8 @@ use Rattle.lrlex.proofs.TableLemmas.{served_with_ids}
 use Rattle.lrlex.specs.Active.{active_places}
 use Rattle.lrlex.specs.Ids.{ids_of, HaveDistinctIds}
 use Rattle.lrlex_rules.specs.RuleParts.{as_rule, as_state}
-use Rattle.lrlex.specs.Kinds.{kind_of}
+use Rattle.lrlex.specs.RowKinds.{AreRowKinds}
 use Rattle.lrlex.proofs.IdLemmas.{lists_after}
-use Rattle.lrlex.proofs.KindLemmas.{kinds_len}
 use Rattle.lrlex.proofs.ViewLemmas.{taken_back}
 use Rattle.lrlex.proofs.definition.rule_table.RuleTable.take_ids.Goals as goal
 
@@ -16,12 +15,12 @@ invariant_of-self g c =
     let table = c.args.self.now in
     let states = map as_state table.start_states.items in
     let new = c.take_ids.new.rules in
-    let kinds = c.set_kinds.new.kinds in
+    let rows = c.set_row_kinds.new.rows in
+    let lists = map (λ v. v.items) table.lists.items in
     let back = taken_back new (drop (length new) table.rules.items) table.rules.len
     (omega (arith, c.take_ids.auto.rules, c.as_mut_slice.ensures.len)) in
     record {
       distinct = λ is. subst HaveDistinctIds c.deref.ensures.value (c.have_own_ids-self.ensures.distinct is);
-      kinded = ∣ taken_back kinds (drop (length kinds) table.kinds.items) table.kinds.len (omega (arith, c.set_kinds.auto.kinds, c.as_mut_slice-2.ensures.len)) ∙ c.set_kinds.ensures ∙ ap (map kind_of) c.deref-2.ensures.value ∣₁;
       at_places = table.at_places;
       listed = table.listed
           ∙ lists_after g.S.Numbered.number (ids_of g.S.Numbered.number c.args.ids.now) states table.rules.items new
@@ -33,12 +32,7 @@ invariant_of-self g c =
       each = table.each;
       within = table.within;
       chained = table.chained;
+      by_rows = ∥∥₁_map table.by_rows (λ are.
+          subst (AreRowKinds _ lists table.chains.items) (sym (taken_back rows (drop (length rows) table.row_kinds.items) table.row_kinds.len (omega (arith, c.set_row_kinds.auto.rows, c.as_mut_slice-2.ensures.len))))
+          (subst (λ rules. AreRowKinds rules lists table.chains.items rows) c.deref-2.ensures.value ((rw c.as_mut_slice-2.ensures.value at c.set_row_kinds.ensures) table.rules.items lists table.chains.items are)));
     }
-
-pub set_kinds-requires : goal.set_kinds-requires
-set_kinds-requires g c =
-    let table = c.args.self.now in
-    let new = c.take_ids.new.rules in
-    let back = taken_back new (drop (length new) table.rules.items) table.rules.len
-    (omega (arith, c.take_ids.auto.rules, c.as_mut_slice.ensures.len)) in
-    omega (arith, ap length c.as_mut_slice-2.ensures.value, kinds_len table, c.take_ids.auto.rules, ap length c.as_mut_slice.ensures.value, ap length back, ap length c.deref-2.ensures.value)

@@ -1,4 +1,5 @@
 use Rattle.std.proofs.Common.{◌≡◌, [], ◌∷◌, length, sym, ap, ◌∙◌, subst, arith}
+use Rattle.std.specs.Prelude.{option_copied}
 use Rattle.std.proofs.lemmas.Str.{IsCharBoundary-start}
 use Rattle.lrlex_boundaries.specs.Entries.{plain, AreEntries}
 use Rattle.lrlex_rules.specs.Matchers.{AreMatchers}
@@ -31,6 +32,7 @@ returns-clause-cursor g c =
         matchers = subst (λ ms. AreMatchers c.args.table.now.rules.items ms.items) (sym c.rewind.ensures.matchers) was.searcher.matchers;
         lists = ap (λ ls. ls.now) c.rewind.ensures.lists ∙ was.searcher.lists;
         text = ap (λ t. t.now) c.rewind.ensures.text ∙ was.searcher.text;
+        chain = ap option_copied c.rewind.ensures.chain ∙ was.searcher.chain;
       };
       sought = tt;
       worked = λ kept. c.rewind.ensures.linear (most_tables c.args.table.now.tables.items);

@@ -1,4 +1,5 @@
 use Rattle.std.proofs.Common.{◌∙◌, length, drop, sym, ap, subst, arith}
+use Rattle.std.specs.Prelude.{option_copied}
 use Rattle.lrlex_rules.specs.Matchers.{AreMatchers}
 use Rattle.lrlex.proofs.ViewLemmas.{taken_back}
 use Rattle.lrlex.proofs.lexing.winner.Searcher.winner.Goals as goal
@@ -20,6 +21,7 @@ returns-clause-searcher g c input is = record {
       c.in_ok-scan.ensures.matchers;
   lists = ap (λ x. x.now) c.in_ok-scan.ensures.ends.0 ∙ is.lists;
   text = ap (λ x. x.now) c.in_ok-scan.ensures.ends.1 ∙ is.text;
+  chain = ap option_copied c.in_ok-scan.ensures.ends.2 ∙ is.chain;
 }
 
 pub returns-in_err-scan-clause-searcher : goal.returns-in_err-scan-clause-searcher
@@ -30,4 +32,5 @@ returns-in_err-scan-clause-searcher g c input is = record {
       c.in_err-scan.ensures.matchers;
   lists = ap (λ x. x.now) c.in_err-scan.ensures.ends.0 ∙ is.lists;
   text = ap (λ x. x.now) c.in_err-scan.ensures.ends.1 ∙ is.text;
+  chain = ap option_copied c.in_err-scan.ensures.ends.2 ∙ is.chain;
 }
