@@ -1,6 +1,6 @@
 -- What a tile that was found ahead is, by the row of the chain in which it ends.
 use Rattle.std.proofs.Common.{◌≡◌, ℕ, ◌+◌, ◌-◌, ◌<◌, ◌≤◌, Bor, true, nat_lt, List, length, map, drop, Option, None, Some, is_some, slice_get, slice_index_or, get_or, refl, sym, ap, ◌∙◌, subst, arith}
-use Rattle.std.specs.Prelude.{option_copied, unwrap_or}
+use Rattle.std.specs.Prelude.{IfSome, max, option_copied, unwrap_or}
 use Rattle.std.specs.Option.{ForSome}
 use Rattle.std.proofs.lemmas.Bool.{ltb-true}
 use Rattle.std.proofs.lemmas.Option.{none-some, same_Some, slice_get_read}
@@ -17,6 +17,7 @@ use Rattle.lrlex_table.specs.declared.walk.PatternMatch.{PatternMatch}
 use Rattle.lrlex.specs.Active.{rule_at}
 use Rattle.lrlex.specs.Kinds.{IsPlain}
 use Rattle.lrlex.specs.RowKinds.{own_kind}
+use Rattle.lrlex.specs.Scanner.{IsSought, sought_to}
 use Rattle.lrlex.specs.Searcher.{AreOf, IsFoundAt, IsSearcherOf, tile_of}
 use Rattle.lrlex.specs.StateTables.{list_in, pattern_in, patterns_on}
 use Rattle.lrlex.specs.Tiling.{Wins}
@@ -25,9 +26,11 @@ use Rattle.lrlex.specs.declared.definition.row_kinds.RowKind.{RowKind}
 use Rattle.lrlex.specs.declared.definition.rule_table.RuleTable.{RuleTable}
 use Rattle.lrlex.specs.declared.definition.rule_table.StateRules.{StateRules}
 use Rattle.lrlex.specs.declared.lexing.winner.Searcher.{Searcher}
+use Rattle.lrlex.specs.declared.lexing.winner.Tile.{Tile}
 use Rattle.lrlex.proofs.DecidedLemmas.{decided_look}
 use Rattle.lrlex.proofs.RowKindLemmas.{the_chain, row_list, row_rule, row_plain}
 use Rattle.lrlex.proofs.TableLemmas.{active_within, looked_at, told_some, told_bytes, best_wins}
+use Rattle.lrlex.proofs.TilingLemmas.{one_len}
 
 -- what was got from a list stands in it
 pub got : {X : Type 0} (xs : List X) (i : ℕ) (o : Option (Bor X)) (x : X) → option_copied o ≡ Some x → is_some o ≡ nat_lt i (length xs) → ((d : X) → unwrap_or (option_copied o) d ≡ get_or xs i d) → slice_get xs i ≡ Some x
@@ -109,3 +112,11 @@ module _ {S : Type 0} (number : S → ℕ) (table : RuleTable S) (rules : StateR
         within = omega (arith, best_here.within, best_here.some);
         tabled = sym of.untabled ∙ ap length best_here.tabled;
       })
+
+-- What was sought at the place is what was found ahead there, so that it takes no more bytes.
+pub found_sought : {S : Type 0} (number : S → ℕ) (table : RuleTable S) (text : List ℕ) (place q : ℕ) (o : Option (Option Tile)) → IfSome o (IsSought number table text place q) → (t : Tile) → IsFoundAt number table q text place t →
+    sought_to place o ≤ place + max 1 t.len
+found_sought number table text place q None is t at = omega arith
+found_sought number table text place q (Some None) is t at = omega arith
+found_sought number table text place q (Some (Some u)) is t at =
+    omega (arith, one_len (definition_by number table) q (drop place text) u.rule u.len t.rule t.len is.wins at.wins)

@@ -134,8 +134,11 @@ pub trait LexerDef<L: LexerTypes>: Sized {
 }
 
 impl<L: LexerTypes> LexerDef<L> for LRNonStreamingLexerDef<L> {
-    ghost use Rattle.std.specs.Prelude.{◌≡◌, IfOk};
-    ghost use Rattle.lrlex.specs.Views.{definition_of, definition_rules, definition_states};
+    ghost use Rattle.std.specs.Prelude.{◌≡◌, ◌≤◌, true, IfOk, IfErr, All};
+    ghost use Rattle.lrlex_rules.specs.LexBuildError.{IsPlaced};
+    ghost use Rattle.lrlex_rules.specs.DefinitionLaws.{IsLawful};
+    ghost use Rattle.lrlex.specs.Active.{is_state};
+    ghost use Rattle.lrlex.specs.Views.{definition_of, definition_rules, definition_states, rows_held};
 
     ghost said = { definition_of L.StorageT.number };
 
@@ -143,6 +146,7 @@ impl<L: LexerTypes> LexerDef<L> for LRNonStreamingLexerDef<L> {
 
     ghost states_of = { definition_states };
 
+    /// Just these start states and rules, in order, with the default flags. Their tables and the chain hold at most 7,000 rows.
     fn from_rules(
         alloc: Global,
         start_states: Vec<StartState>,
@@ -152,16 +156,30 @@ impl<L: LexerTypes> LexerDef<L> for LRNonStreamingLexerDef<L> {
         ensures states { IfOk result (λ d. definition_states d ≡ start_states.items) }
         ensures flags { IfOk result (λ d. (definition_of L.StorageT.number d).flags
             ≡ DEFAULT_LEX_FLAGS) }
+        ensures within { IfOk result (λ d. rows_held d ≤ 7000) }
     {
         let flags = DEFAULT_LEX_FLAGS;
         let table = RuleTable::made(alloc, start_states, rules, flags, usual_budget())?;
         Ok(LRNonStreamingLexerDef { table })
     }
 
+    /// Reads a rule text with unset flags, as `new_with_options` does.
     fn from_str(
         alloc: Global,
         text: &str,
-    ) -> Result<LexBuildResult<LRNonStreamingLexerDef<L>>, AllocError> {
+    ) -> Result<LexBuildResult<LRNonStreamingLexerDef<L>>, AllocError>
+        ensures answer { IfOk result (IsAnswer (definition_of L.StorageT.number)
+            UNSPECIFIED_LEX_FLAGS L.StorageT.greatest text.now) }
+        ensures refusals { IfOk result (AreOwnRefusals UNSPECIFIED_LEX_FLAGS L.StorageT.greatest
+            text.now) }
+        ensures placed { IfOk result (λ built. IfErr built
+            (λ faults. All (IsPlaced text.now) faults.items)) }
+        ensures lawful { IfOk result (λ built. IfOk built
+            (λ d. IsLawful text.now (definition_of L.StorageT.number d))) }
+        ensures initial { IfOk result (λ built. IfOk built
+            (λ d. is_state (definition_of L.StorageT.number d) 0 ≡ true)) }
+        ensures within { IfOk result (λ built. IfOk built (λ d. rows_held d ≤ 7000)) }
+    {
         LRNonStreamingLexerDef::new_with_options(alloc, text, UNSPECIFIED_LEX_FLAGS)
     }
 

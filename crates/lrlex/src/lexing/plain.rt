@@ -91,9 +91,10 @@ fn take_plain<S: Numbered, X: Lexeme<S>>(
     let most = MOST_TILES.min(text.len() - progress.place);
     progress.items.reserve(most)?;
     progress.ahead.reserve(most)?;
+    let kinds = table.row_kinds.as_slice();
     'tiles: for step in 0..most {
         let place = progress.place;
-        let Some(found) = searcher.ahead(table, &rules, place) else {
+        let Some(found) = searcher.ahead(table, kinds, &rules, place) else {
             return Ok(());
         };
         let kind = found.kind;

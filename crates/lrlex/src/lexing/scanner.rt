@@ -6,6 +6,7 @@ ghost use Rattle.lrlex.specs.Views.{definition_by, definition_of};
 ghost use Rattle.lrlex.specs.Work.{most_cells_by, most_cells_of};
 
 use crate::definition::non_streaming::LRNonStreamingLexerDef;
+use crate::definition::row_kinds::RowKind;
 use crate::definition::rule_table::RuleTable;
 use crate::errors::LRLexError;
 use crate::lexing::cursor::{Cursor, ScanPlace, cursor_at, cursor_of};
@@ -50,27 +51,50 @@ pub enum Step<S> {
     End(ScanEnd<S>),
 }
 
-/// Takes the next step. After refused memory the cursor stands where it stood.
+/// What a scanner reads: the rules, with what lexing needs of those that win at a row of the chain, and the text.
+#[derive(Clone, Copy)]
+struct Source<'d, 't, S> {
+    table: &'d RuleTable<S>,
+    kinds: &'d [RowKind<S>],
+    text: &'t str,
+}
+
+impl<'d, 't, S> Source<'d, 't, S> {
+    /// These rules, and this text.
+    fn new(table: &'d RuleTable<S>, text: &'t str) -> Self
+        ensures table { result.table.now ≡ table.now }
+        ensures kinds { result.kinds.now ≡ table.now.row_kinds.items }
+        ensures text { result.text.now ≡ text.now }
+    {
+        let kinds = table.row_kinds.as_slice();
+        Source { table, kinds, text }
+    }
+}
+
+/// Takes the next step. After refused memory the cursor stands where it stood. A tile that was found ahead wins, whether what wins was sought
+/// before or not, so that this isn't asked first.
 #[inline(always)]
 fn next_step<'d, S: Numbered>(
     alloc: Global,
-    table: &'d RuleTable<S>,
-    text: &str,
+    source: &Source<'d, '_, S>,
     cursor: &mut Cursor<'d, '_>,
 ) -> Result<Step<S>, AllocError>
-    requires { IsCursorOf S.number table.now text.now cursor.old }
-    ensures { HasGivenStep S.number table.now text.now cursor.old result cursor.new }
+    requires kinds { source.now.kinds.now ≡ source.now.table.now.row_kinds.items }
+    requires cursor { IsCursorOf S.number source.now.table.now source.now.text.now cursor.old }
+    ensures { HasGivenStep S.number source.now.table.now source.now.text.now cursor.old result
+        cursor.new }
 {
-    if let Some(winner) = cursor.sought {
-        return take_sought(table, text, cursor, winner);
-    }
     let place = cursor.place;
-    if let Some(found) = cursor.searcher.ahead(table, &cursor.rules, place) {
+    if let Some(found) = cursor
+        .searcher
+        .ahead(source.table, source.kinds, &cursor.rules, place)
+    {
         let kind = found.kind;
         let end = found.next.end;
-        cursor.searcher.pass(table, place, found.next);
+        cursor.searcher.pass(source.table, place, found.next);
         if kind.plain {
             cursor.place = end;
+            cursor.sought = None;
             return Ok(Step::Tile(ScannedTile {
                 rule: kind.rule,
                 id: kind.own_id(),
@@ -81,29 +105,33 @@ fn next_step<'d, S: Numbered>(
             rule: kind.rule,
             len: end - place,
         };
-        return take_tile(table, text, cursor, Some(tile));
+        return take_tile(source.table, source.text, cursor, Some(tile));
     }
-    seek(alloc, table, text, cursor)
+    if let Some(winner) = cursor.sought {
+        return take_sought(source.table, source.text, cursor, winner);
+    }
+    seek(alloc, source.table, source.text, cursor)
 }
 
 /// A lexer that is pulled: `next` gives one tile after the other, and nothing of them is kept. Beside the stack of start states
 /// it holds the matchers of rules without a table, and what stops a look ahead that is known to lead nowhere.
 #[derive(Drop)]
 pub struct Scanner<'lexer, 'input, S: Numbered> {
-    table: &'lexer RuleTable<S>,
-    text: &'input str,
+    source: Source<'lexer, 'input, S>,
     /// None where the definition has no start state 0.
     cursor: Option<Cursor<'lexer, 'input>>,
 }
 
 impl<'lexer, 'input, S: Numbered> Model for Scanner<'lexer, 'input, S> {
+    ghost use Rattle.std.specs.Prelude.{◌≡◌};
     ghost use Rattle.lrlex.specs.Scanner.{IsScannerOf, Scanned, scanned};
 
     ghost Value = { Scanned };
 
-    ghost view = { λ s. scanned S.number s.table.now s.text.now s.cursor };
+    ghost view = { λ s. scanned S.number s.source.table.now s.source.text.now s.cursor };
 
-    ghost invariant = { λ s. IsScannerOf S.number s.table.now s.text.now s.cursor };
+    ghost invariant = { λ s. IsScannerOf S.number s.source.table.now s.source.text.now s.cursor
+        × (s.source.kinds.now ≡ s.source.table.now.row_kinds.items) };
 }
 
 impl<'lexer, 'input, S: Numbered> Scanner<'lexer, 'input, S> {
@@ -118,8 +146,7 @@ impl<'lexer, 'input, S: Numbered> Scanner<'lexer, 'input, S> {
             None
         };
         Ok(Scanner {
-            table,
-            text,
+            source: Source::new(table, text),
             cursor,
         })
     }
@@ -141,8 +168,7 @@ impl<'lexer, 'input, S: Numbered> Scanner<'lexer, 'input, S> {
             None
         };
         Ok(Scanner {
-            table,
-            text,
+            source: Source::new(table, text),
             cursor,
         })
     }
@@ -155,7 +181,7 @@ impl<'lexer, 'input, S: Numbered> Scanner<'lexer, 'input, S> {
         ensures same { OnErr result (self.new ≡ self.old) }
     {
         match &mut self.cursor {
-            Some(cursor) => next_step(alloc, self.table, self.text, cursor),
+            Some(cursor) => next_step(alloc, &self.source, cursor),
             None => Ok(Step::End(ScanEnd::NoState)),
         }
     }
@@ -167,7 +193,7 @@ impl<'lexer, 'input, S: Numbered> Scanner<'lexer, 'input, S> {
         ensures { self.new ≡ at_front self.old.definition self.old.text self.old.most_cells }
     {
         if let Some(cursor) = &mut self.cursor {
-            cursor.rewind(self.table, self.text);
+            cursor.rewind(self.source.table, self.source.text);
         }
     }
 
@@ -197,7 +223,7 @@ impl<'lexer, 'input, S: Numbered> Scanner<'lexer, 'input, S> {
         ensures { IfSome result (λ n. n ≤ self.now.most_cells) }
     {
         match &self.cursor {
-            Some(cursor) => cursor.looked(self.table, self.text),
+            Some(cursor) => cursor.looked(self.source.table, self.source.text),
             None => Some(0),
         }
     }

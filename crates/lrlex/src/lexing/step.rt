@@ -167,7 +167,7 @@ pub(crate) fn advance<'d, S: Numbered, X: Lexeme<S>>(
     let place = progress.place;
     table.enter(rules, top_of(&progress.stack));
     let state = rules.state;
-    if let Some(found) = searcher.ahead(table, rules, place) {
+    if let Some(found) = searcher.ahead(table, &table.row_kinds, rules, place) {
         let kind = found.kind;
         let len = found.next.end - place;
         searcher.pass(table, place, found.next);

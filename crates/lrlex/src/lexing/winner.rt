@@ -215,14 +215,16 @@ impl<'d, 't> Searcher<'d, 't> {
     }
 
     /// The tile at the place by the rules of the state, if it was found ahead. No rule is searched for then, and the byte behind the tile
-    /// decides it.
+    /// decides it. `kinds` are those of the table's rows, all that is read of it.
     #[inline(always)]
     pub(crate) fn ahead<S: Numbered>(
         &self,
         table: &RuleTable<S>,
+        kinds: &[RowKind<S>],
         rules: &StateRules<'_>,
         place: usize,
     ) -> Option<Found<S>>
+        requires kinds { kinds.now ≡ table.now.row_kinds.items }
         requires rules { AreOf S.number table.now rules.now.state rules.now }
         requires searcher { (input : List ℕ) × IsSearcherOf table.now input self.now }
         ensures tile { (input : List ℕ) → IsSearcherOf table.now input self.now
@@ -232,8 +234,9 @@ impl<'d, 't> Searcher<'d, 't> {
         ensures plain { IfSome result (λ f. f.kind.plain ≡ true → IsPlain S.number (own_kind f.kind).id
             (rule_at (definition_by S.number table.now) f.kind.rule)) }
     {
+        let _ = table;
         let next = self.ends.next_ahead(place)?;
-        let kind = table.row_kinds.get(next.row as usize).copied()?;
+        let kind = kinds.get(next.row as usize).copied()?;
         if kind.list as usize != rules.list {
             return None;
         }

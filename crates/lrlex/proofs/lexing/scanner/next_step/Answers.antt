@@ -1,11 +1,11 @@
-use Rattle.std.proofs.Common.{◌≡◌, ◌+◌, ◌-◌, ◌∙◌, IfSome, false, not, drop, option_map, refl, sym, ap, ap₂, subst, arith}
-use Rattle.std.specs.Prelude.{IsCharBoundary}
+use Rattle.std.proofs.Common.{◌≡◌, ◌+◌, ◌-◌, ◌≤◌, ◌∙◌, false, not, drop, option_map, refl, sym, ap, ap₂, subst, arith}
+use Rattle.std.specs.Prelude.{IsCharBoundary, max}
 use Rattle.std.proofs.lemmas.Str.{IsCharBoundary-from_rest}
 use Rattle.regex_hir.specs.Text.{is_some_and}
 use Rattle.lrlex_base.specs.Spans.{span}
 use Rattle.lrlex_boundaries.specs.Entries.{plain}
 use Rattle.lrlex.specs.Active.{is_state, rule_at}
-use Rattle.lrlex.specs.Scanner.{IsSought, Scanned, sought_to}
+use Rattle.lrlex.specs.Scanner.{Scanned, sought_to}
 use Rattle.lrlex.specs.RowKinds.{own_kind}
 use Rattle.lrlex.specs.Searcher.{IsFoundAt, tile_of}
 use Rattle.lrlex.specs.StateTables.{most_tables}
@@ -13,42 +13,43 @@ use Rattle.lrlex.specs.Tiling.{Tile, Wins, top}
 use Rattle.lrlex.specs.Views.{definition_by}
 use Rattle.lrlex.specs.Work.{HasWorked, most_cells_by}
 use Rattle.lrlex_table.proofs.LinearLemmas.{linear_later}
+use Rattle.lrlex.proofs.FoundLemmas.{found_sought}
 use Rattle.lrlex.proofs.KindLemmas.{no_target_of, stays}
 use Rattle.lrlex.proofs.lexing.scanner.next_step.Goals as goal
 
 pub returns-then-kind : goal.returns-then-kind
 returns-then-kind g c =
-    let table = c.args.table.now in
-    let text = c.args.text.now in
+    let table = c.args.source.now.table.now in
+    let text = c.args.source.now.text.now in
     let p = c.args.cursor.now in
-    let found = c.in-Some-ahead.found in
+    let found = c.in-Some.found in
     let kind = found.kind in
     let len = found.next.end - p.place in
-    let at : IsFoundAt g.S.Numbered.number table p.rules.state text p.place (tile_of p.place found) = c.in-Some-ahead.ensures.tile text c.requires.searcher in
-    let ends : p.place + len ≡ found.next.end = omega (arith, c.in-Some-ahead.ensures.some) in
-    let unsought : p.lost ≡ false → HasWorked table p.from p.place c.pass.new.self.ends = λ kept. c.pass.ensures.linear p.from p.place (subst (λ o. HasWorked table p.from (sought_to p.place o) p.searcher.ends) c.in_default.is (c.requires.worked kept)) in
+    let at : IsFoundAt g.S.Numbered.number table p.rules.state text p.place (tile_of p.place found) = c.in-Some.ensures.tile text c.requires.cursor.searcher in
+    let ends : p.place + len ≡ found.next.end = omega (arith, c.in-Some.ensures.some) in
+    let most : sought_to p.place p.sought ≤ p.place + max 1 len = found_sought g.S.Numbered.number table text p.place p.rules.state p.sought c.requires.cursor.sought (tile_of p.place found) at in
+    let worked : p.lost ≡ false → HasWorked table p.from (sought_to p.place p.sought) c.pass.new.self.ends = λ kept. c.pass.ensures.linear p.from (sought_to p.place p.sought) (c.requires.cursor.worked kept) in
     let d = definition_by g.S.Numbered.number table in
     let t : Tile = record { rule = kind.rule; len = len } in
     let stack = plain p.stack.items in
-    let on_top : p.rules.state ≡ top stack = c.requires.state in
-    let rule = c.in-Some-ahead.ensures.plain c.if-kind.true in
+    let on_top : p.rules.state ≡ top stack = c.requires.cursor.state in
+    let rule = c.in-Some.ensures.plain c.if-kind.true in
     let target = no_target_of g.S.Numbered.number (own_kind kind).id (rule_at d kind.rule) rule in
     record {
       cursor = record {
         stands = record {
-          boundary = subst (IsCharBoundary text) ends (IsCharBoundary-from_rest text p.place len c.requires.stands.boundary.0 at.cuts);
-          entries = c.requires.stands.entries;
-          states = c.requires.stands.states;
-          some = c.requires.stands.some;
-          room = omega (arith, c.requires.stands.room);
+          boundary = subst (IsCharBoundary text) ends (IsCharBoundary-from_rest text p.place len c.requires.cursor.stands.boundary.0 at.cuts);
+          entries = c.requires.cursor.stands.entries;
+          states = c.requires.cursor.stands.states;
+          some = c.requires.cursor.stands.some;
+          room = omega (arith, c.requires.cursor.stands.room);
         };
-        initial = c.requires.initial;
-        rules = c.requires.rules;
-        state = c.requires.state;
-        searcher = c.pass.ensures.searcher text c.requires.searcher;
-        sought = subst (λ o. IfSome o (IsSought g.S.Numbered.number table text found.next.end p.rules.state)) (sym c.in_default.is) tt;
-        worked = λ kept. subst (λ o. HasWorked table p.from (sought_to found.next.end o) c.pass.new.self.ends) (sym c.in_default.is)
-            (linear_later (most_tables table.tables.items) p.from p.place found.next.end c.pass.new.self.ends (unsought kept) (omega (arith, c.in-Some-ahead.ensures.some)));
+        initial = c.requires.cursor.initial;
+        rules = c.requires.cursor.rules;
+        state = c.requires.cursor.state;
+        searcher = c.pass.ensures.searcher text c.requires.cursor.searcher;
+        sought = tt;
+        worked = λ kept. linear_later (most_tables table.tables.items) p.from (sought_to p.place p.sought) found.next.end c.pass.new.self.ends (worked kept) (omega (arith, most, c.in-Some.ensures.some));
       };
       step = (
         t,
@@ -69,11 +70,18 @@ returns-then-kind g c =
 
 pub take_tile-requires-clause-cursor : goal.take_tile-requires-clause-cursor
 take_tile-requires-clause-cursor g c = record {
-  stands = c.requires.stands;
-  initial = c.requires.initial;
-  rules = c.requires.rules;
-  state = c.requires.state;
-  searcher = c.pass.ensures.searcher c.args.text.now c.requires.searcher;
-  sought = c.requires.sought;
-  worked = λ kept. c.pass.ensures.linear c.args.cursor.now.from (sought_to c.args.cursor.now.place c.args.cursor.now.sought) (c.requires.worked kept);
+  stands = c.requires.cursor.stands;
+  initial = c.requires.cursor.initial;
+  rules = c.requires.cursor.rules;
+  state = c.requires.cursor.state;
+  searcher = c.pass.ensures.searcher c.args.source.now.text.now c.requires.cursor.searcher;
+  sought = c.requires.cursor.sought;
+  worked = λ kept. c.pass.ensures.linear c.args.cursor.now.from (sought_to c.args.cursor.now.place c.args.cursor.now.sought) (c.requires.cursor.worked kept);
 }
+
+pub take_tile-requires-clause-within : goal.take_tile-requires-clause-within
+take_tile-requires-clause-within g c =
+    let p = c.args.cursor.now in
+    let table = c.args.source.now.table.now in
+    let text = c.args.source.now.text.now in
+    found_sought g.S.Numbered.number table text p.place p.rules.state p.sought c.requires.cursor.sought (tile_of p.place c.in-Some.found) (c.in-Some.ensures.tile text c.requires.cursor.searcher)

@@ -1,4 +1,4 @@
-use Rattle.std.proofs.Common.{◌≡◌, ◌+◌, ◌-◌, option_map, ◌++◌, ◌∷◌, [], Result, Ok, Err, IfOk, true≢false, max, not, length, drop, refl, sym, ap, ◌∙◌, subst, arith}
+use Rattle.std.proofs.Common.{◌≡◌, ◌+◌, ◌-◌, ◌^◌, ◌<◌, option_map, ◌++◌, ◌∷◌, [], Result, Ok, Err, IfOk, true≢false, max, not, length, drop, refl, sym, ap, ◌∙◌, subst, arith, rules}
 use Rattle.std.proofs.lemmas.List.{length-map}
 use Rattle.regex_hir.specs.Text.{is_some_and}
 use Rattle.lrlex_rules.specs.RuleParts.{as_rule}
@@ -86,6 +86,19 @@ take_scan-requires-clause-scan g c =
     let len = found.next.end - p.place in
     let at : IsFoundAt g.S.Numbered.number table c.enter.new.rules.state c.args.text.now p.place (tile_of p.place found) = c.in-Some.ensures.tile c.args.text.now c.requires.searcher in
     record { winner = at.wins; decided = at.decided }
+
+pub overflow_add-scan : goal.overflow_add-scan
+overflow_add-scan g c =
+    let p = c.args.progress.now in
+    let at : IsFoundAt g.S.Numbered.number c.args.table.now c.enter.new.rules.state c.args.text.now p.place (tile_of p.place c.in-Some.found) = c.in-Some.ensures.tile c.args.text.now c.requires.searcher in
+    let small : length c.args.text.now < 2 ^ 64 = search rules in
+    omega (arith, at.within, small)
+
+pub take_scan-requires-clause-asked : goal.take_scan-requires-clause-asked
+take_scan-requires-clause-asked g c =
+    let p = c.args.progress.now in
+    let at : IsFoundAt g.S.Numbered.number c.args.table.now c.enter.new.rules.state c.args.text.now p.place (tile_of p.place c.in-Some.found) = c.in-Some.ensures.tile c.args.text.now c.requires.searcher in
+    record { counted = omega arith; exact = omega (arith, at.tabled) }
 
 pub take_scan-requires-clause-tile : goal.take_scan-requires-clause-tile
 take_scan-requires-clause-tile g c =

@@ -7,7 +7,7 @@ returns-clause-tile g c input is =
     let table = c.args.table.now in
     let row = c.in_ok-next.next.row in
     let here : slice_get table.row_kinds.items row ≡ Some c.in_ok-kind.kind =
-    ap (λ xs. slice_get xs row) (sym c.deref.ensures.value) ∙ got c.deref.result.now row c.get.result c.in_ok-kind.kind (sym c.in_ok-kind.ensures) c.get.ensures.lookup.0 (c.get.ensures.lookup.4 (omega arith)) in
+    ap (λ xs. slice_get xs row) (sym c.requires.kinds) ∙ got c.args.kinds.now row c.get.result c.in_ok-kind.kind (sym c.in_ok-kind.ensures) c.get.ensures.lookup.0 (c.get.ensures.lookup.4 (omega arith)) in
     found_is g.S.Numbered.number table c.args.rules.now c.requires.rules c.args.self.now input is c.args.place c.in_ok-next.next c.in_ok-kind.kind here c.if-kind-rules.false c.in_ok-next.ensures.best
 
 pub returns-clause-some : goal.returns-clause-some
@@ -15,7 +15,7 @@ returns-clause-some g c =
     let table = c.args.table.now in
     let row = c.in_ok-next.next.row in
     let here : slice_get table.row_kinds.items row ≡ Some c.in_ok-kind.kind =
-    ap (λ xs. slice_get xs row) (sym c.deref.ensures.value) ∙ got c.deref.result.now row c.get.result c.in_ok-kind.kind (sym c.in_ok-kind.ensures) c.get.ensures.lookup.0 (c.get.ensures.lookup.4 (omega arith)) in
+    ap (λ xs. slice_get xs row) (sym c.requires.kinds) ∙ got c.args.kinds.now row c.get.result c.in_ok-kind.kind (sym c.in_ok-kind.ensures) c.get.ensures.lookup.0 (c.get.ensures.lookup.4 (omega arith)) in
     found_some g.S.Numbered.number table c.args.rules.now c.requires.rules c.args.self.now c.requires.searcher.0 c.requires.searcher.1 c.args.place c.in_ok-next.next c.in_ok-kind.kind here c.if-kind-rules.false c.in_ok-next.ensures.best
 
 pub returns-clause-plain : goal.returns-clause-plain
@@ -23,5 +23,5 @@ returns-clause-plain g c =
     let table = c.args.table.now in
     let row = c.in_ok-next.next.row in
     let here : slice_get table.row_kinds.items row ≡ Some c.in_ok-kind.kind =
-    ap (λ xs. slice_get xs row) (sym c.deref.ensures.value) ∙ got c.deref.result.now row c.get.result c.in_ok-kind.kind (sym c.in_ok-kind.ensures) c.get.ensures.lookup.0 (c.get.ensures.lookup.4 (omega arith)) in
+    ap (λ xs. slice_get xs row) (sym c.requires.kinds) ∙ got c.args.kinds.now row c.get.result c.in_ok-kind.kind (sym c.in_ok-kind.ensures) c.get.ensures.lookup.0 (c.get.ensures.lookup.4 (omega arith)) in
     found_plain g.S.Numbered.number table c.args.rules.now c.requires.rules c.args.self.now c.requires.searcher.0 c.requires.searcher.1 c.args.place c.in_ok-next.next c.in_ok-kind.kind here c.if-kind-rules.false c.in_ok-next.ensures.best
