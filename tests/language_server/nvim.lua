@@ -15,12 +15,10 @@ local function show(title)
   if #all == 0 then say("no diagnostics") end
 end
 
-local changed = 0
-vim.api.nvim_create_autocmd("DiagnosticChanged", { callback = function() changed = changed + 1 end })
+-- A request is answered after all that was sent before it. So what the server told of that has come by then, however slow the machine is.
 local function settle()
-  local seen = changed
-  vim.wait(2000, function() return changed > seen end, 10)
-  vim.wait(50)
+  local document = { textDocument = vim.lsp.util.make_text_document_params(buffer) }
+  return vim.lsp.buf_request_sync(buffer, "textDocument/semanticTokens/full", document, 20000)
 end
 
 local id = vim.lsp.start_client({ name = "rolgumzai", cmd = words, root_dir = vim.fn.getcwd() })
@@ -40,9 +38,7 @@ for step in (os.getenv("STEPS") or ""):gmatch("[^|]+") do
 end
 say("== text")
 say(table.concat(vim.api.nvim_buf_get_lines(buffer, 0, -1, true), "\n"))
-local document = { textDocument = vim.lsp.util.make_text_document_params(buffer) }
-local answers = vim.lsp.buf_request_sync(buffer, "textDocument/semanticTokens/full", document, 2000)
-for _, answer in pairs(answers or {}) do
+for _, answer in pairs(settle() or {}) do
   say("== tokens " .. (answer.result and #answer.result.data / 5 or vim.inspect(answer.err)))
 end
 client.stop()
