@@ -1,4 +1,4 @@
-use Rattle.std.proofs.Common.{◌≡◌, ◌+◌, ◌<◌, ◌≤◌, IfSome, IsCharBoundary, MatchOption, Option, Some, drop, vec_len, refl, sym, subst, arith}
+use Rattle.std.proofs.Common.{◌≡◌, ◌+◌, ◌<◌, ◌≤◌, IfSome, IsCharBoundary, MatchOption, Some, drop, vec_len, sym, subst, arith}
 use Rattle.std.specs.Prelude.{max}
 use Rattle.lrlex.specs.Scanner.{IsSought, sought_at, sought_to}
 use Rattle.lrlex.specs.Tiling.{IsStuck, Wins}

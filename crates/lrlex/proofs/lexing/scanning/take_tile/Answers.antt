@@ -149,7 +149,7 @@ returns g c =
         sought = subst (λ o. IfSome o (IsSought g.S.Numbered.number c.args.table.now text later c.enter.new.rules.state)) (sym none) tt;
         worked = λ kept. subst (λ o. HasWorked c.args.table.now c.args.cursor.now.from (sought_to later o) c.args.cursor.now.searcher.ends) (sym none)
             (linear_later (most_tables c.args.table.now.tables.items) c.args.cursor.now.from (sought_to place (sought_at place was)) later c.args.cursor.now.searcher.ends
-                (c.requires.cursor.worked kept) (omega (arith, rw c.in-Some.is at c.requires.within, wins.some)));
+            (c.requires.cursor.worked kept) (omega (arith, rw c.in-Some.is at c.requires.within, wins.some)));
       };
       step = (
         t,
