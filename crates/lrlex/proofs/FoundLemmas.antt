@@ -2,7 +2,7 @@
 use Rattle.std.proofs.Common.{◌≡◌, ℕ, ◌+◌, ◌-◌, ◌<◌, ◌≤◌, Bor, true, nat_lt, List, length, map, drop, Option, None, Some, is_some, slice_get, slice_index_or, get_or, refl, sym, ap, ◌∙◌, subst, arith}
 use Rattle.std.specs.Prelude.{IfSome, max, option_copied, unwrap_or}
 use Rattle.std.specs.Option.{ForSome}
-use Rattle.std.proofs.lemmas.Bool.{ltb-true}
+use Rattle.std.proofs.lemmas.Bool.{cond-false, cond-true, eq-eqb, ltb-true, ne_eqb}
 use Rattle.std.proofs.lemmas.Option.{none-some, same_Some, slice_get_read}
 use Rattle.std.proofs.lemmas.List.{length-map}
 use Rattle.regex.specs.Patterns.{Re}
@@ -17,7 +17,7 @@ use Rattle.lrlex_table.specs.declared.walk.PatternMatch.{PatternMatch}
 use Rattle.lrlex.specs.Active.{rule_at}
 use Rattle.lrlex.specs.Kinds.{IsPlain}
 use Rattle.lrlex.specs.RowKinds.{own_kind}
-use Rattle.lrlex.specs.Scanner.{IsSought, sought_to}
+use Rattle.lrlex.specs.Scanner.{IsSought, sought_at, sought_to}
 use Rattle.lrlex.specs.Searcher.{AreOf, IsFoundAt, IsSearcherOf, tile_of}
 use Rattle.lrlex.specs.StateTables.{list_in, pattern_in, patterns_on}
 use Rattle.lrlex.specs.Tiling.{Wins}
@@ -25,6 +25,7 @@ use Rattle.lrlex.specs.Views.{definition_by}
 use Rattle.lrlex.specs.declared.definition.row_kinds.RowKind.{RowKind}
 use Rattle.lrlex.specs.declared.definition.rule_table.RuleTable.{RuleTable}
 use Rattle.lrlex.specs.declared.definition.rule_table.StateRules.{StateRules}
+use Rattle.lrlex.specs.declared.lexing.cursor.Sought.{Sought}
 use Rattle.lrlex.specs.declared.lexing.winner.Searcher.{Searcher}
 use Rattle.lrlex.specs.declared.lexing.winner.Tile.{Tile}
 use Rattle.lrlex.proofs.DecidedLemmas.{decided_look}
@@ -112,6 +113,19 @@ module _ {S : Type 0} (number : S → ℕ) (table : RuleTable S) (rules : StateR
         within = omega (arith, best_here.within, best_here.some);
         tabled = sym of.untabled ∙ ap length best_here.tabled;
       })
+
+-- what was just sought is what was sought at the place
+pub just_sought : (place : ℕ) (winner : Option Tile) → sought_at place (Some (record { place = place; winner = winner })) ≡ Some winner
+just_sought place winner = cond-true _ (Some winner) None (eq-eqb place place refl)
+
+-- behind a tile nothing was sought yet
+pub none_sought : (place later : ℕ) (o : Option Sought) → IfSome o (λ s. s.place ≤ place) → place < later → sought_at later o ≡ None
+none_sought place later None le lt = refl
+none_sought place later (Some s) le lt = cond-false _ (Some s.winner) None (ne_eqb s.place later (λ e. omega (arith, le, lt, e)))
+
+pub sought_before : (place later : ℕ) (o : Option Sought) → IfSome o (λ s. s.place ≤ place) → place ≤ later → IfSome o (λ s. s.place ≤ later)
+sought_before place later None le more = tt
+sought_before place later (Some s) le more = omega (arith, le, more)
 
 -- What was sought at the place is what was found ahead there, so that it takes no more bytes.
 pub found_sought : {S : Type 0} (number : S → ℕ) (table : RuleTable S) (text : List ℕ) (place q : ℕ) (o : Option (Option Tile)) → IfSome o (IsSought number table text place q) → (t : Tile) → IsFoundAt number table q text place t →

@@ -32,6 +32,7 @@ pub mod MarkLemmas
 pub mod ResumeLemmas
 pub mod DecidedLemmas
 pub mod LookaheadLemmas
+pub mod ManyLemmas
 pub mod RaisedLemmas
 pub mod FoundLemmas
 pub mod FrontLemmas

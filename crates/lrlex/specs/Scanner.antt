@@ -1,5 +1,5 @@
 -- A scanner, and what its steps say.
-use Rattle.std.specs.Prelude.{◌≡◌, ℕ, ◌+◌, ◌^◌, ◌<◌, max, true, false, List, All, [], ◌∷◌, ◌++◌, length, drop, vec_len, Option, Some, None, IfSome, MatchOption, Result, IfOk, OnErr, option_map, if◌then◌else◌, IsCharBoundary}
+use Rattle.std.specs.Prelude.{◌≡◌, ℕ, ◌+◌, ◌^◌, ◌<◌, ◌≤◌, ◌==◌, max, true, false, List, All, [], ◌∷◌, ◌++◌, length, drop, vec_len, Option, Some, None, IfSome, MatchOption, Result, IfOk, OnErr, option_map, if◌then◌else◌, IsCharBoundary}
 use Rattle.std.specs.declared.alloc.AllocError.{AllocError}
 use Rattle.lrlex_base.specs.Spans.{as_span, span, span_end}
 use Rattle.lrlex_boundaries.specs.Entries.{plain, AreEntries}
@@ -13,6 +13,7 @@ use Rattle.lrlex.specs.Work.{HasWorked, most_cells_by, won_bytes}
 use Rattle.lrlex.specs.declared.definition.rule_table.RuleTable.{RuleTable}
 use Rattle.lrlex.specs.declared.lexing.cursor.Cursor.{Cursor}
 use Rattle.lrlex.specs.declared.lexing.cursor.ScanPlace.{ScanPlace}
+use Rattle.lrlex.specs.declared.lexing.cursor.Sought.{Sought}
 use Rattle.lrlex.specs.declared.lexing.scanner.ScannedTile.{ScannedTile}
 use Rattle.lrlex.specs.declared.lexing.scanner.ScanEnd.{ScanEnd}
 use Rattle.lrlex.specs.declared.lexing.scanner.ScanEnd.TheVariants.{NoId, NoState}
@@ -99,21 +100,27 @@ pub record IsSought {S : Type 0} (number : S → ℕ) (table : RuleTable S) (tex
   pub wins : MatchOption winner (IsStuck (definition_by number table) state (drop place text)) (λ t. Wins (definition_by number table) state (drop place text) t.rule t.len)
   pub tile : IfSome winner (λ t. IsCharBoundary (drop place text) t.len × (t.rule < vec_len table.rules))
 
+-- what was sought at this place, if anything was
+abbrev pub sought_at : (place : ℕ) → Option Sought → Option (Option Won)
+sought_at place None = None
+sought_at place (Some s) = if s.place == place then Some s.winner else None
+
 -- the place up to which a scanner has looked for winners: past what wins at its place, where that was sought
 abbrev pub sought_to : (place : ℕ) → Option (Option Won) → ℕ
 sought_to place None = place
 sought_to place (Some winner) = place + max 1 (won_bytes winner)
 
 -- It stands where it can, its rules are those of the state on top, and what finds winners is of the definition and the text. What was
--- sought wins at its place. It has looked for winners in linear time, unless that is lost.
+-- sought at the place wins there. It has looked for winners in linear time, unless that is lost.
 pub record IsCursorOf {S : Type 0} (number : S → ℕ) (table : RuleTable S) (text : List ℕ) (c : Cursor) : Type 0 where
   pub stands : IsStand (definition_by number table) text c.place c.stack.items
   pub initial : is_state (definition_by number table) 0 ≡ true
   pub rules : AreOf number table c.rules.state c.rules
   pub state : c.rules.state ≡ top (plain c.stack.items)
   pub searcher : IsSearcherOf table text c.searcher
-  pub sought : IfSome c.sought (IsSought number table text c.place c.rules.state)
-  pub worked : c.lost ≡ false → HasWorked table c.from (sought_to c.place c.sought) c.searcher.ends
+  pub behind : IfSome c.sought (λ s. s.place ≤ c.place)
+  pub sought : IfSome (sought_at c.place c.sought) (IsSought number table text c.place c.rules.state)
+  pub worked : c.lost ≡ false → HasWorked table c.from (sought_to c.place (sought_at c.place c.sought)) c.searcher.ends
 
 -- the same of what there may be
 abbrev pub scanned : {S : Type 0} → (S → ℕ) → RuleTable S → List ℕ → Option Cursor → Scanned

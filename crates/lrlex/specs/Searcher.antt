@@ -1,14 +1,20 @@
 -- The rules of a start state, as lexing holds them from tile to tile.
-use Rattle.std.specs.Prelude.{◌≡◌, ℕ, ◌+◌, ◌-◌, ◌<◌, ◌≤◌, List, MatchOption, Some, length, map, drop, option_copied, slice_get, IsCharBoundary}
+use Rattle.std.specs.Prelude.{◌≡◌, ℕ, ◌+◌, ◌-◌, ◌<◌, ◌≤◌, true, List, MatchOption, Some, length, map, drop, option_copied, slice_get, IsCharBoundary}
 use Rattle.lrlex_rules.specs.Definition.{Definition}
+use Rattle.lrlex_table.specs.Ahead.{begin_at, match_at}
+use Rattle.lrlex_table.specs.Chain.{end_of, row_of}
 use Rattle.lrlex_table.specs.Tables.{AreTablesOf}
-use Rattle.lrlex.specs.Active.{active_count, active_places}
+use Rattle.lrlex_table.specs.declared.marks.Mark.{Mark}
+use Rattle.lrlex.specs.Active.{active_count, active_places, rule_at}
+use Rattle.lrlex.specs.Kinds.{IsPlain}
 use Rattle.lrlex.specs.Lookahead.{IsDecided}
 use Rattle.lrlex.specs.Tiling.{IsStuck, Wins}
 use Rattle.lrlex_rules.specs.Matchers.{AreMatchers}
+use Rattle.lrlex.specs.RowKinds.{own_kind}
 use Rattle.lrlex.specs.StateTables.{list_in, patterns_on}
 use Rattle.lrlex.specs.Searches.{untabled_count}
 use Rattle.lrlex.specs.Views.{definition_by}
+use Rattle.lrlex.specs.declared.definition.row_kinds.RowKind.{RowKind}
 use Rattle.lrlex.specs.declared.definition.rule_table.RuleTable.{RuleTable}
 use Rattle.lrlex.specs.declared.definition.rule_table.StateRules.{StateRules}
 use Rattle.lrlex.specs.declared.lexing.winner.Searcher.{Searcher}
@@ -49,6 +55,14 @@ pub record IsFoundAt {S : Type 0} (number : S → ℕ) (d : RuleTable S) (q : �
 -- the tile that was found ahead at the place
 abbrev pub tile_of : {S : Type 0} → ℕ → Found S → Tile
 tile_of place f = record { rule = f.kind.rule; len = f.next.end - place }
+
+-- each of these tiles that ends in a row of this list was found ahead, from where it begins, and what is plain of it is so of its rule
+abbrev pub AreFoundAt : {S : Type 0} → (S → ℕ) → RuleTable S → (q list : ℕ) → (input : List ℕ) → (from place : ℕ) → List Mark → Type 0
+AreFoundAt number d q list input from place marks =
+    (k : ℕ) (w : RowKind _) → k < length marks → slice_get d.row_kinds.items (row_of marks k) ≡ Some w → w.list ≡ list →
+    (begin_at from place marks k < from + end_of marks k)
+    × IsFoundAt number d q input (begin_at from place marks k) (tile_of (begin_at from place marks k) (record { kind = w; next = match_at from marks k }))
+    × (w.plain ≡ true → IsPlain number (own_kind w).id (rule_at (definition_by number d) w.rule))
 
 -- the searches of one look in state q: one for each active rule that the state's tables leave out
 pub record HasAsked {S : Type 0} (number : S → ℕ) (d : RuleTable S) (q before after : ℕ) : Type 0 where

@@ -38,8 +38,8 @@ abbrev pub definition_tables : {L X S E P Q : Type 0} → LRNonStreamingLexerDef
 definition_tables d = d.table.tables.items
 
 -- how many rows its tables and their chain hold, as a budget counts them
-abbrev pub rows_held : {L X S E P Q : Type 0} → LRNonStreamingLexerDef L X S E P Q → ℕ
-rows_held d = held.rows_held d.table.tables.items + chains_rows d.table.chains.items
+abbrev pub definition_rows : {L X S E P Q : Type 0} → LRNonStreamingLexerDef L X S E P Q → ℕ
+definition_rows d = held.rows_held d.table.tables.items + chains_rows d.table.chains.items
 
 -- an item of the program, by the number that an id stands for and what can be seen of a lexeme
 abbrev pub item_of : {S X : Type 0} → (S → ℕ) → (X → LexemeParts S) → Result X LRLexError → Item

@@ -1,7 +1,7 @@
 -- Where marks cut, patterns win.
 use Rattle.std.proofs.Common.{◌≡◌, zero, suc, ℕ, ◌+◌, ◌-◌, ◌<◌, ◌≤◌, true, List, All, [], ◌∷◌, ◌++◌, length, take, drop, get_or, IsUtf8, Some, None, slice_get, slice_index_or, refl, sym, ap, ◌∙◌, subst, inl, inr, arith}
 use Rattle.std.specs.Prelude.{IsCharBoundary}
-use Rattle.std.proofs.lemmas.List.{append-nil, drop_all, take_all, length-drop, get_or_read}
+use Rattle.std.proofs.lemmas.List.{append-nil, drop_all, take_all, length-drop, length-take, get_or-drop, get_or-take, get_or_read}
 use Rattle.std.proofs.lemmas.List.Elements.{All-get_or, All-drop, All-nil, All-push}
 use Rattle.std.proofs.lemmas.Option.{slice_get_cases}
 use Rattle.std.proofs.lemmas.Str.{IsUtf8-drop}
@@ -10,7 +10,7 @@ use Rattle.lrlex_table.specs.Table.{next_rows, IsLongest}
 use Rattle.lrlex_table.specs.Reach.{IsText, IsDecidedBy}
 use Rattle.lrlex_table.specs.Tables.{is_among, is_tabled, patterns_at, AreTablesOf, IsBestAmong, IsPartOf}
 use Rattle.lrlex_table.specs.Chain.{list_of, name_of, row_at, IsIn, IsChainOf, NamesWinners, IsChainOfLists, IsCut, IsWonBy, no_mark, end_of, row_of, begin_of}
-use Rattle.lrlex_table.specs.Ahead.{IsFoundIn, IsWonAt, AreWonAhead, AreAheadIn, IsBestUpTo}
+use Rattle.lrlex_table.specs.Ahead.{IsFoundIn, IsWonAt, AreWonAhead, AreAheadIn, AreBestIn, IsBestUpTo, begin_at}
 use Rattle.lrlex_table.specs.declared.chain.Chain.{Chain}
 use Rattle.lrlex_table.specs.declared.marks.Mark.{Mark}
 use Rattle.lrlex_table.specs.declared.ahead.Ahead.{Ahead}
@@ -156,20 +156,29 @@ none_ahead text a none = (omega (arith, none), λ k lt. absurd (omega (arith, no
 pub none_won : (lists : List Tables) (c : Chain) (text : List ℕ) (a : Ahead) → a.count ≡ 0 → AreWonAhead lists c text a
 none_won lists c text a none k lt = absurd (omega (arith, none, lt))
 
--- the next match is the best of its list
-pub next_best : (lists : List Tables) (ts : Tables) (c : Chain) (text : List ℕ) → All (λ b. b < 256) text → IsUtf8 text → (a : Ahead) (place : ℕ) (m : Mark) → AreAheadIn text a → AreWonAhead lists c text a → a.at < a.count → a.begin ≡ place →
-    m ≡ get_or a.marks.items a.at m → slice_get lists (list_of c m.row) ≡ Some ts → IsBestUpTo ts text place (name_of c m.row) (a.from + m.end)
-next_best lists ts c text bytes utf8 a place m are won lt begin read there =
-    let is : m ≡ get_or a.marks.items a.at no_mark = get_or_read a.marks.items a.at m (omega (arith, lt, are.0)) read no_mark in
-    let row : m.row ≡ row_of a.marks.items a.at = ap (λ (x : Mark). x.row) is in
-    let ends : m.end ≡ end_of a.marks.items a.at = ap (λ (x : Mark). x.end) is in
-    let w = won a.at lt ts (ap (λ r. slice_get lists (list_of c r)) (sym row) ∙ there) in
-    let begins : a.from + begin_of 0 a.marks.items a.at ≡ place = omega (arith, are.2 lt, begin) in
-    let bytes_are : end_of a.marks.items a.at - begin_of 0 a.marks.items a.at ≡ a.from + m.end - place = omega (arith, ends, begins, w.0) in
+-- where the marks on the left are those on the right from a place on, matches begin alike
+begins_at : (marks left : List Mark) (from at place : ℕ) → from + begin_of 0 marks at ≡ place → ((j : ℕ) → j < length left → get_or left j no_mark ≡ get_or marks (at + j) no_mark) →
+    (k : ℕ) → k < length left → from + begin_of 0 marks (at + k) ≡ begin_at from place left k
+begins_at marks left from at place first same zero lt =
+    let here : at + 0 ≡ at = omega arith in
+    ap (λ n. from + begin_of 0 marks n) here ∙ first
+begins_at marks left from at place first same (suc k) lt =
+    let next : at + suc k ≡ suc (at + k) = omega arith in
+    let ends : end_of left k ≡ end_of marks (at + k) = ap (λ (x : Mark). x.end) (same k (omega (arith, lt))) in
+    ap (λ n. from + begin_of 0 marks n) next ∙ ap (λ n. from + n) (sym ends)
+
+-- the match that begins at the place is the best of its list
+best_at : (lists : List Tables) (ts : Tables) (c : Chain) (text : List ℕ) → All (λ b. b < 256) text → IsUtf8 text → (a : Ahead) (at place : ℕ) (m : Mark) → AreWonAhead lists c text a → at < a.count →
+    a.from + begin_of 0 a.marks.items at ≡ place → m ≡ get_or a.marks.items at no_mark → slice_get lists (list_of c m.row) ≡ Some ts → IsBestUpTo ts text place (name_of c m.row) (a.from + m.end)
+best_at lists ts c text bytes utf8 a at place m won lt begins is there =
+    let row : m.row ≡ row_of a.marks.items at = ap (λ (x : Mark). x.row) is in
+    let ends : m.end ≡ end_of a.marks.items at = ap (λ (x : Mark). x.end) is in
+    let w = won at lt ts (ap (λ r. slice_get lists (list_of c r)) (sym row) ∙ there) in
+    let bytes_are : end_of a.marks.items at - begin_of 0 a.marks.items at ≡ a.from + m.end - place = omega (arith, ends, begins, w.0) in
     let here : IsWonAt ts text place (name_of c m.row) (a.from + m.end - place) =
     subst (λ r. IsWonAt ts text place (name_of c r) (a.from + m.end - place)) (sym row)
-    (subst (IsWonAt ts text place (name_of c (row_of a.marks.items a.at))) bytes_are
-    (subst (λ p. IsWonAt ts text p (name_of c (row_of a.marks.items a.at)) (end_of a.marks.items a.at - begin_of 0 a.marks.items a.at)) begins w.1)) in
+    (subst (IsWonAt ts text place (name_of c (row_of a.marks.items at))) bytes_are
+    (subst (λ p. IsWonAt ts text p (name_of c (row_of a.marks.items at)) (end_of a.marks.items at - begin_of 0 a.marks.items at)) begins w.1)) in
     record {
       tabled = here.0;
       some = omega (arith, ends, begins, w.0);
@@ -177,6 +186,28 @@ next_best lists ts c text bytes utf8 a place m are won lt begin read there =
       best = λ ps are_of. (won_best ts text bytes utf8 place (name_of c m.row) (a.from + m.end - place) here ps are_of).1;
       decided = λ ps are_of. won_decided ts text bytes utf8 place (name_of c m.row) (a.from + m.end - place) here ps are_of;
     }
+
+-- the next match is the best of its list
+pub next_best : (lists : List Tables) (ts : Tables) (c : Chain) (text : List ℕ) → All (λ b. b < 256) text → IsUtf8 text → (a : Ahead) (place : ℕ) (m : Mark) → AreAheadIn text a → AreWonAhead lists c text a → a.at < a.count → a.begin ≡ place →
+    m ≡ get_or a.marks.items a.at m → slice_get lists (list_of c m.row) ≡ Some ts → IsBestUpTo ts text place (name_of c m.row) (a.from + m.end)
+next_best lists ts c text bytes utf8 a place m are won lt begin read =
+    best_at lists ts c text bytes utf8 a a.at place m won lt (omega (arith, are.2 lt, begin)) (get_or_read a.marks.items a.at m (omega (arith, lt, are.0)) read no_mark)
+
+-- and so is each that is left, where the next one begins at the place
+pub all_best : (lists : List Tables) (c : Chain) (text : List ℕ) → All (λ b. b < 256) text → IsUtf8 text → (a : Ahead) (place : ℕ) → AreAheadIn text a → AreWonAhead lists c text a → a.at < a.count → a.begin ≡ place →
+    AreBestIn lists text a.from place (take (a.count - a.at) (drop a.at a.marks.items)) c
+all_best lists c text bytes utf8 a place are won lt begin k within ts there =
+    let marks = a.marks.items in
+    let left = take (a.count - a.at) (drop a.at marks) in
+    let len : length left ≤ a.count - a.at = omega (arith, length-take (a.count - a.at) (drop a.at marks)) in
+    let at_k : (j : ℕ) → j < length left → get_or left j no_mark ≡ get_or marks (a.at + j) no_mark = λ j l. get_or-take (a.count - a.at) (drop a.at marks) j no_mark (omega (arith, l, len)) ∙ get_or-drop a.at marks j no_mark in
+    let begins : (j : ℕ) → j < length left → a.from + begin_of 0 marks (a.at + j) ≡ begin_at a.from place left j = begins_at marks left a.from a.at place (omega (arith, are.2 lt, begin)) at_k in
+    best_at lists ts c text bytes utf8 a (a.at + k) (begin_at a.from place left k) (get_or left k no_mark) won (omega (arith, within, len, lt)) (begins k within) (at_k k within) there
+
+-- where the last match that is passed ends the next one begins
+pub next_begin : (marks : List Mark) (n : ℕ) → 0 < n → begin_of 0 marks n ≡ end_of marks (n - 1)
+next_begin marks zero some = absurd (omega (arith, some))
+next_begin marks (suc n) some = ap (end_of marks) (omega arith)
 
 -- no match ends behind the text
 pub ends_within : (text : List ℕ) (a : Ahead) (at : ℕ) (m : Mark) → AreAheadIn text a → at < a.count → m ≡ get_or a.marks.items at m → a.from + m.end ≤ length text

@@ -1,5 +1,5 @@
 -- Where a chain's marks cut, the longest matches of the tables begin and end.
-use Rattle.std.proofs.Common.{◌≡◌, zero, suc, ℕ, ◌+◌, ◌-◌, ◌<◌, ◌≤◌, Bool, true, false, List, length, take, drop, get_or, Some, None, slice_get, slice_index_or, set, refl, sym, ap, ◌∙◌, subst, inl, inr, arith, add-one, true≢false, get_or-set_other, get_or-set_same}
+use Rattle.std.proofs.Common.{◌≡◌, zero, suc, ℕ, ◌+◌, ◌-◌, ◌<◌, ◌≤◌, Bool, true, false, List, length, take, drop, get_or, Some, None, slice_get, slice_index_or, set, refl, sym, ap, ◌∙◌, subst, inl, inr, arith, add-one, true≢false, get_or-set_other, get_or-set_same, IsCharBoundary}
 use Rattle.std.proofs.lemmas.Bool.{cases_lt}
 use Rattle.std.proofs.lemmas.Option.{slice_get-get_or}
 use Rattle.std.proofs.lemmas.List.{length-drop, get_or-drop}
@@ -140,10 +140,29 @@ module _ (t : Table) (l : ℕ) (c : Chain) (text : List ℕ) (from : ℕ) where
         (some, cut),
   )
 
+  -- where the marks are the same, matches begin alike
+  begin_kept : (first : ℕ) (marks others : List Mark) (count : ℕ) → ((k : ℕ) → k < count → get_or others k no_mark ≡ get_or marks k no_mark) → (k : ℕ) → k ≤ count → begin_of first others k ≡ begin_of first marks k
+  begin_kept first marks others count same zero le = refl
+  begin_kept first marks others count same (suc k) le = ap (λ (x : Mark). x.end) (same k (omega (arith, le)))
+
   -- the same by equal numbers
   cut_as : (p e r q f s : ℕ) → q ≡ p → f ≡ e → s ≡ r → IsCutAt t l c text from p e r → IsCutAt t l c text from q f s
   cut_as p e r q f s begin end row is =
       subst (λ x. IsCutAt t l c text from x f s) (sym begin) (subst (λ x. IsCutAt t l c text from p x s) (sym end) (subst (λ x. IsCutAt t l c text from p e x) (sym row) is))
+
+  -- the same, counted from so many bytes before
+  moved : (apart p e r : ℕ) → IsCutAt t l c text (from + apart) p e r → IsCutAt t l c text from (apart + p) (apart + e) r
+  moved apart p e r is =
+      let end : from + apart + e ≡ from + (apart + e) = omega arith in
+      let begin : from + apart + p ≡ from + (apart + p) = omega arith in
+      let bytes : e - p ≡ apart + e - (apart + p) = omega arith in (
+        is.0,
+        subst (IsCharBoundary text) end is.1,
+        λ of_l.
+            let cut = is.2 of_l in
+            let there : IsCut t (drop (from + (apart + p)) text) (e - p) (base_of c r) = subst (λ b. IsCut t (drop b text) (e - p) (base_of c r)) begin cut.1 in
+            (omega (arith, cut.0), subst (λ n. IsCut t (drop (from + (apart + p)) text) n (base_of c r)) bytes there),
+      )
 
   -- what is written behind a mark changes none
   kept_mark : (marks : List Mark) (count : ℕ) (m : Mark) (k : ℕ) → k < count → get_or (set marks count m) k no_mark ≡ get_or marks k no_mark
@@ -199,23 +218,32 @@ module _ (t : Table) (l : ℕ) (c : Chain) (text : List ℕ) (from : ℕ) where
             (more_marks first marks count m lane.0 room (cuts p at row to lane.1 here inside goes ge), subst (λ q. IsOnWay t l c text from q (at + 1) to) (sym is_there) (begins at to here (goes.1 ge).1))
       ]
 
+  -- a lane stays what it is where a mark is written behind its own
+  pub lane_kept : (first : ℕ) (marks : List Mark) (count at row i : ℕ) (m : Mark) → count ≤ i → IsLane first marks count at row → IsLane first (set marks i m) count at row
+  lane_kept first marks count at row i m le lane =
+      let same : (k : ℕ) → k < count → get_or (set marks i m) k no_mark ≡ get_or marks k no_mark = λ k lt. get_or-set_other marks i k m no_mark (λ e. absurd (omega (arith, e, lt, le))) in
+      let begins_as : (k : ℕ) → k ≤ count → begin_of first (set marks i m) k ≡ begin_of first marks k = begin_kept first marks (set marks i m) count same in (
+        λ k lt. cut_as (begin_of first marks k) (end_of marks k) (row_of marks k) _ _ _ (begins_as k (omega (arith, lt))) (ap (λ (x : Mark). x.end) (same k lt)) (ap (λ (x : Mark). x.row) (same k lt)) (lane.0 k lt),
+        subst (λ q. IsOnWay t l c text from q at row) (sym (begins_as count (omega arith))) lane.1,
+      )
+
   -- marks of two lanes that meet
   module _ (first : List Mark) (count apart : ℕ) (second : List Mark) (others : ℕ) (marks : List Mark) (total : ℕ) (j : AreJoined first count apart second others marks total) where
     begin_before : (k : ℕ) → k ≤ j.kept → begin_of 0 marks k ≡ begin_of 0 first k
     begin_before zero le = refl
     begin_before (suc k) le = ap (λ (x : Mark). x.end) (j.before k (omega (arith, le)))
 
-    begin_behind : (k : ℕ) → k < j.taken → begin_of 0 marks (j.kept + k) ≡ begin_of apart second (j.passed + k)
+    begin_behind : (k : ℕ) → k < j.taken → begin_of 0 marks (j.kept + k) ≡ apart + begin_of 0 second (j.passed + k)
     begin_behind zero lt =
         let none : j.kept + 0 ≡ j.kept = omega arith in
         let also : j.passed ≡ j.passed + 0 = omega arith in
-        ap (begin_of 0 marks) none ∙ begin_before j.kept (omega arith) ∙ j.meet lt ∙ ap (begin_of apart second) also
+        ap (begin_of 0 marks) none ∙ begin_before j.kept (omega arith) ∙ j.meet lt ∙ ap (λ n. apart + begin_of 0 second n) also
     begin_behind (suc k) lt =
         let one : j.kept + suc k ≡ suc (j.kept + k) = omega arith in
         let also : suc (j.passed + k) ≡ j.passed + suc k = omega arith in
-        ap (begin_of 0 marks) one ∙ ap (λ (x : Mark). x.end) (j.behind k (omega (arith, lt))) ∙ ap (begin_of apart second) also
+        ap (begin_of 0 marks) one ∙ ap (λ (x : Mark). x.end) (j.behind k (omega (arith, lt))) ∙ ap (λ n. apart + begin_of 0 second n) also
 
-    pub joined_marks : AreMarksOf t l c text from 0 first count → AreMarksOf t l c text from apart second others → AreMarksOf t l c text from 0 marks total
+    pub joined_marks : AreMarksOf t l c text from 0 first count → AreMarksOf t l c text (from + apart) 0 second others → AreMarksOf t l c text from 0 marks total
     joined_marks are also k lt = elim (cases_lt k j.kept) [
       | inl before ↦
           let same = j.before k before in
@@ -227,6 +255,19 @@ module _ (t : Table) (l : ℕ) (c : Chain) (text : List ℕ) (from : ℕ) where
           let some : n < j.taken = omega (arith, lt, j.all) in
           let same = j.behind n some in
           subst (λ i. IsCutAt t l c text from (begin_of 0 marks i) (end_of marks i) (row_of marks i)) is
-          (cut_as (begin_of apart second (j.passed + n)) (end_of second (j.passed + n)) (row_of second (j.passed + n)) _ _ _ (begin_behind n some) (ap (λ (x : Mark). x.end) same)
-          (ap (λ (x : Mark). x.row) same) (also (j.passed + n) (omega (arith, some, j.of_second))))
+          (cut_as (apart + begin_of 0 second (j.passed + n)) (apart + end_of second (j.passed + n)) (row_of second (j.passed + n)) _ _ _ (begin_behind n some) (ap (λ (x : Mark). x.end) same)
+          (ap (λ (x : Mark). x.row) same)
+          (moved apart (begin_of 0 second (j.passed + n)) (end_of second (j.passed + n)) (row_of second (j.passed + n)) (also (j.passed + n) (omega (arith, some, j.of_second)))))
+    ]
+
+-- each match ends where its lane is, or before
+pub ends_near : (marks : List Mark) (count at row more : ℕ) → ((k : ℕ) → k < count → end_of marks k ≤ at) → count < length marks → (k : ℕ) → k < count + more → more ≤ 1 →
+    end_of (set marks count (record { row = row; end = at })) k ≤ at + 1
+ends_near marks count at row more near room k lt one =
+    let m : Mark = record { row = row; end = at } in
+    elim (cases_lt k count) [
+      | inl before ↦ omega (arith, ap (λ (x : Mark). x.end) (get_or-set_other marks count k m no_mark (λ e. absurd (omega (arith, e, before)))), near k before)
+      | inr behind ↦
+          let is : count ≡ k = omega (arith, lt, behind, one) in
+          subst (λ i. end_of (set marks count m) i ≤ at + 1) is (omega (arith, ap (λ (x : Mark). x.end) (get_or-set_same marks count m no_mark room)))
     ]

@@ -1,5 +1,5 @@
 -- Matches that were found ahead (Ahead).
-use Rattle.std.specs.Prelude.{◌≡◌, ℕ, ◌+◌, ◌-◌, ◌<◌, ◌≤◌, min, List, All, [], length, drop, Some, slice_get, IsCharBoundary}
+use Rattle.std.specs.Prelude.{◌≡◌, ℕ, zero, suc, ◌+◌, ◌-◌, ◌<◌, ◌≤◌, min, List, All, [], length, drop, Some, slice_get, IsCharBoundary}
 use Rattle.regex.specs.Patterns.{Re}
 use Rattle.lrlex_table.specs.Reach.{IsDecidedBy}
 use Rattle.lrlex_table.specs.Tables.{is_tabled, AreTablesOf, IsBestAmong}
@@ -66,7 +66,19 @@ pub record IsBestUpTo (ts : Tables) (text : List ℕ) (place k end : ℕ) : Type
   pub best : (ps : List Re) → AreTablesOf ps ts → IsBestAmong ps (is_tabled ts.parts.items) (drop place text) k (end - place)
   pub decided : (ps : List Re) → AreTablesOf ps ts → IsDecidedBy ps (drop place text) (end - place + 1)
 
+-- in the text from `from` on, match k of those that these marks end: the first begins at the place, each other where the one before it ends
+abbrev pub begin_at : (from place : ℕ) → List Mark → ℕ → ℕ
+begin_at from place marks zero = place
+begin_at from place marks (suc k) = from + end_of marks k
+
+abbrev pub match_at : (from : ℕ) → List Mark → ℕ → MatchAhead
+match_at from marks k = record { row = row_of marks k; end = from + end_of marks k }
+
 -- in the list of its row, the pattern that the chain has for the row wins at the place, up to where the match ends
 abbrev pub IsBestIn : List Tables → List ℕ → ℕ → MatchAhead → Chain → Type 0
 IsBestIn lists text place m c =
     (ts : Tables) → slice_get lists (list_of c m.row) ≡ Some ts → IsBestUpTo ts text place (name_of c m.row) m.end
+
+-- so it does for each of the matches that these marks end
+abbrev pub AreBestIn : List Tables → List ℕ → (from place : ℕ) → List Mark → Chain → Type 0
+AreBestIn lists text from place marks c = (k : ℕ) → k < length marks → IsBestIn lists text (begin_at from place marks k) (match_at from marks k) c

@@ -124,7 +124,11 @@ abbrev pub AreMarksOf : Table → ℕ → Chain → List ℕ → ℕ → ℕ →
 AreMarksOf t l c text from first marks count =
     (k : ℕ) → k < count → IsCutAt t l c text from (begin_of first marks k) (end_of marks k) (row_of marks k)
 
--- The marks are some of the first lane's, and then some of the second's, which begins at `apart`. Where there are any of these, a match of
+-- the mark, counted from so many bytes before
+abbrev pub later : ℕ → Mark → Mark
+later apart m = record { row = m.row; end = apart + m.end }
+
+-- The marks are some of the first lane's, and then some of the second's, which counts from `apart` on. Where there are any of these, a match of
 -- both lanes begins where they do.
 pub record AreJoined (first : List Mark) (count apart : ℕ) (second : List Mark) (others : ℕ) (marks : List Mark) (total : ℕ) : Type 0 where
   pub kept : ℕ
@@ -133,6 +137,6 @@ pub record AreJoined (first : List Mark) (count apart : ℕ) (second : List Mark
   pub all : total ≡ kept + taken
   pub of_first : kept ≤ count
   pub of_second : passed + taken ≤ others
-  pub meet : 0 < taken → begin_of 0 first kept ≡ begin_of apart second passed
+  pub meet : 0 < taken → begin_of 0 first kept ≡ apart + begin_of 0 second passed
   pub before : (k : ℕ) → k < kept → slice_index_or marks k no_mark ≡ slice_index_or first k no_mark
-  pub behind : (k : ℕ) → k < taken → slice_index_or marks (kept + k) no_mark ≡ slice_index_or second (passed + k) no_mark
+  pub behind : (k : ℕ) → k < taken → slice_index_or marks (kept + k) no_mark ≡ later apart (slice_index_or second (passed + k) no_mark)

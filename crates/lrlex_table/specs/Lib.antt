@@ -1,4 +1,6 @@
 pub mod Cell
+pub mod Mark
+pub mod PackedMark
 pub mod Step
 pub mod Table
 pub mod Reach

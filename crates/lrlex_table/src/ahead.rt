@@ -30,9 +30,8 @@ pub(crate) struct Ahead {
     pub(crate) count: usize,
     /// Where the last match ends that was found.
     end: usize,
+    /// Behind these there is as much room again, for those of the second lane.
     pub(crate) marks: Vec<Mark>,
-    /// Those of the second lane.
-    more: Vec<Mark>,
     /// How many bytes are looked at the next time: more each time, so long as most of what was found is of use.
     bytes: usize,
     /// How many bytes were looked at last, until it is known whether that was of use.
@@ -66,7 +65,6 @@ impl Ahead {
             count: 0,
             end: 0,
             marks: Vec::new(alloc),
-            more: Vec::new(alloc),
             bytes: FIRST_BYTES,
             looked: 0,
             passed: 0,
@@ -86,7 +84,6 @@ impl Ahead {
     {
         let kept = mem::replace(self, Ahead::new(self.alloc));
         self.marks = kept.marks;
-        self.more = kept.more;
     }
 
     /// Whether a match is left.
@@ -147,23 +144,24 @@ impl Ahead {
         self.begin = place.saturating_add(bytes);
     }
 
-    /// Makes room for what is found in so many bytes. Whether there is room.
+    /// Makes room for what is found in so many bytes, in two lanes. Whether there is room.
     fn has_room(&mut self, bytes: usize) -> bool
         requires { bytes ≤ 8192 }
         ensures none { self.new.count ≡ 0 }
         ensures at { self.new.at ≡ 0 }
         ensures from { self.new.from ≡ self.old.from }
-        ensures room { IsTrue result ↔ (bytes < vec_len self.new.marks) × (bytes < vec_len self.new.more) }
+        ensures room { IsTrue result ↔ 2 * bytes + 1 < vec_len self.new.marks }
         ensures cells { self.new.cells ≡ self.old.cells }
         ensures limit { self.new.limit ≡ self.old.limit }
     {
         self.count = 0;
         self.at = 0;
-        if self.marks.len() > bytes && self.more.len() > bytes {
+        let room = 2 * bytes + 2;
+        if self.marks.len() >= room {
             return true;
         }
-        let none = Mark { row: 0, end: 0 };
-        self.marks.resize(bytes + 1, none).is_ok() && self.more.resize(bytes + 1, none).is_ok()
+        let none = Mark::new(0, 0);
+        self.marks.resize(room, none).is_ok()
     }
 
     /// Looks for matches in the text from this place on, where a walk of the chain begins in this row. Where there is no room for them,
@@ -175,7 +173,7 @@ impl Ahead {
         requires inside { from ≤ length text.now }
         requires due { self.old.limit ≤ from }
         ensures found { IsFoundIn chain.now text.now from self.new }
-        ensures counted { bytes_ahead self.old text.now from < vec_len self.new.marks → bytes_ahead self.old text.now from < vec_len self.new.more →
+        ensures counted { 2 * bytes_ahead self.old text.now from + 1 < vec_len self.new.marks →
             self.new.cells ≡ min (self.old.cells + 2 * bytes_ahead self.old text.now from) (2 ^ 64 - 1) }
         ensures kept { self.old.cells ≤ self.new.cells }
         ensures cells { self.new.cells ≤ self.old.cells + 4 * (self.new.limit - from) }
@@ -190,13 +188,13 @@ impl Ahead {
         }
         self.cells = self.cells.saturating_add(2 * many);
         self.limit = from + many.div_ceil(2);
-        let count = chain.mark_in_lanes(begin, text, from, many, &mut self.marks, &mut self.more);
+        let count = chain.mark_in_lanes(begin, text, from, many, many + 1, &mut self.marks);
         if count == 0 {
             return;
         }
         self.count = count;
         self.begin = from;
-        self.end = from.saturating_add(self.marks[count - 1].end as usize);
+        self.end = from.saturating_add(self.marks[count - 1].end() as usize);
         self.looked = many;
         self.passed = 0;
         self.missed = 0;

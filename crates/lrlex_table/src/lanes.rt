@@ -1,6 +1,6 @@
 //! Marks in a block of the text, found in two lanes: where the second meets the first, its marks go on with the first's.
-ghost use Rattle.std.specs.Prelude.{◌≡◌, ℕ, ◌+◌, ◌<◌, ◌≤◌, length, vec_len, IfSome};
-ghost use Rattle.lrlex_table.specs.Chain.{begin_of, BeginsIn, IsChainOf, AreMarksOf, AreJoined};
+ghost use Rattle.std.specs.Prelude.{◌≡◌, ℕ, ◌+◌, ◌<◌, ◌≤◌, drop, length, vec_len, IfSome};
+ghost use Rattle.lrlex_table.specs.Chain.{begin_of, end_of, BeginsIn, IsChainOf, AreMarksOf, AreJoined};
 ghost use Rattle.lrlex_table.specs.declared.table.Table.{Table};
 
 use crate::chain::Chain;
@@ -34,28 +34,29 @@ fn second_start(text: &[u8], from: usize, many: usize) -> Option<usize>
     None
 }
 
-/// Where the match behind so many marks begins.
+/// Where the match behind so many marks begins, from where they count on.
 #[inline(always)]
-fn begin_in(marks: &[Mark], first: usize, at: usize) -> usize
+fn begin_in(marks: &[Mark], at: usize) -> usize
     requires { at ≤ length marks.now }
-    ensures { result ≡ begin_of first marks.now at }
+    ensures begin { result ≡ begin_of 0 marks.now at }
+    ensures small { result < 65536 }
 {
     if at == 0 {
-        return first;
+        return 0;
     }
-    marks[at - 1].end as usize
+    marks[at - 1].end() as usize
 }
 
 /// The list of the row in which a match is, or at last no list's number.
 fn list_in(names: &[Name], mark: Mark) -> u16 {
-    match names.get(mark.row as usize) {
+    match names.get(mark.row() as usize) {
         Some(name) => name.list,
         None => u16::MAX,
     }
 }
 
-/// Behind how many marks of the first lane, and how many of the second, a match of both begins at one place, in one list: where they first
-/// meet. All marks of both, where they don't.
+/// Behind how many marks of the first lane, and how many of the second, which count from `apart` bytes later on, a match of both begins at one
+/// place, in one list: where they first meet. All marks of both, where they don't.
 fn meeting(
     names: &[Name],
     first: &[Mark],
@@ -66,19 +67,20 @@ fn meeting(
 ) -> (usize, usize)
     requires count { count < length first.now }
     requires others { others ≤ length second.now }
+    requires apart { apart ≤ 8192 }
     ensures first { result.0 ≤ count }
     ensures second { result.1 ≤ others }
     ensures meet { result.1 < others →
-        begin_of 0 first.now result.0 ≡ begin_of apart second.now result.1 }
+        begin_of 0 first.now result.0 ≡ apart + begin_of 0 second.now result.1 }
 {
     let mut at = count;
-    'back: while at > 0 && begin_in(first, 0, at) > apart {
+    'back: while at > 0 && begin_in(first, at) > apart {
         at -= 1;
     }
     let mut then = 0usize;
     'marks: while at <= count && then < others {
-        let here = begin_in(first, 0, at);
-        let there = begin_in(second, apart, then);
+        let here = begin_in(first, at);
+        let there = apart + begin_in(second, then);
         if here == there && list_in(names, first[at]) == list_in(names, second[then]) {
             return (at, then);
         }
@@ -91,33 +93,39 @@ fn meeting(
     (count, others)
 }
 
-/// Goes on from the first lane's marks with the second's, from where the lanes meet. Returns how many marks there are then: those of the
-/// first lane alone, where they don't meet.
+/// Goes on from the first lane's marks with the second's, which begin in the middle of the list, from where the lanes meet. Returns how many
+/// marks there are then: those of the first lane alone, where they don't meet.
 fn join(
     names: &[Name],
-    first: &mut [Mark],
+    marks: &mut [Mark],
     count: usize,
     apart: usize,
-    second: &[Mark],
+    half: usize,
     others: usize,
 ) -> usize
-    requires count { count < length first.old }
-    requires others { others ≤ length second.now }
-    ensures room { length first.new ≡ length first.old }
-    ensures within { result ≤ length first.new }
-    ensures joined { AreJoined first.old count apart second.now others first.new result }
+    requires count { count < half }
+    requires others { half + others ≤ length marks.old }
+    requires apart { apart ≤ 8192 }
+    requires near { (k : ℕ) → k < others → end_of (drop half marks.old) k ≤ 8192 }
+    ensures room { length marks.new ≡ length marks.old }
+    ensures within { result ≤ half }
+    ensures joined { AreJoined marks.old count apart (drop half marks.old) others marks.new result }
 {
-    let (at, then) = meeting(names, first, count, apart, second, others);
-    let more = (others - then).min(first.len() - at);
+    let all = &marks[..];
+    let (at, then) = meeting(names, all, count, apart, &all[half..], others);
+    let more = (others - then).min(half - at);
     'marks: for next in 0..more {
-        first[at + next] = second[then + next];
+        let mark = marks[half + (then + next)];
+        marks[at + next] = Mark::new(mark.row(), (apart + mark.end() as usize) as u16);
     }
     at + more
 }
 
 impl Chain {
     /// Marks where matches end as `mark` does, in two lanes side by side of so many bytes each: one from `from` on, and one that begins
-    /// `apart` bytes later, in these rows. Neither waits for the other, so both take little longer than one. Returns how many matches were found in each.
+    /// `apart` bytes later, in these rows, with marks that count from there. Neither waits for the other, so both take little longer than one.
+    /// Marks of the second begin in the middle of the list: one list for both leaves all that the loop needs in registers. Returns how many
+    /// matches were found in each.
     #[inline(never)]
     pub(crate) fn mark_both(
         &self,
@@ -127,8 +135,8 @@ impl Chain {
         from: usize,
         apart: usize,
         many: usize,
-        first: &mut [Mark],
-        second: &mut [Mark],
+        half: usize,
+        marks: &mut [Mark],
     ) -> (usize, usize)
         requires row { begin < vec_len self.now.bases }
         requires begins { (t : Table) (l : ℕ) → IsChainOf t l self.now → BeginsIn t l self.now begin }
@@ -136,16 +144,16 @@ impl Chain {
         requires begins_later { (t : Table) (l : ℕ) → IsChainOf t l self.now → BeginsIn t l self.now later }
         requires inside { from + apart + many ≤ length text.now }
         requires short { apart + many ≤ 8192 }
-        requires room_first { many < length first.old }
-        requires room_second { many < length second.old }
+        requires room_first { many < half }
+        requires room_second { half + many < length marks.old }
         ensures count { result.0 ≤ many }
         ensures others { result.1 ≤ many }
-        ensures room_first { length first.new ≡ length first.old }
-        ensures room_second { length second.new ≡ length second.old }
+        ensures room { length marks.new ≡ length marks.old }
         ensures first { (t : Table) (l : ℕ) → IsChainOf t l self.now →
-            AreMarksOf t l self.now text.now from 0 first.new result.0 }
+            AreMarksOf t l self.now text.now from 0 marks.new result.0 }
         ensures second { (t : Table) (l : ℕ) → IsChainOf t l self.now →
-            AreMarksOf t l self.now text.now from apart second.new result.1 }
+            AreMarksOf t l self.now text.now (from + apart) 0 (drop half marks.new) result.1 }
+        ensures near { (k : ℕ) → k < result.1 → end_of (drop half marks.new) k ≤ many }
     {
         let cells = self.cells.as_slice();
         let columns = self.columns.as_slice();
@@ -154,47 +162,40 @@ impl Chain {
         let mut row = begin;
         let mut count = 0usize;
         let mut other = later;
-        let mut others = 0usize;
+        let mut others = half;
         'bytes: for at in 0..many {
             let behind = next(cells, columns, height, row, text[from + at]);
-            first[count] = Mark {
-                row: row as u16,
-                end: at as u16,
-            };
+            marks[count] = Mark::new(row as u16, at as u16);
             count += begun(behind, fresh);
             row = behind;
-            let behind_it = apart + at;
-            let after = next(cells, columns, height, other, text[from + behind_it]);
-            second[others] = Mark {
-                row: other as u16,
-                end: behind_it as u16,
-            };
+            let after = next(cells, columns, height, other, text[from + apart + at]);
+            marks[others] = Mark::new(other as u16, at as u16);
             others += begun(after, fresh);
             other = after;
         }
-        (count, others)
+        (count, others - half)
     }
 
     /// Marks where matches end in so many bytes of the text from `from` on, as `mark` does, and in two lanes where there is a place for
-    /// the second to begin. It begins with the first of all lists, in which a line mostly begins, or else in this row.
+    /// the second to begin. It begins with the first of all lists, in which a line mostly begins, or else in this row. What the list has from its
+    /// middle on is left over.
     pub(crate) fn mark_in_lanes(
         &self,
         begin: usize,
         text: &[u8],
         from: usize,
         many: usize,
+        half: usize,
         marks: &mut [Mark],
-        more: &mut [Mark],
     ) -> usize
         requires row { begin < vec_len self.now.bases }
         requires begins { (t : Table) (l : ℕ) → IsChainOf t l self.now → BeginsIn t l self.now begin }
         requires inside { from + many ≤ length text.now }
         requires short { many ≤ 8192 }
-        requires room { many < length marks.old }
-        requires room_for_more { many < length more.old }
-        ensures count { result ≤ length marks.new }
+        requires room { many < half }
+        requires room_for_more { half + many < length marks.old }
+        ensures count { result ≤ half }
         ensures room { length marks.new ≡ length marks.old }
-        ensures room_for_more { length more.new ≡ length more.old }
         ensures marks { (t : Table) (l : ℕ) → IsChainOf t l self.now →
             AreMarksOf t l self.now text.now from 0 marks.new result }
     {
@@ -212,9 +213,9 @@ impl Chain {
             from,
             apart,
             many - apart,
+            half,
             marks,
-            more,
         );
-        join(&self.names, marks, count, apart, more, others)
+        join(&self.names, marks, count, apart, half, others)
     }
 }

@@ -1,9 +1,9 @@
 //! Which pattern wins at a place, where matches that were looked for ahead tell it.
-ghost use Rattle.std.specs.Prelude.{◌≡◌, ℕ, ◌+◌, ◌<◌, ◌≤◌, List, [], length, drop, Some, IfSome, IsCharBoundary, slice_get};
+ghost use Rattle.std.specs.Prelude.{◌≡◌, ℕ, ◌+◌, ◌-◌, ◌<◌, ◌≤◌, List, [], length, drop, Some, IfSome, IsCharBoundary, slice_get};
 ghost use Rattle.regex.specs.Patterns.{Re};
 ghost use Rattle.lrlex_table.specs.Reach.{IsDecidedBy};
 ghost use Rattle.std.specs.Option.{ForSome};
-ghost use Rattle.lrlex_table.specs.Ahead.{IsBestIn, IsNextAt};
+ghost use Rattle.lrlex_table.specs.Ahead.{AreBestIn, IsBestIn, IsNextAt};
 ghost use Rattle.lrlex_table.specs.Looking.{HasSameEnds};
 ghost use Rattle.lrlex_table.specs.Linear.{HasWorkedTo};
 ghost use Rattle.lrlex_table.specs.Tables.{is_tabled, AreTablesOf, IsBestAmong};
@@ -11,6 +11,7 @@ ghost use Rattle.lrlex_table.specs.Tables.{is_tabled, AreTablesOf, IsBestAmong};
 use crate::ahead::{MOST_WAIT, TRY_AGAIN};
 use crate::chain::Chain;
 use crate::dead_ends::DeadEnds;
+use crate::marks::Mark;
 use crate::tables::Tables;
 use crate::walk::PatternMatch;
 
@@ -21,7 +22,75 @@ pub struct MatchAhead {
     pub end: usize,
 }
 
+/// Matches that were found ahead, one behind the other: each ends so many bytes behind `from` as its mark says, in the mark's row of the chain,
+/// and the next one begins there.
+#[derive(Clone, Copy)]
+pub struct MatchesAhead<'a> {
+    pub from: usize,
+    pub marks: &'a [Mark],
+}
+
 impl<'d, 't> DeadEnds<'d, 't> {
+    /// All matches that were found ahead and aren't passed, if the next one begins at this place. Each is of the list of its row: whoever looks
+    /// for a match of another list can't take it.
+    #[inline(always)]
+    pub fn matches_ahead(&self, place: usize) -> MatchesAhead<'_>
+        ensures left { length result.marks.now ≤ self.now.ahead.count - self.now.ahead.at }
+        ensures best { ForSome self.now.chain (λ c. AreBestIn self.now.lists.now self.now.text.now result.from place result.marks.now c.now) }
+    {
+        self.matches_in(self.text, place)
+    }
+
+    /// The same, in this text.
+    #[inline(always)]
+    fn matches_in(&self, text: &str, place: usize) -> MatchesAhead<'_>
+        requires text { text.now ≡ self.now.text.now }
+        ensures left { length result.marks.now ≤ self.now.ahead.count - self.now.ahead.at }
+        ensures best { ForSome self.now.chain (λ c. AreBestIn self.now.lists.now text.now result.from place result.marks.now c.now) }
+    {
+        let _ = text;
+        let from = self.ahead.from;
+        if self.ahead.at >= self.ahead.count || self.ahead.begin != place {
+            let marks = &self.ahead.marks[..0];
+            return MatchesAhead { from, marks };
+        }
+        let marks = &self.ahead.marks[self.ahead.at..self.ahead.count];
+        MatchesAhead { from, marks }
+    }
+
+    /// Passes the next matches that were found ahead, so many of them.
+    #[inline(always)]
+    pub fn pass_matches(&mut self, count: usize)
+        requires { count ≤ self.old.ahead.count - self.old.ahead.at }
+        ensures lists { self.new.lists ≡ self.old.lists }
+        ensures text { self.new.text ≡ self.old.text }
+        ensures ends { HasSameEnds self.old self.new }
+        ensures counted { self.old.ahead.cells ≤ self.new.ahead.cells }
+        ensures linear { (most from at : ℕ) → HasWorkedTo most from at self.old → HasWorkedTo most from at self.new }
+    {
+        self.pass_in(self.text, count);
+    }
+
+    /// The same, in this text.
+    #[inline(always)]
+    fn pass_in(&mut self, text: &str, count: usize)
+        requires text { text.now ≡ self.old.text.now }
+        requires left { count ≤ self.old.ahead.count - self.old.ahead.at }
+        ensures lists { self.new.lists ≡ self.old.lists }
+        ensures text { self.new.text ≡ self.old.text }
+        ensures ends { HasSameEnds self.old self.new }
+        ensures counted { self.old.ahead.cells ≤ self.new.ahead.cells }
+        ensures linear { (most from at : ℕ) → HasWorkedTo most from at self.old → HasWorkedTo most from at self.new }
+    {
+        let _ = text;
+        if count == 0 {
+            return;
+        }
+        let at = self.ahead.at + count;
+        self.ahead.begin = self.ahead.from + self.ahead.marks[at - 1].end() as usize;
+        self.ahead.at = at;
+    }
+
     /// The next match that was found ahead, if it begins at this place. It is of the list of its row: whoever looks for a match of another
     /// list can't take it.
     #[inline(always)]
@@ -45,8 +114,8 @@ impl<'d, 't> DeadEnds<'d, 't> {
         }
         let mark = self.ahead.marks[self.ahead.at];
         Some(MatchAhead {
-            row: mark.row,
-            end: self.ahead.from + mark.end as usize,
+            row: mark.row(),
+            end: self.ahead.from + mark.end() as usize,
         })
     }
 
@@ -135,7 +204,7 @@ impl<'d, 't> DeadEnds<'d, 't> {
         let mut at = self.ahead.at;
         let mut begin = first;
         'passed: while at < most && begin < place {
-            begin = self.ahead.from + self.ahead.marks[at].end as usize;
+            begin = self.ahead.from + self.ahead.marks[at].end() as usize;
             at += 1;
         }
         self.ahead.passed = self

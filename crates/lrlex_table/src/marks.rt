@@ -4,15 +4,58 @@ ghost use Rattle.lrlex_table.specs.Chain.{row_behind, list_of, name_of, BeginsIn
 ghost use Rattle.lrlex_table.specs.declared.table.Table.{Table};
 
 use crate::chain::Chain;
+use std::marker::Model;
 
 /// The most bytes in which marks are looked for at once.
 pub(crate) const MOST_BYTES: usize = 8192;
 
-/// Where a match ends, and the row of the chain in which it does.
+/// Where a match ends, in bytes from where marks were looked for, and the row of the chain in which it does. Both are in one number, so that
+/// a mark is noted by one store.
 #[derive(Clone, Copy)]
-pub(crate) struct Mark {
-    pub(crate) row: u16,
-    pub(crate) end: u16,
+pub struct Mark {
+    bits: u32,
+}
+
+impl Model for Mark {
+    ghost use Rattle.lrlex_table.specs.Mark as value;
+
+    ghost Value = { value.Mark };
+
+    ghost use Rattle.lrlex_table.specs.PackedMark.{packed, packed_again, unpacked};
+
+    ghost view = { unpacked };
+
+    ghost inverse = { packed };
+
+    ghost inverse_ok = { packed_again };
+}
+
+impl Mark {
+    /// A match that ends in the row, so many bytes from where marks were looked for.
+    #[inline(always)]
+    pub(crate) fn new(row: u16, end: u16) -> Mark
+        ensures { result ≡ record { row = row; end = end } }
+    {
+        Mark {
+            bits: row as u32 + end as u32 * 65_536,
+        }
+    }
+
+    /// The row of the chain.
+    #[inline(always)]
+    pub fn row(self) -> u16
+        ensures { result ≡ self.row }
+    {
+        (self.bits % 65_536) as u16
+    }
+
+    /// Where the match ends.
+    #[inline(always)]
+    pub fn end(self) -> u16
+        ensures { result ≡ self.end }
+    {
+        (self.bits / 65_536) as u16
+    }
 }
 
 /// A pattern by its list, and its place there.
@@ -84,10 +127,7 @@ impl Chain {
         let mut count = 0usize;
         'bytes: for at in 0..many {
             let behind = next(cells, columns, height, row, text[from + at]);
-            marks[count] = Mark {
-                row: row as u16,
-                end: at as u16,
-            };
+            marks[count] = Mark::new(row as u16, at as u16);
             count += begun(behind, fresh);
             row = behind;
         }

@@ -138,7 +138,8 @@ impl<L: LexerTypes> LexerDef<L> for LRNonStreamingLexerDef<L> {
     ghost use Rattle.lrlex_rules.specs.LexBuildError.{IsPlaced};
     ghost use Rattle.lrlex_rules.specs.DefinitionLaws.{IsLawful};
     ghost use Rattle.lrlex.specs.Active.{is_state};
-    ghost use Rattle.lrlex.specs.Views.{definition_of, definition_rules, definition_states, rows_held};
+    ghost use Rattle.lrlex.specs.Ids.{IsMadeOf};
+    ghost use Rattle.lrlex.specs.Views.{definition_of, definition_rows, definition_rules, definition_states};
 
     ghost said = { definition_of L.StorageT.number };
 
@@ -156,7 +157,9 @@ impl<L: LexerTypes> LexerDef<L> for LRNonStreamingLexerDef<L> {
         ensures states { IfOk result (λ d. definition_states d ≡ start_states.items) }
         ensures flags { IfOk result (λ d. (definition_of L.StorageT.number d).flags
             ≡ DEFAULT_LEX_FLAGS) }
-        ensures within { IfOk result (λ d. rows_held d ≤ 7000) }
+        ensures made_of { IfOk result (λ d. IsMadeOf L.StorageT.number (definition_rules d)
+            (definition_states d) (definition_of L.StorageT.number d)) }
+        ensures within { IfOk result (λ d. definition_rows d ≤ 7000) }
     {
         let flags = DEFAULT_LEX_FLAGS;
         let table = RuleTable::made(alloc, start_states, rules, flags, usual_budget())?;
@@ -178,7 +181,10 @@ impl<L: LexerTypes> LexerDef<L> for LRNonStreamingLexerDef<L> {
             (λ d. IsLawful text.now (definition_of L.StorageT.number d))) }
         ensures initial { IfOk result (λ built. IfOk built
             (λ d. is_state (definition_of L.StorageT.number d) 0 ≡ true)) }
-        ensures within { IfOk result (λ built. IfOk built (λ d. rows_held d ≤ 7000)) }
+        ensures made_of { IfOk result (λ built. IfOk built
+            (λ d. IsMadeOf L.StorageT.number (definition_rules d) (definition_states d)
+            (definition_of L.StorageT.number d))) }
+        ensures within { IfOk result (λ built. IfOk built (λ d. definition_rows d ≤ 7000)) }
     {
         LRNonStreamingLexerDef::new_with_options(alloc, text, UNSPECIFIED_LEX_FLAGS)
     }
@@ -232,7 +238,7 @@ impl<L: LexerTypes> LRNonStreamingLexerDef<L> {
     ghost use Rattle.lrlex_rules.specs.LexBuildError.{IsPlaced};
     ghost use Rattle.lrlex_rules.specs.DefinitionLaws.{IsLawful};
     ghost use Rattle.lrlex.specs.Active.{is_state};
-    ghost use Rattle.lrlex.specs.Views.{definition_of, definition_rules, rows_held};
+    ghost use Rattle.lrlex.specs.Views.{definition_of, definition_rows, definition_rules};
 
     /// Reads a rule text with these flags. The inner `Err` has each fault of the text, and there is at least one. The tables of the
     /// definition and their chain hold at most 7,000 rows, as under a budget of so many.
@@ -250,7 +256,7 @@ impl<L: LexerTypes> LRNonStreamingLexerDef<L> {
             (λ d. IsLawful text.now (definition_of L.StorageT.number d))) }
         ensures initial { IfOk result (λ built. IfOk built
             (λ d. is_state (definition_of L.StorageT.number d) 0 ≡ true)) }
-        ensures within { IfOk result (λ built. IfOk built (λ d. rows_held d ≤ 7000)) }
+        ensures within { IfOk result (λ built. IfOk built (λ d. definition_rows d ≤ 7000)) }
     {
         LRNonStreamingLexerDef::new_with_budget(alloc, text, flags, usual_budget())
     }
@@ -291,7 +297,7 @@ impl<L: LexerTypes> LRNonStreamingLexerDef<L> {
         ensures initial { IfOk result (λ built. IfOk built
             (λ d. is_state (definition_of L.StorageT.number d) 0 ≡ true)) }
         ensures within { IfOk result (λ built. IfOk built
-            (λ d. rows_held d ≤ budget.rows)) }
+            (λ d. definition_rows d ≤ budget.rows)) }
     {
         match RuleTable::read(alloc, text, flags, budget)? {
             Ok(table) => Ok(Ok(LRNonStreamingLexerDef { table })),

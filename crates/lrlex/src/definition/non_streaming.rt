@@ -17,7 +17,7 @@ pub struct LRNonStreamingLexerDef<L: LexerTypes> {
 }
 
 impl<L: LexerTypes> LRNonStreamingLexerDef<L> {
-    ghost use Rattle.lrlex.specs.Views.{definition_of, definition_tables, rows_held};
+    ghost use Rattle.lrlex.specs.Views.{definition_of, definition_rows, definition_tables};
     ghost use Rattle.std.specs.Prelude.{Some, option_map, min, IfOk, ◌-◌, ◌^◌};
     ghost use Rattle.lrlex.specs.StateTables.{count_of_tables, count_of_asked, most_tables};
     ghost use Rattle.lrlex_table.specs.Linear.{count_of_rows, most_cells};
@@ -29,7 +29,7 @@ impl<L: LexerTypes> LRNonStreamingLexerDef<L> {
     pub fn with_budget(self, alloc: Global, budget: Budget) -> Result<Self, AllocError>
         ensures same { IfOk result (λ d. definition_of L.StorageT.number d
             ≡ definition_of L.StorageT.number self) }
-        ensures within { IfOk result (λ d. rows_held d ≤ budget.rows) }
+        ensures within { IfOk result (λ d. definition_rows d ≤ budget.rows) }
     {
         let table = self.table.within(alloc, budget)?;
         Ok(LRNonStreamingLexerDef { table })

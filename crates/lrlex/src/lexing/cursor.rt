@@ -1,7 +1,7 @@
 //! Where a scanner stands.
 ghost use Rattle.std.specs.Prelude.{◌≡◌, ◌≤◌, true, IfOk, IfSome};
 ghost use Rattle.lrlex.specs.Active.{is_state};
-ghost use Rattle.lrlex.specs.Scanner.{IsCursorOf, IsStand, at_front, scanned_by, standing};
+ghost use Rattle.lrlex.specs.Scanner.{IsCursorOf, IsStand, at_front, scanned_by, sought_at, standing};
 ghost use Rattle.lrlex.specs.Views.{definition_by};
 ghost use Rattle.lrlex.specs.Work.{most_cells_by};
 
@@ -12,6 +12,13 @@ use lrlex_base::Numbered;
 use lrlex_boundaries::room::copied;
 use std::alloc::{AllocError, Global};
 
+/// What wins at a place, where it was looked for.
+#[derive(Clone, Copy)]
+pub(crate) struct Sought {
+    pub(crate) place: usize,
+    pub(crate) winner: Option<Tile>,
+}
+
 /// Where a scanner stands, the rules of the start state on top of its stack, and what finds winners.
 #[derive(Drop)]
 pub(crate) struct Cursor<'d, 't> {
@@ -19,9 +26,8 @@ pub(crate) struct Cursor<'d, 't> {
     pub(crate) stack: Vec<(usize, usize)>,
     pub(crate) rules: StateRules<'d>,
     pub(crate) searcher: Searcher<'d, 't>,
-    /// What wins at the place, where it was looked for and not taken: at an end, and where memory was refused for the stack. So it
-    /// isn't looked for again.
-    pub(crate) sought: Option<Option<Tile>>,
+    /// What was last looked for. At its place it isn't looked for again: at an end, and where memory was refused for the stack.
+    pub(crate) sought: Option<Sought>,
     /// The place from which on winners were looked for.
     pub(crate) from: usize,
     /// Whether memory was refused while a winner was looked for. Then it may be looked for again, and nothing bounds the cells.
@@ -52,6 +58,17 @@ impl<'d> Cursor<'d, '_> {
         self.sought = None;
         self.from = 0;
         self.lost = false;
+    }
+
+    /// What wins at the place, where it was looked for before.
+    #[inline(always)]
+    pub(crate) fn sought_here(&self) -> Option<Option<Tile>>
+        ensures { result ≡ sought_at self.now.place self.now.sought }
+    {
+        match self.sought {
+            Some(sought) if sought.place == self.place => Some(sought.winner),
+            _ => None,
+        }
     }
 
     /// How many cells of tables were looked at. None where memory was refused while a winner was looked for, or for a dead end.

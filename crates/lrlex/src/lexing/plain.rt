@@ -1,22 +1,21 @@
 //! A run takes many tiles at a time, where they were found ahead and their rules are plain.
-ghost use Rattle.std.specs.Prelude.{◌≡◌, ◌+◌, ◌-◌, ◌^◌, ◌<◌, ◌≤◌, ◌++◌, map, max, Some, None, vec_len, vec_capacity, if◌then◌else◌, OnOk};
+ghost use Rattle.std.specs.Prelude.{◌≡◌, ℕ, ◌+◌, ◌^◌, ◌<◌, ◌≤◌, ◌++◌, length, map, Some, None, vec_len, vec_capacity, slice_get, if◌then◌else◌, OnOk};
+ghost use Rattle.lrlex_table.specs.Ahead.{begin_at};
+ghost use Rattle.lrlex_table.specs.Chain.{end_of, row_of};
 ghost use Rattle.lrlex.specs.Tiling.{lexeme_of};
-ghost use Rattle.lrlex_boundaries.specs.Entries.{AreEntries};
-ghost use Rattle.lrlex_boundaries.specs.Boundaries.{last_entries};
 ghost use Rattle.lrlex.specs.Searcher.{AreOf};
-ghost use Rattle.lrlex.specs.Plain.{HasTakenMany, IsRunningIn};
-ghost use Rattle.lrlex.specs.Progress.{HasEntered};
+ghost use Rattle.lrlex.specs.Plain.{AllArePlain, HasEnteredAll, HasTakenMany, IsRunningIn, lexemes_of};
 ghost use Rattle.lrlex.specs.Views.{item_of};
 
+use crate::definition::row_kinds::RowKind;
 use crate::definition::rule_table::{RuleTable, StateRules};
 use crate::errors::LRLexError;
 use crate::lexing::step::Progress;
 use crate::lexing::winner::Searcher;
 use lrlex_base::{Lexeme, Numbered};
+use lrlex_table::MatchesAhead;
 use std::alloc::AllocError;
-
-/// The most tiles that are taken at a time.
-const MOST_TILES: usize = 1024;
+use std::mem;
 
 /// Gives a lexeme with the id, if it has a name. There is room. It is stored first, and then counted or not: a branch on whether it has a name
 /// would often be guessed wrong.
@@ -43,34 +42,70 @@ fn store_lexeme<S: Numbered, X: Lexeme<S>>(
     }
 }
 
-/// Enters the next boundary at this place, with the same stack, behind a tile of so many bytes. The byte behind it decided it, and no tile before
-/// it looked farther. There is room for its number.
+/// Gives a lexeme for each of these tiles whose rule has a name, up to the first tile of another list, or whose rule isn't plain. There is room
+/// for all. Returns the list, and how many tiles these are. The list is handed in and out as a whole, so that its parts are in registers.
 #[inline(always)]
-#[tactic(auto, unfolding(crate::specs::Tiling::stack_after))]
-fn pass<X: Copy>(progress: &mut Progress<X>, place: usize, len: usize) -> Result<(), AllocError>
-    requires place { place ≡ progress.old.place + len }
-    requires near { progress.old.lookahead ≤ 1 }
-    requires entries { AreEntries progress.old.stack.items }
-    requires last { last_entries progress.old.boundaries ≡ progress.old.stack.items }
-    requires room { vec_len progress.old.ahead < vec_capacity progress.old.ahead }
-    ensures entered { OnOk result (HasEntered progress.old progress.new None place
-        (max progress.old.lookahead (len + 1) - len)) }
-    ensures near { progress.new.lookahead ≡ 1 }
-    ensures items { (vec_len progress.new.items ≡ vec_len progress.old.items)
-        × (vec_capacity progress.new.items ≡ vec_capacity progress.old.items) }
-    ensures numbers { (vec_len progress.new.ahead ≡ vec_len progress.old.ahead + 1)
-        × (vec_capacity progress.new.ahead ≡ vec_capacity progress.old.ahead) }
+fn store_tiles<S: Numbered, X: Lexeme<S>>(
+    kinds: &[RowKind<S>],
+    list: usize,
+    place: usize,
+    found: MatchesAhead<'_>,
+    mut items: Vec<Result<X, LRLexError>>,
+) -> (Vec<Result<X, LRLexError>>, usize)
+    requires tiles { (k : ℕ) (w : RowKind S) → k < length found.marks.now → slice_get kinds.now (row_of found.marks.now k) ≡ Some w → w.list ≡ list →
+        (begin_at found.from place found.marks.now k < found.from + end_of found.marks.now k) × (found.from + end_of found.marks.now k < 2 ^ 64) }
+    requires room { vec_len items + length found.marks.now ≤ vec_capacity items }
+    ensures count { result.1 ≤ length found.entry.marks.now }
+    ensures plain { AllArePlain kinds.now list found.entry.marks.now result.1 }
+    ensures items { map (item_of S.number X.seen) result.0.items ≡ map (item_of S.number X.seen) items.items
+        ++ lexemes_of S.number kinds.now found.entry.from place found.entry.marks.now result.1 }
 {
-    let _ = len;
+    let marks = found.marks;
+    let mut begin = place;
+    'tiles: for at in 0..marks.len() {
+        let mark = marks[at];
+        let Some(kind) = kinds.get(mark.row() as usize).copied() else {
+            return (items, at);
+        };
+        if kind.list as usize != list || !kind.plain {
+            return (items, at);
+        }
+        let end = found.from + mark.end() as usize;
+        store_lexeme::<S, X>(&mut items, kind.id, kind.named, begin, end - begin);
+        begin = end;
+    }
+    (items, marks.len())
+}
+
+/// Enters a boundary behind each of the first of these tiles, so many of them, with the same stack. The byte behind each decided it.
+#[inline(always)]
+fn enter_all<X: Copy>(
+    progress: &mut Progress<X>,
+    found: MatchesAhead<'_>,
+    count: usize,
+) -> Result<(), AllocError>
+    requires count { count ≤ length found.marks.now }
+    requires fits { (k : ℕ) → k < count → found.from + end_of found.marks.now k < 2 ^ 64 }
+    requires numbers { vec_len progress.old.ahead + count < 2 ^ 64 }
+    ensures { OnOk result (HasEnteredAll progress.old progress.new found.entry.from found.entry.marks.now count) }
+{
+    if count == 0 {
+        return Ok(());
+    }
+    let mut place = progress.place;
+    'tiles: for at in 0..count {
+        place = found.from + found.marks[at].end() as usize;
+        progress.boundaries.repeat(place)?;
+    }
     progress.place = place;
     progress.lookahead = 1;
-    progress.ahead.push_reserved(1);
-    progress.boundaries.repeat(place)?;
+    let numbers = progress.ahead.len() + count;
+    progress.ahead.resize(numbers, 1)?;
     Ok(())
 }
 
 /// Takes the tiles that were found ahead, one behind the other, so long as their rules are plain. Room is made once for all. None is taken where
-/// a tile before them looked past the byte at the place. Out of line, so that the loop has the registers for itself.
+/// a tile before them looked past the byte at the place. Out of line, so that the loops have the registers for themselves.
 #[inline(never)]
 fn take_plain<S: Numbered, X: Lexeme<S>>(
     table: &RuleTable<S>,
@@ -85,28 +120,20 @@ fn take_plain<S: Numbered, X: Lexeme<S>>(
     ensures taken { OnOk result (HasTakenMany S.number X.seen table.now text.now
         rules.entry.state searcher.old searcher.new progress.old progress.new) }
 {
+    let _ = text;
     if progress.lookahead > 1 {
         return Ok(());
     }
-    let most = MOST_TILES.min(text.len() - progress.place);
-    progress.items.reserve(most)?;
-    progress.ahead.reserve(most)?;
+    let place = progress.place;
+    let found = searcher.all_ahead(table, &rules, place);
+    progress.items.reserve(found.marks.len())?;
     let kinds = table.row_kinds.as_slice();
-    'tiles: for step in 0..most {
-        let place = progress.place;
-        let Some(found) = searcher.ahead(table, kinds, &rules, place) else {
-            return Ok(());
-        };
-        let kind = found.kind;
-        if !kind.plain {
-            return Ok(());
-        }
-        let end = found.next.end;
-        searcher.pass(table, place, found.next);
-        let items = &mut progress.items;
-        store_lexeme::<S, X>(items, kind.id, kind.named, place, end - place);
-        pass(progress, end, end - place)?;
-    }
+    let none = Vec::new(*progress.items.allocator());
+    let items = mem::replace(&mut progress.items, none);
+    let (items, count) = store_tiles::<S, X>(kinds, rules.list, place, found, items);
+    progress.items = items;
+    enter_all(progress, found, count)?;
+    searcher.pass_all(table, count);
     Ok(())
 }
 

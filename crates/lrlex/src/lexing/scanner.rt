@@ -94,7 +94,6 @@ fn next_step<'d, S: Numbered>(
         cursor.searcher.pass(source.table, place, found.next);
         if kind.plain {
             cursor.place = end;
-            cursor.sought = None;
             return Ok(Step::Tile(ScannedTile {
                 rule: kind.rule,
                 id: kind.own_id(),
@@ -107,7 +106,7 @@ fn next_step<'d, S: Numbered>(
         };
         return take_tile(source.table, source.text, cursor, Some(tile));
     }
-    if let Some(winner) = cursor.sought {
+    if let Some(winner) = cursor.sought_here() {
         return take_sought(source.table, source.text, cursor, winner);
     }
     seek(alloc, source.table, source.text, cursor)

@@ -1,11 +1,11 @@
 //! A scanner's step where its tile wasn't found ahead, or its rule isn't plain.
 ghost use Rattle.std.specs.Prelude.{◌≡◌, ◌+◌, ◌≤◌, max, None, Some};
-ghost use Rattle.lrlex.specs.Scanner.{HasGivenStep, IsCursorOf, IsSought, sought_to};
+ghost use Rattle.lrlex.specs.Scanner.{HasGivenStep, IsCursorOf, IsSought, sought_at, sought_to};
 ghost use Rattle.lrlex.specs.Work.{won_bytes};
 
 use crate::definition::active::{lacks_id, lexeme_id};
 use crate::definition::rule_table::RuleTable;
-use crate::lexing::cursor::Cursor;
+use crate::lexing::cursor::{Cursor, Sought};
 use crate::lexing::scanner::{ScanEnd, ScannedTile, Step};
 use crate::lexing::stack::{step, top_of};
 use crate::lexing::winner::Tile;
@@ -24,7 +24,7 @@ pub(crate) fn take_tile<'d, S: Numbered>(
     requires cursor { IsCursorOf S.number table.now text.now cursor.old }
     requires sought { IsSought S.number table.now text.now cursor.old.place cursor.old.rules.state
         winner }
-    requires within { sought_to cursor.old.place cursor.old.sought
+    requires within { sought_to cursor.old.place (sought_at cursor.old.place cursor.old.sought)
         ≤ cursor.old.place + max 1 (won_bytes winner) }
     ensures { HasGivenStep S.number table.now text.now cursor.old result cursor.new }
 {
@@ -48,7 +48,6 @@ pub(crate) fn take_tile<'d, S: Numbered>(
     step(&mut cursor.stack, rule.target_state())?;
     table.enter(&mut cursor.rules, top_of(&cursor.stack));
     cursor.place = place + tile.len;
-    cursor.sought = None;
     Ok(Step::Tile(found))
 }
 
@@ -61,7 +60,7 @@ pub(crate) fn take_sought<'d, S: Numbered>(
     winner: Option<Tile>,
 ) -> Result<Step<S>, AllocError>
     requires cursor { IsCursorOf S.number table.now text.now cursor.old }
-    requires sought { cursor.old.sought ≡ Some winner }
+    requires sought { sought_at cursor.old.place cursor.old.sought ≡ Some winner }
     ensures { HasGivenStep S.number table.now text.now cursor.old result cursor.new }
 {
     take_tile(table, text, cursor, winner)
@@ -76,7 +75,7 @@ pub(crate) fn seek<'d, S: Numbered>(
     cursor: &mut Cursor<'d, '_>,
 ) -> Result<Step<S>, AllocError>
     requires cursor { IsCursorOf S.number table.now text.now cursor.old }
-    requires unsought { cursor.old.sought ≡ None }
+    requires unsought { sought_at cursor.old.place cursor.old.sought ≡ None }
     ensures { HasGivenStep S.number table.now text.now cursor.old result cursor.new }
 {
     let place = cursor.place;
@@ -89,8 +88,9 @@ pub(crate) fn seek<'d, S: Numbered>(
     let searcher = &mut cursor.searcher;
     match searcher.winner(alloc, table, rules.state, rules, place, rest, &mut asked) {
         Ok(scan) => {
-            cursor.sought = Some(scan.winner);
-            take_tile(table, text, cursor, scan.winner)
+            let winner = scan.winner;
+            cursor.sought = Some(Sought { place, winner });
+            take_tile(table, text, cursor, winner)
         }
         Err(refused) => {
             cursor.lost = true;

@@ -6,7 +6,7 @@ ghost use Rattle.lrlex_table.specs.Ahead.{IsNextAt};
 ghost use Rattle.lrlex.specs.Active.{rule_at};
 ghost use Rattle.lrlex.specs.Kinds.{IsPlain};
 ghost use Rattle.lrlex.specs.RowKinds.{own_kind};
-ghost use Rattle.lrlex.specs.Searcher.{AreOf, HasAsked, IsFoundAt, IsSearcherOf, IsScanOf, tile_of};
+ghost use Rattle.lrlex.specs.Searcher.{AreOf, AreFoundAt, HasAsked, IsFoundAt, IsSearcherOf, IsScanOf, tile_of};
 ghost use Rattle.lrlex.specs.Views.{definition_by};
 ghost use Rattle.lrlex.specs.Work.{HasWorked, IsLinearIn, won_bytes};
 
@@ -14,7 +14,7 @@ use crate::definition::row_kinds::RowKind;
 use crate::definition::rule_table::{RuleTable, StateRules};
 use lrlex_base::Numbered;
 use lrlex_rules::{empty_matchers, match_rule};
-use lrlex_table::{DeadEnds, MatchAhead};
+use lrlex_table::{DeadEnds, MatchAhead, MatchesAhead};
 use regex::Matcher;
 use std::alloc::{AllocError, Global};
 
@@ -254,6 +254,37 @@ impl<'d, 't> Searcher<'d, 't> {
     {
         let _ = table;
         self.ends.pass_ahead(place, next);
+    }
+
+    /// All tiles that were found ahead and aren't passed, if the next one begins at the place. A tile of the state's list wins there by the
+    /// rules of the state, and the byte behind it decides it.
+    #[inline(always)]
+    pub(crate) fn all_ahead<S: Numbered>(
+        &self,
+        table: &RuleTable<S>,
+        rules: &StateRules<'_>,
+        place: usize,
+    ) -> MatchesAhead<'_>
+        requires rules { AreOf S.number table.now rules.now.state rules.now }
+        ensures left { length result.marks.now ≤ self.now.ends.ahead.count - self.now.ends.ahead.at }
+        ensures tiles { (input : List ℕ) → IsSearcherOf table.now input self.now → AreFoundAt S.number table.now rules.now.state rules.now.list input result.from place result.marks.now }
+    {
+        let _ = table;
+        let _ = rules;
+        self.ends.matches_ahead(place)
+    }
+
+    /// Passes the next tiles that were found ahead, so many of them.
+    #[inline(always)]
+    pub(crate) fn pass_all<S>(&mut self, table: &RuleTable<S>, count: usize)
+        requires { count ≤ self.old.ends.ahead.count - self.old.ends.ahead.at }
+        ensures searcher { (input : List ℕ) → IsSearcherOf table.now input self.old
+            → IsSearcherOf table.now input self.new }
+        ensures linear { (first at : ℕ) → HasWorked table.now first at self.old.ends
+            → HasWorked table.now first at self.new.ends }
+    {
+        let _ = table;
+        self.ends.pass_matches(count);
     }
 
     /// The rule that wins at the place, from which on the rest of the text stands, among those that are active in the

@@ -25,6 +25,7 @@ returns-clause-cursor g c =
       rules = subst (λ q. AreOf g.S.Numbered.number c.args.table.now q c.rules_in.result) (sym c.rules_in.ensures.state) c.rules_in.ensures.rules;
       state = c.rules_in.ensures.state ∙ ap (λ xs. top (plain xs)) (sym is);
       searcher = c.in_ok-searcher.ensures.searcher;
+      behind = tt;
       sought = tt;
       worked = λ kept. c.in_ok-searcher.ensures.linear 0;
     }

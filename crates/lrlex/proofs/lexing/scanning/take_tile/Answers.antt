@@ -1,15 +1,17 @@
-use Rattle.std.proofs.Common.{◌≡◌, ◌+◌, ◌<◌, length, drop, true, false, refl, sym, ap, ap₂, ◌∙◌, subst, arith, rules}
+use Rattle.std.proofs.Common.{◌≡◌, ◌+◌, ◌<◌, None, length, drop, true, false, refl, sym, ap, ap₂, ◌∙◌, subst, arith, rules}
+use Rattle.std.specs.Prelude.{IfSome}
 use Rattle.std.proofs.lemmas.Str.{IsCharBoundary-from_rest}
 use Rattle.lrlex_base.specs.Spans.{span}
 use Rattle.lrlex_boundaries.specs.Entries.{plain, AreEntries}
 use Rattle.lrlex_rules.specs.Definition.{Rule}
 use Rattle.lrlex.specs.Active.{is_state, lacks_id, lacks_target, lexeme_id, rule_at}
-use Rattle.lrlex.specs.Scanner.{Scanned, sought_to}
+use Rattle.lrlex.specs.Scanner.{IsSought, Scanned, sought_at, sought_to}
 use Rattle.lrlex.specs.StateTables.{most_tables}
 use Rattle.lrlex.specs.Tiling.{IsStuck, Tile, stack_after, top}
 use Rattle.lrlex.specs.Views.{definition_by}
-use Rattle.lrlex.specs.Work.{most_cells_by}
+use Rattle.lrlex.specs.Work.{HasWorked, most_cells_by}
 use Rattle.lrlex_table.proofs.LinearLemmas.{linear_later}
+use Rattle.lrlex.proofs.FoundLemmas.{none_sought, sought_before}
 use Rattle.lrlex.proofs.ReachLemmas.{AreStates, IsSound, something_left, sound_after, top_is_state, wins_at}
 use Rattle.lrlex.proofs.ViewLemmas.{rule_read}
 use Rattle.lrlex.proofs.lexing.scanning.take_tile.Goals as goal
@@ -45,6 +47,7 @@ returns-then-lacks_id g c =
         rules = c.requires.cursor.rules;
         state = c.requires.cursor.state;
         searcher = c.requires.cursor.searcher;
+        behind = c.requires.cursor.behind;
         sought = c.requires.cursor.sought;
         worked = c.requires.cursor.worked;
       };
@@ -68,6 +71,7 @@ returns-then-lacks_target g c =
         rules = c.requires.cursor.rules;
         state = c.requires.cursor.state;
         searcher = c.requires.cursor.searcher;
+        behind = c.requires.cursor.behind;
         sought = c.requires.cursor.sought;
         worked = c.requires.cursor.worked;
       };
@@ -101,6 +105,7 @@ returns-in_err-step g c =
         rules = c.requires.cursor.rules;
         state = c.requires.cursor.state ∙ ap (λ xs. top (plain xs)) (sym same);
         searcher = c.requires.cursor.searcher;
+        behind = c.requires.cursor.behind;
         sought = c.requires.cursor.sought;
         worked = c.requires.cursor.worked;
       };
@@ -122,6 +127,9 @@ returns g c =
     let has_target : lacks_target d (rule_at d t.rule) ≡ false = ap (lacks_target d) rule_is ∙ sym c.if-lacks_target.ensures in
     let moved : plain c.step.new.entries.items ≡ stack_after stack (rule_at d t.rule).target =
     c.in_ok-step.ensures.moved ∙ ap (stack_after stack) c.target_state.ensures ∙ sym (ap (λ (x : Rule). stack_after stack x.target) rule_is) in
+    let was = c.args.cursor.now.sought in
+    let later = place + t.len in
+    let none : sought_at later was ≡ None = none_sought place later was c.requires.cursor.behind (omega (arith, wins.some)) in
     let sound : IsSound d stack (stack_after stack (rule_at d t.rule).target) = sound_after d stack (rule_at d t.rule).target c.requires.cursor.initial c.requires.cursor.stands.states c.requires.cursor.stands.some has_target in
     record {
       cursor = record {
@@ -137,9 +145,11 @@ returns g c =
         rules = c.enter.ensures.rules;
         state = c.enter.ensures.state ∙ c.top_of.ensures ∙ ap (λ s. top (plain s)) c.deref.ensures.value;
         searcher = c.requires.cursor.searcher;
-        sought = tt;
-        worked = λ kept. linear_later (most_tables c.args.table.now.tables.items) c.args.cursor.now.from (sought_to place c.args.cursor.now.sought) (place + t.len) c.args.cursor.now.searcher.ends
-            (c.requires.cursor.worked kept) (omega (arith, rw c.in-Some.is at c.requires.within, wins.some));
+        behind = sought_before place later was c.requires.cursor.behind (omega arith);
+        sought = subst (λ o. IfSome o (IsSought g.S.Numbered.number c.args.table.now text later c.enter.new.rules.state)) (sym none) tt;
+        worked = λ kept. subst (λ o. HasWorked c.args.table.now c.args.cursor.now.from (sought_to later o) c.args.cursor.now.searcher.ends) (sym none)
+            (linear_later (most_tables c.args.table.now.tables.items) c.args.cursor.now.from (sought_to place (sought_at place was)) later c.args.cursor.now.searcher.ends
+            (c.requires.cursor.worked kept) (omega (arith, rw c.in-Some.is at c.requires.within, wins.some)));
       };
       step = (
         t,

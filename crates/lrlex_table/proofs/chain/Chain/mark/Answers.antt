@@ -1,8 +1,8 @@
-use Rattle.std.proofs.Common.{◌≡◌, ◌+◌, ◌<◌, length, get_or, refl, sym, ap, ◌∙◌, subst, inl, inr, arith}
+use Rattle.std.proofs.Common.{◌≡◌, ◌+◌, ◌<◌, length, get_or, set, refl, sym, ap, ◌∙◌, subst, inl, inr, arith}
 use Rattle.std.proofs.lemmas.Bool.{cases_lt}
 use Rattle.std.proofs.lemmas.List.{length-set}
 use Rattle.lrlex_table.specs.Chain.{row_behind, GoesTo}
-use Rattle.lrlex_table.proofs.ChainLemmas.{passes, on_way_first}
+use Rattle.lrlex_table.proofs.ChainLemmas.{IsLane, passes, on_way_first}
 use Rattle.lrlex_table.proofs.chain.Chain.mark.Goals as goal
 
 pub bytes-init : goal.bytes-init
@@ -35,10 +35,11 @@ bytes-preserved c =
         | inl lt ↦ omega (arith, c.begun-count.ensures.none lt, inv.count)
         | inr ge ↦ omega (arith, c.begun-count.ensures.one ge, inv.count)
       ];
-      room = length-set marks count (record { row = row; end = at }) ∙ inv.room;
+      room = length-set marks count c.new.result ∙ inv.room;
       lane = λ t l is.
           let goes : GoesTo t l self row byte to = subst (GoesTo t l self row byte) is_row (is.1 row byte inv.row (omega (arith, c.type_inv.text (from + at)))) in
-          passes t l self text from 0 marks count at row to c.begun-count.result (inv.lane t l is) here inv.row room goes c.begun-count.ensures.one c.begun-count.ensures.none;
+          subst (λ m. IsLane t l self text from 0 (set marks count m) (count + c.begun-count.result) (at + 1) to) (sym c.new.ensures)
+          (passes t l self text from 0 marks count at row to c.begun-count.result (inv.lane t l is) here inv.row room goes c.begun-count.ensures.one c.begun-count.ensures.none);
     }
 
 pub returns-clause-marks : goal.returns-clause-marks

@@ -1,4 +1,4 @@
-use Rattle.std.proofs.Common.{sym, ◌∙◌, subst}
+use Rattle.std.proofs.Common.{drop, sym, ◌∙◌, subst}
 use Rattle.lrlex_table.specs.Chain.{BeginsIn}
 use Rattle.lrlex_table.proofs.ChainLemmas.{joined_marks}
 use Rattle.lrlex_table.proofs.chain.Chain.mark_in_lanes.Goals as goal
@@ -15,5 +15,5 @@ mark_both-count-requires-clause-begins_later c t l is =
 pub returns-clause-marks : goal.returns-clause-marks
 returns-clause-marks c t l is =
     let both = c.mark_both-count in
-    joined_marks t l c.args.self.now c.args.text.now c.args.from both.new.first both.result.0 c.in-Some.apart both.new.second both.result.1 c.join.new.first c.join.result c.join.ensures.joined
+    joined_marks t l c.args.self.now c.args.text.now c.args.from both.new.marks both.result.0 c.in-Some.apart (drop c.args.half both.new.marks) both.result.1 c.join.new.marks c.join.result c.join.ensures.joined
     (both.ensures.first t l is) (both.ensures.second t l is)

@@ -34,6 +34,7 @@ returns-clause-cursor g c =
         text = ap (λ t. t.now) c.rewind.ensures.text ∙ was.searcher.text;
         chain = ap option_copied c.rewind.ensures.chain ∙ was.searcher.chain;
       };
+      behind = tt;
       sought = tt;
       worked = λ kept. c.rewind.ensures.linear (most_tables c.args.table.now.tables.items);
     }
