@@ -77,16 +77,20 @@ TIMED = [
 ]
 
 
+# Each tile is one level deeper than the one before it. So a key at the front changes the stack behind each tile.
+DEEPER = {"rules": "%x c\n%%\na <+c>'FIRST'\n<c>a <+c>'DEEPER'", "input": "a" * 2_000}
+
+
 class Bench(unittest.TestCase):
     """What lrlex_bench makes of its words."""
 
     def setUp(self):
         programs.need(PROGRAM)
 
-    def came_of(self, program, words, stdin=""):
+    def came_of(self, program, words, stdin="", files=None):
         """What comes of these words in a folder with the files."""
         with tempfile.TemporaryDirectory() as folder:
-            programs.fill(folder, FILES)
+            programs.fill(folder, files or FILES)
             return programs.run([program, *shlex.split(words)], stdin, folder)
 
     def test_words(self):
@@ -106,6 +110,13 @@ class Bench(unittest.TestCase):
                     found = dict(lines)
                     self.assertEqual({name: found[name] for name in wanted}, wanted)
                     self.assertTrue(all(float(value) >= 0 for value in found.values()))
+
+    def test_a_document_keeps_no_stack_that_no_boundary_has(self):
+        came = self.came_of(programs.path_of(PROGRAM), "rules input 400 --keys", files=DEEPER)
+        found = dict(line.split(": ") for line in came.out.splitlines())
+        self.assertEqual("2400", found["front most tiles cut anew for a key"])
+        # 400 keys replace 2,000 to 2,400 stacks each, of 16 bytes at the least
+        self.assertLess(int(found["peak kB"]) - int(found["peak kB before typing"]), 4_000)
 
 
 if __name__ == "__main__":

@@ -1,7 +1,8 @@
 """Stored runs of ./lrlex, which builds the program first where its source changed."""
 
-import os.path
+import os
 import shlex
+import subprocess
 import unittest
 
 from support import programs
@@ -27,6 +28,18 @@ class Cli(unittest.TestCase):
         for row in ROWS:
             with self.subTest(name=row.name, words=row.words, stdin=row.stdin):
                 self.assertEqual(programs.run([command(), *shlex.split(row.words)], row.given()), row.wanted())
+
+    def test_an_edit_is_made_on_a_run_of_the_old_text(self):
+        """The run of a million tiles takes memory, which lexing the new text alone doesn't."""
+        path = f"{programs.scratch().name}/old"
+        programs.fill(programs.scratch().name, {"old": "abc 12" * 500_000})
+        words = [programs.path_of(PROGRAM), "--from", "0", "--to", "3000000", "--put", "x", "examples/tokens.l", path]
+        with subprocess.Popen(words, cwd=programs.TOP, stdout=subprocess.PIPE) as child:
+            lines = child.stdout.read()
+            _, status, used = os.wait4(child.pid, 0)
+            child.returncode = status
+        self.assertEqual((b"ID x\n", 0), (lines, status))
+        self.assertGreater(used.ru_maxrss, 30_000)
 
 
 if __name__ == "__main__":
