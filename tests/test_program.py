@@ -3,8 +3,9 @@
 import unittest
 from typing import NamedTuple
 
+from support import programs
 from support.program_rows import (
-    BAD_EDIT, BOTH, LINES, MANY_FAULTS, MANY_REPORTED, NO_PATTERN, RULES, SHORT, USAGE, Row, check_rows,
+    BAD_EDIT, BOTH, LINES, MANY_FAULTS, MANY_REPORTED, NO_PATTERN, PROGRAM, RULES, SHORT, USAGE, Row, check_rows,
 )
 from support.programs import Outcome
 from support.rule_texts import WORDS
@@ -352,6 +353,13 @@ class Program(unittest.TestCase):
 
     def test_words_that_are_refused(self):
         check_rows(self, refused_rows(), FILES)
+
+    def test_words_that_are_not_utf_8(self):
+        programs.need(PROGRAM)
+        for program in programs.by_each_compiler(PROGRAM):
+            for words in [[b"\xff", b"input"], [b"rules", b"\xff"], [b"\xff"]]:
+                with self.subTest(program=program, words=words):
+                    self.assertEqual(failed(USAGE), programs.run([program, *words], BOTH))
 
     def test_forms_of_words(self):
         check_rows(self, FORMS, FILES)
