@@ -80,6 +80,9 @@ TIMED = [
 # Each tile is one level deeper than the one before it. So a key at the front changes the stack behind each tile.
 DEEPER = {"rules": "%x c\n%%\na <+c>'FIRST'\n<c>a <+c>'DEEPER'", "input": "a" * 2_000}
 
+# 680,000 tiles, half of them with a lexeme.
+LONG = {"rules": FILES["rules"], "input": "ab cd " * 170_000}
+
 
 class Bench(unittest.TestCase):
     """What lrlex_bench makes of its words."""
@@ -111,12 +114,35 @@ class Bench(unittest.TestCase):
                     self.assertEqual({name: found[name] for name in wanted}, wanted)
                     self.assertTrue(all(float(value) >= 0 for value in found.values()))
 
-    def test_a_document_keeps_no_stack_that_no_boundary_has(self):
-        came = self.came_of(programs.path_of(PROGRAM), "rules input 400 --keys", files=DEEPER)
+    def peaks(self, words, files):
+        """The peaks of memory before and after what these words time, in kB, and all lines."""
+        came = self.came_of(programs.path_of(PROGRAM), words, files=files)
         found = dict(line.split(": ") for line in came.out.splitlines())
-        self.assertEqual("2400", found["front most tiles cut anew for a key"])
-        # 400 keys replace 2,000 to 2,400 stacks each, of 16 bytes at the least
-        self.assertLess(int(found["peak kB"]) - int(found["peak kB before typing"]), 4_000)
+        [before] = [int(value) for name, value in found.items() if name.startswith("peak kB before")]
+        return before, int(found["peak kB"]), found
+
+    def test_a_document_keeps_no_stack_that_no_boundary_has(self):
+        before, after, found = self.peaks("rules input 400 --keys", DEEPER)
+        # behind the keys before it, the last tile that looked at its place, and all behind
+        self.assertEqual("2002", found["front most tiles cut anew for a key"])
+        # 400 keys replace 2,000 stacks each, of 16 bytes at the least
+        self.assertLess(after - before, 4_000)
+
+    def test_a_text_is_lexed_once(self):
+        before, after, found = self.peaks("rules input 1", LONG)
+        self.assertEqual("680000", found["tiles"])
+        # 40 bytes for a lexeme and its boundary, 9 for a boundary, the room that growing lists have, and the lines
+        self.assertLess(after - before, 37_000)
+
+    def test_a_key_takes_no_memory_for_the_text(self):
+        before, after, _ = self.peaks("rules input 3 --keys", LONG)
+        self.assertLess(after - before, 8_000)
+
+    def test_a_short_text_takes_no_room_for_a_long_one(self):
+        with tempfile.TemporaryDirectory() as folder:
+            programs.fill(folder, FILES)
+            limited = ["sh", "-c", 'ulimit -v 32000; exec "$0" rules input 1', programs.path_of(PROGRAM)]
+            self.assertEqual(("", 0), programs.run(limited, cwd=folder)[1:])
 
 
 if __name__ == "__main__":
