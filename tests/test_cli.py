@@ -1,8 +1,7 @@
 """Stored runs of ./lrlex, which builds the program first where its source changed."""
 
-import os
+import os.path
 import shlex
-import subprocess
 import unittest
 
 from support import programs
@@ -30,16 +29,13 @@ class Cli(unittest.TestCase):
                 self.assertEqual(programs.run([command(), *shlex.split(row.words)], row.given()), row.wanted())
 
     def test_an_edit_is_made_on_a_run_of_the_old_text(self):
-        """The run of a million tiles takes memory, which lexing the new text alone doesn't."""
+        """In little memory the new text could be lexed, but not the old one, which has 1.5 million tiles."""
         path = f"{programs.scratch().name}/old"
         programs.fill(programs.scratch().name, {"old": "abc 12" * 500_000})
-        words = [programs.path_of(PROGRAM), "--from", "0", "--to", "3000000", "--put", "x", "examples/tokens.l", path]
-        with subprocess.Popen(words, cwd=programs.TOP, stdout=subprocess.PIPE) as child:
-            lines = child.stdout.read()
-            _, status, used = os.wait4(child.pid, 0)
-            child.returncode = status
-        self.assertEqual((b"ID x\n", 0), (lines, status))
-        self.assertGreater(used.ru_maxrss, 30_000)
+        edit = [programs.path_of(PROGRAM), "--from", "0", "--to", "3000000", "--put", "x", "examples/tokens.l", path]
+        self.assertEqual(programs.Outcome("ID x\n"), programs.run(edit))
+        limited = ["sh", "-c", 'ulimit -v 40000; exec "$0" "$@"', *edit]
+        self.assertEqual(programs.Outcome("", "Out of memory\n", 1), programs.run(limited))
 
 
 if __name__ == "__main__":
