@@ -131,7 +131,7 @@ class Bench(unittest.TestCase):
     def test_a_text_is_lexed_once(self):
         before, after, found = self.peaks("rules input 1", LONG)
         self.assertEqual("680000", found["tiles"])
-        # 40 bytes for a lexeme and its boundary, 9 for a boundary, the room that growing lists have, and the lines
+        # 40 bytes for a lexeme, 9 for a boundary, the room that growing lists have, and the lines
         self.assertLess(after - before, 37_000)
 
     def test_a_key_takes_no_memory_for_the_text(self):
