@@ -199,8 +199,9 @@ impl<'lexer, 'input, L: LexerTypes<LexErrorT = LRLexError>> LexRun<'lexer, 'inpu
 }
 
 /// What the pieces of a run say of it. Joined, they are its text up to the place where lexing ended, and those of a part are the
-/// text between two boundaries. The run's lexemes are those of the named pieces, in order. Behind these it has an error where
-/// lexing stopped early, and nothing else.
+/// text between two boundaries. The run's lexemes are those of the named pieces, in order. Behind these it has only what that
+/// end gives: nothing at the text's end, else the error that stopped lexing, and before the error the lexeme of a rule whose
+/// target is no state.
 pub fn piece_laws()
     ensures all { (d : Definition) (text : List ℕ) (found : List Item) (bounds : List Boundary)
         (h : IsLexed d text found bounds) (pieces : List ThePiece)
