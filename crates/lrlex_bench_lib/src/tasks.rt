@@ -1,7 +1,7 @@
 //! What the program is asked: its words, with the texts that they name.
 use crate::faults::Fault;
 use crate::texts::text_at;
-use crate::words::{Words, asks_to_replay, matches_of, words_of};
+use crate::words::matches_of;
 use clap::ArgMatches;
 use std::env;
 
@@ -33,28 +33,31 @@ pub enum Request {
     Timing(Task),
 }
 
-/// Reads the texts that the words name.
-fn texts_of(rt: &HostRuntime, words: Words<'_>) -> Result<Task, Fault> {
-    let rules = text_at(rt, words.rules, Fault::CannotReadRules)?;
-    let input = text_at(rt, words.input, Fault::CannotReadInput)?;
+/// What these matches say is to be timed. Reads the texts that they name.
+fn task_of(rt: &HostRuntime, matches: &ArgMatches<'_>) -> Result<Task, Fault> {
+    let times = matches.get_one::<u32>("times").unwrap_or(0);
+    if times == 0 {
+        return Err(Fault::Usage);
+    }
+    // Both paths are there: the command takes no words without them.
+    let rules = matches.get_str("rules").unwrap_or("");
+    let input = matches.get_str("input").unwrap_or("");
     Ok(Task {
-        rules,
-        input,
-        times: words.times,
-        edits: words.edits,
-        keys: words.keys,
-        tables: words.tables,
+        rules: text_at(rt, rules, Fault::CannotReadRules)?,
+        input: text_at(rt, input, Fault::CannotReadInput)?,
+        times,
+        edits: matches.get_flag("edits"),
+        keys: matches.get_flag("keys"),
+        tables: !matches.get_flag("no-tables"),
     })
 }
 
 /// What these matches ask for.
 fn request_of(rt: &HostRuntime, matches: &ArgMatches<'_>) -> Result<Request, Fault> {
-    if asks_to_replay(matches) {
+    if matches.get_flag("replay") {
         return Ok(Request::Replay);
     }
-    let given = words_of(matches)?;
-    let task = texts_of(rt, given)?;
-    Ok(Request::Timing(task))
+    Ok(Request::Timing(task_of(rt, matches)?))
 }
 
 /// What the words of the command line ask for: the usage where there are none.

@@ -8,23 +8,6 @@ use std::alloc::{AllocError, Global};
 pub const USAGE: &str =
     "Usage: lrlex_bench RULES INPUT K [--edits | --keys] [--no-tables]\n       lrlex_bench --replay";
 
-/// What the words say of what is to be timed.
-#[derive(Clone, Copy)]
-pub struct Words<'w> {
-    /// The path of the rule file.
-    pub rules: &'w str,
-    /// The path of the text to lex.
-    pub input: &'w str,
-    /// How many times each thing is timed; not 0.
-    pub times: u32,
-    /// Whether lexing again after an edit is measured.
-    pub edits: bool,
-    /// Whether typing in a document is measured.
-    pub keys: bool,
-    /// Whether the definition gets tables.
-    pub tables: bool,
-}
-
 /// A word that has to be there.
 fn word<'a>(alloc: Global, name: &'a str) -> Arg<'a> {
     Arg::new(alloc, name).required(true)
@@ -69,26 +52,4 @@ fn none_by<'a>(kind: ErrorKind) -> Result<Option<ArgMatches<'a>>, Fault> {
         ErrorKind::OutOfMemory => Err(Fault::Memory),
         _ => Err(Fault::Usage),
     }
-}
-
-/// Whether cases are to be replayed.
-pub fn asks_to_replay(matches: &ArgMatches<'_>) -> bool {
-    matches.get_flag("replay")
-}
-
-/// The words of the matches.
-pub fn words_of<'w>(matches: &'w ArgMatches<'_>) -> Result<Words<'w>, Fault> {
-    let times = matches.get_one::<u32>("times").unwrap_or(0);
-    if times == 0 {
-        return Err(Fault::Usage);
-    }
-    // Both paths are there: the command takes no words without them.
-    Ok(Words {
-        rules: matches.get_str("rules").unwrap_or(""),
-        input: matches.get_str("input").unwrap_or(""),
-        times,
-        edits: matches.get_flag("edits"),
-        keys: matches.get_flag("keys"),
-        tables: !matches.get_flag("no-tables"),
-    })
 }
