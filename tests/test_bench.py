@@ -49,11 +49,12 @@ TIMED = [
     (
         "rules input 3",
         [
+            "peak kB before lexing",
             "bytes", "rules", "states", "tables", "rows of tables", "rules without a table", "build ms",
             "bytes lexed", "lexemes", "tiles", "matches asked", "peak entries", "ns per match asked",
             "cells looked at", "cells at most",
             *each(["run"], OF_BYTES), "lexemes by a scanner", "cells looked at by a scanner", *each(["scan", "lexer", "lines"], OF_BYTES),
-            "peak kB before lexing", "peak kB",
+            "peak kB",
         ],
         {"bytes": "11", "rules": "3", "states": "1", "rules without a table": "0", "bytes lexed": "8", "lexemes": "2", "tiles": "4", "cells looked at": "13"},
     ),

@@ -10,24 +10,28 @@ use lrlex_bench_lib::{Fault, Relexed, Watch, boundary_from, tell_anew};
 /// What each edit inserts: one byte, of which any of the rule files in `bench` makes a tile or part of one.
 const PUT: &str = " ";
 
-/// Lexes once again after the edit. How many tiles were cut anew, how many matches were asked for, and how many cells were looked at.
+/// Lexes once again after the edit. What that counts.
 fn time_relex(
     rt: &HostRuntime,
     run: &Run<'_, '_>,
     edit: &Edit<'_>,
     new: &str,
     watch: &mut Watch,
-) -> Result<(usize, u128, Option<usize>), Fault>
+) -> Result<Relexed, Fault>
     requires fits { Fits run.now.text edit.now.removed }
     requires gives { new.now ≡ edited run.now.text (as_span edit.now.removed) edit.now.put.now }
 {
     watch.start(rt);
     let after = run.relex(rt.alloc(), edit, new)?;
     watch.stop(rt);
-    Ok((after.recut_tiles(), after.asked(), after.looked()))
+    Ok(Relexed {
+        lexed: after.recut_tiles(),
+        asked: after.asked(),
+        looked: after.looked(),
+    })
 }
 
-/// Lexes so many times again after the edit.
+/// Lexes so many times again after the edit, once at the least. What the last time counts.
 fn time_relexes(
     rt: &HostRuntime,
     run: &Run<'_, '_>,
@@ -39,18 +43,11 @@ fn time_relexes(
     requires fits { Fits run.now.text edit.now.removed }
     requires gives { new.now ≡ edited run.now.text (as_span edit.now.removed) edit.now.put.now }
 {
-    let mut counts = (0, 0, None);
-    for _ in 0..times {
-        counts = time_relex(rt, run, edit, new, watch)?;
+    let mut relexed = time_relex(rt, run, edit, new, watch)?;
+    for _ in 1..times {
+        relexed = time_relex(rt, run, edit, new, watch)?;
     }
-    let (lexed, asked, looked) = counts;
-    let spread = watch.spread()?;
-    Ok(Relexed {
-        lexed,
-        asked,
-        looked,
-        spread,
-    })
+    Ok(relexed)
 }
 
 /// Edits the text of the run, and lexes so many times again.
@@ -84,7 +81,8 @@ fn tell_edit(
     if !edit.fits(run.text()) {
         return Ok(());
     }
-    relexed_by(rt, run, &edit, times, watch)?.tell(rt, name, anew)
+    let relexed = relexed_by(rt, run, &edit, times, watch)?;
+    relexed.tell(rt, name, &watch.spread()?, anew)
 }
 
 /// Lexes again so many times after an edit at the front, in the middle and at the end of the text. The median of `run` is

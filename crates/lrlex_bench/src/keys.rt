@@ -1,7 +1,7 @@
 //! Times a document while keys are typed.
 use crate::measure::Definition;
 use lrlex::{DefaultLexerTypes, EditError};
-use lrlex_bench_lib::{Fault, Typed, Typing, Watch, boundary_from, peak};
+use lrlex_bench_lib::{Fault, Typed, Watch, boundary_from, tell_peak, tell_tiles};
 use std::alloc::Global;
 
 type Document<'d> = lrlex::Document<'d, DefaultLexerTypes<u32>>;
@@ -31,14 +31,15 @@ fn time_key(
     Ok(())
 }
 
-/// Types so many keys, one behind the other, from this place on.
-fn type_keys(
+/// Types so many keys, one behind the other, from this place on, and prints under this name what that took.
+fn tell_keys(
     rt: &HostRuntime,
     document: &mut Document<'_>,
+    name: &str,
     from: usize,
     keys: u32,
     watch: &mut Watch,
-) -> Result<Typed, Fault> {
+) -> Result<(), Fault> {
     let mut most = 0usize;
     let mut cells = 0usize;
     let mut place = from;
@@ -48,12 +49,7 @@ fn type_keys(
         cells = cells.max(document.looked().unwrap_or(usize::MAX));
         place = place.saturating_add(KEY.len());
     }
-    let spread = watch.spread()?;
-    Ok(Typed {
-        most,
-        cells,
-        spread,
-    })
+    Typed { most, cells }.tell(rt, name, &watch.spread()?)
 }
 
 /// Types so many keys at the front of the document, in its middle and at its end, and prints what that took.
@@ -63,22 +59,14 @@ fn type_all(
     keys: u32,
     watch: &mut Watch,
 ) -> Result<(), Fault> {
-    let tiles = document.tiles();
-    let before = peak(rt);
-    let front = type_keys(rt, document, 0, keys, watch)?;
-    let place = boundary_from(document.text(), document.text().len() / 2);
-    let middle = type_keys(rt, document, place, keys, watch)?;
-    let place = document.text().len();
-    let end = type_keys(rt, document, place, keys, watch)?;
-    let typing = Typing {
-        tiles,
-        before,
-        front,
-        middle,
-        end,
-        after: peak(rt),
-    };
-    typing.tell(rt)
+    tell_tiles(rt, document.tiles())?;
+    tell_peak(rt, " before typing")?;
+    tell_keys(rt, document, "front", 0, keys, watch)?;
+    let middle = boundary_from(document.text(), document.text().len() / 2);
+    tell_keys(rt, document, "middle", middle, keys, watch)?;
+    let end = document.text().len();
+    tell_keys(rt, document, "end", end, keys, watch)?;
+    tell_peak(rt, "")
 }
 
 /// Types in a document of the text, and prints what that took.

@@ -4,7 +4,7 @@ use lrlex::{
     UNSPECIFIED_LEX_FLAGS,
 };
 use lrlex_bench_lib::{
-    Counts, Fault, Lexed, Scanned, Sizes, Spread, Watch, lexemes, lines_times, peak,
+    Counts, Fault, Scanned, Sizes, Watch, lexemes, tell_bytes, tell_lines, tell_peak,
 };
 use std::alloc::{AllocError, Global};
 
@@ -98,7 +98,7 @@ fn time_lexer(
     Ok(())
 }
 
-/// So many times `run`: what the last run counts.
+/// So many times `run`, once at the least: what the last run counts.
 pub fn time_runs(
     rt: &HostRuntime,
     definition: &Definition,
@@ -106,41 +106,52 @@ pub fn time_runs(
     times: u32,
     watch: &mut Watch,
 ) -> Result<Counts, Fault> {
-    let mut counts = Counts::NONE;
-    for _ in 0..times {
+    let mut counts = time_run(rt, definition, text, watch)?;
+    for _ in 1..times {
         counts = time_run(rt, definition, text, watch)?;
     }
     Ok(counts)
 }
 
-/// So many times a scanner: what the last one counts.
-fn scan_times(
+/// Lexes the text so many times by `run`, and prints what the last run counts and what they took.
+fn tell_runs(
     rt: &HostRuntime,
     definition: &Definition,
     text: &str,
     times: u32,
     watch: &mut Watch,
-) -> Result<(Scanned, Spread), Fault> {
-    let mut scanned = Scanned::NONE;
-    for _ in 0..times {
-        scanned = time_scan(rt, definition, text, watch)?;
-    }
-    let spread = watch.spread()?;
-    Ok((scanned, spread))
+) -> Result<(), Fault> {
+    let counts = time_runs(rt, definition, text, times, watch)?;
+    counts.tell(rt, &watch.spread()?, text.len())
 }
 
-/// So many times `lexer`.
-fn lexer_times(
+/// Goes over the text so many times by a scanner, and prints what the last one counts and what they took.
+fn tell_scans(
     rt: &HostRuntime,
     definition: &Definition,
     text: &str,
     times: u32,
     watch: &mut Watch,
-) -> Result<Spread, Fault> {
+) -> Result<(), Fault> {
+    let mut scanned = time_scan(rt, definition, text, watch)?;
+    for _ in 1..times {
+        scanned = time_scan(rt, definition, text, watch)?;
+    }
+    scanned.tell(rt, &watch.spread()?, text.len())
+}
+
+/// Lexes the text so many times by `lexer`, and prints what that took.
+fn tell_lexers(
+    rt: &HostRuntime,
+    definition: &Definition,
+    text: &str,
+    times: u32,
+    watch: &mut Watch,
+) -> Result<(), Fault> {
     for _ in 0..times {
         time_lexer(rt, definition, text, watch)?;
     }
-    watch.spread()
+    tell_bytes(rt, "lexer", &watch.spread()?, text.len())
 }
 
 /// The sizes of the text and of the definition, whose build took so many nanoseconds.
@@ -165,22 +176,11 @@ pub fn tell_run(
     times: u32,
     watch: &mut Watch,
 ) -> Result<(), Fault> {
-    let before = peak(rt);
-    let counts = time_runs(rt, definition, text, times, watch)?;
-    let runs = watch.spread()?;
-    let (scanned, scans) = scan_times(rt, definition, text, times, watch)?;
-    let lexers = lexer_times(rt, definition, text, times, watch)?;
-    let lines = lines_times(rt, text, times, watch)?;
-    let lexed = Lexed {
-        sizes: sizes_of(definition, built, text),
-        counts,
-        runs,
-        scanned,
-        scans,
-        lexers,
-        lines,
-        before,
-        after: peak(rt),
-    };
-    lexed.tell(rt)
+    tell_peak(rt, " before lexing")?;
+    sizes_of(definition, built, text).tell(rt)?;
+    tell_runs(rt, definition, text, times, watch)?;
+    tell_scans(rt, definition, text, times, watch)?;
+    tell_lexers(rt, definition, text, times, watch)?;
+    tell_lines(rt, text, times, watch)?;
+    tell_peak(rt, "")
 }

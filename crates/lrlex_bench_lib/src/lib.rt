@@ -14,10 +14,10 @@ mod words;
 
 pub use crate::clock::Watch;
 pub use crate::faults::Fault;
-pub use crate::memory::peak;
 pub use crate::spread::{Spread, spread_of};
 pub use crate::tasks::{Request, Task, asked};
 pub use crate::telling::{
-    Counts, Lexed, Relexed, Scanned, Sizes, Typed, Typing, tell_anew, tell_usage,
+    Counts, Relexed, Scanned, Sizes, Typed, tell_anew, tell_bytes, tell_peak, tell_tiles,
+    tell_usage,
 };
-pub use crate::texts::{boundary_from, lexemes, lines_times};
+pub use crate::texts::{boundary_from, lexemes, tell_lines};

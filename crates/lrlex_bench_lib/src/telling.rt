@@ -1,6 +1,7 @@
 //! What was measured, and the lines that tell it.
 use crate::faults::Fault;
-use crate::figures::{Hundredths, Tenths};
+use crate::figures::Hundredths;
+use crate::memory::peak;
 use crate::spread::Spread;
 use crate::words::USAGE;
 use std::io;
@@ -8,6 +9,35 @@ use std::io;
 /// Prints how the program is called.
 pub fn tell_usage(rt: &HostRuntime) -> Result<(), Fault> {
     println!(rt; "{USAGE}")?;
+    Ok(())
+}
+
+/// Prints the greatest memory so far, in kB. The words say when that is.
+pub fn tell_peak(rt: &HostRuntime, when: &str) -> Result<(), Fault> {
+    let count = peak(rt);
+    println!(rt; "peak kB{when}: {count}")?;
+    Ok(())
+}
+
+/// Prints how many tiles a document has.
+pub fn tell_tiles(rt: &HostRuntime, tiles: usize) -> Result<(), Fault> {
+    println!(rt; "tiles: {tiles}")?;
+    Ok(())
+}
+
+/// Prints nanoseconds for each byte of a text: the median, the best and the worst.
+pub fn tell_bytes(
+    rt: &HostRuntime,
+    name: &str,
+    spread: &Spread,
+    bytes: usize,
+) -> Result<(), Fault> {
+    let median = Hundredths::of(spread.median, bytes as u128);
+    let best = Hundredths::of(spread.best, bytes as u128);
+    let worst = Hundredths::of(spread.worst, bytes as u128);
+    println!(rt;
+        "{name} median ns per byte: {median}\n{name} best ns per byte: {best}\n{name} worst ns per byte: {worst}"
+    )?;
     Ok(())
 }
 
@@ -34,7 +64,7 @@ pub struct Sizes {
 
 impl Sizes {
     /// Prints the sizes.
-    fn tell(&self, rt: &HostRuntime) -> io::Result<()> {
+    pub fn tell(&self, rt: &HostRuntime) -> Result<(), Fault> {
         let Sizes {
             bytes,
             rules,
@@ -47,7 +77,8 @@ impl Sizes {
         let ms = Hundredths::of(built, 1_000_000);
         println!(rt;
             "bytes: {bytes}\nrules: {rules}\nstates: {states}\ntables: {tables}\nrows of tables: {rows}\nrules without a table: {asked}\nbuild ms: {ms}"
-        )
+        )?;
+        Ok(())
     }
 }
 
@@ -77,19 +108,8 @@ pub struct Counts {
 }
 
 impl Counts {
-    /// Of no run.
-    pub const NONE: Counts = Counts {
-        end: 0,
-        lexemes: 0,
-        tiles: 0,
-        asked: 0,
-        peak: 0,
-        looked: None,
-        most: 0,
-    };
-
-    /// Prints the counts, and how long a match took that was asked for.
-    fn tell(&self, rt: &HostRuntime, nanos: u128) -> io::Result<()> {
+    /// Prints the counts, the time for each match that was asked for, and the times for each byte of a text.
+    pub fn tell(&self, rt: &HostRuntime, runs: &Spread, bytes: usize) -> Result<(), Fault> {
         let Counts {
             end,
             lexemes,
@@ -99,12 +119,13 @@ impl Counts {
             looked,
             most,
         } = *self;
-        let each = Hundredths::of(nanos, asked);
+        let each = Hundredths::of(runs.median, asked);
         println!(rt;
             "bytes lexed: {end}\nlexemes: {lexemes}\ntiles: {tiles}\nmatches asked: {asked}\npeak entries: {peak}\nns per match asked: {each}"
         )?;
         tell_cells(rt, "", looked)?;
-        println!(rt; "cells at most: {most}")
+        println!(rt; "cells at most: {most}")?;
+        tell_bytes(rt, "run", runs, bytes)
     }
 }
 
@@ -118,75 +139,16 @@ pub struct Scanned {
 }
 
 impl Scanned {
-    /// Of no scanner.
-    pub const NONE: Scanned = Scanned {
-        lexemes: 0,
-        looked: None,
-    };
-
-    /// Prints the counts.
-    fn tell(&self, rt: &HostRuntime) -> io::Result<()> {
+    /// Prints the counts, and the times for each byte of a text.
+    pub fn tell(&self, rt: &HostRuntime, scans: &Spread, bytes: usize) -> Result<(), Fault> {
         let Scanned { lexemes, looked } = *self;
         println!(rt; "lexemes by a scanner: {lexemes}")?;
-        tell_cells(rt, " by a scanner", looked)
+        tell_cells(rt, " by a scanner", looked)?;
+        tell_bytes(rt, "scan", scans, bytes)
     }
 }
 
-/// Prints nanoseconds for each byte: the median, the best and the worst.
-fn tell_bytes(rt: &HostRuntime, name: &str, spread: &Spread, bytes: usize) -> io::Result<()> {
-    let median = Hundredths::of(spread.median, bytes as u128);
-    let best = Hundredths::of(spread.best, bytes as u128);
-    let worst = Hundredths::of(spread.worst, bytes as u128);
-    println!(rt;
-        "{name} median ns per byte: {median}\n{name} best ns per byte: {best}\n{name} worst ns per byte: {worst}"
-    )
-}
-
-/// What lexing a text took, and the peaks of memory before and after it, in kB.
-#[derive(Clone, Copy)]
-pub struct Lexed {
-    pub sizes: Sizes,
-    pub counts: Counts,
-    /// The times of `run`.
-    pub runs: Spread,
-    pub scanned: Scanned,
-    /// The times of a scanner.
-    pub scans: Spread,
-    /// The times of `lexer`.
-    pub lexers: Spread,
-    /// The times of finding the lines.
-    pub lines: Spread,
-    pub before: u64,
-    pub after: u64,
-}
-
-impl Lexed {
-    /// Prints the times.
-    fn tell_times(&self, rt: &HostRuntime) -> io::Result<()> {
-        tell_bytes(rt, "run", &self.runs, self.sizes.bytes)?;
-        self.scanned.tell(rt)?;
-        tell_bytes(rt, "scan", &self.scans, self.sizes.bytes)?;
-        tell_bytes(rt, "lexer", &self.lexers, self.sizes.bytes)?;
-        tell_bytes(rt, "lines", &self.lines, self.sizes.bytes)
-    }
-
-    /// Prints the peaks of memory.
-    fn tell_peaks(&self, rt: &HostRuntime) -> io::Result<()> {
-        let Lexed { before, after, .. } = *self;
-        println!(rt; "peak kB before lexing: {before}\npeak kB: {after}")
-    }
-
-    /// Prints all.
-    pub fn tell(&self, rt: &HostRuntime) -> Result<(), Fault> {
-        self.sizes.tell(rt)?;
-        self.counts.tell(rt, self.runs.median)?;
-        self.tell_times(rt)?;
-        self.tell_peaks(rt)?;
-        Ok(())
-    }
-}
-
-/// What lexing again after an edit took.
+/// What lexing again after an edit counts.
 #[derive(Clone, Copy)]
 pub struct Relexed {
     /// Tiles that were cut anew.
@@ -195,25 +157,28 @@ pub struct Relexed {
     pub asked: u128,
     /// Cells of tables that were looked at, if that is known.
     pub looked: Option<usize>,
-    /// The times, in nanoseconds.
-    pub spread: Spread,
 }
 
 impl Relexed {
-    /// Prints it under this name, and how many times as long `run` takes, whose median this is.
-    pub fn tell(&self, rt: &HostRuntime, name: &str, anew: u128) -> Result<(), Fault> {
+    /// Prints the counts and the times under this name, and how many times as long `run` takes, whose median is `anew`.
+    pub fn tell(
+        &self,
+        rt: &HostRuntime,
+        name: &str,
+        spread: &Spread,
+        anew: u128,
+    ) -> Result<(), Fault> {
         let Relexed {
             lexed,
             asked,
             looked,
-            spread,
         } = *self;
         let Spread {
             median,
             best,
             worst,
-        } = spread;
-        let faster = Tenths::of(anew, median);
+        } = *spread;
+        let faster = Hundredths::of(anew, median);
         println!(rt;
             "{name} tiles cut anew: {lexed}\n{name} matches asked: {asked}\n{name} median ns: {median}\n{name} best ns: {best}\n{name} worst ns: {worst}\n{name} times faster than run: {faster}"
         )?;
@@ -223,67 +188,27 @@ impl Relexed {
     }
 }
 
-/// What typing at a place took.
+/// The most that a key took, of several typed at a place.
 #[derive(Clone, Copy)]
 pub struct Typed {
     /// The most tiles that a key cut anew.
     pub most: usize,
     /// The most cells of tables that a key looked at.
     pub cells: usize,
-    /// The times of the keys, in nanoseconds.
-    pub spread: Spread,
 }
 
 impl Typed {
-    /// Prints it under this name.
-    fn tell(&self, rt: &HostRuntime, name: &str) -> io::Result<()> {
-        let Typed {
-            most,
-            cells,
-            spread,
-        } = *self;
+    /// Prints the counts and the times of the keys under this name.
+    pub fn tell(&self, rt: &HostRuntime, name: &str, spread: &Spread) -> Result<(), Fault> {
+        let Typed { most, cells } = *self;
         let Spread {
             median,
             best,
             worst,
-        } = spread;
+        } = *spread;
         println!(rt;
             "{name} most tiles cut anew for a key: {most}\n{name} most cells looked at for a key: {cells}\n{name} median ns for a key: {median}\n{name} best ns for a key: {best}\n{name} worst ns for a key: {worst}"
-        )
-    }
-}
-
-/// What typing took, and the peaks of memory before and after it, in kB.
-#[derive(Clone, Copy)]
-pub struct Typing {
-    pub tiles: usize,
-    pub before: u64,
-    pub front: Typed,
-    pub middle: Typed,
-    pub end: Typed,
-    pub after: u64,
-}
-
-impl Typing {
-    /// Prints what stands before the places.
-    fn tell_head(&self, rt: &HostRuntime) -> io::Result<()> {
-        let Typing { tiles, before, .. } = *self;
-        println!(rt; "tiles: {tiles}\npeak kB before typing: {before}")
-    }
-
-    /// Prints what stands behind the places.
-    fn tell_foot(&self, rt: &HostRuntime) -> io::Result<()> {
-        let after = self.after;
-        println!(rt; "peak kB: {after}")
-    }
-
-    /// Prints all.
-    pub fn tell(&self, rt: &HostRuntime) -> Result<(), Fault> {
-        self.tell_head(rt)?;
-        self.front.tell(rt, "front")?;
-        self.middle.tell(rt, "middle")?;
-        self.end.tell(rt, "end")?;
-        self.tell_foot(rt)?;
+        )?;
         Ok(())
     }
 }

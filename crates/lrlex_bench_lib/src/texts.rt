@@ -1,7 +1,7 @@
 //! The texts that are lexed: reading them, their places, their lines, and the lexemes among what they were cut into.
 use crate::clock::Watch;
 use crate::faults::Fault;
-use crate::spread::Spread;
+use crate::telling::tell_bytes;
 use lrlex_base::NewlineCache;
 use std::{fs, io};
 
@@ -32,17 +32,17 @@ fn time_lines(rt: &HostRuntime, text: &str, watch: &mut Watch) -> Result<(), Fau
     Ok(())
 }
 
-/// Finds the lines of the text so many times.
-pub fn lines_times(
+/// Finds the lines of the text so many times, and prints what that took.
+pub fn tell_lines(
     rt: &HostRuntime,
     text: &str,
     times: u32,
     watch: &mut Watch,
-) -> Result<Spread, Fault> {
+) -> Result<(), Fault> {
     for _ in 0..times {
         time_lines(rt, text, watch)?;
     }
-    watch.spread()
+    tell_bytes(rt, "lines", &watch.spread()?, text.len())
 }
 
 /// How many items are lexemes.
