@@ -4,8 +4,9 @@ import unittest
 
 from support import replay
 from support.definitions import from_rules, from_text, rule
-from support.edits import is_change, moved_item, moved_piece
+from support.edits import edited, is_change, moved_item, moved_piece
 from support.formatting import format_items, format_pieces, format_places, names_of
+from support.places import counted
 from support.rule_texts import COMMENTS, LINES, NESTED, WORDS
 
 FACES = "%%\n[a😀]+ 'ID'\n[ ] ;"
@@ -82,6 +83,33 @@ AT_ANY_NUMBER = [
         "1:1 0:0 1:2 0:1 2:1 1:0 2:1 1:0 2:2 1:2 2:3 1:3 2:4 1:4 2:5 1:6 2:5 1:6",
         "",
     ),
+]
+
+# A text and an edit, after which the document tells the place of each byte.
+PLACED = [
+    ("", (0, 0, "")),
+    ("", (0, 0, "\n")),
+    ("", (0, 0, "a\nb\n")),
+    ("a\nb\nc", (0, 0, "x")),
+    ("a\nb\nc", (0, 0, "x\n")),
+    ("a\nb\nc", (0, 1, "")),
+    ("a\nb\nc", (0, 2, "\n\n\n")),
+    ("a\nb\nc", (1, 2, "x")),
+    ("a\nb\nc", (2, 3, "\n\n")),
+    ("a\nb\nc", (2, 2, "❤")),
+    ("a\nb\nc", (1, 4, "")),
+    ("a\nb\nc", (1, 4, "\n")),
+    ("a\nb\nc", (0, 5, "")),
+    ("a\nb\nc", (0, 5, "\n")),
+    ("a\nb\nc", (4, 5, "")),
+    ("a\nb\nc", (5, 5, "d")),
+    ("a\nb\nc", (5, 5, "\n")),
+    ("\n\n\n", (1, 2, "")),
+    ("\n\n\n", (3, 3, "\n")),
+    ("a\r\nb\r\n", (1, 3, "\n")),
+    ("a\r\nb\r\n", (2, 3, "")),
+    ("a\r\nb\r\n", (4, 6, "\r\n\r\n")),
+    ("❤\n❤\n", (3, 4, "\r\n")),
 ]
 
 LETTERS = [rule(0, "A", 0, 1, "a")]
@@ -241,6 +269,15 @@ class Documents(replay.TestCase):
             with self.subTest(text=text, bytes=at):
                 answers = replay.answer(from_text(FACES).case(["document", text, [(0, 0, "", at)]]))
                 self.assertEqual(format_places(answers.last("places")), places)
+
+    def test_the_places_of_a_document_after_an_edit(self):
+        for text, edit in PLACED:
+            data = edited(text, edit).encode()
+            at = list(range(len(data) + 2))
+            with self.subTest(text=text, edit=edit):
+                answers = replay.answer(from_text(LINES).case(["document", text, [(*edit, at)]]))
+                self.assertEqual(answers.values("edit"), [True])
+                self.assertEqual(answers.last("places"), [counted(data, byte) for byte in at])
 
     def test_the_places_and_texts_of_a_lexer_at_any_number(self):
         for text, at, spans, places, texts in AT_ANY_NUMBER:

@@ -138,11 +138,26 @@ CHAINS = [
 # An edit, two texts, whether it fits the first, and whether it makes the second of it.
 FITTING = [
     ((1, 2, ""), "❤", "❤", False, False),
+    ((1, 2, ""), "aac", "ac", True, True),
     ((0, 3, "b"), "❤", "b", True, True),
+    ((0, 3, ""), "❤", "", True, True),
     ((2, 3, "b"), "aac", "aab", True, True),
     ((2, 3, "b"), "aac", "aac", True, False),
     ((3, 4, "b"), "aac", "aacb", False, False),
+    ((2, 2, "c"), "ab", "abc", True, True),
+    ((0, 2, "xyz"), "ab cd ef", "xyz cd ef", True, True),
+    ((2, 3, ""), "ab cd ef", "abcd ef", True, True),
 ]
+
+# The characters of these texts, and rules of which each matches one: the ids of lexemes spell their text.
+CHARACTERS = "abcdefxyz ❤"
+
+SPELLING = "%%\n" + "".join(f"[{character}] 'T{token}'\n" for token, character in enumerate(CHARACTERS))
+
+
+def spelled(items):
+    """The text of these lexemes."""
+    return "".join(CHARACTERS[token] for _, token, _, _ in items)
 
 
 def runs_of(answers):
@@ -180,22 +195,29 @@ class Edits(replay.TestCase):
                     self.check_as_recomputed(run, *runs_of(answers))
 
     def test_a_run_and_a_document_take_the_edits_that_fit(self):
-        definition = from_text("%%\n.+ 'ALL'")
+        definition = from_text(SPELLING)
         cases = [definition.case(["run", old, [edit]], ["document", old, [edit]]) for edit, old, *_ in FITTING]
         for row, answers in zip(FITTING, replay.answers(cases), strict=True):
             edit, old, new, fits, makes = row
+            after = edited(old, edit) if fits else old
             with self.subTest(text=old, edit=edit):
                 self.assertEqual(answers.values("edit"), [fits])
                 self.assertEqual(answers.values("unfit"), [] if fits else [list(edit[:2])])
-                self.assertEqual(answers.last("text"), edited(old, edit) if fits else old)
-                self.assertEqual(fits and answers.last("text") == new, makes)
+                # of the run, which has none after an edit that doesn't fit, and of the document
+                runs = [old, after] if fits else [old]
+                self.assertEqual([spelled(items) for items in answers.values("items")], [*runs, old, after])
+                self.assertEqual(answers.values("text"), [old, after])
+                self.assertEqual(fits and after == new, makes)
 
     def test_an_edit_says_whether_it_fits_and_makes_a_text(self):
-        cases = [from_text(WORDS).case(["edit", old, edit, new]) for edit, old, new, _, _ in FITTING]
+        definition = from_text(WORDS)
+        cases = [
+            definition.case(["edit", old, edit, new], ["edit", old, edit, "other"]) for edit, old, new, _, _ in FITTING
+        ]
         for row, answers in zip(FITTING, replay.answers(cases), strict=True):
             edit, old, new, fits, makes = row
             with self.subTest(text=old, edit=edit, other=new):
-                self.assertEqual(answers.last("fits"), [fits, makes])
+                self.assertEqual(answers.values("fits"), [[fits, makes], [fits, False]])
 
 
 if __name__ == "__main__":

@@ -5,6 +5,7 @@ import unittest
 from support import replay
 from support.definitions import from_text
 from support.formatting import format_place
+from support.places import said_of_span
 
 WORDS = "%%\n[a-z❤]+ 'ID'\n[ \\n] ;"
 
@@ -48,6 +49,14 @@ OF_SPANS = [
     "\na\na at 1:1-3:2 in [\na\na a]",
     "\na\na a\n at 1:1-4:1 in [\na\na a\na a a]",
     " a\n at 3:2-4:1 in [a a\na a a]",
+]
+
+# A text, a span, and whether it fits the text.
+FITTING = [
+    (" a\n❤ b", (3, 6), True),
+    (" a\n❤ b", (8, 8), True),
+    (" a\n❤ b", (3, 4), False),
+    (" a\n❤ b", (9, 9), False),
 ]
 
 
@@ -105,6 +114,14 @@ class Lexers(replay.TestCase):
             for number, row in enumerate(zip(said, wanted)):
                 with self.subTest(row=number):
                     self.assertEqual(*row)
+
+    def test_a_span_fits_on_character_boundaries(self):
+        for text, span, fits in FITTING:
+            for answers in lexers(WORDS, text, [span]):
+                with self.subTest(text=text, span=span):
+                    said = answers.values("told")[-1]
+                    self.assertEqual([part is not None for part in said[3:6]], [fits] * 3)
+                    self.assertEqual(said, said_of_span(text.encode(), *span))
 
     def test_a_span_past_the_text_fits_nothing(self):
         wanted = "a at 1:1-1:2 in [a b c], b at 1:3-1:4 in [a b c], c at 1:5-1:6 in [a b c], past the input"

@@ -1,7 +1,6 @@
 //! Lexers that have their text, shown by one over items that are handed in.
 ghost use Rattle.lrlex_base.specs.Places.{AreBreaksOf};
 
-use crate::places::{triangle, triangle_line};
 use lrlex_base::{
     DefaultLexeme, DefaultLexerTypes, Items, LexError, Lexeme, Lexer, NewlineCache,
     NonStreamingLexer, Span,
@@ -126,49 +125,4 @@ fn words_have_texts_lines_and_columns(rt: HostRuntime) {
         }
     }
     assert!(rt; words.next().is_none());
-}
-
-/// Whether the whole lines from one byte to another are these.
-fn has_lines(lexer: &Found<'_>, start: usize, end: usize, lines: &str) -> bool {
-    if start > end {
-        return false;
-    }
-    let span = Span::new(start, end);
-    span.fits(lexer.text) && lexer.span_lines_str(span) == lines
-}
-
-/// The two ends of a span of the triangle, and its whole lines.
-const LINES: &[(usize, usize, &str)] = &[
-    (0, 0, ""),
-    (0, 2, "\na"),
-    (0, 4, "\na\na a"),
-    (0, 7, "\na\na a\na a a"),
-    (4, 7, "a a\na a a"),
-];
-
-#[test]
-fn whole_lines_of_the_triangle(rt: HostRuntime) {
-    let text = triangle(rt.alloc()).expect(&rt, "memory");
-    let lexer = lexer_of(&rt, rt.alloc(), text.as_str(), &[]);
-    for (start, end, lines) in LINES {
-        assert!(rt; has_lines(&lexer, *start, *end, lines), "{start}..{end}");
-    }
-    let mut at = 1usize;
-    for i in 1..71usize {
-        let line = triangle_line(rt.alloc(), i).expect(&rt, "memory");
-        let same = has_lines(&lexer, at, at.saturating_add(1), line.as_str());
-        assert!(rt; same, "line {i}");
-        at = at.saturating_add(2 * i);
-    }
-}
-
-#[test]
-fn a_text_outlives_its_lexer(rt: HostRuntime) {
-    let text = "ab";
-    let lexer = lexer_of(&rt, rt.alloc(), text, &[]);
-    let span = Span::new(1, 2);
-    assert!(rt; span.fits(lexer.text));
-    let part = lexer.span_str(span);
-    drop(lexer);
-    assert!(rt; part == "b");
 }

@@ -1,9 +1,7 @@
-//! Rows on `lrlex_base` and `lrlex_tokens`, through their public calls: classes, ids, places, lexemes, edits, the text of a
-//! token module, and running out of memory. Nothing here but tests.
+//! Rows on `lrlex_base` and `lrlex_tokens`, through their public calls: classes, ids, places, lexemes, the text of a token module,
+//! and running out of memory. Nothing here but tests.
 #![tactic(auto)]
 
-#[cfg(test)]
-mod edits;
 #[cfg(test)]
 mod lexing;
 #[cfg(test)]

@@ -1,8 +1,8 @@
-//! Lines and columns, of texts that are fed whole and in pieces.
+//! Lines and columns, of texts that are fed whole and in pieces, and of a text after an edit.
 ghost use Rattle.std.specs.Prelude.{◌<◌, ◌+◌, ◌^◌, ◌++◌, IfOk, length};
 ghost use Rattle.lrlex_base.specs.Places.{AreBreaksOf};
 
-use lrlex_base::{Edit, NewlineCache, Span};
+use lrlex_base::{NewlineCache, Span};
 use std::alloc::{AllocError, Global};
 
 /// A cache that was fed the three pieces, one after the other.
@@ -118,23 +118,14 @@ fn pieces_answer_as_the_whole(rt: HostRuntime) {
     assert!(rt; has_places(&pieces, text, PLACES) && has_lines(&pieces, LINES));
 }
 
-/// Line number i (from 0) of the triangle: i letters `a` with a blank between each two.
-pub(crate) fn triangle_line(alloc: Global, i: usize) -> Result<String, AllocError> {
-    let mut line = String::new(alloc);
-    for j in 0..i {
-        line.push_str(if j > 0 { " a" } else { "a" })?;
-    }
-    Ok(line)
-}
-
-/// The triangle: its 71 lines, with a newline between each two.
-pub(crate) fn triangle(alloc: Global) -> Result<String, AllocError> {
+/// The triangle: 71 lines, with a newline between each two. Line i (from 0) is i letters `a` with a blank between each two.
+fn triangle(alloc: Global) -> Result<String, AllocError> {
     let mut text = String::new(alloc);
     for i in 0..71usize {
-        if i > 0 {
-            text.push_str("\n")?;
+        text.push_str(if i > 0 { "\n" } else { "" })?;
+        for j in 0..i {
+            text.push_str(if j > 0 { " a" } else { "a" })?;
         }
-        text.push_str(&triangle_line(alloc, i)?)?;
     }
     Ok(text)
 }
@@ -177,73 +168,28 @@ fn seventy_one_lines_fed_whole_and_byte_by_byte(rt: HostRuntime) {
     assert!(rt; is_triangle(&bytes, text.as_str()));
 }
 
-/// Whether the two caches have the same length and the same lines.
-fn is_same(cache: &NewlineCache, other: &NewlineCache) -> bool {
-    let fed = cache.fed();
-    if fed != other.fed() || fed >= 1_000 {
-        return false;
-    }
-    for byte in 0..=fed {
-        let here = Span::new(byte, byte);
-        if cache.span_line_bytes(here) != other.span_line_bytes(here) {
-            return false;
-        }
-    }
-    true
-}
+/// Lines of `a\nb\nc`.
+const OLD_LINES: &[(usize, usize, (usize, usize))] = &[
+    (0, 1, (0, 1)),
+    (2, 3, (2, 3)),
+    (4, 5, (4, 5)),
+];
 
-/// Whether a copy of the old text's cache, once edited, answers as one that was fed the new text, and the cache as before.
-fn follows(alloc: Global, old: &str, edit: &Edit<'_>) -> Result<bool, AllocError> {
-    if !edit.fits(old) {
-        return Ok(false);
-    }
-    let new = edit.apply(alloc, old)?;
-    let fed = NewlineCache::from_str(alloc, &new)?;
-    let again = NewlineCache::from_str(alloc, old)?;
-    let kept = NewlineCache::from_str(alloc, old)?;
-    let mut cache = kept.clone()?;
-    if edit.removed.end() > cache.fed() || cache.fed() >= 1_000 || edit.put.len() >= 1_000 {
-        return Ok(false);
-    }
-    cache.edit(edit.removed, edit.put)?;
-    Ok(is_same(&cache, &fed) && is_same(&kept, &again))
-}
-
-/// The old text, the two ends of what is removed, and what is put.
-const EDITS: &[(&str, usize, usize, &str)] = &[
-    ("", 0, 0, ""),
-    ("", 0, 0, "\n"),
-    ("", 0, 0, "a\nb\n"),
-    ("a\nb\nc", 0, 0, "x"),
-    ("a\nb\nc", 0, 0, "x\n"),
-    ("a\nb\nc", 0, 1, ""),
-    ("a\nb\nc", 0, 2, "\n\n\n"),
-    ("a\nb\nc", 1, 2, "x"),
-    ("a\nb\nc", 2, 3, "\n\n"),
-    ("a\nb\nc", 2, 2, "❤"),
-    ("a\nb\nc", 1, 4, ""),
-    ("a\nb\nc", 1, 4, "\n"),
-    ("a\nb\nc", 0, 5, ""),
-    ("a\nb\nc", 0, 5, "\n"),
-    ("a\nb\nc", 4, 5, ""),
-    ("a\nb\nc", 5, 5, "d"),
-    ("a\nb\nc", 5, 5, "\n"),
-    ("\n\n\n", 1, 2, ""),
-    ("\n\n\n", 3, 3, "\n"),
-    ("a\r\nb\r\n", 1, 3, "\n"),
-    ("a\r\nb\r\n", 2, 3, ""),
-    ("a\r\nb\r\n", 4, 6, "\r\n\r\n"),
-    ("❤\n❤\n", 3, 4, "\r\n"),
+/// Lines of `a\n\n\n\nc`.
+const NEW_LINES: &[(usize, usize, (usize, usize))] = &[
+    (0, 1, (0, 1)),
+    (2, 2, (2, 2)),
+    (3, 3, (3, 3)),
+    (4, 4, (4, 4)),
+    (5, 6, (5, 6)),
 ];
 
 #[test]
-fn an_edited_cache_is_that_of_the_edited_text(rt: HostRuntime) {
-    for (old, start, end, put) in EDITS {
-        let edit = Edit {
-            removed: Span::new(*start, (*end).max(*start)),
-            put,
-        };
-        let follows = follows(rt.alloc(), old, &edit).expect(&rt, "memory");
-        assert!(rt; follows, "{old:?}, {start}..{end}");
-    }
+fn an_edited_copy_has_lines_of_its_own(rt: HostRuntime) {
+    let kept = NewlineCache::from_str(rt.alloc(), "a\nb\nc").expect(&rt, "memory");
+    let mut copy = kept.clone().expect(&rt, "memory");
+    assert!(rt; copy.fed() == 5);
+    copy.edit(Span::new(2, 3), "\n\n").expect(&rt, "memory");
+    assert!(rt; copy.fed() == 6 && has_lines(&copy, NEW_LINES));
+    assert!(rt; kept.fed() == 5 && has_lines(&kept, OLD_LINES));
 }

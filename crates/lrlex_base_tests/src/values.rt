@@ -33,28 +33,11 @@ fn classes_of_the_eleven_and_their_neighbours(rt: HostRuntime) {
     }
 }
 
-/// The two ends of a span, a text, and whether it fits.
-const FITTING: &[(usize, usize, &str, bool)] = &[
-    (3, 6, " a\n❤ b", true),
-    (8, 8, " a\n❤ b", true),
-    (3, 4, " a\n❤ b", false),
-    (9, 9, " a\n❤ b", false),
-    (100, 100, "a b c", false),
-];
-
-#[test]
-fn a_span_fits_on_character_boundaries(rt: HostRuntime) {
-    for (start, end, text, fits) in FITTING {
-        let span = Span::new(*start, (*end).max(*start));
-        assert!(rt; span.fits(text) == *fits, "{start}..{end}");
-    }
-    let span = Span::new(3, 7);
-    assert!(rt; span.start() == 3 && span.end() == 7 && span.len() == 4);
-}
-
 /// Whether the lexeme has the id 7, stands at 3..7, and is faulty or not.
 fn is_as_made(lexeme: &DefaultLexeme<u32>, faulty: bool) -> bool {
-    lexeme.tok_id() == 7 && lexeme.span() == Span::new(3, 7) && lexeme.faulty() == faulty
+    let span = lexeme.span();
+    let is_placed = span.start() == 3 && span.end() == 7 && span.len() == 4;
+    is_placed && span == Span::new(3, 7) && lexeme.tok_id() == 7 && lexeme.faulty() == faulty
 }
 
 #[test]
