@@ -17,8 +17,10 @@ FILES = {"rules": "%%\n[0-9]+ 'INT'\n[a-z]+ 'ID'\n[ ] ;", "input": "abc 123 ❤"
 ROWS = [
     ("", "", Outcome(USAGE)),
     ("--help", "", Outcome(USAGE)),
-    ("--replay", "", Outcome("0 cases: 0 compared, 0 differ\n")),
+    ("--replay", "", Outcome("0 cases\n")),
     ("--replay", b"\xff\n", Outcome("", STREAM, 1)),
+    ("--replay", "{\n", Outcome("", STREAM, 1)),
+    ("--replay", "{}\n", Outcome("", STREAM, 1)),
     ("--replay --replay", "", Outcome("", USAGE, 1)),
     ("--replay --no-tables", "", Outcome("", USAGE, 1)),
     ("rules input 1 --replay", "", Outcome("", USAGE, 1)),

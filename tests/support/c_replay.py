@@ -1,4 +1,4 @@
-"""Replays cases of crates/lrlex_bench/stdin through the C library: python3 -m support.c_replay, in tests/.
+"""Replays the cases of replayed.jsonl through the C library: python3 -m support.c_replay, in tests/.
 
 The package lrlex of bindings/python and LRLEX_LIBRARY say how the library is called. A case is compared in its faults with all spans,
 rules, start states, ids from names, items, places, and the count of its pieces; then a document that becomes its input by edits is compared too.

@@ -1,4 +1,4 @@
-"""Has lrlex_bench replay cases with steps. steps.md says what a case is, and which lines its steps answer."""
+"""Has lrlex_bench replay cases. steps.md says what a case is, and which lines it answers."""
 
 import json
 import unittest
@@ -35,9 +35,15 @@ class Answers:
         return found[-1] if found else None
 
 
+def cases_in(path):
+    """The cases of a file, each on a line."""
+    with open(path, encoding="utf-8") as file:
+        return [json.loads(line) for line in file]
+
+
 def stored():
-    """The cases without steps that the gate replays."""
-    return [json.loads(line) for line in programs.read(f"crates/{PROGRAM}/stdin").splitlines()]
+    """The cases without steps that the tests replay."""
+    return cases_in(f"{programs.TOP}/tests/replayed.jsonl")
 
 
 def pair(line):
@@ -73,15 +79,15 @@ def split(out, count):
     """The lines of each of so many cases, without the line that names it."""
     parts = (b"\n" + out).split(b'\ncase "')
     last = parts[-1].rstrip(b"\n").rsplit(b"\n", 1)
-    if parts[0] or len(parts) != count + 1 or not last[-1].startswith(b"%d cases: " % count):
+    if parts[0] or len(parts) != count + 1 or last[-1] != b"%d cases" % count:
         raise AssertionError(f"{len(parts) - 1} cases were answered in place of {count}, at the end {last[-1]!r}")
     parts[-1] = last[0]
     return [part.split(b"\n")[1:] for part in parts[1:]]
 
 
-def answers(cases):
-    """What each case answers."""
-    return [Answers(lines) for lines in split(run(as_input(cases)), len(cases))]
+def answers(cases, path=None):
+    """What each case answers, by the program of this path if there is one."""
+    return [Answers(lines) for lines in split(run(as_input(cases), path), len(cases))]
 
 
 def answer(case):

@@ -1,4 +1,4 @@
-//! Does what a case says and compares what comes of it.
+//! Tells all that comes of the rules and the input of a case without steps.
 ghost use Rattle.std.specs.Prelude.{◌≡◌};
 ghost use Rattle.lrlex.specs.Lexer.{lexer_text};
 
@@ -11,12 +11,14 @@ use lrlex_base::{Id, NewlineCache, NonStreamingLexer, Span};
 use lrlex_replay_cases::facts::{
     Item, tell_counts, tell_faults, tell_items, tell_refusal, tell_rules, tell_sets, tell_states,
 };
-use lrlex_replay_cases::findings::Findings;
 use lrlex_replay_cases::parts::ids_of;
+use lrlex_replay_cases::printing::print_told;
 use lrlex_replay_cases::reading::{Trouble, text_in, texts_in};
+use lrlex_replay_cases::steps::told_of_case;
 use lrlex_replay_cases::told::Told;
 use serde_json::{Map, Value};
 use std::alloc::{AllocError, Global};
+use std::io;
 
 /// What lexing an input gives: the items, and how many tiles the run has, the most entries of a stack and how many matches it
 /// asked for.
@@ -161,15 +163,14 @@ fn tell(told: &mut Told, case: &Value) -> Result<(), Trouble> {
     }
 }
 
-/// All that comes of a case.
+/// All that comes of a case, behind its id.
 fn told_of(alloc: Global, case: &Value) -> Result<String, Trouble> {
-    let mut told = Told::new(alloc);
+    let mut told = told_of_case(alloc, case);
     tell(&mut told, case)?;
     Ok(told.lines()?)
 }
 
-/// Replays a case. Gives what differs.
-pub fn replay(alloc: Global, case: &Value) -> Result<Findings, Trouble> {
-    let told = told_of(alloc, case)?;
-    Findings::of(alloc, case, &told)
+/// Replays a case, and prints what comes of it.
+pub fn replay(rt: &HostRuntime, case: &Value) -> io::Result<()> {
+    print_told(rt, told_of(rt.alloc(), case))
 }

@@ -47,6 +47,15 @@ pub struct RuleParts {
     pub target: Option<(usize, StartStateOperation)>,
 }
 
+/// The value of a text of JSON.
+pub fn value_of(alloc: Global, text: &str) -> Result<Value, Trouble> {
+    match Value::from_str(alloc, text) {
+        Ok(value) => Ok(value),
+        Err(fault) if fault.is_memory() => Err(Trouble::Memory),
+        Err(_) => Err(Trouble::Malformed),
+    }
+}
+
 /// The text that is this member, if it is one.
 fn str_in<'v>(value: &'v Value, member: &str) -> Option<&'v str> {
     value.get(member)?.as_str()

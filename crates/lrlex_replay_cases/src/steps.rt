@@ -303,15 +303,21 @@ pub fn told_of_step(alloc: Global, value: &Value) -> Told {
     told
 }
 
+/// What is told of a case before anything else: its id.
+pub fn told_of_case(alloc: Global, case: &Value) -> Told {
+    let mut told = Told::new(alloc);
+    told.key("case");
+    told.value(case.get("id").unwrap_or(&Value::Null));
+    told
+}
+
 /// What is told of a case before its steps: its id, and why it has no definition, if so.
 pub(crate) fn introduction(
     alloc: Global,
     case: &Value,
     refusal: Option<&Refusal>,
 ) -> Result<String, AllocError> {
-    let mut told = Told::new(alloc);
-    told.key("case");
-    told.value(case.get("id").unwrap_or(&Value::Null));
+    let mut told = told_of_case(alloc, case);
     if let Some(refusal) = refusal {
         tell_refusal(&mut told, refusal);
     }
