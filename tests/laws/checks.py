@@ -5,6 +5,7 @@ import json
 from laws.random_case import IDS
 from support.edits import is_change, moved_item, moved_piece
 from support.places import counted, fits, said_of_span
+from support.replay import in_order
 
 
 def raw(line, key):
@@ -425,7 +426,7 @@ def compare_mapping(case, rules, answers, run, tally):
     tally.add("maps")
     tally.add("lacking", len(sets[0] or []))
     tally.add("unused", len(sets[1] or []))
-    tally.same("names without a counterpart", sets, value(line, b"ids"))
+    tally.same("names without a counterpart", sets, in_order(value(line, b"ids")))
     mapped = rules_by(rules, case.ids)
     tally.same("rules by a map", mapped, value(answers["mapped definition"][2], b"rules"))
     compare_finds(mapped, answers["mapped find"], tally)

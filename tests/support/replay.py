@@ -7,6 +7,9 @@ from support import programs
 
 PROGRAM = "lrlex_bench"
 
+# The keys of what setting ids gives.
+OF_SETS = ["ids", "set_ids"]
+
 
 class TestCase(unittest.TestCase):
     """Tests that replay cases. They are skipped where lrlex_bench isn't built."""
@@ -27,12 +30,18 @@ class Answers:
 
     def values(self, key):
         """All values of this key, in order."""
-        return [json.loads(value) for found, value in self.pairs if found == key]
+        found = [json.loads(value) for found, value in self.pairs if found == key]
+        return [in_order(sets) for sets in found] if key in OF_SETS else found
 
     def last(self, key):
         """The last value of this key. None where there is none."""
         found = self.values(key)
         return found[-1] if found else None
+
+
+def in_order(sets):
+    """Both sets of names that setting ids gives, each in the order of the names, or of their places if it has these."""
+    return [names and sorted(names, key=lambda it: it if isinstance(it, str) else it[::-1]) for names in sets]
 
 
 def cases_in(path):

@@ -322,77 +322,49 @@ pub fn tell_by_name(told: &mut Told, name: &str, found: Option<&Rule<u32>>) {
     told.close();
 }
 
-/// Tells these names in their order.
-fn tell_sorted(told: &mut Told, names: Vec<&str>) {
-    let mut names = names;
-    names.sort_unstable();
+/// Tells the names, or null for none.
+fn tell_names(told: &mut Told, names: &Option<HashSet<&str>>) {
+    let Some(names) = names else {
+        told.null();
+        return;
+    };
     told.open();
-    for name in names.as_slice() {
+    for name in names {
         told.text(name);
     }
     told.close();
 }
 
-/// Tells the names in their order, or null for none.
-fn tell_names(told: &mut Told, names: &Option<HashSet<&str>>) -> Result<(), AllocError> {
-    let Some(names) = names else {
-        told.null();
-        return Ok(());
-    };
-    let mut list = Vec::new(told.alloc());
-    for name in names {
-        list.push(*name)?;
-    }
-    tell_sorted(told, list);
-    Ok(())
-}
-
 /// The same of names of their own.
-fn tell_own_names(told: &mut Told, names: &Option<HashSet<String>>) -> Result<(), AllocError> {
+fn tell_own_names(told: &mut Told, names: &Option<HashSet<String>>) {
     let Some(names) = names else {
         told.null();
-        return Ok(());
+        return;
     };
-    let mut list = Vec::new(told.alloc());
+    told.open();
     for name in names {
-        list.push(name.as_str())?;
+        told.text(name);
     }
-    tell_sorted(told, list);
-    Ok(())
+    told.close();
 }
 
-/// Tells these names with their places, in the order of these: `[name, span]`.
-fn tell_placed(told: &mut Told, names: Vec<(usize, usize, &str)>) {
-    let mut names = names;
-    names.sort_unstable();
+/// Tells the names with their places, each as `[name, span]`, or null for none.
+fn tell_placed_names(told: &mut Told, names: &Option<HashSet<(String, Span)>>) {
+    let Some(names) = names else {
+        told.null();
+        return;
+    };
     told.open();
-    for (start, end, name) in names.as_slice() {
+    for (name, span) in names {
         told.open();
         told.text(name);
-        told.numbers(&[*start, *end]);
+        told.span(*span);
         told.close();
     }
     told.close();
 }
 
-/// Tells the names with their places, in the order of these, or null for none.
-fn tell_spanned_names(
-    told: &mut Told,
-    names: &Option<HashSet<(String, Span)>>,
-) -> Result<(), AllocError> {
-    let Some(names) = names else {
-        told.null();
-        return Ok(());
-    };
-    let mut list = Vec::new(told.alloc());
-    for (name, span) in names {
-        list.push((span.start(), span.end(), name.as_str()))?;
-    }
-    tell_placed(told, list);
-    Ok(())
-}
-
-/// Tells what setting token ids gave, if memory was there for it.
+/// Tells what setting token ids gave, in any order, if memory was there for it.
 pub fn tell_sets(
     told: &mut Told,
     key: &str,
@@ -400,8 +372,8 @@ pub fn tell_sets(
 ) -> Result<(), Trouble> {
     let sets = sets?;
     told.list(key);
-    tell_names(told, &sets.0)?;
-    tell_spanned_names(told, &sets.1)?;
+    tell_names(told, &sets.0);
+    tell_placed_names(told, &sets.1);
     told.close();
     Ok(())
 }
@@ -414,8 +386,8 @@ pub fn tell_name_sets(
 ) -> Result<(), Trouble> {
     let sets = sets?;
     told.list(key);
-    tell_names(told, &sets.0)?;
-    tell_own_names(told, &sets.1)?;
+    tell_names(told, &sets.0);
+    tell_own_names(told, &sets.1);
     told.close();
     Ok(())
 }
