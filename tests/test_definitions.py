@@ -59,7 +59,7 @@ class Definitions(replay.TestCase):
                 self.assertEqual((name, found and found["re_str"]), row)
 
     def test_parts_are_kept_as_handed_in(self):
-        answers = replay.answer(from_rules(ONE_RULE, True).case(["definition"], ["flags"]))
+        answers = replay.answer(from_rules(ONE_RULE, True).case(["definition"]))
         self.assertEqual(answers.last("rules"), ONE_RULE)
         self.assertEqual(answers.last("states"), [[0, "INITIAL", False, [0, 0]]])
         self.assertEqual(answers.last("default_flags"), True)

@@ -77,9 +77,6 @@ class DocCallers(replay.TestCase):
             with self.subTest(text=text, at=at, keys=keys):
                 self.assertEqual(last(["typed", text, [at, at, keys]], "typed", LINES), wanted)
 
-    def test_ranges_of_the_language_server_protocol(self):
-        self.assertEqual(last(["range", "a\n😀b", [2, 6]], "range"), [[1, 0], [1, 2]])
-
 
 if __name__ == "__main__":
     unittest.main()

@@ -134,7 +134,7 @@ class Engine(replay.TestCase):
 
     def test_what_errors_display(self):
         [displayed] = answers_of([["faults"]], "faults")
-        for row in zip(displayed, ERRORS, strict=True):
+        for row in zip(displayed.split("\n"), ERRORS, strict=True):
             with self.subTest(error=row[1]):
                 self.assertEqual(*row)
 

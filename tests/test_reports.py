@@ -187,10 +187,10 @@ class Reports(replay.TestCase):
                 self.assertEqual(answers.last("shown"), wanted)
 
     def test_faults_of_a_rule_text(self):
-        self.check_shown([(["complaints", rules, ""], wanted) for rules, wanted in FAULTS])
+        self.check_shown([(["complaints", list(rules.encode()), ""], wanted) for rules, wanted in FAULTS])
 
     def test_where_lexing_stopped(self):
-        self.check_shown([(["complaints", RULES, text], wanted) for text, wanted in STOPS])
+        self.check_shown([(["complaints", list(RULES.encode()), text], wanted) for text, wanted in STOPS])
 
     def test_the_first_fault_alone(self):
         self.check_shown([(["first_fault", rules], f"{text}\n{place}" if text else "") for rules, text, place in FIRST])
@@ -229,7 +229,7 @@ class Reports(replay.TestCase):
         self.assertEqual(text, f"tokens.l:2:1: Invalid regular expression: {TOO_LARGE}\n2 | <*>{pattern} 'A'\n  | ^\n")
 
     def test_bytes_that_are_not_utf_8(self):
-        self.check_shown([(["complaints_of_file", list(data), ""], wanted) for data, wanted in FILES])
+        self.check_shown([(["complaints", list(data), ""], wanted) for data, wanted in FILES])
 
     def test_any_span(self):
         self.check_shown([(["place_text", TEN_LINES, span, "m"], wanted) for span, wanted in SPANS])

@@ -180,7 +180,7 @@ def compare_reading(reading, first, tally):
     if first[None]:
         return compare_faults(text, first[None][0], tally)
     tally.add("accepted")
-    tables, states, rules = first["definition"]
+    tables, states, rules, _ = first["definition"]
     states, rules = value(states, b"states"), value(rules, b"rules")
     tally.same("each rule is matched by regex", [0, 0, all_active(states, rules)], value(tables, b"tables"))
     compare_rules(text, rules, tally)

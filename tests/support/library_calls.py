@@ -160,7 +160,7 @@ class Call:
 
 def definition(without_table, tokens=range(7)):
     """The lines of the definition, where so many rules have no table, and the rules these ids."""
-    return [("tables", [ANY, ANY, without_table]), ("states", STATES), ("rules", rules(tokens))]
+    return [("tables", [ANY, ANY, without_table]), ("states", STATES), ("rules", rules(tokens)), ("default_flags", True)]
 
 
 def engine(outcome, lines):

@@ -4,7 +4,6 @@ use crate::items::tell_items;
 use crate::runs::{most_of, tell_pieces};
 use lrlex::{DefaultLexerTypes, Document, EditError};
 use lrlex_doc_callers::editing::{retyped, typed, visible};
-use lrlex_doc_callers::serving::range_of;
 use lrlex_replay_cases::facts::tell_words;
 use lrlex_replay_cases::reading::{Change, Trouble, bytes_of, change_of, count_of, loose_span_of};
 use lrlex_replay_cases::steps::Shown;
@@ -158,11 +157,6 @@ fn tell_document(
         Shown::Typed(change) => type_keys(told, document, change),
         Shown::Retyped(change) => retype(told, document, change),
         Shown::Texts(spans) => tell_texts(told, document, spans),
-        Shown::Range(span) => {
-            told.key("range");
-            told.pairs(range_of(document, span));
-            Ok(())
-        }
     }
 }
 

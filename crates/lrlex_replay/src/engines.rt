@@ -10,7 +10,6 @@ use lrlex_replay_cases::told::Told;
 use lrlex_replay_cases::writers::{BrokenWriter, Came, tell_came, tell_served};
 use serde_json::Value;
 use std::alloc::Global;
-use std::error::Error;
 use std::io;
 
 /// What a fault of the engine is.
@@ -115,24 +114,18 @@ pub fn serve(
     Ok(())
 }
 
-/// Tells the text that a fault displays.
-fn tell_displayed<E: Error>(told: &mut Told, fault: &E) {
-    let text = format!(in told.alloc(); "{fault}");
-    told.made(text);
-}
-
-/// Tells the text that each fault displays: those of the engine, of the words and of the texts.
+/// Tells the text that each fault displays, on a line of its own: those of the engine, of the words and of the texts.
 pub fn display_faults(told: &mut Told) {
-    told.list("faults");
-    tell_displayed(told, &EngineFault::Memory);
-    tell_displayed(
-        told,
-        &EngineFault::Write(io::Error::from(io::ErrorKind::Other)),
-    );
-    tell_displayed(told, &WordsFault::Memory);
-    tell_displayed(told, &WordsFault::Refused);
-    tell_displayed(told, &TextFault::Memory);
-    tell_displayed(told, &TextFault::Unreadable);
-    tell_displayed(told, &TextFault::NotText);
-    told.close();
+    let unwritten = EngineFault::Write(io::Error::from(io::ErrorKind::Other));
+    told.key("faults");
+    told.made(format!(in told.alloc();
+        "{}\n{}\n{}\n{}\n{}\n{}\n{}",
+        EngineFault::Memory,
+        unwritten,
+        WordsFault::Memory,
+        WordsFault::Refused,
+        TextFault::Memory,
+        TextFault::Unreadable,
+        TextFault::NotText
+    ));
 }

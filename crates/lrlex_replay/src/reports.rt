@@ -4,7 +4,7 @@ use lrlex::{
     StartStateId,
 };
 use lrlex_doc_callers::marking::{Diagnostic, faults, stop};
-use lrlex_doc_callers::reporting::{complaints, complaints_of_file};
+use lrlex_doc_callers::reporting::complaints_of_file;
 use lrlex_replay_cases::facts::tell_report;
 use lrlex_replay_cases::reading::{Trouble, file_of};
 use lrlex_replay_cases::steps::Report;
@@ -86,7 +86,6 @@ fn shown_of_stop(
 pub fn report(told: &mut Told, asked: Report<'_>) -> Result<(), Trouble> {
     let alloc = told.alloc();
     let shown = match asked {
-        Report::OfText(rules, input) => complaints(alloc, rules, input),
         Report::OfFile(bytes, input) => return tell_of_file(told, bytes, input),
         Report::FirstFault(rules) => first_fault(alloc, rules),
         Report::Marks(rules) => shown_marks(alloc, rules),

@@ -23,6 +23,15 @@ use serde_json::Value;
 use std::alloc::AllocError;
 use std::io;
 
+/// Tells whether the definition's flags are the default ones; null where it has none.
+fn tell_flags(told: &mut Told, definition: &Definition<u32>) {
+    told.key("default_flags");
+    match definition.lex_flags() {
+        Some(flags) => told.truth(*flags == DEFAULT_LEX_FLAGS),
+        None => told.null(),
+    }
+}
+
 /// Tells how many tables the definition has, how many rows these have, and how many rules have none, and then what it says.
 fn tell_definition(told: &mut Told, definition: &Definition<u32>) {
     told.key("tables");
@@ -33,15 +42,7 @@ fn tell_definition(told: &mut Told, definition: &Definition<u32>) {
     ]);
     tell_states(told, definition.iter_start_states().as_slice());
     tell_rules(told, definition.rules());
-}
-
-/// Tells whether the definition's flags are the default ones; null where it has none.
-fn tell_flags(told: &mut Told, definition: &Definition<u32>) {
-    told.key("default_flags");
-    match definition.lex_flags() {
-        Some(flags) => told.truth(*flags == DEFAULT_LEX_FLAGS),
-        None => told.null(),
-    }
+    tell_flags(told, definition);
 }
 
 /// Tells of each rule whether it may win.
@@ -71,10 +72,6 @@ fn ask(told: &mut Told, definition: &Definition<u32>, asked: Asked<'_>) -> Resul
     match asked {
         Asked::Definition => {
             tell_definition(told, definition);
-            Ok(())
-        }
-        Asked::Flags => {
-            tell_flags(told, definition);
             Ok(())
         }
         Asked::MayWin => Ok(tell_may_win(told, definition)?),

@@ -14,8 +14,6 @@ use std::alloc::{AllocError, Global};
 pub enum Asked<'v> {
     /// What it says.
     Definition,
-    /// Whether its flags are the default ones.
-    Flags,
     /// Which rules may win.
     MayWin,
     /// Runs of a text, and again after each edit.
@@ -53,16 +51,12 @@ pub enum Shown<'v> {
     Retyped(Change<'v>),
     /// The texts at spans.
     Texts(&'v [Value]),
-    /// Where a span begins and ends, as the Language Server Protocol counts.
-    Range(Span),
 }
 
 /// What is shown to people.
 #[derive(Clone, Copy)]
 pub enum Report<'v> {
-    /// What is wrong with a rule text, or where lexing the input stops.
-    OfText(&'v str, &'v str),
-    /// The same of a file of these bytes.
+    /// What is wrong with a rule file of these bytes, or where lexing the input stops.
     OfFile(&'v [Value], &'v str),
     /// The first fault of a rule text.
     FirstFault(&'v str),
@@ -116,7 +110,6 @@ pub enum Step<'v> {
 fn of_none<'v>(name: &str) -> Result<Step<'v>, Trouble> {
     match name {
         "definition" => Ok(Step::Asks(Asked::Definition)),
-        "flags" => Ok(Step::Asks(Asked::Flags)),
         "may_win" => Ok(Step::Asks(Asked::MayWin)),
         "faults" => Ok(Step::DisplaysFaults),
         _ => Err(Trouble::Malformed),
@@ -140,7 +133,6 @@ fn of_text<'v>(name: &str, text: &'v str) -> Result<Step<'v>, Trouble> {
 fn of_texts<'v>(name: &str, text: &'v str, other: &'v str) -> Option<Step<'v>> {
     match name {
         "replaced" => Some(Step::Replaces(text, other)),
-        "complaints" => Some(Step::Reports(Report::OfText(text, other))),
         "stop" => Some(Step::Reports(Report::Stop(text, other))),
         _ => None,
     }
@@ -161,7 +153,6 @@ fn of_text_and_list<'v>(name: &str, text: &'v str, list: &'v [Value]) -> Option<
 fn of_text_and<'v>(name: &str, text: &'v str, value: &'v Value) -> Result<Step<'v>, Trouble> {
     let shown = match name {
         "visible" => Shown::Visible(loose_span_of(value)?),
-        "range" => Shown::Range(loose_span_of(value)?),
         "typed" => Shown::Typed(change_of(value)?),
         "retyped" => Shown::Retyped(change_of(value)?),
         "engine_report" => return Ok(Step::Drives(Engine::Report(text), value)),
@@ -210,10 +201,7 @@ fn of_two<'v>(name: &str, first: &'v Value, second: &'v Value) -> Result<Step<'v
             let (ids, names) = both_lists(first, second)?;
             Ok(Step::Asks(Asked::Rules(ids, names)))
         }
-        "complaints_of_file" => Ok(Step::Reports(Report::OfFile(
-            list_of(first)?,
-            text_of(second)?,
-        ))),
+        "complaints" => Ok(Step::Reports(Report::OfFile(list_of(first)?, text_of(second)?))),
         _ => of_text_and_value(name, text_of(first)?, second),
     }
 }
