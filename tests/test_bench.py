@@ -20,7 +20,7 @@ ROWS = [
     ("--replay", "", Outcome("0 cases\n")),
     ("--replay", b"\xff\n", Outcome("", STREAM, 1)),
     ("--replay", "{\n", Outcome("", STREAM, 1)),
-    ("--replay", "{}\n", Outcome("", STREAM, 1)),
+    ("--replay", '{"rules": "%%", "steps": [["none"]]}\n', Outcome("case null\n", STREAM, 1)),
     ("--replay --replay", "", Outcome("", USAGE, 1)),
     ("--replay --no-tables", "", Outcome("", USAGE, 1)),
     ("rules input 1 --replay", "", Outcome("", USAGE, 1)),

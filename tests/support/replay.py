@@ -4,6 +4,7 @@ import json
 import unittest
 
 from support import programs
+from support.shapes import checked
 
 PROGRAM = "lrlex_bench"
 
@@ -63,7 +64,7 @@ def pair(line):
 
 def one_line(number, case):
     """The case as a line of JSON. Its id is its number, unless it has one."""
-    return json.dumps({"id": str(number), **case}, ensure_ascii=False) + "\n"
+    return json.dumps(checked({"id": str(number), **case}), ensure_ascii=False) + "\n"
 
 
 def as_input(cases):

@@ -2,11 +2,12 @@
 use crate::building::Definition;
 use crate::items::tell_items;
 use crate::runs::{most_of, tell_pieces};
-use lrlex::{DefaultLexerTypes, Document, EditError};
+use lrlex::{DefaultLexerTypes, Document, EditError, Span};
 use lrlex_doc_callers::editing::{retyped, typed, visible};
 use lrlex_replay_cases::facts::tell_words;
-use lrlex_replay_cases::reading::{Change, Trouble, bytes_of, change_of, count_of, loose_span_of};
-use lrlex_replay_cases::steps::Shown;
+use lrlex_replay_cases::reading::{
+    Change, Trouble, change_of, count_of, list_at, list_of, span_of, text_at,
+};
 use lrlex_replay_cases::told::Told;
 use serde_json::Value;
 
@@ -66,26 +67,26 @@ fn tell_place(told: &mut Told, document: &Edited<'_>, byte: usize) {
 }
 
 /// Tells the places of these bytes.
-fn tell_places(told: &mut Told, document: &Edited<'_>, bytes: &[Value]) -> Result<(), Trouble> {
+fn tell_places(told: &mut Told, document: &Edited<'_>, bytes: &[Value]) {
     told.list("places");
     for byte in bytes {
-        tell_place(told, document, count_of(byte)?);
+        tell_place(told, document, count_of(byte));
     }
     told.close();
-    Ok(())
 }
 
-/// Makes the edit of a value, and tells what comes of it.
+/// Makes the edit `[from, to, text, bytes]`, and tells what comes of it, with the places of the bytes if there are any.
 fn tell_edit(told: &mut Told, document: &mut Edited<'_>, value: &Value) -> Result<(), Trouble> {
-    let made = make(told, document, change_of(value)?)?;
+    let parts = list_of(value);
+    let made = make(told, document, change_of(parts))?;
     told.key("edit");
     told.truth(made);
     tell_shown(told, document)?;
-    let bytes = bytes_of(value);
-    if bytes.is_empty() {
-        return Ok(());
+    let bytes = list_at(parts, 3);
+    if !bytes.is_empty() {
+        tell_places(told, document, bytes);
     }
-    tell_places(told, document, bytes)
+    Ok(())
 }
 
 /// Tells a document, and again after each edit.
@@ -133,42 +134,48 @@ fn retype(told: &mut Told, document: &mut Edited<'_>, change: Change<'_>) -> Res
 }
 
 /// Tells the texts that the document has at these spans.
-fn tell_texts(told: &mut Told, document: &Edited<'_>, spans: &[Value]) -> Result<(), Trouble> {
+fn tell_texts(told: &mut Told, document: &Edited<'_>, spans: &[Value]) {
     told.list("texts");
     for span in spans {
-        told.text(document.text_of(loose_span_of(span)?));
+        told.text(document.text_of(span_of(list_of(span))));
     }
     told.close();
-    Ok(())
 }
 
-/// Tells what a document is asked for.
+/// Tells the part of a document that a window shows.
+fn tell_visible(told: &mut Told, document: &Edited<'_>, span: Span) -> Result<(), Trouble> {
+    let words = visible(told.alloc(), document, span.start(), span.end());
+    tell_words(told, words)
+}
+
+/// Tells what the step of this name asks a document; the last of them is `texts`.
 fn tell_document(
     told: &mut Told,
     document: &mut Edited<'_>,
-    shown: Shown<'_>,
+    name: &str,
+    asked: &[Value],
 ) -> Result<(), Trouble> {
-    match shown {
-        Shown::Edits(edits) => tell_edits(told, document, edits),
-        Shown::Visible(span) => {
-            let words = visible(told.alloc(), document, span.start(), span.end());
-            tell_words(told, words)
+    match name {
+        "document" => tell_edits(told, document, asked),
+        "visible" => tell_visible(told, document, span_of(asked)),
+        "typed" => type_keys(told, document, change_of(asked)),
+        "retyped" => retype(told, document, change_of(asked)),
+        _ => {
+            tell_texts(told, document, asked);
+            Ok(())
         }
-        Shown::Typed(change) => type_keys(told, document, change),
-        Shown::Retyped(change) => retype(told, document, change),
-        Shown::Texts(spans) => tell_texts(told, document, spans),
     }
 }
 
-/// Asks a document of a text.
+/// Asks a document of a step's text.
 pub fn show(
     told: &mut Told,
     definition: &Definition<u32>,
-    text: &str,
-    shown: Shown<'_>,
+    name: &str,
+    step: &[Value],
 ) -> Result<(), Trouble> {
-    let mut document = Document::new(told.alloc(), definition, text)?;
-    tell_document(told, &mut document, shown)
+    let mut document = Document::new(told.alloc(), definition, text_at(step, 1))?;
+    tell_document(told, &mut document, name, list_at(step, 2))
 }
 
 /// Tells the pieces of a part of a text, by a document.

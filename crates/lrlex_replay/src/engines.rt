@@ -4,8 +4,8 @@ use lrlex_cli::engine::{Ended, EngineFault};
 use lrlex_cli::texts::TextFault;
 use lrlex_cli::words::WordsFault;
 use lrlex_cli::{engine, program};
-use lrlex_replay_cases::reading::Trouble;
-use lrlex_replay_cases::steps::Engine;
+use lrlex_replay_cases::edits::edit_of;
+use lrlex_replay_cases::reading::{Trouble, list_at, list_of, text_at};
 use lrlex_replay_cases::told::Told;
 use lrlex_replay_cases::writers::{BrokenWriter, Came, tell_came, tell_served};
 use serde_json::Value;
@@ -73,45 +73,42 @@ fn reported(alloc: Global, rules: &str, writer: &mut BrokenWriter) -> Result<Cam
     }
 }
 
-/// What the engine came to.
-fn came_of(alloc: Global, asked: Engine<'_>, writer: &mut BrokenWriter) -> Result<Came, Trouble> {
-    match asked {
-        Engine::Run(rules, input) => ran(alloc, rules, input, writer),
-        Engine::RunEdited(rules, texts, edit) => ran_edited(alloc, rules, texts, &edit, writer),
-        Engine::Report(rules) => reported(alloc, rules, writer),
+/// What the engine came to at the step of this name; the last of them is `engine_report`.
+fn came_of(
+    alloc: Global,
+    name: &str,
+    step: &[Value],
+    writer: &mut BrokenWriter,
+) -> Result<Came, Trouble> {
+    let (rules, input) = (text_at(step, 1), text_at(step, 2));
+    match name {
+        "engine" => ran(alloc, rules, input, writer),
+        "engine_edited" => {
+            let (edit, new) = (edit_of(list_at(step, 3)), text_at(step, 4));
+            ran_edited(alloc, rules, (input, new), &edit, writer)
+        }
+        _ => reported(alloc, rules, writer),
     }
 }
 
-/// Makes a step of the engine, and tells what comes of it.
-pub fn drive(told: &mut Told, asked: Engine<'_>, writer: &Value) -> Result<(), Trouble> {
-    let mut writer = BrokenWriter::of_value(told.alloc(), writer)?;
-    let came = came_of(told.alloc(), asked, &mut writer);
+/// Has the engine do what the step of this name says, by the writer that is the last of the step, and tells what comes of it.
+pub fn drive(told: &mut Told, name: &str, step: &[Value]) -> Result<(), Trouble> {
+    let parts = match step.last() {
+        Some(writer) => list_of(writer),
+        None => &[],
+    };
+    let mut writer = BrokenWriter::of_parts(told.alloc(), parts);
+    let came = came_of(told.alloc(), name, step, &mut writer);
     tell_came(told, came, &writer)
 }
 
-/// Serves both texts of standard input, and tells the status and what both writers have then.
-fn serve_by(
-    rt: &HostRuntime,
-    told: &mut Told,
-    stdin: &str,
-    lines: &mut BrokenWriter,
-    faults: &mut BrokenWriter,
-) {
-    let status = program::serve(rt, &["lrlex"], &mut stdin.as_bytes(), lines, faults);
-    tell_served(told, status, lines, faults);
-}
-
-/// The same by writers for lines and for faults.
-pub fn serve(
-    rt: &HostRuntime,
-    told: &mut Told,
-    stdin: &str,
-    writers: (&Value, &Value),
-) -> Result<(), Trouble> {
-    let mut lines = BrokenWriter::of_value(told.alloc(), writers.0)?;
-    let mut faults = BrokenWriter::of_value(told.alloc(), writers.1)?;
-    serve_by(rt, told, stdin, &mut lines, &mut faults);
-    Ok(())
+/// Serves both texts of standard input, by writers for lines and for faults, and tells the status and what both writers have then.
+pub fn serve(rt: &HostRuntime, told: &mut Told, step: &[Value]) {
+    let mut stdin = text_at(step, 1).as_bytes();
+    let mut lines = BrokenWriter::of_parts(told.alloc(), list_at(step, 2));
+    let mut faults = BrokenWriter::of_parts(told.alloc(), list_at(step, 3));
+    let status = program::serve(rt, &["lrlex"], &mut stdin, &mut lines, &mut faults);
+    tell_served(told, status, &lines, &faults);
 }
 
 /// Tells the text that each fault displays, on a line of its own: those of the engine, of the words and of the texts.

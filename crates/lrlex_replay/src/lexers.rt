@@ -7,7 +7,7 @@ use crate::items::{item_seen, tell_items};
 use lrlex::{DefaultLexeme, DefaultLexerTypes, LRLexError, LRNonStreamingLexer};
 use lrlex_base::{Lexer, NonStreamingLexer, Span};
 use lrlex_replay_cases::facts::{Fitting, tell_fitting};
-use lrlex_replay_cases::reading::{Trouble, count_of, loose_span_of};
+use lrlex_replay_cases::reading::{Trouble, count_of, list_of, span_of};
 use lrlex_replay_cases::told::Told;
 use serde_json::Value;
 use std::alloc::{AllocError, Global};
@@ -78,29 +78,21 @@ fn tell_each(told: &mut Told, lexer: &LexerOf<'_, '_>, input: &str)
 }
 
 /// Tells what the lexer of this input says of these spans.
-fn tell_spans(
-    told: &mut Told,
-    lexer: &LexerOf<'_, '_>,
-    input: &str,
-    spans: &[Value],
-) -> Result<(), Trouble>
+fn tell_spans(told: &mut Told, lexer: &LexerOf<'_, '_>, input: &str, spans: &[Value])
     requires { lexer_text lexer.now ≡ input.now }
 {
     for value in spans {
-        tell_span(told, lexer, input, loose_span_of(value)?);
+        tell_span(told, lexer, input, span_of(list_of(value)));
     }
-    Ok(())
 }
 
 /// Tells the places of these bytes, each on a line.
-fn tell_bytes(told: &mut Told, lexer: &LexerOf<'_, '_>, bytes: &[Value]) -> Result<(), Trouble> {
+fn tell_bytes(told: &mut Told, lexer: &LexerOf<'_, '_>, bytes: &[Value]) {
     for value in bytes {
-        let byte = count_of(value)?;
         told.list("place");
-        tell_place(told, lexer, byte);
+        tell_place(told, lexer, count_of(value));
         told.close();
     }
-    Ok(())
 }
 
 /// Tells what the lexer of this input says of its items, and of these spans and bytes.
@@ -114,8 +106,9 @@ fn tell_lexer(
 {
     tell_lexed(told, lexer)?;
     tell_each(told, lexer, input);
-    tell_spans(told, lexer, input, asked.0)?;
-    tell_bytes(told, lexer, asked.1)
+    tell_spans(told, lexer, input, asked.0);
+    tell_bytes(told, lexer, asked.1);
+    Ok(())
 }
 
 /// Asks the lexer of a text, or that of its run.

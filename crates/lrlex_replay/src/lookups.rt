@@ -5,7 +5,7 @@ use lrlex_replay_cases::facts::{tell_by_id, tell_by_name, tell_name_sets, tell_r
 use lrlex_replay_cases::parts::{id_of, ids_of};
 use lrlex_replay_cases::reading::{Trouble, text_of};
 use lrlex_replay_cases::told::Told;
-use serde_json::{Map, Value};
+use serde_json::Value;
 use std::collections::HashMap;
 
 /// The first rule with this id, by both calls that look for it.
@@ -17,21 +17,15 @@ fn rule_by_id(definition: &Definition<u32>, id: u32) -> Option<&Rule<u32>> {
 }
 
 /// Looks these ids and names up.
-pub fn find(
-    told: &mut Told,
-    definition: &Definition<u32>,
-    ids: &[Value],
-    names: &[Value],
-) -> Result<(), Trouble> {
+pub fn find(told: &mut Told, definition: &Definition<u32>, ids: &[Value], names: &[Value]) {
     for id in ids {
-        let id = id_of(id)?;
+        let id = id_of(id);
         tell_by_id(told, id, rule_by_id(definition, id), definition.name_of(id));
     }
     for name in names {
-        let name = text_of(name)?;
+        let name = text_of(name);
         tell_by_name(told, name, definition.get_rule_by_name(name));
     }
-    Ok(())
 }
 
 /// Tells that memory was refused, and the rules as they are then.
@@ -69,11 +63,11 @@ fn set_named(
     tell_name_sets(told, "ids", sets)
 }
 
-/// Sets token ids, and tells what that gives.
+/// Sets the token ids of an object, and tells what that gives.
 pub fn set_ids(
     told: &mut Told,
     definition: &mut Definition<u32>,
-    members: &Map<String, Value>,
+    members: Option<&Value>,
     spanned: bool,
 ) -> Result<(), Trouble> {
     let ids = ids_of(told.alloc(), members)?;

@@ -3,9 +3,10 @@ use crate::building::Definition;
 use crate::lexers::LexerOf;
 use lrlex::{DefaultLexerTypes, Document, EditError, LexerDef, PositionEncoding};
 use lrlex_base::NewlineCache;
-use lrlex_replay_cases::reading::{Change, Trouble, change_of, count_of, elements_of};
+use lrlex_replay_cases::reading::{Change, Trouble, change_of, count_of, list_of};
 use lrlex_replay_cases::told::Told;
 use serde_json::Value;
+use std::alloc::AllocError;
 
 /// A document of a definition with ids of type `u32`.
 type Edited<'d> = Document<'d, DefaultLexerTypes<u32>>;
@@ -19,10 +20,10 @@ enum Question {
 }
 
 /// What a byte or a pair of line and column asks for.
-fn asked_of(value: &Value) -> Result<Question, Trouble> {
-    match elements_of(Some(value)) {
-        Some([line, column]) => Ok(Question::Position((count_of(line)?, count_of(column)?))),
-        _ => Ok(Question::Byte(count_of(value)?)),
+fn asked_of(value: &Value) -> Question {
+    match list_of(value) {
+        [line, column] => Question::Position((count_of(line), count_of(column))),
+        _ => Question::Byte(count_of(value)),
     }
 }
 
@@ -55,23 +56,21 @@ fn tell_of_lexer(told: &mut Told, lexer: &LexerOf<'_, '_>, asked: Question) {
 }
 
 /// Tells all that is asked of a document.
-fn tell_document(told: &mut Told, document: &Edited<'_>, asked: &[Value]) -> Result<(), Trouble> {
+fn tell_document(told: &mut Told, document: &Edited<'_>, asked: &[Value]) {
     told.list("positions");
     for value in asked {
-        tell_of_document(told, document, asked_of(value)?);
+        tell_of_document(told, document, asked_of(value));
     }
     told.close();
-    Ok(())
 }
 
 /// Tells all that is asked of a lexer.
-fn tell_lexer(told: &mut Told, lexer: &LexerOf<'_, '_>, asked: &[Value]) -> Result<(), Trouble> {
+fn tell_lexer(told: &mut Told, lexer: &LexerOf<'_, '_>, asked: &[Value]) {
     told.list("positions");
     for value in asked {
-        tell_of_lexer(told, lexer, asked_of(value)?);
+        tell_of_lexer(told, lexer, asked_of(value));
     }
     told.close();
-    Ok(())
 }
 
 /// Makes an edit, which fits.
@@ -87,7 +86,7 @@ fn edit_once(told: &Told, document: &mut Edited<'_>, change: Change<'_>) -> Resu
 /// Makes the edits, each of which fits.
 fn edit_all(told: &Told, document: &mut Edited<'_>, edits: &[Value]) -> Result<(), Trouble> {
     for edit in edits {
-        edit_once(told, document, change_of(edit)?)?;
+        edit_once(told, document, change_of(list_of(edit)))?;
     }
     Ok(())
 }
@@ -98,16 +97,18 @@ fn ask_lexer(
     definition: &Definition<u32>,
     text: &str,
     asked: &[Value],
-) -> Result<(), Trouble> {
+) -> Result<(), AllocError> {
     let lexer = definition.lexer(told.alloc(), text)?;
-    tell_lexer(told, &lexer, asked)
+    tell_lexer(told, &lexer, asked);
+    Ok(())
 }
 
 /// Asks a lexer made of a text without items.
-fn ask_bare_lexer(told: &mut Told, text: &str, asked: &[Value]) -> Result<(), Trouble> {
+fn ask_bare_lexer(told: &mut Told, text: &str, asked: &[Value]) -> Result<(), AllocError> {
     let newlines = NewlineCache::from_str(told.alloc(), text)?;
     let lexer = LexerOf::new(text, Vec::new(told.alloc()), newlines);
-    tell_lexer(told, &lexer, asked)
+    tell_lexer(told, &lexer, asked);
+    Ok(())
 }
 
 /// Asks a document after edits, and then both lexers of its text.
@@ -119,9 +120,9 @@ fn ask_edited(
     asked: &[Value],
 ) -> Result<(), Trouble> {
     edit_all(told, document, edits)?;
-    tell_document(told, document, asked)?;
+    tell_document(told, document, asked);
     ask_lexer(told, definition, document.text(), asked)?;
-    ask_bare_lexer(told, document.text(), asked)
+    Ok(ask_bare_lexer(told, document.text(), asked)?)
 }
 
 /// Asks a document after edits, then the lexer of its text, and a lexer made of the text without items.

@@ -6,17 +6,16 @@ use crate::building::{Definition, build};
 use crate::items::item_seen;
 use crate::lexers::LexerOf;
 use crate::runs::most_of;
-use lrlex::{Budget, LexFlags, LexerDef};
+use lrlex::{Budget, LexerDef};
 use lrlex_base::{Id, NewlineCache, NonStreamingLexer, Span};
 use lrlex_replay_cases::facts::{
     Item, tell_counts, tell_faults, tell_items, tell_refusal, tell_rules, tell_sets, tell_states,
 };
 use lrlex_replay_cases::parts::ids_of;
-use lrlex_replay_cases::printing::print_told;
-use lrlex_replay_cases::reading::{Trouble, text_in, texts_in};
-use lrlex_replay_cases::steps::told_of_case;
+use lrlex_replay_cases::printing::{print_told, told_of_case};
+use lrlex_replay_cases::reading::{Trouble, flags_in, text_in};
 use lrlex_replay_cases::told::Told;
-use serde_json::{Map, Value};
+use serde_json::Value;
 use std::alloc::{AllocError, Global};
 use std::io;
 
@@ -94,15 +93,11 @@ fn tell_definition<T: Id + Into<u64>>(
     tell_lexed(told, input, lexed(alloc, &asking, input))
 }
 
-/// Tells all that comes of a rule text and an input, with ids of this type.
-fn tell_text<T: Id + Into<u64>>(
-    told: &mut Told,
-    rules: &str,
-    flags: LexFlags,
-    input: &str,
-) -> Result<(), Trouble> {
-    match Definition::<T>::new_with_options(told.alloc(), rules, flags)? {
-        Ok(definition) => tell_definition(told, definition, input),
+/// Tells all that comes of a case that has a rule text and sets no token ids, with ids of this type.
+fn tell_text<T: Id + Into<u64>>(told: &mut Told, case: &Value) -> Result<(), Trouble> {
+    let rules = text_in(case, "rules");
+    match Definition::<T>::new_with_options(told.alloc(), rules, flags_in(case))? {
+        Ok(definition) => tell_definition(told, definition, text_in(case, "input")),
         Err(faults) => {
             tell_faults(told, faults.as_slice());
             Ok(())
@@ -110,36 +105,26 @@ fn tell_text<T: Id + Into<u64>>(
     }
 }
 
-/// Sets the token ids of these members, and tells what that gives.
-fn set_ids(
-    told: &mut Told,
-    definition: &mut Definition<u32>,
-    members: &Map<String, Value>,
-) -> Result<(), Trouble> {
-    let ids = ids_of(told.alloc(), members)?;
+/// Sets the token ids of a case, and tells what that gives.
+fn set_ids(told: &mut Told, definition: &mut Definition<u32>, case: &Value) -> Result<(), Trouble> {
+    let ids = ids_of(told.alloc(), case.get("ids"))?;
     let sets = definition.set_rule_ids_spanned(told.alloc(), &ids);
     tell_sets(told, "set_ids", sets)
 }
 
 /// Tells what comes of the definition of a case, after setting its token ids where it has some.
-fn tell_defined(
-    told: &mut Told,
-    definition: Definition<u32>,
-    case: &Value,
-    input: &str,
-) -> Result<(), Trouble> {
+fn tell_defined(told: &mut Told, definition: Definition<u32>, case: &Value) -> Result<(), Trouble> {
     let mut definition = definition;
-    if let Some(members) = case.get("ids").and_then(Value::as_object) {
-        set_ids(told, &mut definition, members)?;
+    if case.get("ids").is_some() {
+        set_ids(told, &mut definition, case)?;
     }
-    tell_definition(told, definition, input)
+    tell_definition(told, definition, text_in(case, "input"))
 }
 
 /// Tells all that comes of a case, with ids of type `u32`.
 fn tell_case(told: &mut Told, case: &Value) -> Result<(), Trouble> {
-    let input = text_in(case, "input")?;
     match build(told.alloc(), case)? {
-        Ok(definition) => tell_defined(told, definition, case, input),
+        Ok(definition) => tell_defined(told, definition, case),
         Err(refusal) => {
             tell_refusal(told, &refusal);
             Ok(())
@@ -149,17 +134,10 @@ fn tell_case(told: &mut Told, case: &Value) -> Result<(), Trouble> {
 
 /// Tells all that comes of a case, with ids of the type that it names.
 fn tell(told: &mut Told, case: &Value) -> Result<(), Trouble> {
-    match text_in(case, "storage")? {
-        "u8" => {
-            let (rules, flags, input) = texts_in(case)?;
-            tell_text::<u8>(told, rules, flags, input)
-        }
-        "u16" => {
-            let (rules, flags, input) = texts_in(case)?;
-            tell_text::<u16>(told, rules, flags, input)
-        }
-        "u32" => tell_case(told, case),
-        _ => Err(Trouble::Malformed),
+    match text_in(case, "storage") {
+        "u8" => tell_text::<u8>(told, case),
+        "u16" => tell_text::<u16>(told, case),
+        _ => tell_case(told, case),
     }
 }
 

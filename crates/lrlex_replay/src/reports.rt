@@ -6,18 +6,16 @@ use lrlex::{
 use lrlex_doc_callers::marking::{Diagnostic, faults, stop};
 use lrlex_doc_callers::reporting::complaints_of_file;
 use lrlex_replay_cases::facts::tell_report;
-use lrlex_replay_cases::reading::{Trouble, file_of};
-use lrlex_replay_cases::steps::Report;
+use lrlex_replay_cases::reading::{Trouble, count_at, file_of, list_at, span_of, text_at};
 use lrlex_replay_cases::told::Told;
 use lrlex_report::{fault_text, place_text, stop_text};
 use serde_json::Value;
 use std::alloc::{AllocError, Global};
 
-/// Tells what is wrong with a rule file of these bytes, or where lexing the input stops.
-fn tell_of_file(told: &mut Told, bytes: &[Value], input: &str) -> Result<(), Trouble> {
-    let bytes = file_of(told.alloc(), bytes)?;
-    let shown = complaints_of_file(told.alloc(), bytes.as_slice(), input);
-    tell_report(told, shown)
+/// What is wrong with a rule file of these bytes, or where lexing the input stops.
+fn complaints(alloc: Global, bytes: &[Value], input: &str) -> Result<String, AllocError> {
+    let bytes = file_of(alloc, bytes)?;
+    complaints_of_file(alloc, bytes.as_slice(), input)
 }
 
 /// What is shown of a fault, behind its own text by `Display`.
@@ -82,16 +80,23 @@ fn shown_of_stop(
     stop_text(alloc, "f", text, &error)
 }
 
-/// Makes a step that shows something, and tells that.
-pub fn report(told: &mut Told, asked: Report<'_>) -> Result<(), Trouble> {
-    let alloc = told.alloc();
-    let shown = match asked {
-        Report::OfFile(bytes, input) => return tell_of_file(told, bytes, input),
-        Report::FirstFault(rules) => first_fault(alloc, rules),
-        Report::Marks(rules) => shown_marks(alloc, rules),
-        Report::Stop(rules, input) => shown_reason(alloc, rules, input),
-        Report::AtSpan(text, span, message) => place_text(alloc, "f", text, span, message),
-        Report::AtStop(text, place, state) => shown_of_stop(alloc, text, place, state),
+/// Tells what the step of this name shows.
+pub fn report(told: &mut Told, name: &str, step: &[Value]) -> Result<(), Trouble> {
+    let (alloc, text) = (told.alloc(), text_at(step, 1));
+    let shown = match name {
+        "complaints" => complaints(alloc, list_at(step, 1), text_at(step, 2)),
+        "first_fault" => first_fault(alloc, text),
+        "diagnostics" => shown_marks(alloc, text),
+        "stop" => shown_reason(alloc, text, text_at(step, 2)),
+        "place_text" => place_text(
+            alloc,
+            "f",
+            text,
+            span_of(list_at(step, 2)),
+            text_at(step, 3),
+        ),
+        "stop_text" => shown_of_stop(alloc, text, count_at(step, 2), count_at(step, 3)),
+        _ => return Err(Trouble::Malformed),
     };
     tell_report(told, shown)
 }

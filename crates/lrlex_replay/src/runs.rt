@@ -150,7 +150,8 @@ pub fn lex(
 ) -> Result<(), Trouble> {
     let made = all_made_of(told.alloc(), text, edits)?;
     tell_runs(told, definition, text, made.as_slice())?;
-    tell_unfit(told, edits, made.len())
+    tell_unfit(told, edits, made.len());
+    Ok(())
 }
 
 /// Tells the pieces of a part of a text, by a run.

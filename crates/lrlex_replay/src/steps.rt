@@ -13,11 +13,10 @@ use crate::scanners::scan;
 use lrlex::{DEFAULT_LEX_FLAGS, LexerDef};
 use lrlex_doc_callers::editing::highlighted;
 use lrlex_doc_callers::lexing::words;
-use lrlex_replay_cases::edits::tell_edit;
+use lrlex_replay_cases::edits::{edit_of, tell_edit};
 use lrlex_replay_cases::facts::{tell_rules, tell_states, tell_words};
-use lrlex_replay_cases::printing::{introduce, print_refused, print_told};
-use lrlex_replay_cases::reading::Trouble;
-use lrlex_replay_cases::steps::{Asked, Step, step_of, told_of_step};
+use lrlex_replay_cases::printing::{introduce, print_refused, print_told, told_of_step};
+use lrlex_replay_cases::reading::{Trouble, count_at, is_true_at, list_at, list_of, text_at};
 use lrlex_replay_cases::told::Told;
 use serde_json::Value;
 use std::alloc::AllocError;
@@ -67,32 +66,59 @@ fn cut_part(
     cut_document(told, definition, text, ends)
 }
 
-/// Asks the definition, and tells what it answers.
-fn ask(told: &mut Told, definition: &Definition<u32>, asked: Asked<'_>) -> Result<(), Trouble> {
-    match asked {
-        Asked::Definition => {
-            tell_definition(told, definition);
-            Ok(())
+/// Makes a step that needs no definition.
+fn make_alone(told: &mut Told, name: &str, step: &[Value]) -> Result<(), Trouble> {
+    match name {
+        "edit" => tell_edit(
+            told,
+            text_at(step, 1),
+            edit_of(list_at(step, 2)),
+            text_at(step, 3),
+        ),
+        "engine" | "engine_edited" | "engine_report" => drive(told, name, step)?,
+        "all_faults" => tell_all_faults(told, step.get(1))?,
+        "faults" => display_faults(told),
+        _ => report(told, name, step)?,
+    }
+    Ok(())
+}
+
+/// Makes a step that asks the definition about a text.
+fn ask_about_text(
+    told: &mut Told,
+    definition: &Definition<u32>,
+    name: &str,
+    step: &[Value],
+) -> Result<(), Trouble> {
+    let text = text_at(step, 1);
+    match name {
+        "run" => lex(told, definition, text, list_at(step, 2)),
+        "lexer" => {
+            let asked = (list_at(step, 3), list_at(step, 4));
+            ask_lexer(told, definition, text, is_true_at(step, 2), asked)
         }
-        Asked::MayWin => Ok(tell_may_win(told, definition)?),
-        Asked::Runs(text, edits) => lex(told, definition, text, edits),
-        Asked::Lexer(input, of_run, about) => ask_lexer(told, definition, input, of_run, about),
-        Asked::Part(text, ends) => cut_part(told, definition, text, ends),
-        Asked::Rules(ids, names) => find(told, definition, ids, names),
-        Asked::Words(text) => {
+        "part" => cut_part(
+            told,
+            definition,
+            text,
+            (count_at(step, 2), count_at(step, 3)),
+        ),
+        "words" => {
             let words = words(told.alloc(), definition, text);
             tell_words(told, words)
         }
-        Asked::Highlighted(text) => {
+        "highlighted" => {
             let words = highlighted(told.alloc(), definition, text);
             tell_words(told, words)
         }
-        Asked::End(text) => tell_end(told, definition, text),
-        Asked::Scan(text) => scan(told, definition, text),
-        Asked::After(text, edits) => keep_run(told, definition, text, edits),
-        Asked::Positions(text, edits, asked) => {
-            ask_positions(told, definition, text, edits, asked)
-        }
+        "end" => tell_end(told, definition, text),
+        "scan" => scan(told, definition, text),
+        "after" => keep_run(told, definition, text, list_at(step, 2)),
+        "positions" => ask_positions(told, definition, text, list_at(step, 2), list_at(step, 3)),
+        "document" | "visible" | "typed" | "retyped" | "texts" => show(
+            told, definition, name, step,
+        ),
+        _ => make_alone(told, name, step),
     }
 }
 
@@ -101,36 +127,28 @@ fn make(
     rt: &HostRuntime,
     told: &mut Told,
     definition: &mut Definition<u32>,
-    step: Step<'_>,
+    step: &[Value],
 ) -> Result<(), Trouble> {
-    match step {
-        Step::Asks(asked) => ask(told, definition, asked),
-        Step::Shows(text, shown) => show(told, definition, text, shown),
-        Step::SetsIds(members, spanned) => set_ids(told, definition, members, spanned),
-        Step::Replaces(text, rules) => replace(told, definition, text, rules),
-        Step::Edits(old, edit, new) => {
-            tell_edit(told, old, edit, new);
-            Ok(())
-        }
-        Step::Reports(asked) => report(told, asked),
-        Step::Drives(asked, writer) => drive(told, asked, writer),
-        Step::TellsFaults(case) => tell_all_faults(told, case),
-        Step::Serves(stdin, writers) => serve(rt, told, stdin, writers),
-        Step::DisplaysFaults => {
-            display_faults(told);
-            Ok(())
-        }
+    match text_at(step, 0) {
+        "definition" => tell_definition(told, definition),
+        "may_win" => tell_may_win(told, definition)?,
+        "find" => find(told, definition, list_at(step, 1), list_at(step, 2)),
+        "ids" => set_ids(told, definition, step.get(1), is_true_at(step, 2))?,
+        "replaced" => replace(told, definition, text_at(step, 1), text_at(step, 2))?,
+        "served" => serve(rt, told, step),
+        name => ask_about_text(told, definition, name, step)?,
     }
+    Ok(())
 }
 
 /// What is told of a step: its name, and then what comes of it.
 fn answer(
     rt: &HostRuntime,
     definition: &mut Definition<u32>,
-    value: &Value,
+    step: &Value,
 ) -> Result<String, Trouble> {
-    let step = step_of(value)?;
-    let mut told = told_of_step(rt.alloc(), value);
+    let step = list_of(step);
+    let mut told = told_of_step(rt.alloc(), text_at(step, 0));
     make(rt, &mut told, definition, step)?;
     Ok(told.lines()?)
 }

@@ -1,5 +1,5 @@
 //! The edits of a step, and the texts that they make.
-use crate::reading::{Trouble, change_of, elements_of, text_of};
+use crate::reading::{change_of, list_of, text_at};
 use crate::told::Told;
 use lrlex_base::{Edit, Span};
 use serde_json::Value;
@@ -12,13 +12,13 @@ pub struct Made<'v> {
     pub text: String,
 }
 
-/// The edit of a value.
-pub fn edit_of(value: &Value) -> Result<Edit<'_>, Trouble> {
-    let (from, to, put) = change_of(value)?;
-    Ok(Edit {
+/// The edit of these parts.
+pub fn edit_of(parts: &[Value]) -> Edit<'_> {
+    let (from, to, put) = change_of(parts);
+    Edit {
         removed: Span::new(from, to.max(from)),
         put,
-    })
+    }
 }
 
 /// The edit with the text that it makes of this one; none where it doesn't fit.
@@ -36,13 +36,12 @@ fn next_of<'v>(
     text: &str,
     made: &[Made<'v>],
     value: &'v Value,
-) -> Result<Option<Made<'v>>, Trouble> {
-    let edit = edit_of(value)?;
-    let next = match made.last() {
-        Some(last) => made_of(alloc, last.text.as_str(), edit)?,
-        None => made_of(alloc, text, edit)?,
-    };
-    Ok(next)
+) -> Result<Option<Made<'v>>, AllocError> {
+    let edit = edit_of(list_of(value));
+    match made.last() {
+        Some(last) => made_of(alloc, last.text.as_str(), edit),
+        None => made_of(alloc, text, edit),
+    }
 }
 
 /// The edits of a list and the texts that they make, each of the one before and the first of this text. It ends before an edit
@@ -51,7 +50,7 @@ pub fn all_made_of<'v>(
     alloc: Global,
     text: &str,
     edits: &'v [Value],
-) -> Result<Vec<Made<'v>>, Trouble> {
+) -> Result<Vec<Made<'v>>, AllocError> {
     let mut all = Vec::new(alloc);
     for value in edits {
         match next_of(alloc, text, all.as_slice(), value)? {
@@ -63,28 +62,24 @@ pub fn all_made_of<'v>(
 }
 
 /// Tells the edit at this place of a list, behind all that were made, if there is one: it doesn't fit.
-pub fn tell_unfit(told: &mut Told, edits: &[Value], made: usize) -> Result<(), Trouble> {
+pub fn tell_unfit(told: &mut Told, edits: &[Value], made: usize) {
     if let Some(edit) = edits.get(made) {
-        let removed = edit_of(edit)?.removed;
         told.key("unfit");
-        told.span(removed);
+        told.span(edit_of(list_of(edit)).removed);
     }
-    Ok(())
 }
 
 /// The edit `[from, to, text, new]`, beside the text that it makes.
-fn edit_with_text(value: &Value) -> Result<(Edit<'_>, &str), Trouble> {
-    match elements_of(Some(value)) {
-        Some([_, _, _, text]) => Ok((edit_of(value)?, text_of(text)?)),
-        _ => Err(Trouble::Malformed),
-    }
+fn edit_with_text(value: &Value) -> (Edit<'_>, &str) {
+    let parts = list_of(value);
+    (edit_of(parts), text_at(parts, 3))
 }
 
 /// The edits of a list, each beside the text that it makes.
-pub fn edits_of(alloc: Global, list: &[Value]) -> Result<Vec<(Edit<'_>, &str)>, Trouble> {
+pub fn edits_of(alloc: Global, list: &[Value]) -> Result<Vec<(Edit<'_>, &str)>, AllocError> {
     let mut edits = Vec::new(alloc);
     for value in list {
-        edits.push(edit_with_text(value)?)?;
+        edits.push(edit_with_text(value))?;
     }
     Ok(edits)
 }

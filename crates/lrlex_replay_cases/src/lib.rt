@@ -6,6 +6,5 @@ pub mod facts;
 pub mod parts;
 pub mod printing;
 pub mod reading;
-pub mod steps;
 pub mod told;
 pub mod writers;

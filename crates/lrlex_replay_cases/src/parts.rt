@@ -1,24 +1,22 @@
 //! The start states, the rules and the token ids of a case.
-use crate::reading::{RuleParts, Trouble, parts_of, state_of};
+use crate::reading::{RuleParts, Trouble, count_of, number_in, parts_of, state_of};
 use lrlex_rules::{LexFlags, Rule, StartState};
-use serde_json::{Map, Value};
+use serde_json::Value;
 use std::alloc::{AllocError, Global};
 use std::collections::HashMap;
 
 /// The id whose number this is.
-pub fn id_of(value: &Value) -> Result<u32, Trouble> {
-    let id = value.as_u64().and_then(|id| u32::try_from(id).ok());
-    id.ok_or(Trouble::Malformed)
+pub fn id_of(value: &Value) -> u32 {
+    u32::try_from(count_of(value)).unwrap_or(0)
 }
 
-/// The token ids of these members, by the names that they are for.
-pub fn ids_of<'v>(
-    alloc: Global,
-    members: &'v Map<String, Value>,
-) -> Result<HashMap<&'v str, u32>, Trouble> {
+/// The token ids of an object, by the names that they are for.
+pub fn ids_of(alloc: Global, value: Option<&Value>) -> Result<HashMap<&str, u32>, Trouble> {
     let mut ids = HashMap::new(alloc);
-    for (name, value) in members {
-        ids.insert(name.as_str(), id_of(value)?)?;
+    if let Some(members) = value.and_then(Value::as_object) {
+        for (name, id) in members {
+            ids.insert(name.as_str(), id_of(id))?;
+        }
     }
     Ok(ids)
 }
@@ -50,23 +48,15 @@ fn rule_of(
     Ok(made.ok())
 }
 
-/// The id of a rule, if it has one.
-fn rule_id_of(value: &Value) -> Result<Option<u32>, Trouble> {
-    match value.get("tok_id") {
-        Some(number) if number.is_u64() => Ok(Some(id_of(number)?)),
-        _ => Ok(None),
-    }
-}
-
 /// The rules, or the place of the first that is refused.
 pub fn rules_of(
     alloc: Global,
     list: &[Value],
     flags: &LexFlags,
-) -> Result<Result<Vec<Rule<u32>>, usize>, Trouble> {
+) -> Result<Result<Vec<Rule<u32>>, usize>, AllocError> {
     let mut rules = Vec::new(alloc);
     for (place, value) in list.iter().enumerate() {
-        let id = rule_id_of(value)?;
+        let id = number_in(value, "tok_id");
         match rule_of(alloc, id, parts_of(alloc, value)?, flags)? {
             Some(rule) => rules.push(rule)?,
             None => return Ok(Err(place)),
@@ -76,7 +66,7 @@ pub fn rules_of(
 }
 
 /// The start states.
-pub fn states_of(alloc: Global, list: &[Value]) -> Result<Vec<StartState>, Trouble> {
+pub fn states_of(alloc: Global, list: &[Value]) -> Result<Vec<StartState>, AllocError> {
     let mut states = Vec::new(alloc);
     for value in list {
         states.push(state_of(alloc, value)?)?;

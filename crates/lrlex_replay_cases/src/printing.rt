@@ -1,9 +1,39 @@
 //! What is printed of cases: what is told of them and of their steps, and how many there were.
-use crate::facts::Refusal;
+use crate::facts::{Refusal, tell_refusal};
 use crate::reading::Trouble;
-use crate::steps::introduction;
+use crate::told::Told;
 use serde_json::Value;
+use std::alloc::{AllocError, Global};
 use std::io;
+
+/// What is told of a step before its own lines: its name.
+pub fn told_of_step(alloc: Global, name: &str) -> Told {
+    let mut told = Told::new(alloc);
+    told.key("step");
+    told.text(name);
+    told
+}
+
+/// What is told of a case before anything else: its id.
+pub fn told_of_case(alloc: Global, case: &Value) -> Told {
+    let mut told = Told::new(alloc);
+    told.key("case");
+    told.value(case.get("id").unwrap_or(&Value::Null));
+    told
+}
+
+/// What is told of a case before its steps: its id, and why it has no definition, if so.
+fn introduction(
+    alloc: Global,
+    case: &Value,
+    refusal: Option<&Refusal>,
+) -> Result<String, AllocError> {
+    let mut told = told_of_case(alloc, case);
+    if let Some(refusal) = refusal {
+        tell_refusal(&mut told, refusal);
+    }
+    told.lines()
+}
 
 /// Prints what is told of a case before its steps.
 pub fn introduce(rt: &HostRuntime, case: &Value, refusal: Option<&Refusal>) -> io::Result<()> {

@@ -1,4 +1,5 @@
-//! The parts of a case, read from JSON.
+//! The parts of a case, read from JSON. What isn't there, or is of another kind, is read as nothing: as 0, as an empty text or list,
+//! or as null. Whoever makes a case sees to its form.
 use lrlex_base::Span;
 use lrlex_rules::{LexFlags, StartState, StartStateOperation, UNSPECIFIED_LEX_FLAGS};
 use lrlex_table::Budget;
@@ -56,59 +57,73 @@ pub fn value_of(alloc: Global, text: &str) -> Result<Value, Trouble> {
     }
 }
 
-/// The text that is this member, if it is one.
-fn str_in<'v>(value: &'v Value, member: &str) -> Option<&'v str> {
-    value.get(member)?.as_str()
-}
-
 /// The text of a value.
-pub fn text_of(value: &Value) -> Result<&str, Trouble> {
-    value.as_str().ok_or(Trouble::Malformed)
+pub fn text_of(value: &Value) -> &str {
+    value.as_str().unwrap_or("")
 }
 
 /// The elements of a list.
-pub fn list_of(value: &Value) -> Result<&[Value], Trouble> {
-    elements_of(Some(value)).ok_or(Trouble::Malformed)
-}
-
-/// The text that is this member.
-pub fn text_in<'v>(value: &'v Value, member: &str) -> Result<&'v str, Trouble> {
-    str_in(value, member).ok_or(Trouble::Malformed)
-}
-
-/// The elements of the list, if the value is one.
-pub fn elements_of(value: Option<&Value>) -> Option<&[Value]> {
-    Some(value?.as_array()?.as_slice())
-}
-
-/// The list that is this member.
-pub fn list_in<'v>(value: &'v Value, member: &str) -> Result<&'v [Value], Trouble> {
-    elements_of(value.get(member)).ok_or(Trouble::Malformed)
+pub fn list_of(value: &Value) -> &[Value] {
+    match value.as_array() {
+        Some(list) => list.as_slice(),
+        None => &[],
+    }
 }
 
 /// The number, as a count.
-pub fn count_of(value: &Value) -> Result<usize, Trouble> {
-    match value.as_u64() {
-        Some(count) => Ok(count as usize),
-        None => Err(Trouble::Malformed),
+pub fn count_of(value: &Value) -> usize {
+    value.as_u64().unwrap_or(0) as usize
+}
+
+/// The text at this place of a list.
+pub fn text_at(list: &[Value], place: usize) -> &str {
+    match list.get(place) {
+        Some(value) => text_of(value),
+        None => "",
     }
 }
 
-/// The span from one place to another.
-fn span_between(start: usize, end: usize) -> Result<Span, Trouble> {
-    if start <= end {
-        Ok(Span::new(start, end))
-    } else {
-        Err(Trouble::Malformed)
+/// The elements of the list at this place of a list.
+pub fn list_at(list: &[Value], place: usize) -> &[Value] {
+    match list.get(place) {
+        Some(value) => list_of(value),
+        None => &[],
     }
 }
 
-/// The span `[start, end]`.
-fn span_of(value: Option<&Value>) -> Result<Span, Trouble> {
-    match elements_of(value) {
-        Some([start, end]) => span_between(count_of(start)?, count_of(end)?),
-        _ => Err(Trouble::Malformed),
+/// The count at this place of a list.
+pub fn count_at(list: &[Value], place: usize) -> usize {
+    match list.get(place) {
+        Some(value) => count_of(value),
+        None => 0,
     }
+}
+
+/// Whether it is true what stands at this place of a list.
+pub fn is_true_at(list: &[Value], place: usize) -> bool {
+    list.get(place).and_then(Value::as_bool) == Some(true)
+}
+
+/// The text that is this member.
+pub fn text_in<'v>(value: &'v Value, name: &str) -> &'v str {
+    match value.get(name) {
+        Some(value) => text_of(value),
+        None => "",
+    }
+}
+
+/// The list that is this member.
+pub fn list_in<'v>(value: &'v Value, name: &str) -> &'v [Value] {
+    match value.get(name) {
+        Some(value) => list_of(value),
+        None => &[],
+    }
+}
+
+/// The span of these ends, or an empty one where the second is before the first.
+pub fn span_of(ends: &[Value]) -> Span {
+    let (start, end) = (count_at(ends, 0), count_at(ends, 1));
+    Span::new(start, end.max(start))
 }
 
 /// Whether the flag that is this member is set; none where it is unset.
@@ -116,9 +131,9 @@ fn flag_in(value: &Value, member: &str) -> Option<bool> {
     value.get(member)?.as_bool()
 }
 
-/// The limit that is this member, if it is one.
-fn limit_in(value: &Value, member: &str) -> Option<u32> {
-    u32::try_from(value.get(member)?.as_u64()?).ok()
+/// The number that is this member, if it is one.
+pub(crate) fn number_in(value: &Value, name: &str) -> Option<u32> {
+    u32::try_from(value.get(name)?.as_u64()?).ok()
 }
 
 /// The flags that are set.
@@ -133,149 +148,89 @@ fn flags_of(value: &Value) -> LexFlags {
         swap_greed: flag_in(value, "swap_greed"),
         ignore_whitespace: flag_in(value, "ignore_whitespace"),
         unicode: flag_in(value, "unicode"),
-        nest_limit: limit_in(value, "nest_limit"),
+        nest_limit: number_in(value, "nest_limit"),
         ..UNSPECIFIED_LEX_FLAGS
     }
 }
 
 /// The flags of a case.
-pub fn flags_in(case: &Value) -> Result<LexFlags, Trouble> {
+pub fn flags_in(case: &Value) -> LexFlags {
     match case.get("flags") {
-        Some(flags) => Ok(flags_of(flags)),
-        None => Err(Trouble::Malformed),
+        Some(flags) => flags_of(flags),
+        None => UNSPECIFIED_LEX_FLAGS,
     }
-}
-
-/// The start state of these parts.
-fn state_from(
-    alloc: Global,
-    id: &Value,
-    name: &Value,
-    exclusive: &Value,
-    span: &Value,
-) -> Result<StartState, Trouble> {
-    let name = name.as_str().ok_or(Trouble::Malformed)?;
-    let exclusive = exclusive.as_bool().ok_or(Trouble::Malformed)?;
-    let id = count_of(id)?;
-    let span = span_of(Some(span))?;
-    Ok(StartState::new(alloc, id, name, exclusive, span)?)
 }
 
 /// The start state `[id, name, exclusive, [start, end]]`.
-pub fn state_of(alloc: Global, value: &Value) -> Result<StartState, Trouble> {
-    match elements_of(Some(value)) {
-        Some([id, name, exclusive, span]) => state_from(alloc, id, name, exclusive, span),
-        _ => Err(Trouble::Malformed),
-    }
+pub fn state_of(alloc: Global, value: &Value) -> Result<StartState, AllocError> {
+    let parts = list_of(value);
+    let (id, name) = (count_at(parts, 0), text_at(parts, 1));
+    let (exclusive, span) = (is_true_at(parts, 2), span_of(list_at(parts, 3)));
+    StartState::new(alloc, id, name, exclusive, span)
 }
 
-/// The ids of a list.
-fn counts_of(alloc: Global, list: &[Value]) -> Result<Vec<usize>, Trouble> {
-    let mut counts = Vec::new(alloc);
-    for value in list {
-        counts.push(count_of(value)?)?;
-    }
-    Ok(counts)
+/// The counts of a list.
+fn counts_of(alloc: Global, list: &[Value]) -> Result<Vec<usize>, AllocError> {
+    list.iter().map(count_of).collect(alloc)
 }
 
-/// The operation of this name.
-fn operation_of(value: &Value) -> Result<StartStateOperation, Trouble> {
-    match value.as_str() {
-        Some("ReplaceStack") => Ok(StartStateOperation::ReplaceStack),
-        Some("Push") => Ok(StartStateOperation::Push),
-        Some("Pop") => Ok(StartStateOperation::Pop),
-        _ => Err(Trouble::Malformed),
+/// The operation of this name; the last of them is `Pop`.
+fn operation_of(name: &str) -> StartStateOperation {
+    match name {
+        "ReplaceStack" => StartStateOperation::ReplaceStack,
+        "Push" => StartStateOperation::Push,
+        _ => StartStateOperation::Pop,
     }
 }
 
 /// The target `[id, operation]`, or none.
-fn target_of(value: Option<&Value>) -> Result<Option<(usize, StartStateOperation)>, Trouble> {
-    match elements_of(value) {
-        None => Ok(None),
-        Some([id, operation]) => Ok(Some((count_of(id)?, operation_of(operation)?))),
-        Some(_) => Err(Trouble::Malformed),
+fn target_of(parts: &[Value]) -> Option<(usize, StartStateOperation)> {
+    match parts {
+        [id, operation] => Some((count_of(id), operation_of(text_of(operation)))),
+        _ => None,
     }
 }
 
 /// The name of a rule, if it has one.
 fn name_of(alloc: Global, value: &Value) -> Result<Option<String>, AllocError> {
-    match str_in(value, "name") {
+    match value.get("name").and_then(Value::as_str) {
         Some(name) => Ok(Some(String::from_str(alloc, name)?)),
         None => Ok(None),
     }
 }
 
 /// The parts of a rule beside its id.
-pub fn parts_of(alloc: Global, value: &Value) -> Result<RuleParts, Trouble> {
-    let name_span = span_of(value.get("name_span"))?;
-    let target = target_of(value.get("target"))?;
-    let pattern = text_in(value, "re_str")?;
-    let states = list_in(value, "start_states")?;
-    let start_states = counts_of(alloc, states)?;
-    let re_str = String::from_str(alloc, pattern)?;
+pub fn parts_of(alloc: Global, value: &Value) -> Result<RuleParts, AllocError> {
+    let start_states = counts_of(alloc, list_in(value, "start_states"))?;
+    let re_str = String::from_str(alloc, text_in(value, "re_str"))?;
     Ok(RuleParts {
         name: name_of(alloc, value)?,
-        name_span,
+        name_span: span_of(list_in(value, "name_span")),
         re_str,
         start_states,
-        target,
+        target: target_of(list_in(value, "target")),
     })
 }
 
 /// The budget `[rows, work]` that is this member, if there is one.
-pub fn budget_in(value: &Value, member: &str) -> Result<Option<Budget>, Trouble> {
-    match elements_of(value.get(member)) {
-        None => Ok(None),
-        Some([rows, work]) => Ok(Some(Budget::new(count_of(rows)?, count_of(work)?))),
-        Some(_) => Err(Trouble::Malformed),
+pub fn budget_in(value: &Value, name: &str) -> Option<Budget> {
+    match list_in(value, name) {
+        [rows, work] => Some(Budget::new(count_of(rows), count_of(work))),
+        _ => None,
     }
 }
 
-/// The edit `[from, to, text, ..]`.
-pub fn change_of(value: &Value) -> Result<Change<'_>, Trouble> {
-    match elements_of(Some(value)) {
-        Some([from, to, text, ..]) => {
-            let text = text_of(text)?;
-            Ok((count_of(from)?, count_of(to)?, text))
-        }
-        _ => Err(Trouble::Malformed),
-    }
+/// The edit of these parts: `[from, to, text, ..]`.
+pub fn change_of(parts: &[Value]) -> Change<'_> {
+    (count_at(parts, 0), count_at(parts, 1), text_at(parts, 2))
 }
 
-/// The bytes of an edit `[from, to, text, bytes]`; none where they are left out.
-pub fn bytes_of(value: &Value) -> &[Value] {
-    match elements_of(Some(value)) {
-        Some([_, _, _, bytes]) => elements_of(Some(bytes)).unwrap_or(&[]),
-        _ => &[],
-    }
+/// The byte that is this number.
+fn byte_of(value: &Value) -> u8 {
+    u8::try_from(count_of(value)).unwrap_or(0)
 }
 
 /// The bytes of a file, each a number.
-pub fn file_of(alloc: Global, list: &[Value]) -> Result<Vec<u8>, Trouble> {
-    let mut bytes = Vec::new(alloc);
-    for value in list {
-        let byte = value.as_u64().and_then(|byte| u8::try_from(byte).ok());
-        bytes.push(byte.ok_or(Trouble::Malformed)?)?;
-    }
-    Ok(bytes)
-}
-
-/// The rule text, the flags and the input of a case that has neither parts of a definition nor ids to set.
-pub fn texts_in(case: &Value) -> Result<(&str, LexFlags, &str), Trouble> {
-    if case.get("from_rules").is_some() || case.get("ids").is_some() {
-        return Err(Trouble::Malformed);
-    }
-    let (rules, input) = (text_in(case, "rules")?, text_in(case, "input")?);
-    Ok((rules, flags_in(case)?, input))
-}
-
-/// The span `[start, end]`, or an empty one where its end is before its start.
-pub fn loose_span_of(value: &Value) -> Result<Span, Trouble> {
-    match elements_of(Some(value)) {
-        Some([start, end]) => {
-            let start = count_of(start)?;
-            Ok(Span::new(start, count_of(end)?.max(start)))
-        }
-        _ => Err(Trouble::Malformed),
-    }
+pub fn file_of(alloc: Global, list: &[Value]) -> Result<Vec<u8>, AllocError> {
+    list.iter().map(byte_of).collect(alloc)
 }

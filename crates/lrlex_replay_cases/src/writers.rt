@@ -1,7 +1,7 @@
 //! A writer that breaks.
 ghost use Rattle.std.specs.Prelude.{Some};
 
-use crate::reading::{Trouble, count_of, elements_of, text_of};
+use crate::reading::{Trouble, count_at, text_at};
 use crate::told::Told;
 use serde_json::Value;
 use std::alloc::Global;
@@ -41,15 +41,14 @@ pub struct BrokenWriter {
     flushes: u64,
 }
 
-/// What breaks, by its name.
-fn breaks_of(value: &Value) -> Result<Breaks, Trouble> {
-    match text_of(value)? {
-        "never" => Ok(Breaks::Never),
-        "fails" => Ok(Breaks::Fails(ErrorKind::Other)),
-        "is interrupted" => Ok(Breaks::Fails(ErrorKind::Interrupted)),
-        "takes none" => Ok(Breaks::TakesNone),
-        "fails at a flush" => Ok(Breaks::AtFlush),
-        _ => Err(Trouble::Malformed),
+/// What breaks, by its name; the last of them is `never`.
+fn breaks_of(name: &str) -> Breaks {
+    match name {
+        "fails" => Breaks::Fails(ErrorKind::Other),
+        "is interrupted" => Breaks::Fails(ErrorKind::Interrupted),
+        "takes none" => Breaks::TakesNone,
+        "fails at a flush" => Breaks::AtFlush,
+        _ => Breaks::Never,
     }
 }
 
@@ -105,18 +104,15 @@ pub fn tell_served(told: &mut Told, status: u8, lines: &BrokenWriter, faults: &B
 
 impl BrokenWriter {
     /// The writer `[most, call, how it breaks]`.
-    pub fn of_value(alloc: Global, value: &Value) -> Result<BrokenWriter, Trouble> {
-        let Some([most, at, breaks]) = elements_of(Some(value)) else {
-            return Err(Trouble::Malformed);
-        };
-        Ok(BrokenWriter {
-            most: count_of(most)?,
-            at: count_of(at)? as u64,
-            breaks: breaks_of(breaks)?,
+    pub fn of_parts(alloc: Global, parts: &[Value]) -> BrokenWriter {
+        BrokenWriter {
+            most: count_at(parts, 0),
+            at: count_at(parts, 1) as u64,
+            breaks: breaks_of(text_at(parts, 2)),
             held: Vec::new(alloc),
             calls: 0,
             flushes: 0,
-        })
+        }
     }
 }
 
