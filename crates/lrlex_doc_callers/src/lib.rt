@@ -10,5 +10,4 @@ pub mod marking;
 pub mod modules;
 pub mod reporting;
 pub mod scanning;
-pub mod serving;
 pub mod tokens;
