@@ -8,7 +8,7 @@ from support import programs
 from support.programs import Outcome
 from support.replay import PROGRAM
 
-USAGE = "Usage: lrlex_bench RULES INPUT K [--edits | --keys] [--no-tables]\n       lrlex_bench --replay\n"
+USAGE = "Usage: lrlex_bench RULES INPUT K [--edits | --keys] [--no-tables]\n       lrlex_bench --replay\n       lrlex_bench --example NAME\n"
 STREAM = "The clock, standard input or standard output failed\n"
 
 FILES = {"rules": "%%\n[0-9]+ 'INT'\n[a-z]+ 'ID'\n[ ] ;", "input": "abc 123 ❤", "faulty": "%%\n( 'A'", "bad": b"\xff"}
@@ -23,6 +23,10 @@ ROWS = [
     ("--replay", '{"rules": "%%", "steps": [["none"]]}\n', Outcome("case null\n", STREAM, 1)),
     ("--replay --replay", "", Outcome("", USAGE, 1)),
     ("--replay --no-tables", "", Outcome("", USAGE, 1)),
+    ("--example", "", Outcome("", USAGE, 1)),
+    ("--example calc more", "", Outcome("", USAGE, 1)),
+    ("--example calc --replay", "", Outcome("", USAGE, 1)),
+    ("--example none", "", Outcome("", "The examples are calc, conf, edit_loop, first and json_check\n", 1)),
     ("rules input 1 --replay", "", Outcome("", USAGE, 1)),
     ("rules input", "", Outcome("", USAGE, 1)),
     ("rules input 0", "", Outcome("", USAGE, 1)),

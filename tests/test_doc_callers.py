@@ -1,4 +1,4 @@
-"""The callers that pages show or name (crates/lrlex_doc_callers), against worked answers."""
+"""The callers that pages show or name (crates/lrlex_examples), against worked answers."""
 
 import unittest
 

@@ -1,16 +1,14 @@
-"""The examples (lrlex_examples) over stored runs and rows, as both compilers build the program.
+"""The examples (lrlex_bench --example) over stored runs and rows, as both compilers build the program.
 
 The stored run of an example is its input examples/NAME.in, or examples/NAME.txt at the top where README shows it, and its output
 examples/NAME.out.
 """
 
-import os
 import unittest
 
 from support import programs
 from support.programs import Outcome
-
-PROGRAM = "lrlex_examples"
+from support.replay import PROGRAM
 
 # Examples that read standard input: the input of the stored run, and its status.
 STORED = {
@@ -36,9 +34,6 @@ ROWS = [
     ("json_check", b"[\xff]", "stdin:1:2: not UTF-8, byte 0xFF at offset 1\n1 | [\n  |  ^\n", 1),
 ]
 
-# Words that are refused.
-REFUSED = [[], ["none"], ["calc", "more"]]
-
 
 class Examples(unittest.TestCase):
     """What comes of each example."""
@@ -54,31 +49,12 @@ class Examples(unittest.TestCase):
         for program, (name, (given, status)) in self.rows(STORED.items()):
             with self.subTest(example=name, program=program):
                 wanted = Outcome(programs.read(f"tests/examples/{name}.out"), "", status)
-                self.assertEqual(programs.run([program, name], programs.read(given)), wanted)
+                self.assertEqual(programs.run([program, "--example", name], programs.read(given)), wanted)
 
     def test_other_inputs(self):
         for program, (name, given, out, status) in self.rows(ROWS):
             with self.subTest(example=name, given=given, program=program):
-                self.assertEqual(programs.run([program, name], given), Outcome(out, "", status))
-
-    def test_help(self):
-        for program in programs.by_each_compiler(PROGRAM):
-            out, err, status = programs.run([program, "--help"])
-            self.assertEqual((err, status), ("", 0))
-            for name in STORED:
-                self.assertIn(f"  {name} ", out)
-        for program, name in self.rows(STORED):
-            with self.subTest(example=name, program=program):
-                out, err, status = programs.run([program, name, "--help"])
-                self.assertEqual((err, status), ("", 0))
-                self.assertIn(f"Usage: {os.path.basename(program)} {name}", out)
-
-    def test_words_that_are_refused(self):
-        for program, words in self.rows(REFUSED):
-            with self.subTest(words=words, program=program):
-                out, err, status = programs.run([program, *words])
-                self.assertEqual((out, status), ("", 2))
-                self.assertIn(PROGRAM, err)
+                self.assertEqual(programs.run([program, "--example", name], given), Outcome(out, "", status))
 
 
 if __name__ == "__main__":

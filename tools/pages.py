@@ -13,8 +13,8 @@ import re
 import crates
 import mustfail
 
-# The crates that programs of the pages are taken from: the callers, and the examples.
-CALLERS = ("lrlex_doc_callers", "lrlex_examples")
+# The crates that programs of the pages are taken from.
+CALLERS = ("lrlex_examples",)
 FENCE = re.compile(r"^```(.*)\n((?:(?!```).*\n)*)```", re.M)
 LINK = re.compile(r"\[[^\]\n]*\]\(([^()\s]+)\)")
 QUOTED = re.compile(r"`([^`\n]+)`")

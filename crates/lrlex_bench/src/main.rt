@@ -1,5 +1,5 @@
 //! Times lexing: `lrlex_bench RULES INPUT K` lexes a text K times by the rules of a rule file. `lrlex_bench --replay` replays the
-//! cases of standard input.
+//! cases of standard input, and `lrlex_bench --example NAME` runs an example.
 #![tactic(auto)]
 
 mod edits;
@@ -9,6 +9,7 @@ mod measure;
 use crate::measure::{Definition, definition_by, tell_run};
 use lrlex_bench_lib::{Fault, Request, Task, Watch, asked, tell_usage};
 use lrlex_replay::replay_all;
+use std::io;
 use std::process::ExitCode;
 
 /// Measures what is asked for. The watch took how long the definition's build was.
@@ -37,21 +38,24 @@ fn built(rt: &HostRuntime, task: &Task) -> Result<(), Fault> {
     measured(rt, task, &definition, &mut watch)
 }
 
-/// Does what the words of the command line ask for.
-fn served(rt: &HostRuntime) -> Result<(), Fault> {
+/// Does what the words of the command line ask for, but for an example: gives its name.
+fn served(rt: &HostRuntime) -> Result<Option<String>, Fault> {
     match asked(rt)? {
-        Request::Usage => tell_usage(rt),
-        Request::Replay => Ok(replay_all(rt)?),
-        Request::Timing(task) => built(rt, &task),
+        Request::Usage => tell_usage(rt)?,
+        Request::Replay => replay_all(rt)?,
+        Request::Example(name) => return Ok(Some(name)),
+        Request::Timing(task) => built(rt, &task)?,
     }
+    Ok(None)
 }
 
-fn main(rt: HostRuntime) -> ExitCode {
+fn main(rt: HostRuntime) -> io::Result<ExitCode> {
     match served(&rt) {
-        Ok(()) => ExitCode::SUCCESS,
+        Ok(Some(name)) => lrlex_examples::serve(rt, &name),
+        Ok(None) => Ok(ExitCode::SUCCESS),
         Err(fault) => {
             fault.tell(&rt);
-            ExitCode::FAILURE
+            Ok(ExitCode::FAILURE)
         }
     }
 }

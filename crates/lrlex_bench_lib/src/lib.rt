@@ -1,4 +1,4 @@
-//! What the program `lrlex_bench` needs for timing besides lexing: its words and the texts that they name, times, and the lines
+//! What the program `lrlex_bench` needs besides lexing: its words and the texts that they name, times, and the lines
 //! that it prints. Nothing here lexes.
 #![tactic(auto)]
 

@@ -29,6 +29,8 @@ pub enum Request {
     Usage,
     /// To replay the cases of standard input.
     Replay,
+    /// To run the example of this name.
+    Example(String),
     /// To time something.
     Timing(Task),
 }
@@ -56,6 +58,9 @@ fn task_of(rt: &HostRuntime, matches: &ArgMatches<'_>) -> Result<Task, Fault> {
 fn request_of(rt: &HostRuntime, matches: &ArgMatches<'_>) -> Result<Request, Fault> {
     if matches.get_flag("replay") {
         return Ok(Request::Replay);
+    }
+    if let Some(name) = matches.get_str("example") {
+        return Ok(Request::Example(String::from_str(rt.alloc(), name)?));
     }
     Ok(Request::Timing(task_of(rt, matches)?))
 }

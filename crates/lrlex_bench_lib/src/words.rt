@@ -6,7 +6,7 @@ use std::alloc::{AllocError, Global};
 
 /// How the program is called.
 pub const USAGE: &str =
-    "Usage: lrlex_bench RULES INPUT K [--edits | --keys] [--no-tables]\n       lrlex_bench --replay";
+    "Usage: lrlex_bench RULES INPUT K [--edits | --keys] [--no-tables]\n       lrlex_bench --replay\n       lrlex_bench --example NAME";
 
 /// A word that has to be there.
 fn word<'a>(alloc: Global, name: &'a str) -> Arg<'a> {
@@ -34,7 +34,8 @@ fn command<'a>(alloc: Global) -> Result<Command<'a>, AllocError> {
         .arg(option(alloc, "edits"))?
         .arg(option(alloc, "keys"))?
         .arg(option(alloc, "no-tables"))?
-        .arg(option(alloc, "replay").exclusive(true))
+        .arg(option(alloc, "replay").exclusive(true))?
+        .arg(Arg::new(alloc, "example").long("example").exclusive(true))
 }
 
 /// What the command finds in the words, the program's own name first; nothing where they ask for help.

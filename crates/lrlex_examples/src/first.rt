@@ -1,4 +1,4 @@
-//! The program that README shows: `lrlex_examples first < TEXT` prints the place, the name and the text of each word and number.
+//! The program that README shows: `lrlex_bench --example first < TEXT` prints the place, the name and the text of each word and number.
 use lrlex::{DefaultLexerTypes, LRNonStreamingLexerDef, Lexeme, Lexer, LexerDef};
 use lrlex_report::{faults_text, stop_text};
 use std::io;

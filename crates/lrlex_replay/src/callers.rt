@@ -1,9 +1,9 @@
-//! Steps that make what the callers of `lrlex_doc_callers` make of a definition.
+//! Steps that make what the callers of `lrlex_examples` make of a definition.
 use crate::building::Definition;
 use crate::lexers::tell_lexed;
 use lrlex::{Edit, LexerDef};
-use lrlex_doc_callers::lending::lexed_and_replaced;
-use lrlex_doc_callers::lexing::lexer_after;
+use lrlex_examples::callers::lending::lexed_and_replaced;
+use lrlex_examples::callers::lexing::lexer_after;
 use lrlex_replay_cases::edits::edits_of;
 use lrlex_replay_cases::facts::tell_no_items;
 use lrlex_replay_cases::reading::Trouble;

@@ -3,7 +3,7 @@ use crate::building::Definition;
 use crate::items::tell_items;
 use crate::runs::{most_of, tell_pieces};
 use lrlex::{DefaultLexerTypes, Document, EditError, Span};
-use lrlex_doc_callers::editing::{retyped, typed, visible};
+use lrlex_examples::callers::editing::{retyped, typed, visible};
 use lrlex_replay_cases::facts::tell_words;
 use lrlex_replay_cases::reading::{
     Change, Trouble, change_of, count_of, list_at, list_of, span_of, text_at,

@@ -3,8 +3,8 @@ use lrlex::{
     DefaultLexerTypes, LRLexError, LRNonStreamingLexerDef, LexBuildError, LexerDef, Span,
     StartStateId,
 };
-use lrlex_doc_callers::marking::{Diagnostic, faults, stop};
-use lrlex_doc_callers::reporting::complaints_of_file;
+use lrlex_examples::callers::marking::{Diagnostic, faults, stop};
+use lrlex_examples::callers::reporting::complaints_of_file;
 use lrlex_replay_cases::facts::tell_report;
 use lrlex_replay_cases::reading::{Trouble, count_at, file_of, list_at, span_of, text_at};
 use lrlex_replay_cases::told::Told;

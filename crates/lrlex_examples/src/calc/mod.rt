@@ -1,4 +1,4 @@
-//! Shows token ids that come from a grammar, by `set_rule_ids`, and errors with a caret: `lrlex_examples calc < LINES` works
+//! Shows token ids that come from a grammar, by `set_rule_ids`, and errors with a caret: `lrlex_bench --example calc < LINES` works
 //! out each line, of whole numbers, `+ - * /` and parentheses. What waits for its right side is held on a stack of its own, so
 //! that no line is nested too deep, and a result that is too large for 64 bits is reported.
 mod grammar;

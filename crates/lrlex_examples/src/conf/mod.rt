@@ -1,4 +1,4 @@
-//! Shows start states that are pushed and popped: `lrlex_examples conf < CONFIGURATION` prints each entry as
+//! Shows start states that are pushed and popped: `lrlex_bench --example conf < CONFIGURATION` prints each entry as
 //! `SECTION.KEY = VALUE`. The lexer's own stack of states says whether a section, a value or a quoted text is open, so each has
 //! the rules that it needs.
 mod reader;

@@ -1,4 +1,4 @@
-//! Shows a `Document`, a text that keeps its lexemes while it is edited: `lrlex_examples edit_loop < INPUT`. The input has a
+//! Shows a `Document`, a text that keeps its lexemes while it is edited: `lrlex_bench --example edit_loop < INPUT`. The input has a
 //! text, a line `----`, and an edit a line: `FROM TO PUT` puts the text PUT in the place of the bytes from FROM up to TO. Told
 //! is, of the text and after each edit: the lexemes, an error as FILE:L:C, and how many of the tiles were cut anew.
 mod edits;

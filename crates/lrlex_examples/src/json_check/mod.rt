@@ -1,4 +1,4 @@
-//! Shows a reader on top of a lexer: `lrlex_examples json_check < TEXT` says whether a text is JSON (RFC 8259), or where it isn't
+//! Shows a reader on top of a lexer: `lrlex_bench --example json_check < TEXT` says whether a text is JSON (RFC 8259), or where it isn't
 //! and what was expected there. The lexer cuts the text, and the reader keeps what is open on a stack of its own.
 mod reader;
 mod tokens;

@@ -2,10 +2,10 @@ use Rattle.std.proofs.Common.{◌≡◌, ◌++◌, map}
 use Rattle.std.specs.List.{filter_map}
 use Rattle.lrlex_base.specs.Items.{items_left}
 use Rattle.lrlex.specs.Views.{definition_of, items_by}
-use Rattle.lrlex_doc_callers.specs.Lexing.{word_of, shown}
+use Rattle.lrlex_examples.specs.Lexing.{word_of, shown}
 use Rattle.lrlex_base.specs.Lexemes.{lexeme_seen}
-use Rattle.lrlex_doc_callers.proofs.WordLemmas.{number}
-use Rattle.lrlex_doc_callers.proofs.lexing.words.Given as goal
+use Rattle.lrlex_examples.proofs.WordLemmas.{number}
+use Rattle.lrlex_examples.proofs.callers.lexing.words.Given as goal
 
 abbrev pub invariant-loop-item : goal.invariant-loop-item
 invariant-loop-item l = record {

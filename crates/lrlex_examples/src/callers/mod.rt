@@ -1,6 +1,4 @@
-//! The callers that the CALLING.md files show, word for word, so that the check proves what they show.
-#![tactic(auto)]
-
+//! The callers that the CALLING.md files show.
 pub mod base;
 pub mod editing;
 pub mod lending;

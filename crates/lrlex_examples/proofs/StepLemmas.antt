@@ -6,7 +6,7 @@ use Rattle.std.proofs.lemmas.List.{map_more, drop_all}
 use Rattle.lrlex_base.specs.Spans.{Fits, as_span}
 use Rattle.lrlex_base.specs.Edits.{edited}
 use Rattle.lrlex_base.specs.declared.edits.Edit.{Edit}
-use Rattle.lrlex_doc_callers.specs.Lexing.{AreSteps, text_after}
+use Rattle.lrlex_examples.specs.Lexing.{AreSteps, text_after}
 
 abbrev Step : Type 0
 Step = Edit × Bor (List ℕ)

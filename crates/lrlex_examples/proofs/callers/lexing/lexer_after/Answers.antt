@@ -3,11 +3,11 @@ use Rattle.std.proofs.lemmas.List.{take_all}
 use Rattle.lrlex.specs.Reach.{IsRun}
 use Rattle.lrlex.specs.Lexer.{lexer_items}
 use Rattle.lrlex.specs.Views.{definition_of, items_by}
-use Rattle.lrlex_doc_callers.specs.Lexing.{text_after}
-use Rattle.lrlex_doc_callers.proofs.StepLemmas.{IsStep, text_after_more, these_steps, more_steps, no_steps}
+use Rattle.lrlex_examples.specs.Lexing.{text_after}
+use Rattle.lrlex_examples.proofs.StepLemmas.{IsStep, text_after_more, these_steps, more_steps, no_steps}
 use Rattle.lrlex_base.specs.Lexemes.{lexeme_seen}
-use Rattle.lrlex_doc_callers.proofs.WordLemmas.{number}
-use Rattle.lrlex_doc_callers.proofs.lexing.lexer_after.Goals as goal
+use Rattle.lrlex_examples.proofs.WordLemmas.{number}
+use Rattle.lrlex_examples.proofs.callers.lexing.lexer_after.Goals as goal
 
 pub loop-edit-preserved : goal.loop-edit-preserved
 loop-edit-preserved c =

@@ -8,7 +8,7 @@ use Rattle.std.proofs.lemmas.List.Elements.{filter_map-append}
 use Rattle.lrlex.specs.Words.{Rule}
 use Rattle.lrlex.specs.Tiling.{Lexeme}
 use Rattle.lrlex.specs.Ids.{name_of}
-use Rattle.lrlex_doc_callers.specs.Lexing.{word_of}
+use Rattle.lrlex_examples.specs.Lexing.{word_of}
 
 -- the number that an id of type `u32` stands for
 abbrev pub number : ℕ → ℕ

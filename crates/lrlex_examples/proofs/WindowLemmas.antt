@@ -13,7 +13,7 @@ use Rattle.lrlex.specs.Reach.{IsLexed, IsRun}
 use Rattle.lrlex.specs.Tiling.{Item}
 use Rattle.lrlex.specs.Words.{Definition}
 use Rattle.lrlex.specs.declared.reading.pieces.Piece.{Piece}
-use Rattle.lrlex_doc_callers.specs.Lexing.{ShowPart, joined_parts, shown}
+use Rattle.lrlex_examples.specs.Lexing.{ShowPart, joined_parts, shown}
 
 -- these words show these pieces
 abbrev pub ShowsPieces : List (Bor (List ℕ) × Bor (List ℕ)) → List Piece → Type 0

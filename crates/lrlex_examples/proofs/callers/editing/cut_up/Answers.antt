@@ -1,10 +1,10 @@
 use Rattle.std.proofs.Common.{ℕ, List, length, map, take, ap, subst, arith}
 use Rattle.lrlex.specs.Views.{definition_of, items_by}
 use Rattle.lrlex.specs.Words.{lexeme_seen}
-use Rattle.lrlex_doc_callers.specs.Lexing.{shown}
-use Rattle.lrlex_doc_callers.proofs.WindowLemmas.{ShowsPieces, shows_more, shows_run}
-use Rattle.lrlex_doc_callers.proofs.WordLemmas.{number}
-use Rattle.lrlex_doc_callers.proofs.editing.cut_up.Goals as goal
+use Rattle.lrlex_examples.specs.Lexing.{shown}
+use Rattle.lrlex_examples.proofs.WindowLemmas.{ShowsPieces, shows_more, shows_run}
+use Rattle.lrlex_examples.proofs.WordLemmas.{number}
+use Rattle.lrlex_examples.proofs.callers.editing.cut_up.Goals as goal
 
 pub loop-piece-init : goal.loop-piece-init
 loop-piece-init c = ap (λ ws. map (λ (w : List ℕ × List ℕ). w.1) (map shown ws)) c.new-parts.ensures.items

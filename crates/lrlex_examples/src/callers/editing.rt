@@ -1,7 +1,7 @@
 //! For a highlighter and an editor, at the usual types.
 ghost use Rattle.std.specs.Prelude.{◌≡◌, IfOk, map, take};
 ghost use Rattle.lrlex.specs.LexRun.{end_of};
-ghost use Rattle.lrlex_doc_callers.specs.Lexing.{ShowPart, shown, joined_parts};
+ghost use Rattle.lrlex_examples.specs.Lexing.{ShowPart, shown, joined_parts};
 
 use lrlex::{
     Change, DefaultLexerTypes, Document, EditError, LRNonStreamingLexerDef, LexRun, Lexeme,

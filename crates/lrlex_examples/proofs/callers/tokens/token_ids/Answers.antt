@@ -3,7 +3,7 @@ use Rattle.std.specs.List.{IsDistinct}
 use Rattle.std.specs.Str.{bytes_eq}
 use Rattle.std.proofs.lemmas.Result.{IfOk-weaker}
 use Rattle.lrlex_tokens.specs.TokenModule.{constant_of}
-use Rattle.lrlex_doc_callers.proofs.tokens.token_ids.Goals as goal
+use Rattle.lrlex_examples.proofs.callers.tokens.token_ids.Goals as goal
 
 pub returns : goal.returns
 returns c =

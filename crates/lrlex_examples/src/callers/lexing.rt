@@ -5,7 +5,7 @@ ghost use Rattle.lrlex.specs.Boundaries.{Boundary};
 ghost use Rattle.lrlex.specs.Reach.{IsRun};
 ghost use Rattle.lrlex.specs.Views.{definition_of, items_by};
 ghost use Rattle.lrlex.specs.Words.{lexeme_seen};
-ghost use Rattle.lrlex_doc_callers.specs.Lexing.{AreWords, shown, AreSteps, text_after};
+ghost use Rattle.lrlex_examples.specs.Lexing.{AreWords, shown, AreSteps, text_after};
 
 use lrlex::{
     DefaultLexerTypes, Edit, LRNonStreamingLexer, LRNonStreamingLexerDef, Lexeme, Lexer,

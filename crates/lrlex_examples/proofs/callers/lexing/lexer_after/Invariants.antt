@@ -1,10 +1,10 @@
 use Rattle.std.proofs.Common.{◌≡◌, ◌↔◌, IsUtf8, map, take, drop}
 use Rattle.lrlex.specs.Reach.{IsRun}
 use Rattle.lrlex.specs.Views.{definition_of, items_by}
-use Rattle.lrlex_doc_callers.specs.Lexing.{AreSteps, text_after}
+use Rattle.lrlex_examples.specs.Lexing.{AreSteps, text_after}
 use Rattle.lrlex_base.specs.Lexemes.{lexeme_seen}
-use Rattle.lrlex_doc_callers.proofs.WordLemmas.{number}
-use Rattle.lrlex_doc_callers.proofs.lexing.lexer_after.Given as goal
+use Rattle.lrlex_examples.proofs.WordLemmas.{number}
+use Rattle.lrlex_examples.proofs.callers.lexing.lexer_after.Given as goal
 
 abbrev pub invariant-loop-edit : goal.invariant-loop-edit
 invariant-loop-edit l = record {

@@ -6,10 +6,10 @@ use Rattle.std.specs.List.{filter_map}
 use Rattle.lrlex.specs.ItemLaws.{FitsText}
 use Rattle.lrlex.specs.Lexer.{lexer_items, lexer_text}
 use Rattle.lrlex.specs.Views.{definition_of, item_of}
-use Rattle.lrlex_doc_callers.specs.Lexing.{word_of, shown}
-use Rattle.lrlex_doc_callers.proofs.WordLemmas.{number, text_or, word_is, span_fits, at_front, word_more, word_none}
+use Rattle.lrlex_examples.specs.Lexing.{word_of, shown}
+use Rattle.lrlex_examples.proofs.WordLemmas.{number, text_or, word_is, span_fits, at_front, word_more, word_none}
 use Rattle.lrlex_base.specs.Lexemes.{lexeme_seen}
-use Rattle.lrlex_doc_callers.proofs.lexing.words.Goals as goal
+use Rattle.lrlex_examples.proofs.callers.lexing.words.Goals as goal
 
 pub span_str-requires : goal.span_str-requires
 span_str-requires c =
