@@ -10,6 +10,7 @@ use lrlex_replay_cases::told::Told;
 use lrlex_replay_cases::writers::{BrokenWriter, Came, tell_came, tell_served};
 use serde_json::Value;
 use std::alloc::Global;
+use std::error::Error;
 use std::io;
 
 /// What a fault of the engine is.
@@ -111,17 +112,22 @@ pub fn serve(rt: &HostRuntime, told: &mut Told, step: &[Value]) {
     tell_served(told, status, &lines, &faults);
 }
 
-/// Tells the text that each fault displays, on a line of its own: those of the engine, of the words and of the texts.
+/// The same error. Only what is an error can be given.
+fn as_error<E: Error>(error: E) -> E {
+    error
+}
+
+/// Tells the text that each fault displays, on a line of its own: those of the engine, of the words and of the texts. Each is an error.
 pub fn display_faults(told: &mut Told) {
     let unwritten = EngineFault::Write(io::Error::from(io::ErrorKind::Other));
     told.key("faults");
     told.made(format!(in told.alloc();
         "{}\n{}\n{}\n{}\n{}\n{}\n{}",
-        EngineFault::Memory,
+        as_error(EngineFault::Memory),
         unwritten,
-        WordsFault::Memory,
+        as_error(WordsFault::Memory),
         WordsFault::Refused,
-        TextFault::Memory,
+        as_error(TextFault::Memory),
         TextFault::Unreadable,
         TextFault::NotText
     ));
