@@ -121,9 +121,17 @@ fn lsp<'a>(alloc: Global) -> Result<Command<'a>, AllocError> {
     with_flags(alloc, command)
 }
 
+/// Adds a command to the one, if memory was there for it.
+fn with<'a>(
+    command: Command<'a>,
+    added: Result<Command<'a>, AllocError>,
+) -> Result<Command<'a>, AllocError> {
+    command.subcommand(added?)
+}
+
 /// The command, which takes the name of a command and then its words.
 pub fn command<'a>(alloc: Global) -> Result<Command<'a>, AllocError> {
-    Command::new(alloc, "rolgumzai")
+    let command = Command::new(alloc, "rolgumzai")
         .about("Checks rule files, and shows how texts are lexed by them.")
         .version("0.1.0")
         .after_help(
@@ -131,10 +139,10 @@ pub fn command<'a>(alloc: Global) -> Result<Command<'a>, AllocError> {
             and 2 where the words are refused or a file can't be read.",
         )
         .subcommand_required(true)
-        .arg_required_else_help(true)
-        .subcommand(check(alloc)?)?
-        .subcommand(tokens(alloc)?)?
-        .subcommand(highlight(alloc)?)?
-        .subcommand(explain(alloc)?)?
-        .subcommand(lsp(alloc)?)
+        .arg_required_else_help(true);
+    let command = with(command, check(alloc))?;
+    let command = with(command, tokens(alloc))?;
+    let command = with(command, highlight(alloc))?;
+    let command = with(command, explain(alloc))?;
+    with(command, lsp(alloc))
 }

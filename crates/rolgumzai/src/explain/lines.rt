@@ -113,6 +113,37 @@ fn status_of(found: &Found<'_, '_>) -> u8 {
     }
 }
 
+/// What is found, the start states on the stack, and the active rules, in lines.
+fn lines_of(
+    alloc: Global,
+    rules: &RuleFile<'_>,
+    input: Input<'_>,
+    found: &Found<'_, '_>,
+    stack: &[(usize, usize)],
+    active: &[Active],
+) -> Result<String, AllocError> {
+    let mut shown = found_text(alloc, rules, input, found, active)?;
+    push_stack(&mut shown, rules.definition, stack)?;
+    push_active(&mut shown, rules, active, winner_of(found))?;
+    Ok(shown)
+}
+
+/// What is to be said of a byte of a run's text, and the status.
+fn explained_in(
+    alloc: Global,
+    rules: &RuleFile<'_>,
+    input: Input<'_>,
+    run: &Run<'_, '_>,
+    offset: usize,
+) -> Result<(String, u8), AllocError> {
+    let found = found_at(alloc, run, offset)?;
+    let boundary = boundary_before(run, offset);
+    let (_, rest) = input.text.split_at_checked(boundary.at).unwrap_or(("", ""));
+    let active = active_in(alloc, rules.definition, boundary.state(), rest)?;
+    let shown = lines_of(alloc, rules, input, &found, boundary.stack, &active)?;
+    Ok((shown, status_of(&found)))
+}
+
 /// What is to be said of a byte of a text, and the status.
 pub fn explained(
     alloc: Global,
@@ -121,12 +152,5 @@ pub fn explained(
     offset: usize,
 ) -> Result<(String, u8), AllocError> {
     let run = rules.definition.run(alloc, input.text)?;
-    let found = found_at(alloc, &run, offset)?;
-    let boundary = boundary_before(&run, offset);
-    let (_, rest) = input.text.split_at_checked(boundary.at).unwrap_or(("", ""));
-    let active = active_in(alloc, rules.definition, boundary.state(), rest)?;
-    let mut shown = found_text(alloc, rules, input, &found, active.as_slice())?;
-    push_stack(&mut shown, rules.definition, boundary.stack)?;
-    push_active(&mut shown, rules, active.as_slice(), winner_of(&found))?;
-    Ok((shown, status_of(&found)))
+    explained_in(alloc, rules, input, &run, offset)
 }
