@@ -2,7 +2,7 @@
 
 The proofs by rt ci, each from nothing, with the tests and the programs; the edits of one function that the prover must refuse;
 the pages; the tests of tests/ over the programs that rt ci has built, with the runs of ./lrlex, and over the C library; refused
-memory; the recursions of the programs; and laws on 10,000 random cases. Nothing is written into the tree but what rt builds in crates/*/out. What this
+memory; the recursions of the programs; and laws on 5,000 random cases. Nothing is written into the tree but what rt builds in crates/*/out. What this
 machine can't try, as where there is no cc, is counted as skipped. At the end it says what took how long; the last line is
 'N passed, M failed', or 'N passed, M failed, K skipped'.
 
@@ -40,6 +40,8 @@ PROGRAMS = "LRLEX_PROGRAMS"
 ARCHIVE = "LRLEX_ARCHIVE"
 # What a step that can't be tried here gives as its status.
 SKIPPED = 2
+# How many random cases the laws are tried on: half of what ./dev soak tries, for the gate's time.
+CASES = 5_000
 
 
 class Proofs:
@@ -167,8 +169,8 @@ class Gate:
         self.since("the tests, what was left of them")
         self.step(recursion.main())
         self.since("the recursions of the programs")
-        self.step(soak.main())
-        self.since("the laws on 10,000 random cases")
+        self.step(soak.main(CASES))
+        self.since(f"the laws on {CASES:,} random cases")
         took = time.monotonic() - self.began
         print(f"times, {took:.0f} s in all on {len(os.sched_getaffinity(0))} processors, {processor_time():.0f} s of their time:")
         print("\n".join(self.times))
