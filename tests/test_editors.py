@@ -58,8 +58,9 @@ KEYS_IN_HELIX = [
     (["xd"], MESSAGES[1:]),
     ([":open sorted.c", "Enter"], ["unexpected character '/'"]),
     (["xd"], ["unexpected character '#'"]),
-    ([":hsplit tokens.l", "Enter"], ["unexpected character '#'", "[0-9]+ 'INT'"]),
-    (["geo. 'OTHER'", "Escape"], ["[0-9]+ 'INT'"]),
+    ([":hsplit tokens.l", "Enter"], ["unexpected character '#'", "[ ] ;"]),
+    # a single change: 25.01 may send several in the wrong order
+    (["gea^", "Escape"], ["unexpected character ' '"]),
 ]
 
 # From which version on which settings are meant, and tokens are coloured.
@@ -203,13 +204,14 @@ class Editors(unittest.TestCase):
         self.assertEqual(wanted, found["opened"])
         self.assertEqual(wanted[1:], found["after an edit"])
 
-    def test_lsp_mode(self):
+    def test_settings_of_lsp_mode(self):
         if not shutil.which("emacs") or not glob.glob(LSP_MODE):
             self.skipTest("Emacs or lsp-mode isn't installed")
         home = home_with("sorted.c")
+        headings = ["A mode for rule files:", "With lsp-mode, which colours tokens too:"]
+        settings = write(f"{home}/settings.el", "".join(settings_below(heading) for heading in headings))
         words = ["emacs", "-Q", "--batch", "-l", f"{SCRIPTS}/lsp-mode.el"]
-        command = shlex.join(server("--rules", f"{programs.TOP}/rules/c.l"))
-        found = sections(run_editor(words, home, FILE=f"{home}/sorted.c", SERVER=command))
+        found = sections(run_editor(words, home, FILE=f"{home}/sorted.c", SETTINGS=settings))
         self.assertIn('"include" lsp-face-semhl-variable', found["opened"])
         self.assertEqual('"int" lsp-face-semhl-keyword', found["after an edit"][1], found)
         self.assertGreater(int(found["after an edit"][0].split()[0]), int(found["opened"][0].split()[0]))
@@ -223,8 +225,8 @@ class Editors(unittest.TestCase):
         first_without, heading = SETTINGS_OF_HELIX
         if version_of(helix, home) < first_without:
             write(f"{home}/.config/helix/config.toml", settings_below(heading))
-        texts = [*MESSAGES, "unexpected character '/'", "unexpected character '#'", "[0-9]+ 'INT'"]
-        with Terminal([helix, "faults.l"], home) as terminal:
+        texts = [*MESSAGES, "unexpected character '/'", "unexpected character '#'", "unexpected character ' '", "[ ] ;"]
+        with Terminal([helix, "faults.l", "sorted.c", "tokens.l"], home) as terminal:
             for keys, wanted in KEYS_IN_HELIX:
                 for key in keys:
                     terminal.tmux("send-keys", key)
