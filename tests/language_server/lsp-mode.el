@@ -1,4 +1,4 @@
-;; Emacs' lsp-mode on the file FILE with the server SERVER (a command line): semantic tokens as faces, also after an edit.
+;; Emacs' lsp-mode on the file FILE with the settings in the file SETTINGS: semantic tokens as faces, also after an edit.
 (setq load-path (append (file-expand-wildcards "/usr/share/emacs/site-lisp/elpa-src/*") load-path))
 (setq lsp-keymap-prefix nil lsp-auto-guess-root t lsp-enable-file-watchers nil lsp-log-io nil
       lsp-session-file (make-temp-file "lsp-session") lsp-semantic-tokens-enable t lsp-modeline-code-actions-enable nil
@@ -6,13 +6,10 @@
 (require 'lsp-mode)
 (require 'lsp-semantic-tokens)
 (require 'lsp-modeline)
-(add-to-list 'lsp-language-id-configuration '(text-mode . "text"))
-(lsp-register-client
- (make-lsp-client :new-connection (lsp-stdio-connection (split-string (getenv "SERVER")))
-                  :activation-fn (lambda (&rest _) t) :priority 10 :server-id 'rolgumzai))
+(load (getenv "SETTINGS"))
+(setq c-mode-hook nil) ; `lsp' is called below, once colours are on
 (lsp-workspace-folders-add (file-name-directory (getenv "FILE")))
 (find-file (getenv "FILE"))
-(text-mode)
 (let ((noninteractive nil)) (font-lock-mode 1))
 (lsp)
 (defun settle (seconds)

@@ -21,7 +21,8 @@ local function settle()
   return vim.lsp.buf_request_sync(buffer, "textDocument/semanticTokens/full", document, 20000)
 end
 
-local id = vim.lsp.start_client({ name = "rolgumzai", cmd = words, root_dir = vim.fn.getcwd() })
+-- `start` is there from 0.8 on, and `start_client` goes.
+local id = (vim.lsp.start or vim.lsp.start_client)({ name = "rolgumzai", cmd = words, root_dir = vim.fn.getcwd() })
 vim.lsp.buf_attach_client(buffer, id)
 vim.wait(5000, function()
   local client = vim.lsp.get_client_by_id(id)
@@ -41,7 +42,8 @@ say(table.concat(vim.api.nvim_buf_get_lines(buffer, 0, -1, true), "\n"))
 for _, answer in pairs(settle() or {}) do
   say("== tokens " .. (answer.result and #answer.result.data / 5 or vim.inspect(answer.err)))
 end
-client.stop()
-vim.wait(2000, function() return client.is_stopped() end, 10)
-say("stopped " .. tostring(client.is_stopped()))
+-- From 0.11 on these are methods.
+if vim.fn.has("nvim-0.11") == 1 then client:stop() else client.stop() end
+vim.wait(20000, function() return vim.lsp.get_client_by_id(id) == nil end, 10)
+say("stopped " .. tostring(vim.lsp.get_client_by_id(id) == nil))
 vim.cmd("qa!")
