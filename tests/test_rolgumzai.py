@@ -133,7 +133,7 @@ ROWS = [
     ("check comments.l", "", Outcome(f"comments.l:1:1: Unknown declaration: {COMMENT}\n1 | // c\n  | ^\n", "", 1)),
     ("check first.l", "", Outcome(FIRST, "", 1)),
     ("check --allow-wholeline-comments true comments.l", "", Outcome()),
-    ("highlight tokens.l -", "if @", Outcome("\x1b[31mif\x1b[0m \x1b[41m@\x1b[0m")),
+    ("highlight tokens.l -", "if @", Outcome("\x1b[31mif\x1b[0m \x1b[41m@\x1b[0m", "", 1)),
     (
         "highlight --map ID=comment --map STRING= tokens.l input",
         "",
@@ -166,6 +166,21 @@ ROWS = [
             "    2* tokens.l:2: if 'IF'\n"
             "    2  tokens.l:3: [a-z]+ 'ID'\n"
             "    0  tokens.l:4: [0-9]+ 'INT'\n"
+            "    0  tokens.l:5: \"[^\"]*\" 'STRING'\n"
+            "    0  tokens.l:6: [ \\n]+ ;\n"
+        ),
+    ),
+    (
+        "explain tokens.l - 0",
+        "1",
+        Outcome(
+            "stdin:1:1: INT of tokens.l:4 wins with 1 byte: no other rule matches\n"
+            "1 | 1\n  | ^\n"
+            "stack, from the bottom: INITIAL\n"
+            "bytes  active rules\n"
+            "    0  tokens.l:2: if 'IF'\n"
+            "    0  tokens.l:3: [a-z]+ 'ID'\n"
+            "    1* tokens.l:4: [0-9]+ 'INT'\n"
             "    0  tokens.l:5: \"[^\"]*\" 'STRING'\n"
             "    0  tokens.l:6: [ \\n]+ ;\n"
         ),
@@ -515,7 +530,7 @@ class Replayed(unittest.TestCase):
                 out, err, status = self.run_in_folder(program, "explain", *words, str(start + length - 1))
                 self.assertEqual((err, status), ("", 0))
                 name = re.escape(names_of(case)[number])
-                self.assertRegex(out, rf"^\d+\.txt:\d+:\d+: {name} of \d+\.l:\d+ wins with {length} bytes: ")
+                self.assertRegex(out, rf"^\d+\.txt:\d+:\d+: {name} of \d+\.l:\d+ wins with {length} bytes?: ")
                 self.assertEqual(len(re.findall(rf"^ *{length}\* ", out, re.M)), 1)
 
     def test_tokens_as_json(self):
@@ -593,6 +608,18 @@ class Highlighted(unittest.TestCase):
                 out, err, status = programs.run([program, *words], "ab")
                 self.assertEqual((err, status), ("", 0))
                 self.assertIn(f'<pre><span class="{wanted}">ab</span></pre>', out)
+
+    def test_names_in_either_case(self):
+        for program in programs.by_each_compiler(PROGRAM):
+            for form in [str.upper, str.lower]:
+                names = [form(name) for name in ["STRING", "IN_TEXT", "ESC", "ESCAPE", "COMMENT", "OTHER"]]
+                rules = f"{programs.scratch().name}/names.l"
+                with open(rules, "w", encoding="utf-8") as file:
+                    file.write("%%\n" + "".join(f"{at} '{name}'\n" for at, name in enumerate(names)))
+                out, err, status = programs.run([program, "highlight", "--html", rules, "-"], "012345")
+                shown = ["text"] * 4 + ["comment", "number"]
+                self.assertEqual((err, status), ("", 0))
+                self.assertIn("".join(f'<span class="{it}">{at}</span>' for at, it in enumerate(shown)), out)
 
 
 if __name__ == "__main__":

@@ -62,4 +62,6 @@ def main(folder, names=()):
         copy(crate, f"{folder}/crates/{crate.name}")
     list_in(f"{folder}/crates.txt", copied)
     print(f"vendor: {' '.join(it.name for it in copied)} are in {folder}/crates and in its crates.txt")
+    pages = [it.folder for it in copied if os.path.isfile(f"{it.folder}/CALLING.md")]
+    print("".join(f"vendor: {it}/CALLING.md says how to call it\n" for it in pages), end="")
     return 0

@@ -26,7 +26,7 @@ use Rattle.lrlex_cli.specs.Scanning.{Finds, IsErrorAt, IsFirstPass, WritesRun, l
 use Rattle.lrlex_cli.specs.Writing.{AppendsFront, Writes, WritesUpTo}
 use Rattle.lrlex_cli.specs.declared.scanning.FirstPass.{FirstPass}
 use Rattle.lrlex_cli.proofs.FirstPassLemmas.{tile_lexeme}
-use Rattle.lrlex_cli.proofs.WritingLemmas.{up_to_end, up_to_fails, up_to_more, writes_cut}
+use Rattle.lrlex_cli.proofs.WritingLemmas.{up_to_fails, up_to_more, writes_both, writes_cut}
 
 -- ---- parts of a list
 
@@ -210,33 +210,13 @@ module _ {S : Type 0} (number : S → ℕ) (d : Definition) (text : List ℕ) (f
       pub last_fits : All (FitsText text) last
       last_fits = All-first (FitsText text) last h.error (subst (All (FitsText text)) parts_of h.fit)
 
-      -- the last lexeme's line was not written to the end
-      pub last_cut : {T E : Type 0} (new : Option (List ℕ)) (r : Result T E) → IsErr r → AppendsFront now new (waiting ++ said_by last) → WritesRun d text (is_some first.error) old new r
-      last_cut new r err failed =
-          (h.whole, h.bounds, h.run, h.stops, writes_cut old new r _ _ _ err ends (up_to_fails old now new h.said (said_by last) waiting h.wrote failed))
-
-      module _ (mid : Option (List ℕ)) (wait : List ℕ) (passed : WritesUpTo now mid (waiting ++ said_by last) wait) where
-        lexemes_written : WritesUpTo old mid (h.said ++ said_by last) wait
-        lexemes_written = up_to_more old now mid h.said (said_by last) waiting wait h.wrote passed
-
-        -- nor that of the error
-        pub stop_cut : {T E : Type 0} (new : Option (List ℕ)) (r : Result T E) → IsErr r → AppendsFront mid new (wait ++ stop_line first.error) → WritesRun d text (is_some first.error) old new r
-        stop_cut new r err failed = (
-          h.whole,
-          h.bounds,
-          h.run,
-          h.stops,
-          writes_cut old new r _ [] _ err (append-nil ((h.said ++ said_by last) ++ stop_line first.error) ∙ ends)
-              (up_to_fails old mid new (h.said ++ said_by last) (stop_line first.error) wait lexemes_written failed),
-        )
-
-        pub all_written : {T E : Type 0} (end new : Option (List ℕ)) (more : List ℕ) (r : Result T E) → WritesUpTo mid end (wait ++ stop_line first.error) more → Writes end new r more →
-            WritesRun d text (is_some first.error) old new r
-        all_written end new more r stopped flushed = (
-          h.whole,
-          h.bounds,
-          h.run,
-          h.stops,
-          up_to_end old end new r ((h.said ++ said_by last) ++ stop_line first.error) (said_by h.whole) more ends
-              (up_to_more old mid end (h.said ++ said_by last) (stop_line first.error) wait more lexemes_written stopped) flushed,
-        )
+      -- what comes with the end is written behind what waits
+      pub all_written : {T E : Type 0} (new : Option (List ℕ)) (r : Result T E) → Writes now new r (waiting ++ (said_by last ++ stop_line first.error)) →
+          WritesRun d text (is_some first.error) old new r
+      all_written new r written =
+          let more = said_by last ++ stop_line first.error in
+          let front = h.wrote.0 in
+          let whole : front ++ (waiting ++ more) ≡ said_by h.whole =
+          sym (append_assoc front waiting more) ∙ ap (λ l. l ++ more) h.wrote.2
+          ∙ sym (append_assoc h.said (said_by last) (stop_line first.error)) ∙ ends in
+          (h.whole, h.bounds, h.run, h.stops, subst (λ l. Writes old new r l) whole (writes_both old now new r front (waiting ++ more) h.wrote.1 written))

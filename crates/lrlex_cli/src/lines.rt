@@ -167,7 +167,7 @@ pub(crate) fn pass_tile<L: LexerTypes, W: Write>(
 }
 
 /// Passes on the line of the lexeme of a tile that may be there. The lexeme fits the text.
-pub(crate) fn pass_last<L: LexerTypes, W: Write>(
+fn pass_last<L: LexerTypes, W: Write>(
     out: &mut W,
     waiting: &mut Vec<u8>,
     definition: &LRNonStreamingLexerDef<L>,
@@ -186,11 +186,7 @@ pub(crate) fn pass_last<L: LexerTypes, W: Write>(
 }
 
 /// Passes on the line of an error that may be there, at this byte.
-pub(crate) fn pass_stop<W: Write>(
-    out: &mut W,
-    waiting: &mut Vec<u8>,
-    error: Option<usize>,
-) -> io::Result<()>
+fn pass_stop<W: Write>(out: &mut W, waiting: &mut Vec<u8>, error: Option<usize>) -> io::Result<()>
     ensures { Passes (W.contents out.old) (W.contents out.new) result
         (waiting.old.items ++ stop_line error) waiting.new.items }
 {
@@ -198,4 +194,24 @@ pub(crate) fn pass_stop<W: Write>(
         Some(at) => pass_error(out, waiting, at),
         None => Ok(()),
     }
+}
+
+/// Writes the bytes that wait, and then the lines of what comes with the end: of a last tile's lexeme, and of an error at a byte.
+/// The lexeme fits the text.
+pub(crate) fn write_end<L: LexerTypes, W: Write>(
+    out: &mut W,
+    waiting: &mut Vec<u8>,
+    definition: &LRNonStreamingLexerDef<L>,
+    text: &str,
+    last: Option<ScannedTile<L::StorageT>>,
+    error: Option<usize>,
+) -> io::Result<()>
+    requires { All (FitsText text.now) (last_lexeme L.StorageT.number last) }
+    ensures { Writes (W.contents out.old) (W.contents out.new) result (waiting.old.items
+        ++ (lines (definition_of L.StorageT.number definition.now).rules text.now
+        (last_lexeme L.StorageT.number last) ++ stop_line error)) }
+{
+    pass_last::<L, W>(out, waiting, definition, text, last)?;
+    pass_stop(out, waiting, error)?;
+    flush(out, waiting)
 }

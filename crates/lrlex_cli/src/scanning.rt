@@ -6,8 +6,7 @@ ghost use Rattle.lrlex.specs.declared.lexing.scanner.Step.TheVariants.{Tile};
 ghost use Rattle.lrlex.specs.Views.{definition_of};
 ghost use Rattle.lrlex_cli.specs.Scanning.{IsFirstPass, WritesRun, error_place, last_tile, lexeme_by};
 
-use crate::lines::{pass_last, pass_stop, pass_tile};
-use crate::writing::flush;
+use crate::lines::{pass_tile, write_end};
 use lrlex::{LRLexError, LRNonStreamingLexerDef, ScanEnd, ScannedTile, Scanner, Step};
 use lrlex_base::{LexerTypes, Numbered};
 use std::alloc::{AllocError, Global};
@@ -130,7 +129,5 @@ pub(crate) fn second_pass<L: LexerTypes<LexErrorT = LRLexError>, W: Write>(
         pass_tile::<L, W>(out, waiting, definition, text, tile)?;
         left -= lexemes_of(tile);
     }
-    pass_last::<L, W>(out, waiting, definition, text, first.last)?;
-    pass_stop(out, waiting, first.error)?;
-    flush(out, waiting)
+    write_end::<L, W>(out, waiting, definition, text, first.last, first.error)
 }

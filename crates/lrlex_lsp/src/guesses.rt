@@ -6,13 +6,22 @@ fn is_keyword(name: &str, text: &str) -> bool {
     name.eq_ignore_ascii_case(text) || name.strip_prefix("K") == Some(text)
 }
 
+/// Whether a name ends in this word, in either case.
+fn ends_in(name: &str, word: &str) -> bool {
+    match name.get(name.len().saturating_sub(word.len())..) {
+        Some(end) => end.eq_ignore_ascii_case(word),
+        None => false,
+    }
+}
+
 /// Whether its rule is named as a quoted text is, or as the inside of one.
 fn is_quoted(name: &str, text: &str) -> bool {
     text.starts_with('"')
         || text.starts_with('\'')
-        || name.ends_with("TEXT")
-        || name.ends_with("ESC")
-        || name == "STRING"
+        || ends_in(name, "TEXT")
+        || ends_in(name, "ESC")
+        || ends_in(name, "ESCAPE")
+        || name.eq_ignore_ascii_case("STRING")
 }
 
 /// What a piece begins with, of a rule whose name tells nothing.
@@ -31,7 +40,7 @@ pub(crate) fn guessed(name: Option<&str>, text: &str) -> Option<u32> {
     match name {
         None if text.trim().is_empty() => None,
         None => Some(COMMENT),
-        Some("COMMENT") => Some(COMMENT),
+        Some(name) if name.eq_ignore_ascii_case("COMMENT") => Some(COMMENT),
         Some(name) if is_keyword(name, text) => Some(KEYWORD),
         Some(name) if is_quoted(name, text) => Some(STRING),
         Some(_) => guessed_by_text(text),

@@ -6,7 +6,7 @@ use crate::building::{Definition, build};
 use crate::items::item_seen;
 use crate::lexers::LexerOf;
 use crate::runs::most_of;
-use lrlex::{Budget, LexerDef};
+use lrlex::{Budget, DefaultLexerTypes, LexRun, LexerDef};
 use lrlex_base::{Id, NewlineCache, NonStreamingLexer, Span};
 use lrlex_replay_cases::facts::{
     Item, tell_counts, tell_faults, tell_items, tell_refusal, tell_rules, tell_sets, tell_states,
@@ -66,6 +66,16 @@ fn tell_lexed(
     Ok(())
 }
 
+/// What a run gives.
+fn lexed_by<T: Id>(
+    alloc: Global,
+    run: &LexRun<'_, '_, DefaultLexerTypes<T>>,
+) -> Result<Lexed, AllocError> {
+    let counts = [run.tiles(), run.entries_peak(), most_of(run.asked())];
+    let items = run.items().iter().map(item_seen::<T>).collect(alloc)?;
+    Ok((items, counts))
+}
+
 /// What lexing the input by this definition gives.
 fn lexed<T: Id>(
     alloc: Global,
@@ -73,9 +83,7 @@ fn lexed<T: Id>(
     input: &str,
 ) -> Result<Lexed, AllocError> {
     let run = definition.run(alloc, input)?;
-    let counts = [run.tiles(), run.entries_peak(), most_of(run.asked())];
-    let items = run.items().iter().map(item_seen::<T>).collect(alloc)?;
-    Ok((items, counts))
+    lexed_by(alloc, &run)
 }
 
 /// Tells the definition, and what lexing the input gives: by the definition's tables, and without any, so that each rule is

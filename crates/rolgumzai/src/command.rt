@@ -87,9 +87,13 @@ fn highlight<'a>(alloc: Global) -> Result<Command<'a>, AllocError> {
 
 /// What says why a token is what it is.
 fn explain<'a>(alloc: Global) -> Result<Command<'a>, AllocError> {
-    let offset = path(alloc, "offset", "OFFSET", "A byte of the text, from 0").value_parser(
-        value_parser!(usize),
-    );
+    let offset = path(
+        alloc,
+        "offset",
+        "OFFSET",
+        "A byte of the text, from 0, as START of tokens",
+    )
+    .value_parser(value_parser!(usize));
     let command = Command::new(alloc, "explain")
         .about("Says which rule wins at a byte of a text, and why")
         .after_help(

@@ -1,7 +1,7 @@
 //! Works out a line.
 use crate::calc::grammar::{CLOSE, MINUS, NUMBER, OPEN, OVER, PLUS, TIMES};
-use crate::rules::Definition;
-use lrlex::{LexError, Lexeme, Lexer};
+use crate::rules::{Definition, Types};
+use lrlex::{LRNonStreamingLexer, LexError, Lexeme, Lexer};
 use std::alloc::{AllocError, AllocFailed, Global};
 
 /// Why a line has no value.
@@ -193,13 +193,8 @@ impl Sum {
     }
 }
 
-/// The value of a line.
-pub fn value_of(alloc: Global, definition: &Definition, line: &str) -> Result<i64, Failure> {
-    let lexer = definition.lexer(alloc, line)?;
-    let mut sum = Sum {
-        value: None,
-        waiting: Vec::new(alloc),
-    };
+/// Takes all tokens of a line.
+fn take_all(sum: &mut Sum, lexer: &LRNonStreamingLexer<'_, '_, Types>) -> Result<(), Failure> {
     for item in lexer.iter() {
         match item {
             Ok(lexeme) => {
@@ -209,5 +204,16 @@ pub fn value_of(alloc: Global, definition: &Definition, line: &str) -> Result<i6
             Err(error) => return wrong(error.span().start(), "no token begins here"),
         }
     }
+    Ok(())
+}
+
+/// The value of a line.
+pub fn value_of(alloc: Global, definition: &Definition, line: &str) -> Result<i64, Failure> {
+    let lexer = definition.lexer(alloc, line)?;
+    let mut sum = Sum {
+        value: None,
+        waiting: Vec::new(alloc),
+    };
+    take_all(&mut sum, &lexer)?;
     sum.whole(line.len())
 }

@@ -55,7 +55,8 @@ fn winner_text(
     let line = rules.line_of(piece.rule);
     let (file, number) = (line.file, line.line);
     let name = piece.name.unwrap_or(";");
-    let message = format!(in alloc; "{name} of {file}:{number} wins with {len} bytes: {reason}")?;
+    let unit = if len == 1 { "byte" } else { "bytes" };
+    let message = format!(in alloc; "{name} of {file}:{number} wins with {len} {unit}: {reason}")?;
     place_text(alloc, input.file, input.text, piece.span, &message)
 }
 

@@ -5,7 +5,7 @@ mod marks;
 mod types;
 
 use crate::files::{Definition, Types, path_of, rules_of, text_at};
-use crate::output::{UNABLE, print};
+use crate::output::{FAULTY, UNABLE, print};
 use clap::ArgMatches;
 use classes::class_of;
 use lrlex::{LexRun, Piece};
@@ -57,16 +57,24 @@ fn page_of(
     Ok(page)
 }
 
-/// The input with its pieces marked, and after the last one the rest of it.
+/// Whether an error stopped the run.
+fn is_stopped(run: &LexRun<'_, '_, Types>) -> bool {
+    match run.items().last() {
+        Some(item) => item.is_err(),
+        None => false,
+    }
+}
+
+/// The input with its pieces marked, and after the last one the rest of it. Whether an error stopped lexing there.
 fn marked(
     alloc: Global,
     definition: &Definition,
     map: &Map,
     input: &str,
     marks: Marks,
-) -> Result<String, AllocError> {
+) -> Result<(String, bool), AllocError> {
     let run = definition.run(alloc, input)?;
-    page_of(alloc, map, &run, marks)
+    Ok((page_of(alloc, map, &run, marks)?, is_stopped(&run)))
 }
 
 /// How the words want pieces to be marked.
@@ -86,9 +94,9 @@ fn show(
     input: &str,
     marks: Marks,
 ) -> io::Result<u8> {
-    let page = marked(rt.alloc(), definition, map, input, marks)?;
+    let (page, is_stopped) = marked(rt.alloc(), definition, map, input, marks)?;
     print(rt, &page)?;
-    Ok(0)
+    Ok(if is_stopped { FAULTY } else { 0 })
 }
 
 /// Shows the input that the words name, by these rules and what the words say of them. Gives the status.

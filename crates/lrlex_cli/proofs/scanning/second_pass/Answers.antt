@@ -1,7 +1,7 @@
 use Rattle.std.proofs.Common.{arith}
 use Rattle.lrlex.specs.Views.{definition_of}
 use Rattle.lrlex_cli.proofs.FirstPassLemmas.{less_so_far}
-use Rattle.lrlex_cli.proofs.SecondPassLemmas.{all_written, enough, last_cut, last_fits, more_written, no_more, none_written, stop_cut, tile_cut, tile_fits}
+use Rattle.lrlex_cli.proofs.SecondPassLemmas.{all_written, enough, last_fits, more_written, no_more, none_written, tile_cut, tile_fits}
 use Rattle.lrlex_cli.proofs.scanning.second_pass.Goals as goal
 
 pub loop-left-init : goal.loop-left-init
@@ -40,22 +40,12 @@ loop-left-preserved g c =
     more_written g.L.StorageT.Id.number (definition_of g.L.StorageT.Id.number c.args.definition.now) c.args.text.now c.args.first _ _ _ c.loop-left.scanner c.loop-left.left c.in_ok-tile.tile
     c.in_ok-tile.ensures.step c.loop-left-test.true c.loop-left.invariant _ _ c.next_tile.new.scanner c.lexemes_of-left.result c.in_ok-tile.ensures.moved c.lexemes_of-left.ensures c.in_ok-pass_tile.ensures
 
-pub pass_last-requires : goal.pass_last-requires
-pass_last-requires g c =
+pub write_end-requires : goal.write_end-requires
+write_end-requires g c =
     last_fits g.L.StorageT.Id.number (definition_of g.L.StorageT.Id.number c.args.definition.now) c.args.text.now c.args.first _ _ _ c.loop-left.scanner c.loop-left.left
     c.loop-left.invariant c.loop-left-test.false
-
-pub returns-in_err-pass_last : goal.returns-in_err-pass_last
-returns-in_err-pass_last g c =
-    last_cut g.L.StorageT.Id.number (definition_of g.L.StorageT.Id.number c.args.definition.now) c.args.text.now c.args.first _ _ _ c.loop-left.scanner c.loop-left.left
-    c.loop-left.invariant c.loop-left-test.false _ _ c.from_residual-in_err-pass_last.ensures.0 c.in_err-pass_last.ensures
-
-pub returns-in_err-pass_stop : goal.returns-in_err-pass_stop
-returns-in_err-pass_stop g c =
-    stop_cut g.L.StorageT.Id.number (definition_of g.L.StorageT.Id.number c.args.definition.now) c.args.text.now c.args.first _ _ _ c.loop-left.scanner c.loop-left.left
-    c.loop-left.invariant c.loop-left-test.false _ _ c.in_ok-pass_last.ensures _ _ c.from_residual-in_err-pass_stop.ensures.0 c.in_err-pass_stop.ensures
 
 pub returns : goal.returns
 returns g c =
     all_written g.L.StorageT.Id.number (definition_of g.L.StorageT.Id.number c.args.definition.now) c.args.text.now c.args.first _ _ _ c.loop-left.scanner c.loop-left.left
-    c.loop-left.invariant c.loop-left-test.false _ _ c.in_ok-pass_last.ensures _ _ _ _ c.in_ok-pass_stop.ensures c.flush.ensures.written
+    c.loop-left.invariant c.loop-left-test.false _ _ c.write_end.ensures
