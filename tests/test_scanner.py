@@ -33,10 +33,13 @@ class Scanners(replay.TestCase):
     """What the steps of a scanner are."""
 
     def test_tiles_and_ends(self):
-        cases = [definition.case(["scan", text]) for definition, text, _ in ROWS]
+        cases = [definition.case(["scan", text], ["run", text]) for definition, text, _ in ROWS]
         for (definition, text, want), answers in zip(ROWS, replay.answers(cases)):
             with self.subTest(definition=definition.name, text=text):
                 self.assertEqual(want, answers.last("scan"))
+                # an end comes to the error of a run
+                stops = [item for item in answers.last("items") if item[0] == "err"]
+                self.assertEqual(stops[0] if stops else None, answers.last("stop"))
 
     def test_a_long_text(self):
         answers = replay.answer(WORDS.case(["scan", "ab 12 " * 20_000]))

@@ -5,7 +5,7 @@ use lrlex_replay_cases::facts::{Item, tell_item};
 use lrlex_replay_cases::told::Told;
 
 /// An error, as plain numbers.
-fn error_seen(error: &LRLexError) -> Item {
+pub fn error_seen(error: &LRLexError) -> Item {
     let state = match error.lexing_state() {
         Some(state) => Some(state.id()),
         None => None,

@@ -1,6 +1,9 @@
 //! What a scanner answers.
 use crate::building::Definition;
-use lrlex::{ScanEnd, ScannedTile, Step};
+use crate::items::error_seen;
+use lrlex::{LRLexError, ScanEnd, ScannedTile, Step};
+use lrlex_examples::callers::scanning::error_of;
+use lrlex_replay_cases::facts::tell_item;
 use lrlex_replay_cases::reading::Trouble;
 use lrlex_replay_cases::told::Told;
 
@@ -28,16 +31,34 @@ fn tell_end(told: &mut Told, end: ScanEnd<u32>) {
     }
 }
 
-/// Tells the tiles of a text as a scanner gives them, and as the last of them why there are no more.
+/// Tells the error that an end comes to, or null.
+fn tell_stop(told: &mut Told, stop: Option<LRLexError>) {
+    told.key("stop");
+    match stop {
+        Some(error) => tell_item(told, error_seen(&error)),
+        None => told.null(),
+    }
+}
+
+/// Tells the tiles of a text as a scanner gives them, as the last of them why there are no more, and the error that this comes to.
 pub fn scan(told: &mut Told, definition: &Definition<u32>, text: &str) -> Result<(), Trouble> {
     let scanner = definition.scanner(told.alloc(), text)?;
+    let mut place: usize = 0;
+    let mut stop = None;
     told.list("scan");
     for step in scanner.steps(told.alloc()) {
         match step? {
-            Step::Tile(tile) => tell_tile(told, tile),
-            Step::End(end) => tell_end(told, end),
+            Step::Tile(tile) => {
+                tell_tile(told, tile);
+                place = tile.span.end();
+            }
+            Step::End(end) => {
+                tell_end(told, end);
+                stop = error_of(end, place);
+            }
         }
     }
     told.close();
+    tell_stop(told, stop);
     Ok(())
 }
