@@ -615,11 +615,11 @@ class Highlighted(unittest.TestCase):
                 names = [form(name) for name in ["STRING", "IN_TEXT", "ESC", "ESCAPE", "COMMENT", "OTHER"]]
                 rules = f"{programs.scratch().name}/names.l"
                 with open(rules, "w", encoding="utf-8") as file:
-                    file.write("%%\n" + "".join(f"{at} '{name}'\n" for at, name in enumerate(names)))
-                out, err, status = programs.run([program, "highlight", "--html", rules, "-"], "012345")
-                shown = ["text"] * 4 + ["comment", "number"]
+                    file.write("%%\n" + "".join(f"{it} '{name}'\n" for it, name in zip("uvwxyz", names)))
+                out, err, status = programs.run([program, "highlight", "--html", rules, "-"], "uvwxyz")
+                texts = "".join(f'<span class="text">{it}</span>' for it in "uvwx")
                 self.assertEqual((err, status), ("", 0))
-                self.assertIn("".join(f'<span class="{it}">{at}</span>' for at, it in enumerate(shown)), out)
+                self.assertIn(f'<pre>{texts}<span class="comment">y</span>z</pre>', out)
 
 
 if __name__ == "__main__":

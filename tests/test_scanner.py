@@ -33,7 +33,7 @@ class Scanners(replay.TestCase):
     """What the steps of a scanner are."""
 
     def test_tiles_and_ends(self):
-        cases = [definition.case(["scan", text], ["run", text]) for definition, text, _ in ROWS]
+        cases = [definition.case(["scan", text], ["run", text, []]) for definition, text, _ in ROWS]
         for (definition, text, want), answers in zip(ROWS, replay.answers(cases)):
             with self.subTest(definition=definition.name, text=text):
                 self.assertEqual(want, answers.last("scan"))

@@ -27,13 +27,22 @@ fn is_number(text: &str) -> bool {
     }
 }
 
+/// Whether a name ends in this word, in either case.
+fn ends_in(name: &str, word: &str) -> bool {
+    match name.get(name.len().saturating_sub(word.len())..) {
+        Some(end) => end.eq_ignore_ascii_case(word),
+        None => false,
+    }
+}
+
 /// Whether it begins with a quote, or its rule is named as the inside of a quoted text is.
 fn is_quoted(name: &str, text: &str) -> bool {
     text.starts_with('"')
         || text.starts_with('\'')
-        || name.ends_with("TEXT")
-        || name.ends_with("ESC")
-        || name == "STRING"
+        || ends_in(name, "TEXT")
+        || ends_in(name, "ESC")
+        || ends_in(name, "ESCAPE")
+        || name.eq_ignore_ascii_case("STRING")
 }
 
 fn class_named(name: &str, text: &str) -> Class {
@@ -43,7 +52,7 @@ fn class_named(name: &str, text: &str) -> Class {
         Class::Number
     } else if is_quoted(name, text) {
         Class::Text
-    } else if name == "COMMENT" {
+    } else if name.eq_ignore_ascii_case("COMMENT") {
         Class::Comment
     } else {
         Class::Plain
