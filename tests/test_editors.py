@@ -70,6 +70,12 @@ COLOURS_OF_NEOVIM = (0, 9)
 # What Helix needs before this version, to show messages.
 SETTINGS_OF_HELIX = ((25, 7), "In `config.toml` of 25.01; later versions show messages beside the lines without it:")
 
+# The lines of docs/editors.md below which settings are taken.
+HEADINGS = [
+    *(heading for _, heading in [*SETTINGS_OF_NEOVIM, SETTINGS_OF_HELIX]), "A mode for rule files:", "With eglot:",
+    "With lsp-mode, which colours tokens too:", "In `languages.toml`:",
+]
+
 
 def sections(out):
     """The lines below each heading."""
@@ -161,6 +167,16 @@ class Terminal:
             if shown == wanted or time.monotonic() > end:
                 return shown
             time.sleep(0.1)
+
+
+class Page(unittest.TestCase):
+    """What docs/editors.md has, also for editors that aren't installed."""
+
+    def test_settings(self):
+        page = programs.read("docs/editors.md")
+        for heading in HEADINGS:
+            with self.subTest(heading=heading):
+                self.assertEqual(1, page.count(f"\n{heading}\n\n```"))
 
 
 class Editors(unittest.TestCase):
