@@ -318,6 +318,19 @@ class Texts(Session):
         self.assertEqual([], client.tokens_since(TEXT, {**client.tokens(TEXT)})["edits"])
         self.assertEqual(0, client.end())
 
+    def test_names_in_either_case(self):
+        names = ["STRING", "IN_TEXT", "ESC", "ESCAPE", "COMMENT", "OTHER"]
+        kinds = ["string"] * 4 + ["comment", "variable"]
+        for form in [str.upper, str.lower]:
+            with self.subTest(form=form):
+                rules = "".join(f"{it} '{form(name)}'\n" for it, name in zip("uvwxyz", names))
+                client = self.client("--rules", rules_file(f"%%\n{rules}"))
+                client.begin()
+                self.assertEqual([], client.open(TEXT, "uvwxyz")["diagnostics"])
+                wanted = [(0, at, 1, kind) for at, kind in enumerate(kinds)]
+                self.assertEqual(wanted, decoded(client.tokens(TEXT)["data"], client.types))
+                self.assertEqual(0, client.end())
+
     def test_ends_of_lines(self):
         client = self.client("--rules", rules_file(LINES))
         client.begin()
