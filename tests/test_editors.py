@@ -13,7 +13,7 @@ import unittest
 
 from language_server.client import server
 from support import programs
-from support.fault_notes import MARGIN
+from support.messages import MARGIN, NEVER_ENTERED, NEVER_WINS, OPERATOR
 
 SCRIPTS = f"{programs.TOP}/tests/language_server"
 
@@ -23,17 +23,14 @@ EGLOT = ["/usr/share/emacs/site-lisp/elpa-src/eglot-*", "/usr/share/emacs/*/lisp
 
 FAULTS = [
     "1:9-1:13 Start state already exists", "4:8-4:10 Rule name already exists", f"5:1-5:12 Verbatim code not supported: {MARGIN}",
-    "6:1-6:2 Invalid regular expression: unclosed group",
+    f"6:1-6:2 Invalid regular expression: unclosed group: {OPERATOR}",
 ]
-
-NEVER_ENTERED = "no rule enters this start state; name it as the target of a rule"
-NEVER_WINS = "this rule never wins: it matches no byte, or other rules match all that it does; put it before them"
 
 # Edits as one types them, and what is wrong after each: the places in bytes, as neovim counts them.
 STEPS = [
     ("1s/here here/here there/", ["4:8-4:10 Rule name already exists", f"5:1-5:12 Verbatim code not supported: {MARGIN}",
-                                  "6:1-6:2 Invalid regular expression: unclosed group"]),
-    ("4s/ID/I2/", [f"5:1-5:12 Verbatim code not supported: {MARGIN}", "6:1-6:2 Invalid regular expression: unclosed group"]),
+                                  f"6:1-6:2 Invalid regular expression: unclosed group: {OPERATOR}"]),
+    ("4s/ID/I2/", [f"5:1-5:12 Verbatim code not supported: {MARGIN}", f"6:1-6:2 Invalid regular expression: unclosed group: {OPERATOR}"]),
     ("6s/(/😀()/", [f"5:1-5:12 Verbatim code not supported: {MARGIN}"]),
     ("5d", [f"1:4-1:8 {NEVER_ENTERED}", f"1:9-1:14 {NEVER_ENTERED}", f"4:1-4:6 {NEVER_WINS}"]),
     # what a script does is one step to neovim

@@ -5,7 +5,9 @@ import unittest
 
 from support import replay
 from support.definitions import from_text
-from support.fault_notes import BACKSLASH, BEFORE_RULES, COMMENT, LIST, MARGIN, NO_MARK, QUOTES
+from support.messages import (
+    BACKSLASH, BEFORE_RULES, BRACES, COMMENT, LIST, MARGIN, NO_MARK, OPERATOR, QUOTES, ROUTINES, RULE, STATE_NAME,
+)
 
 # Rule texts, and what is shown of their faults.
 FAULTS = [
@@ -76,7 +78,7 @@ SPANS = [
 
 # Rule texts, the text of the first fault alone, and what is shown of it.
 FIRST = [
-    ("%%\na 'A'\nb\n<c>d ;\n", "Rule is missing a space", "tokens.l:3:1: Rule is missing a space\n3 | b\n  | ^\n"),
+    ("%%\na 'A'\nb\n<c>d ;\n", "Rule is missing a space", f"tokens.l:3:1: Rule is missing a space: {RULE}\n3 | b\n  | ^\n"),
     ("%%\na 'A'\n", "", ""),
 ]
 
@@ -85,13 +87,13 @@ FIRST = [
 MARKS = [
     ("«»", f"File ends prematurely: {NO_MARK}"),
     ("%x A\n«»", f"File ends prematurely: {NO_MARK}"),
-    ("%%\na 'A'\n«%%  int x;»  \n", "Routines not currently supported"),
+    ("%%\na 'A'\n«%%  int x;»  \n", f"Routines not currently supported: {ROUTINES}"),
     ("«%option yylineno» \n%%\n", f"Unknown declaration: {BEFORE_RULES}"),
     ("  «%s»\t\n%%\n", f"Unknown declaration: {BEFORE_RULES}"),
     (" «// a comment»\n%%\n", f"Unknown declaration: {COMMENT}"),
     ("«# a comment»\n%%\n", f"Unknown declaration: {BEFORE_RULES}"),
     ("«\ufeff%%»\na 'A'\n", "Unknown declaration: the text begins with a byte order mark (U+FEFF)"),
-    ("%%\n«漢語» \na 'A'\n", "Rule is missing a space"),
+    ("%%\n«漢語» \na 'A'\n", f"Rule is missing a space: {RULE}"),
     ("%%\n«//comment»\n", f"Rule is missing a space: {COMMENT}"),
     ("%%\na 'A'\r\n// a «comment»\r\n", f"Invalid rule name: {COMMENT}"),
     ("%%\n# a «comment»\n", f"Invalid rule name: {QUOTES}"),
@@ -104,10 +106,11 @@ MARKS = [
     # a list that doesn't end
     ("%%\nb« <+INITIAL'ID'» \n", "Invalid start state"),
     ("%%\n«<INITIAL b 'ID'»\n", f"Invalid start state: {LIST}"),
-    ("%x A «1B» C\n%%\n", "Invalid start state name"),
-    ("%x A «漢語»\n%%\n", "Invalid start state name"),
+    ("%x A «1B» C\n%%\n", f"Invalid start state name: {STATE_NAME}"),
+    ("%x «A,» B\n%%\n", f"Invalid start state name: {STATE_NAME}"),
+    ("%x A «漢語»\n%%\n", f"Invalid start state name: {STATE_NAME}"),
     # an empty name between two blanks
-    ("%x A « »B\n%%\n", "Invalid start state name"),
+    ("%x A « »B\n%%\n", f"Invalid start state name: {STATE_NAME}"),
     ("%x AB «AB» CD AB\n%%\n", "Start state already exists"),
     ("%x «INITIAL»\n%%\n", "Start state already exists"),
     ("%%\na 'AB'\nb '«AB»'\n", "Rule name already exists"),
@@ -119,6 +122,22 @@ MARKS = [
     ("%s S\n%%\n«<S>[a\\\\\\»\t'A'  \n", f"Invalid regular expression: unclosed character class: {BACKSLASH}"),
     ("%%\n«(a\\\\» 'A'\n", "Invalid regular expression: unclosed group"),
     ("%%\n«(a\\» ;\n", f"Invalid regular expression: unclosed group: {BACKSLASH}"),
+    ("%%\n«(» 'A'\n", f"Invalid regular expression: unclosed group: {OPERATOR}"),
+    ("%%\n«\"(\"» 'A'\n", f"Invalid regular expression: unclosed group: {OPERATOR}"),
+    ("%%\n«)» 'A'\n", f"Invalid regular expression: unopened group: {OPERATOR}"),
+    ("%x S\n%%\n«<S,INITIAL>[»\t;\n", f"Invalid regular expression: unclosed character class: {OPERATOR}"),
+    ("%x S\n%%\n«<S>+=»\t<S>'A'\n", f"Invalid regular expression: repetition operator missing expression: {OPERATOR}"),
+    ("%%\n«*a b»\t'A'\n", f"Invalid regular expression: repetition operator missing expression: {OPERATOR}"),
+    ("%%\n«?» ;\n", f"Invalid regular expression: repetition operator missing expression: {OPERATOR}"),
+    ("%%\n«{» ;\n", f"Invalid regular expression: repetition operator missing expression: {OPERATOR}"),
+    ("%%\n«{D}+» 'A'\n", f"Invalid regular expression: repetition operator missing expression: {BRACES}"),
+    ("%%\n«-?[0-9]{Digits}» 'A'\n", f"Invalid regular expression: repetition quantifier expects a valid decimal: {BRACES}"),
+    ("%x S\n%%\n«<S>{D}» 'A'\n", f"Invalid regular expression: repetition operator missing expression: {BRACES}"),
+    # a brace behind a letter or a backslash, and one without a letter
+    ("%%\n«a{b}» 'A'\n", "Invalid regular expression: repetition quantifier expects a valid decimal"),
+    ("%%\n«(\\{b» 'A'\n", "Invalid regular expression: unclosed group"),
+    ("%%\n«.{}» 'A'\n", "Invalid regular expression: repetition quantifier expects a valid decimal"),
+    ("%%\na 'A'\n«%% 'B'»\n", f"Routines not currently supported: {ROUTINES}"),
 ]
 
 # Patterns that `regex` refuses, after a list of start states, and why, in its words: one for each kind of error that a rule can
@@ -220,7 +239,8 @@ class Reports(replay.TestCase):
                 start, end = int(found[1]), int(found[2])
                 self.assertTrue(start <= end <= len(rf"\A(?:{pattern})"), displayed)
                 self.assertEqual(found[3], reason)
-                self.assertEqual(text, f"tokens.l:2:1: Invalid regular expression: {reason}\n2 | <*>{pattern} 'A'\n  | ^\n")
+                note = f": {OPERATOR}" if pattern == "*" else ""
+                self.assertEqual(text, f"tokens.l:2:1: Invalid regular expression: {reason}{note}\n2 | <*>{pattern} 'A'\n  | ^\n")
 
     def test_a_pattern_that_is_too_large_has_this_reason(self):
         pattern = "((a{100}){100}){100}"

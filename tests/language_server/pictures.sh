@@ -7,7 +7,7 @@ server=$1
 top=$PWD
 home=$(mktemp -d)
 export DISPLAY=:77 HOME="$home" XDG_STATE_HOME="$home" TERM=xterm-256color LC_ALL=C.UTF-8
-Xvfb :77 -screen 0 1000x420x24 >/dev/null 2>&1 &
+Xvfb :77 -screen 0 1400x420x24 >/dev/null 2>&1 &
 display=$!
 trap 'kill $display; rm -rf "$home"' EXIT
 sleep 2
@@ -31,7 +31,7 @@ local id = vim.lsp.start_client({ name = "rolgumzai", cmd = { "$server", "lsp" }
 vim.lsp.buf_attach_client(0, id)
 END
 cp examples/faults.l "$home/faults.l"
-picture editor-faults 84x8 9 nvim -u NONE -i NONE -n -c "luafile $home/faults.lua" "$home/faults.l"
+picture editor-faults 150x8 20 nvim -u NONE -i NONE -n -c "luafile $home/faults.lua" "$home/faults.l"
 
 cat >"$home/tokens.el" <<END
 (setq load-path (append (file-expand-wildcards "/usr/share/emacs/site-lisp/elpa-src/*") load-path)

@@ -5,8 +5,10 @@ pub mod FaultRanges
 pub mod FaultTexts
 pub mod Looks
 pub mod Notes
+pub mod PatternNotes
 pub mod PlaceTexts
 pub mod Reasons
+pub mod Signs
 pub mod StopTexts
 pub mod WarningTexts
 pub mod Warnings

@@ -2,14 +2,14 @@
 use Rattle.std.specs.Prelude.{ℕ, ◌&&◌, if◌then◌else◌, List, [], drop, codes}
 use Rattle.std.specs.List.{list_any}
 use Rattle.lrlex_base.specs.Classes.{is_blank}
-use Rattle.lrlex_rules.specs.Escape.{ends_in_escape}
 use Rattle.lrlex_rules.specs.LexBuildError.{fault_kind, fault_spans}
 use Rattle.lrlex_rules.specs.Text.{is_empty, begins_with, trim_end}
 use Rattle.lrlex_rules.specs.declared.faults.LexErrorKind.{LexErrorKind}
-use Rattle.lrlex_rules.specs.declared.faults.LexErrorKind.TheVariants.{PrematureEnd, UnknownDeclaration, MissingSpace, InvalidName, UnknownStartState, InvalidStartState, RegexError, VerbatimNotSupported}
+use Rattle.lrlex_rules.specs.declared.faults.LexErrorKind.TheVariants.{PrematureEnd, UnknownDeclaration, MissingSpace, InvalidName, UnknownStartState, InvalidStartState, InvalidStartStateName, RegexError, RoutinesNotSupported, VerbatimNotSupported}
 use Rattle.lrlex_rules.specs.declared.faults.LexBuildError.{LexBuildError}
 use Rattle.lrlex_report.specs.Encoding.{mark_note}
-use Rattle.lrlex_report.specs.FaultRanges.{first_line, before_blank, told_span}
+use Rattle.lrlex_report.specs.FaultRanges.{first_line, told_span}
+use Rattle.lrlex_report.specs.PatternNotes.{braces_note, escape_note, operator_note, pattern_of}
 use Rattle.lrlex_report.specs.PlaceTexts.{nearest}
 use Rattle.lrlex_report.specs.Warnings.{source_of}
 
@@ -46,21 +46,25 @@ list_note line =
     if begins_with (codes "<") line && list_any is_blank (trim_end line)
     then codes ": a pattern that begins with < lists start states; write \\< for the character" else []
 
--- of a line whose pattern ends in a backslash, before the blank that parts it from the name
-abbrev pub escape_note : (line : List ℕ) → List ℕ
-escape_note line =
-    if ends_in_escape (before_blank (trim_end line))
-    then codes ": the pattern ends in a backslash; write [ ] for a blank, \\\\ for a backslash" else []
+-- of a rule without a blank
+abbrev pub space_note : (text : List ℕ) → List ℕ
+space_note text = or_note (comment_note text) (codes ": a rule is a pattern, a blank and a name in quotes, or ; for no name")
+
+-- of a line whose pattern `regex` refuses
+abbrev pub pattern_note : (line : List ℕ) → List ℕ
+pattern_note line = or_note (escape_note line) (or_note (braces_note (pattern_of line)) (operator_note (pattern_of line)))
 
 -- of a fault of this kind at this place
 abbrev pub kind_note : (rules : List ℕ) (at : ℕ) → LexErrorKind → List ℕ
 kind_note rules at PrematureEnd = codes ": no line begins with %%; write one before the rules"
 kind_note rules at UnknownDeclaration = declaration_note rules at
-kind_note rules at MissingSpace = comment_note (text_from rules at)
+kind_note rules at MissingSpace = space_note (text_from rules at)
 kind_note rules at InvalidName = name_note rules at
 kind_note rules at UnknownStartState = list_note (line_from rules at)
 kind_note rules at InvalidStartState = list_note (line_from rules at)
-kind_note rules at (RegexError e) = escape_note (line_from rules at)
+kind_note rules at (RegexError e) = pattern_note (line_from rules at)
+kind_note rules at InvalidStartStateName = codes ": a name is an ASCII letter, then ASCII letters, digits, _ or .; one blank separates two names"
+kind_note rules at RoutinesNotSupported = codes ": %% ends the rules, and only white space may follow; write \\%% for a pattern that begins with it"
 kind_note rules at VerbatimNotSupported = codes ": white space begins the line; write the rule without it, or an empty line"
 kind_note rules at _ = []
 

@@ -19,8 +19,9 @@ use Rattle.lrlex_report.specs.Alternatives.{loses_word}
 use Rattle.lrlex_report.specs.FaultRanges.{before_blank}
 use Rattle.lrlex_report.specs.Looks.{at_beginning, looks_around}
 use Rattle.lrlex_report.specs.PlaceTexts.{nearest}
+use Rattle.lrlex_report.specs.Signs.{is_bare, is_quoted}
 use Rattle.lrlex_report.specs.declared.warnings.kinds.WarningKind.{WarningKind}
-use Rattle.lrlex_report.specs.declared.warnings.kinds.WarningKind.TheVariants.{NeverWins, NeverActive, LooksAround, NoTable, TargetInPattern, BlankAfterStates, LostEscape, EscapeAfterStates, LostAlternative, NeverEntered, NoRules}
+use Rattle.lrlex_report.specs.declared.warnings.kinds.WarningKind.TheVariants.{NeverWins, NeverActive, LooksAround, NoTable, TargetInPattern, BlankAfterStates, LostEscape, EscapeAfterStates, LostAlternative, QuotedPattern, BareOperator, NeverEntered, NoRules}
 use Rattle.lrlex_report.specs.declared.warnings.kinds.Warning.{Warning}
 use Rattle.lrlex_report.specs.declared.warnings.answers.Answers.{Answers}
 use Rattle.lrlex_report.specs.declared.warnings.answers.Facts.{Facts}
@@ -131,9 +132,13 @@ loses_escape source r = lists_none r && has_unmeant false source
 abbrev pub has_escape_after_states : Rule → Bool
 has_escape_after_states r = not (lists_none r) && has_unmeant true r.re_str
 
+-- words, of which the first is none: a pattern of these matches no byte
+abbrev pub begins_empty : (words : List ℕ) → Bool
+begins_empty words = begins_with (codes "|") words
+
 -- its pattern is words, perhaps in a group, and one of them begins with an earlier one
 abbrev pub loses_alternative : Rule → Bool
-loses_alternative r = loses_word (ungrouped r.re_str)
+loses_alternative r = let words = ungrouped r.re_str in not (begins_empty words) && loses_word words
 
 -- the tests of a rule of which this is known, and what they answer
 abbrev pub rule_tests : Facts → List StartState → (source : List ℕ) → Rule → List (WarningKind × Bool)
@@ -147,6 +152,8 @@ rule_tests known states source r =
     ∷ (LostEscape, loses_escape source r)
     ∷ (EscapeAfterStates, has_escape_after_states r)
     ∷ (LostAlternative, loses_alternative r)
+    ∷ (QuotedPattern, is_quoted r.re_str)
+    ∷ (BareOperator, is_bare r.re_str)
     ∷ []
 
 -- the warnings of the rule, at its pattern

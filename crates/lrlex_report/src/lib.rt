@@ -6,6 +6,7 @@ mod carets;
 mod encoding;
 mod faults;
 mod notes;
+mod pattern_notes;
 mod places;
 mod ranges;
 mod reasons;

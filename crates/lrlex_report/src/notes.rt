@@ -2,13 +2,13 @@
 ghost use Rattle.std.specs.Prelude.{◌≡◌};
 ghost use Rattle.std.specs.List.{list_any};
 ghost use Rattle.lrlex_base.specs.Classes.{is_blank};
-ghost use Rattle.lrlex_rules.specs.Escape.{ends_in_escape};
 ghost use Rattle.lrlex_rules.specs.Text.{trim_end};
-ghost use Rattle.lrlex_report.specs.Notes.{text_from, or_note, comment_note, declaration_note, name_note, list_note, escape_note, kind_note, fault_note};
+ghost use Rattle.lrlex_report.specs.Notes.{text_from, or_note, comment_note, declaration_note, name_note, list_note, space_note, pattern_note, kind_note, fault_note};
 
 use crate::encoding::mark_note;
+use crate::pattern_notes::{braces_note, escape_note, operator_note, pattern_of};
 use crate::places::nearest;
-use crate::ranges::{before_blank, first_line, told_span, trim_end};
+use crate::ranges::{first_line, told_span, trim_end};
 use crate::warnings::patterns::source_of;
 use lrlex_rules::{LexBuildError, LexErrorKind};
 
@@ -79,26 +79,23 @@ fn list_note(line: &str) -> &'static str
     }
 }
 
-/// Whether a text ends in an odd number of backslashes.
-fn ends_in_escape(text: &str) -> bool
-    ensures { result ≡ ends_in_escape text.now }
+/// What a rule is, or that its line is a comment, where the text from the line on has no blank before the line's end.
+fn space_note(text: &str) -> &'static str
+    ensures { result.now ≡ space_note text.now }
 {
-    let mut escaped = false;
-    for b in text.as_bytes() {
-        escaped = *b == b'\\' && !escaped;
-    }
-    escaped
+    or_note(
+        comment_note(text),
+        ": a rule is a pattern, a blank and a name in quotes, or ; for no name",
+    )
 }
 
-/// Tells that the pattern of this line ends in a backslash, if it does.
-fn escape_note(line: &str) -> &'static str
-    ensures { result.now ≡ escape_note line.now }
+/// What the message of a pattern that `regex` refuses ends with, where this is its line.
+fn pattern_note(line: &str) -> &'static str
+    ensures { result.now ≡ pattern_note line.now }
 {
-    if ends_in_escape(before_blank(trim_end(line))) {
-        ": the pattern ends in a backslash; write [ ] for a blank, \\\\ for a backslash"
-    } else {
-        ""
-    }
+    let pattern = pattern_of(line);
+    let note = or_note(braces_note(pattern), operator_note(pattern));
+    or_note(escape_note(line), note)
 }
 
 /// What the message of a fault of this kind at this place ends with. `rules` is the text that has the fault.
@@ -108,12 +105,18 @@ fn kind_note(rules: &str, at: usize, kind: &LexErrorKind) -> &'static str
     match kind {
         LexErrorKind::PrematureEnd => ": no line begins with %%; write one before the rules",
         LexErrorKind::UnknownDeclaration => declaration_note(rules, at),
-        LexErrorKind::MissingSpace => comment_note(text_from(rules, at)),
+        LexErrorKind::MissingSpace => space_note(text_from(rules, at)),
         LexErrorKind::InvalidName => name_note(rules, at),
         LexErrorKind::UnknownStartState | LexErrorKind::InvalidStartState => {
             list_note(first_line(text_from(rules, at)))
         }
-        LexErrorKind::RegexError(_) => escape_note(first_line(text_from(rules, at))),
+        LexErrorKind::RegexError(_) => pattern_note(first_line(text_from(rules, at))),
+        LexErrorKind::InvalidStartStateName => {
+            ": a name is an ASCII letter, then ASCII letters, digits, _ or .; one blank separates two names"
+        }
+        LexErrorKind::RoutinesNotSupported => {
+            ": %% ends the rules, and only white space may follow; write \\%% for a pattern that begins with it"
+        }
         LexErrorKind::VerbatimNotSupported => {
             ": white space begins the line; write the rule without it, or an empty line"
         }

@@ -30,8 +30,13 @@ pub enum WarningKind {
     /// A rule with a list whose pattern has `\<` or `\>`.
     EscapeAfterStates,
     /// A rule whose pattern is words that `|` parts, perhaps in a group, one of which begins with an earlier one, so that it never
-    /// matches. It is told of patterns of at most 4,096 bytes.
+    /// matches. It is told of patterns of at most 4,096 bytes, and not where the first word is empty, since then none does.
     LostAlternative,
+    /// A rule whose pattern is a text in quotes, `"` or `'`, as flex has it. The quotes are part of the pattern. It isn't told where
+    /// a quote, a backslash, `.` or `[` is between them.
+    QuotedPattern,
+    /// A rule whose pattern is `|`, `^` and `$` alone.
+    BareOperator,
     /// A start state other than `INITIAL` that no rule enters.
     NeverEntered,
     /// A start state that no rule is active in.
@@ -77,6 +82,12 @@ impl WarningKind {
             }
             WarningKind::LostAlternative => {
                 "an alternative never matches here: it begins with an earlier one, which is tried first; put the longer one first"
+            }
+            WarningKind::QuotedPattern => {
+                "the quotes are part of this pattern; leave them out, and write operators with a backslash, as \\+"
+            }
+            WarningKind::BareOperator => {
+                "this pattern is an operator, and matches no byte; write a backslash before it to match its character"
             }
             WarningKind::NeverEntered => {
                 "no rule enters this start state; name it as the target of a rule"

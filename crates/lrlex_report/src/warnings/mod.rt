@@ -8,6 +8,7 @@ pub(crate) mod kinds;
 pub(crate) mod looks;
 pub(crate) mod patterns;
 mod rules;
+mod signs;
 mod states;
 pub(crate) mod texts;
 

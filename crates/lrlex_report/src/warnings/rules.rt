@@ -9,6 +9,7 @@ use crate::warnings::answers::Facts;
 use crate::warnings::kinds::{Warning, WarningKind, push_all};
 use crate::warnings::looks::looks_around;
 use crate::warnings::patterns::{begins_blank, ends_in_target, has_unmeant, source_of, ungrouped};
+use crate::warnings::signs::{is_bare, is_quoted};
 use lrlex::{Rule, StartState};
 use lrlex_base::{Numbered, Span};
 use std::alloc::AllocError;
@@ -66,7 +67,8 @@ fn has_escape_after_states<S: Numbered>(rule: &Rule<S>) -> bool
 fn loses_alternative<S: Numbered>(rule: &Rule<S>) -> bool
     ensures { result ≡ loses_alternative (as_rule S.number rule.now) }
 {
-    loses_word(ungrouped(rule.re_str()))
+    let words = ungrouped(rule.re_str());
+    !words.starts_with("|") && loses_word(words)
 }
 
 /// Adds the warnings of a rule of which this is known, where these are the start states of its text.
@@ -100,6 +102,11 @@ pub(crate) fn push_rule<S: Numbered>(
             has_escape_after_states(rule),
         ),
         (WarningKind::LostAlternative, loses_alternative(rule)),
+        (
+            WarningKind::QuotedPattern,
+            is_quoted(rule.re_str().as_bytes()),
+        ),
+        (WarningKind::BareOperator, is_bare(rule.re_str().as_bytes())),
     ];
     push_all(told, &tests, span)
 }

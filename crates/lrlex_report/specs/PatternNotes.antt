@@ -1,0 +1,51 @@
+-- What the message of a pattern that `regex` refuses ends with: the mistake that it usually comes of, and what to write.
+use Rattle.std.specs.Prelude.{ℕ, Bool, false, not, ◌&&◌, ◌||◌, ◌==◌, if◌then◌else◌, List, [], ◌∷◌, codes}
+use Rattle.std.specs.Char.{is_ascii_alphabetic}
+use Rattle.std.specs.List.{list_all}
+use Rattle.std.specs.Str.{byte}
+use Rattle.lrlex_rules.specs.Escape.{ends_in_escape, is_backslash, is_one_of}
+use Rattle.lrlex_rules.specs.RuleLine.{after_angles}
+use Rattle.lrlex_rules.specs.Text.{begins_with, trim_end}
+use Rattle.lrlex_report.specs.FaultRanges.{before_blank}
+
+-- the pattern of a rule's line, before the blank that parts it from the name and without its list of start states
+abbrev pub pattern_of : (line : List ℕ) → List ℕ
+pattern_of line =
+    let source = trim_end (before_blank (trim_end line)) in if begins_with (codes "<") source then after_angles source else source
+
+-- of a line whose pattern ends in a backslash
+abbrev pub escape_note : (line : List ℕ) → List ℕ
+escape_note line =
+    if ends_in_escape (before_blank (trim_end line))
+    then codes ": the pattern ends in a backslash; write [ ] for a blank, \\\\ for a backslash" else []
+
+-- a brace and a letter begin a name, at the front or behind neither a letter nor a backslash
+abbrev pub begins_name : (before b c : ℕ) → Bool
+begins_name before b c = (b == byte "{") && is_ascii_alphabetic c && not (is_ascii_alphabetic before || is_backslash before)
+
+-- a pattern with a name in braces, as flex has it; `before` is the byte before it, or 0
+abbrev pub has_name : (before : ℕ) → List ℕ → Bool
+has_name before [] = false
+has_name before (b ∷ []) = false
+has_name before (b ∷ c ∷ rest) = begins_name before b c || has_name b (c ∷ rest)
+
+abbrev pub braces_note : (pattern : List ℕ) → List ℕ
+braces_note pattern = if has_name 0 pattern then codes ": a name in braces stands for no pattern; write the pattern in its place" else []
+
+-- an operator of patterns, or a quote
+abbrev pub is_operator : ℕ → Bool
+is_operator c = is_one_of (codes "*+?{}()[]|^$\"") c
+
+abbrev pub are_operators : (pattern : List ℕ) → Bool
+are_operators pattern = list_all is_operator pattern
+
+-- the pattern begins with an operator that repeats what is before it
+abbrev pub repeats_nothing : (pattern : List ℕ) → Bool
+repeats_nothing pattern =
+    begins_with (codes "*") pattern || begins_with (codes "+") pattern || begins_with (codes "?") pattern || begins_with (codes "{") pattern
+
+-- of a pattern that begins with such an operator, or is operators alone
+abbrev pub operator_note : (pattern : List ℕ) → List ℕ
+operator_note pattern =
+    if repeats_nothing pattern || are_operators pattern
+    then codes ": write a backslash before an operator to match its character, as \\+ or \\(" else []

@@ -1,0 +1,116 @@
+//! What the message of a pattern that `regex` refuses ends with: the mistake that it usually comes of, and what to write.
+ghost use Rattle.std.specs.Prelude.{◌≡◌};
+ghost use Rattle.lrlex_rules.specs.Escape.{ends_in_escape};
+ghost use Rattle.lrlex_report.specs.PatternNotes.{pattern_of, escape_note, begins_name, has_name, braces_note, is_operator, are_operators, repeats_nothing, operator_note};
+
+use crate::ranges::{before_blank, trim_end};
+
+/// The pattern of a rule's line, before the blank that separates it from the name and without its list of start states.
+pub(crate) fn pattern_of(line: &str) -> &str
+    ensures { result.now ≡ pattern_of line.now }
+{
+    let source = trim_end(before_blank(trim_end(line)));
+    if !source.starts_with("<") {
+        return source;
+    }
+    match source.split_once('>') {
+        Some((_, pattern)) => pattern,
+        None => "",
+    }
+}
+
+/// Whether a text ends in an odd number of backslashes.
+fn ends_in_escape(text: &str) -> bool
+    ensures { result ≡ ends_in_escape text.now }
+{
+    let mut escaped = false;
+    for b in text.as_bytes() {
+        escaped = *b == b'\\' && !escaped;
+    }
+    escaped
+}
+
+/// Tells that the pattern of this line ends in a backslash, if it does.
+pub(crate) fn escape_note(line: &str) -> &'static str
+    ensures { result.now ≡ escape_note line.now }
+{
+    if ends_in_escape(before_blank(trim_end(line))) {
+        ": the pattern ends in a backslash; write [ ] for a blank, \\\\ for a backslash"
+    } else {
+        ""
+    }
+}
+
+/// Whether a brace and a letter begin a name, where `before` is the byte before them, or 0. After a letter or a backslash they are
+/// part of an escape, or a character.
+fn begins_name(before: u8, b: u8, c: u8) -> bool
+    ensures { result ≡ begins_name before b c }
+{
+    b == b'{' && c.is_ascii_alphabetic() && !(before.is_ascii_alphabetic() || before == b'\\')
+}
+
+/// Whether a pattern has a name in braces, as flex has it.
+fn has_name(pattern: &[u8]) -> bool
+    ensures { result ≡ has_name 0 pattern.now }
+{
+    let mut before = 0;
+    let mut rest = pattern;
+    while let [b, c, ..] = rest {
+        if begins_name(before, *b, *c) {
+            return true;
+        }
+        before = *b;
+        rest = &rest[1..];
+    }
+    false
+}
+
+/// Tells that a name in braces stands for no pattern, if the pattern has one.
+pub(crate) fn braces_note(pattern: &str) -> &'static str
+    ensures { result.now ≡ braces_note pattern.now }
+{
+    if has_name(pattern.as_bytes()) {
+        ": a name in braces stands for no pattern; write the pattern in its place"
+    } else {
+        ""
+    }
+}
+
+/// Whether the byte is an operator of patterns, or a quote.
+fn is_operator(byte: u8) -> bool
+    ensures { result ≡ is_operator byte }
+{
+    match byte {
+        b'*' | b'+' | b'?' | b'{' | b'}' | b'(' | b')' | b'[' | b']' | b'|' | b'^' | b'$' | b'"' =>
+            true,
+        _ => false,
+    }
+}
+
+/// Whether a pattern is operators alone.
+fn are_operators(pattern: &str) -> bool
+    ensures { result ≡ are_operators pattern.now }
+{
+    pattern.as_bytes().iter().all(|b| is_operator(*b))
+}
+
+/// Whether a pattern begins with an operator that repeats what is before it.
+fn repeats_nothing(pattern: &str) -> bool
+    ensures { result ≡ repeats_nothing pattern.now }
+{
+    pattern.starts_with("*")
+        || pattern.starts_with("+")
+        || pattern.starts_with("?")
+        || pattern.starts_with("{")
+}
+
+/// How to write an operator as a character, if the pattern begins with one that repeats nothing, or is operators alone.
+pub(crate) fn operator_note(pattern: &str) -> &'static str
+    ensures { result.now ≡ operator_note pattern.now }
+{
+    if repeats_nothing(pattern) || are_operators(pattern) {
+        ": write a backslash before an operator to match its character, as \\+ or \\("
+    } else {
+        ""
+    }
+}

@@ -1,0 +1,74 @@
+//! Patterns whose signs are hardly meant: a text in quotes, and operators alone.
+ghost use Rattle.std.specs.Prelude.{◌≡◌};
+ghost use Rattle.lrlex_report.specs.Signs.{is_quote, is_varied, varies, is_literal, is_quoted, is_bare_operator, are_bare_operators, is_bare};
+
+/// Whether the byte is a quote.
+fn is_quote(byte: u8) -> bool
+    ensures { result ≡ is_quote byte }
+{
+    match byte {
+        b'"' | b'\'' => true,
+        _ => false,
+    }
+}
+
+/// Whether a pattern has this byte between quotes only where it matches more than one text, or where it is a quote.
+fn is_varied(byte: u8) -> bool
+    ensures { result ≡ is_varied byte }
+{
+    match byte {
+        b'"' | b'\'' | b'\\' | b'.' | b'[' => true,
+        _ => false,
+    }
+}
+
+/// Whether what is between quotes has such a byte.
+fn varies(inside: &[u8]) -> bool
+    ensures { result ≡ varies inside.now }
+{
+    inside.iter().any(|b| is_varied(*b))
+}
+
+/// Whether what is between quotes is a text, and no pattern for texts.
+fn is_literal(inside: &[u8]) -> bool
+    ensures { result ≡ is_literal inside.now }
+{
+    !inside.is_empty() && !varies(inside)
+}
+
+/// Whether a pattern is a text in quotes.
+pub(crate) fn is_quoted(pattern: &[u8]) -> bool
+    ensures { result ≡ is_quoted pattern.now }
+{
+    let [quote, rest @ ..] = pattern else {
+        return false;
+    };
+    match rest {
+        [inside @ .., last] => is_quote(*quote) && *last == *quote && is_literal(inside),
+        [] => false,
+    }
+}
+
+/// Whether the byte is an operator that matches no byte.
+fn is_bare_operator(byte: u8) -> bool
+    ensures { result ≡ is_bare_operator byte }
+{
+    match byte {
+        b'|' | b'^' | b'$' => true,
+        _ => false,
+    }
+}
+
+/// Whether these are such operators alone.
+fn are_bare_operators(pattern: &[u8]) -> bool
+    ensures { result ≡ are_bare_operators pattern.now }
+{
+    pattern.iter().all(|b| is_bare_operator(*b))
+}
+
+/// Whether a pattern is operators that match no byte.
+pub(crate) fn is_bare(pattern: &[u8]) -> bool
+    ensures { result ≡ is_bare pattern.now }
+{
+    !pattern.is_empty() && are_bare_operators(pattern)
+}
