@@ -1,5 +1,5 @@
 -- What waits, the last lexeme's line and the error's.
-use Rattle.std.proofs.Common.{[], ◌++◌, ◌∙◌, append-nil, append_assoc, List, ℕ}
+use Rattle.std.proofs.Common.{[], ◌++◌, ◌∙◌, append-nil, append_assoc}
 use Rattle.lrlex.specs.Views.{definition_of}
 use Rattle.lrlex_cli.specs.Lines.{lines}
 use Rattle.lrlex_cli.specs.Scanning.{last_lexeme, stop_line}
