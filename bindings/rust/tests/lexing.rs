@@ -4,6 +4,10 @@ use std::collections::{HashMap, HashSet};
 
 use lrlex::{Budget, Definition, Document, Error, LexError, LexFlags, Lexeme, PositionEncoding};
 
+#[path = "../build.rs"]
+#[allow(dead_code, reason = "cargo runs it")]
+mod build;
+
 const WORDS: &str = "%%\n[0-9]+ 'INT'\n[a-z]+ 'ID'\n[ ] ;\n";
 
 fn words() -> Definition {
@@ -23,6 +27,12 @@ fn shown<'text>(
 
 fn pairs<'a>(of: &[(&'a str, &'a str)]) -> Vec<(String, &'a str)> {
     of.iter().map(|(name, text)| ((*name).to_owned(), *text)).collect()
+}
+
+#[test]
+fn cargo_links_an_archive_again_that_is_built_again() {
+    let lines = build::lines("/dist/lib");
+    assert!(lines.contains(&"cargo::rerun-if-changed=/dist/lib/liblrlex.a".to_owned()), "{lines:?}");
 }
 
 #[test]
