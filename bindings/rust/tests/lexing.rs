@@ -1,6 +1,7 @@
 //! A first text, a refused rule text, a document through edits, and a scanner.
 
 use std::collections::{HashMap, HashSet};
+use std::ops::Range;
 
 use lrlex::{Budget, Definition, Document, Error, LexError, LexFlags, Lexeme, PositionEncoding};
 
@@ -145,7 +146,7 @@ fn a_document_through_edits() {
     assert_eq!(document.text(), "abc123");
     assert_eq!(shown(&definition, document.lexer().unwrap()), pairs(&[("ID", "abc"), ("INT", "123")]));
     assert_eq!(document.edit(4..99, ""), Err(Error::DoesNotFit));
-    assert_eq!(document.edit(2..1, ""), Err(Error::DoesNotFit));
+    assert_eq!(document.edit(Range { start: 2, end: 1 }, ""), Err(Error::DoesNotFit));
     document.edit(6..6, " x").unwrap();
     assert_eq!((document.place(7), document.position(7)), ((1, 8), (0, 7)));
     assert_eq!(document.pieces_in(4..7).unwrap().iter().map(|it| it.span.clone()).collect::<Vec<_>>(), [3..6, 6..7]);
