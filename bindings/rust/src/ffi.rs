@@ -1,7 +1,6 @@
 //! The C interface: what `include/lrlex.h` declares.
 
 use std::ffi::{c_int, c_void};
-use std::marker::{PhantomData, PhantomPinned};
 use std::ptr::null_mut;
 
 pub(crate) const OK: c_int = 0;
@@ -19,12 +18,11 @@ pub(crate) const SCAN_NO_MATCH: u32 = 2;
 #[repr(C)]
 pub(crate) struct Handle {
     hidden: *mut c_void,
-    stays: PhantomData<(*mut u8, PhantomPinned)>,
 }
 
 impl Handle {
     /// The handle that holds nothing.
-    pub(crate) const EMPTY: Handle = Handle { hidden: null_mut(), stays: PhantomData };
+    pub(crate) const EMPTY: Handle = Handle { hidden: null_mut() };
 }
 
 #[repr(C)]
@@ -139,6 +137,7 @@ unsafe extern "C" {
         rules_len: usize,
         options: *const Options,
     ) -> c_int;
+    pub(crate) fn lrlex_definition_share(d: *mut Handle, out: *mut Handle) -> c_int;
     pub(crate) fn lrlex_fault_count(d: *mut Handle) -> usize;
     pub(crate) fn lrlex_fault_at(d: *mut Handle, index: usize, out: *mut Fault) -> c_int;
     pub(crate) fn lrlex_fault_span_at(d: *mut Handle, index: usize, span: usize, out: *mut FaultSpan) -> c_int;

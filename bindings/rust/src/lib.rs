@@ -15,7 +15,8 @@
 //! edited. A [`Scanner`] gives the tiles of a text one after the other. The longest match wins; on a tie, the earliest rule. Spans are
 //! in bytes.
 //!
-//! A definition, a document and a scanner stay on the thread that made them: they are neither `Send` nor `Sync`.
+//! A definition, a document and a scanner may go to another thread, but two threads can't use one at the same time: they are `Send`,
+//! not `Sync`. [`Definition::try_clone`] gives each thread a definition of its own, without a copy of the rules.
 
 mod ffi;
 
@@ -155,7 +156,7 @@ pub enum Error {
     Lex(LexError),
     /// The ends of an edit are past the end of the text, inside a character, or the wrong way round.
     DoesNotFit,
-    /// A document or a scanner has the definition too, so it can't be changed.
+    /// The rules have other owners, so they can't be changed: clones of the definition, documents or scanners.
     Shared,
     /// Memory ran out.
     OutOfMemory,
@@ -172,7 +173,7 @@ impl fmt::Display for Error {
             }
             Error::Lex(error) => error.fmt(f),
             Error::DoesNotFit => f.write_str("The edit doesn't fit the text"),
-            Error::Shared => f.write_str("A document or a scanner has the definition too"),
+            Error::Shared => f.write_str("The definition has other owners"),
             Error::OutOfMemory => f.write_str("Out of memory"),
         }
     }
@@ -243,7 +244,7 @@ fn filled<T>(
 }
 
 /// How many tokens or pieces 1,024 bytes have: the most that a text had, or 0 before the first.
-#[derive(Debug, Default)]
+#[derive(Clone, Debug, Default)]
 struct Density(Cell<usize>);
 
 impl Density {
@@ -278,9 +279,15 @@ impl Density {
     }
 }
 
-/// A handle of the C library. It is used by one call at a time: it isn't `Sync`, and no call calls back.
+/// A handle of the C library. A call takes out what it has and puts it back at its end, so it is used by one call at a time: it isn't
+/// `Sync`, and no call calls back.
 #[derive(Debug)]
 struct Held(UnsafeCell<ffi::Handle>);
+
+// SAFETY: a handle owns what it points to. That is memory of `malloc`, which any thread may free, and nothing in it is of one thread.
+// Handles share definitions alone. Their owners are counted atomically, and a definition is only read while it has more than one: the
+// call that changes it makes sure that there is no other. The library has no global state.
+unsafe impl Send for Held {}
 
 impl Held {
     fn empty() -> Held {
@@ -371,6 +378,30 @@ impl Definition {
         }
     }
 
+    /// Another definition of the same rules, as for another thread. The rules aren't copied: they are freed with their last owner.
+    ///
+    /// There is no `Clone`, since memory may lack.
+    ///
+    /// ```
+    /// # use lrlex::{Definition, Error};
+    /// let definition: Definition = "%%\n[a-z]+ 'ID'\n[ ] ;".parse()?;
+    /// let other = definition.try_clone()?;
+    /// let counting = std::thread::spawn(move || other.lexer("ab c").map(Iterator::count));
+    /// assert_eq!(definition.lexer("d")?.count(), 1);
+    /// assert_eq!(counting.join().unwrap()?, 2);
+    /// # Ok::<(), Error>(())
+    /// ```
+    ///
+    /// # Errors
+    ///
+    /// [`Error::OutOfMemory`].
+    pub fn try_clone(&self) -> Result<Self, Error> {
+        let held = Held::empty();
+        // SAFETY: the handle is a definition's, and the new one is empty.
+        checked(unsafe { ffi::lrlex_definition_share(self.held.get(), held.get()) })?;
+        Ok(Definition { held, tokens: self.tokens.clone(), pieces: self.pieces.clone(), spare: Spare::default() })
+    }
+
     /// Lexes the text.
     ///
     /// # Errors
@@ -425,8 +456,8 @@ impl Definition {
     ///
     /// # Errors
     ///
-    /// [`Error::Shared`] while there is a document or a scanner of this definition, or [`Error::OutOfMemory`]. The definition is then as
-    /// it was.
+    /// [`Error::Shared`] while there is a clone, a document or a scanner of this definition, or [`Error::OutOfMemory`]. The definition
+    /// is then as it was.
     pub fn set_rule_ids<'a>(&mut self, ids: &HashMap<&'a str, u32>) -> Result<IdSets<'a>, Error> {
         let given: Vec<_> =
             ids.iter().map(|(name, &id)| ffi::NamedId { name: name.as_ptr(), name_len: name.len(), id }).collect();

@@ -1,9 +1,15 @@
 //! A first text, a refused rule text, a document through edits, and a scanner.
 
 use std::collections::{HashMap, HashSet};
+use std::error;
 use std::ops::Range;
+use std::sync::Mutex;
+use std::thread;
 
-use lrlex::{Budget, Definition, Document, Error, LexError, LexFlags, Lexeme, PositionEncoding};
+use lrlex::{
+    Budget, Definition, Document, Error, Fault, FaultSpan, LexError, LexFlags, Lexeme, Lexer, Piece, PositionEncoding,
+    Scanner, Tile,
+};
 
 #[path = "../build.rs"]
 #[allow(dead_code, reason = "cargo runs it")]
@@ -212,3 +218,79 @@ fn a_scanner_is_an_owner() {
     let stop = LexError { start: 0, line: 1, column: 1, state: None };
     assert_eq!(definition.scanner("a").unwrap().next(), Some(Err(Error::Lex(stop))));
 }
+
+/// Ids and places of all that a definition finds in a text: by a lexer, by a scanner, and in a document through edits.
+fn found_in(definition: &Definition, text: &str) -> [Vec<(u32, Range<usize>)>; 3] {
+    let lexed = definition.lexer(text).unwrap().map(Result::unwrap).map(|it| (it.tok_id(), it.span()));
+    let scanned =
+        definition.scanner(text).unwrap().map(Result::unwrap).filter_map(|it| Some((it.tok_id()?, it.span())));
+    let mut document = Document::new(definition, text).unwrap();
+    for at in (0..text.len()).step_by(text.len() / 20) {
+        document.edit(at..at + 1, "x9 ").unwrap();
+    }
+    let edited = document.lexer().unwrap().map(Result::unwrap).map(|it| (it.tok_id(), it.span()));
+    [lexed.collect(), scanned.collect(), edited.collect()]
+}
+
+#[test]
+fn threads_find_what_one_finds() {
+    let mut definition = words();
+    let text = "ab 12 c3 ".repeat(5_000);
+    let wanted = found_in(&definition, &text);
+    assert_eq!((wanted[0].len(), wanted[0] == wanted[1]), (20_000, true));
+    thread::scope(|threads| {
+        for _ in 0..8 {
+            let own = definition.try_clone().unwrap();
+            threads.spawn(|| {
+                let own = own;
+                for _ in 0..3 {
+                    assert!(found_in(&own.try_clone().unwrap(), &text) == wanted);
+                }
+                // many owners come and go at the same time
+                for _ in 0..10_000 {
+                    drop(own.try_clone().unwrap());
+                }
+            });
+        }
+        assert!(found_in(&definition, &text) == wanted);
+        assert_eq!(definition.try_clone().unwrap().set_rule_ids(&HashMap::new()), Err(Error::Shared));
+    });
+    assert!(definition.set_rule_ids(&HashMap::new()).is_ok(), "all other owners are gone");
+}
+
+#[test]
+fn a_document_and_a_scanner_go_to_another_thread() {
+    let definition = words();
+    let (mut document, mut scanner) = (Document::new(&definition, "ab 1").unwrap(), definition.scanner("c 2").unwrap());
+    assert_eq!(scanner.next().unwrap().unwrap().text(), "c");
+    let document = thread::spawn(move || {
+        document.edit(0..1, "2").unwrap();
+        assert_eq!(scanner.map(|it| it.unwrap().text()).collect::<Vec<_>>(), [" ", "2"]);
+        document
+    });
+    let document = document.join().unwrap();
+    assert_eq!(shown(&definition, document.lexer().unwrap()), pairs(&[("INT", "2"), ("ID", "b"), ("INT", "1")]));
+}
+
+/// All types may go to another thread, and errors into those that other crates make of them.
+const _: () = {
+    const fn goes<T: Send + Unpin>() {}
+    const fn is_shared<T: Sync>() {}
+    const fn is_error<T: error::Error + Clone + Eq + Send + Sync + Unpin + 'static>() {}
+    goes::<(Definition, Document, Scanner<'_>, Lexer<'_>, Lexeme<'_>, Tile<'_>, Piece)>();
+    goes::<(Fault, FaultSpan, LexFlags, Budget, PositionEncoding)>();
+    is_shared::<(Mutex<Definition>, Mutex<Document>, Mutex<Scanner<'_>>)>();
+    is_shared::<(Lexer<'_>, Lexeme<'_>, Tile<'_>, Piece, Fault, FaultSpan, LexFlags, Budget, PositionEncoding)>();
+    is_error::<LexError>();
+    is_error::<Error>();
+};
+
+/// No two threads use one handle at a time: of a type that is `Sync` there are two of these constants, and naming one doesn't compile.
+const _: () = {
+    trait IsNotSync<Which> {
+        const HOLDS: () = ();
+    }
+    impl<T> IsNotSync<u8> for T {}
+    impl<T: Sync> IsNotSync<u16> for T {}
+    let _: [(); 3] = [Definition::HOLDS, Document::HOLDS, Scanner::HOLDS];
+};
