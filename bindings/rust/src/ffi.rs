@@ -142,6 +142,14 @@ unsafe extern "C" {
     pub(crate) fn lrlex_fault_at(d: *mut Handle, index: usize, out: *mut Fault) -> c_int;
     pub(crate) fn lrlex_fault_span_at(d: *mut Handle, index: usize, span: usize, out: *mut FaultSpan) -> c_int;
     pub(crate) fn lrlex_fault_text(d: *mut Handle, index: usize, out: *mut u8, cap: usize, len: *mut usize) -> c_int;
+    pub(crate) fn lrlex_fault_report(
+        d: *mut Handle,
+        file: *const u8,
+        file_len: usize,
+        out: *mut u8,
+        cap: usize,
+        len: *mut usize,
+    ) -> c_int;
     pub(crate) fn lrlex_rule_count(d: *mut Handle) -> usize;
     pub(crate) fn lrlex_rule_at(d: *mut Handle, index: usize, out: *mut Rule) -> c_int;
     pub(crate) fn lrlex_definition_set_rule_ids(
@@ -170,6 +178,16 @@ unsafe extern "C" {
         pieces: *mut Piece,
         cap: usize,
         out: *mut Lexed,
+    ) -> c_int;
+    pub(crate) fn lrlex_stop_report(
+        d: *mut Handle,
+        file: *const u8,
+        file_len: usize,
+        text: *const u8,
+        text_len: usize,
+        out: *mut u8,
+        cap: usize,
+        len: *mut usize,
     ) -> c_int;
     pub(crate) fn lrlex_places(
         text: *const u8,

@@ -30,7 +30,7 @@ use std::mem;
 use std::ops::Range;
 use std::ptr::NonNull;
 use std::str::FromStr;
-use std::sync::{Arc, Mutex};
+use std::sync::{Arc, Mutex, PoisonError};
 
 /// The flags and limits of a rule file. `None` is the default that the rule file's format gives.
 #[derive(Clone, Debug, Default, PartialEq, Eq)]
@@ -101,9 +101,68 @@ pub struct FaultSpan {
     pub column: usize,
 }
 
+/// The kinds of faults, as `lrlex.h` names them.
+#[derive(Clone, Copy, Debug, PartialEq, Eq, Hash)]
+#[non_exhaustive]
+pub enum FaultKind {
+    /// The text ends before a line `%%`.
+    PrematureEnd,
+    /// There is text after the second `%%`.
+    RoutinesNotSupported,
+    /// A line before `%%` declares no start states.
+    UnknownDeclaration,
+    /// No space or tab separates a rule's pattern from its name.
+    MissingSpace,
+    /// A rule's name is neither `;` nor in quotes.
+    InvalidName,
+    /// A rule names a start state that isn't declared.
+    UnknownStartState,
+    /// A start state is declared again.
+    DuplicateStartState,
+    /// A `<` has no `>`.
+    InvalidStartState,
+    /// A start state's name isn't a letter followed by letters, digits, `_` and `.`.
+    InvalidStartStateName,
+    /// A rule has the name of an earlier rule.
+    DuplicateName,
+    /// A pattern isn't a regular expression, or is too large.
+    RegexError,
+    /// A line between the rules begins with white space.
+    VerbatimNotSupported,
+    /// There are more rules than ids.
+    TooManyRules,
+    /// A kind that only a later `lrlex.h` names, by its number there.
+    Other(u32),
+}
+
+impl FaultKind {
+    /// The kinds by their numbers.
+    const ALL: [FaultKind; 13] = [
+        FaultKind::PrematureEnd,
+        FaultKind::RoutinesNotSupported,
+        FaultKind::UnknownDeclaration,
+        FaultKind::MissingSpace,
+        FaultKind::InvalidName,
+        FaultKind::UnknownStartState,
+        FaultKind::DuplicateStartState,
+        FaultKind::InvalidStartState,
+        FaultKind::InvalidStartStateName,
+        FaultKind::DuplicateName,
+        FaultKind::RegexError,
+        FaultKind::VerbatimNotSupported,
+        FaultKind::TooManyRules,
+    ];
+
+    fn of(number: u32) -> FaultKind {
+        Self::ALL.get(number as usize).copied().unwrap_or(FaultKind::Other(number))
+    }
+}
+
 /// A fault of a rule text.
 #[derive(Clone, Debug, PartialEq, Eq)]
 pub struct Fault {
+    /// What kind of fault it is.
+    pub kind: FaultKind,
     /// What is wrong, in English.
     pub message: String,
     /// Where it is. There is more than one span if something is declared twice: the first, and where it is declared again.
@@ -124,6 +183,67 @@ impl fmt::Display for Fault {
         Ok(())
     }
 }
+
+/// The faults of a rule text that is refused. It keeps a copy of the text, for reports.
+#[derive(Clone)]
+pub struct RulesError {
+    faults: Vec<Fault>,
+    held: Arc<Mutex<Held>>,
+}
+
+impl RulesError {
+    fn new(held: Held) -> Result<Self, Error> {
+        Ok(RulesError { faults: faults_in(&held)?, held: Arc::new(Mutex::new(held)) })
+    }
+
+    /// The faults. There is at least one.
+    #[must_use]
+    pub fn faults(&self) -> &[Fault] {
+        &self.faults
+    }
+
+    /// A report of all faults for people. Of each it has `FILE:LINE:COLUMN`, the message, the line, and carets under the place. `file`
+    /// is the name to show.
+    ///
+    /// # Errors
+    ///
+    /// [`Error::OutOfMemory`].
+    pub fn report(&self, file: &str) -> Result<String, Error> {
+        let held = self.held.lock().unwrap_or_else(PoisonError::into_inner);
+        let text = text_by(REPORT, |out, room, len| {
+            // SAFETY: the handle has faults, pointer and length are a `&str`'s, and there is room for `room` bytes.
+            unsafe { ffi::lrlex_fault_report(held.get(), file.as_ptr(), file.len(), out, room, len) }
+        })?;
+        Ok(text.unwrap_or_default())
+    }
+}
+
+impl fmt::Debug for RulesError {
+    fn fmt(&self, f: &mut fmt::Formatter<'_>) -> fmt::Result {
+        f.debug_struct("RulesError").field("faults", &self.faults).finish_non_exhaustive()
+    }
+}
+
+impl PartialEq for RulesError {
+    /// Whether the faults are the same, with their places.
+    fn eq(&self, other: &Self) -> bool {
+        self.faults == other.faults
+    }
+}
+
+impl Eq for RulesError {}
+
+impl fmt::Display for RulesError {
+    /// A line for each fault.
+    fn fmt(&self, f: &mut fmt::Formatter<'_>) -> fmt::Result {
+        for (at, fault) in self.faults.iter().enumerate() {
+            write!(f, "{}{fault}", if at == 0 { "" } else { "\n" })?;
+        }
+        Ok(())
+    }
+}
+
+impl error::Error for RulesError {}
 
 /// Where lexing stopped before the end of the text.
 #[derive(Clone, Copy, Debug, PartialEq, Eq)]
@@ -150,8 +270,8 @@ impl error::Error for LexError {}
 #[derive(Clone, Debug, PartialEq, Eq)]
 #[non_exhaustive]
 pub enum Error {
-    /// The rule text is refused, for these faults.
-    Rules(Vec<Fault>),
+    /// The rule text is refused, for its faults.
+    Rules(RulesError),
     /// Lexing stopped before the end of the text.
     Lex(LexError),
     /// The ends of an edit are past the end of the text, inside a character, or the wrong way round.
@@ -165,12 +285,7 @@ pub enum Error {
 impl fmt::Display for Error {
     fn fmt(&self, f: &mut fmt::Formatter<'_>) -> fmt::Result {
         match self {
-            Error::Rules(faults) => {
-                for (at, fault) in faults.iter().enumerate() {
-                    write!(f, "{}{fault}", if at == 0 { "" } else { "\n" })?;
-                }
-                Ok(())
-            }
+            Error::Rules(error) => error.fmt(f),
             Error::Lex(error) => error.fmt(f),
             Error::DoesNotFit => f.write_str("The edit doesn't fit the text"),
             Error::Shared => f.write_str("The definition has other owners"),
@@ -180,6 +295,12 @@ impl fmt::Display for Error {
 }
 
 impl error::Error for Error {}
+
+impl From<RulesError> for Error {
+    fn from(error: RulesError) -> Self {
+        Error::Rules(error)
+    }
+}
 
 impl From<LexError> for Error {
     fn from(error: LexError) -> Self {
@@ -198,9 +319,13 @@ fn checked(status: c_int) -> Result<(), Error> {
     }
 }
 
-/// The text that a call writes into a buffer, with its length. `None` if there is none.
-fn text_by(call: impl Fn(*mut u8, usize, &mut usize) -> c_int) -> Result<Option<String>, Error> {
-    let mut text = vec![0; 64];
+/// Room for most names, and for most reports, which take as long to make again as to make.
+const NAME: usize = 64;
+const REPORT: usize = 4096;
+
+/// The text that a call writes into a buffer of that much room, or of as much as it asks for. `None` if there is none.
+fn text_by(room: usize, call: impl Fn(*mut u8, usize, &mut usize) -> c_int) -> Result<Option<String>, Error> {
+    let mut text = vec![0; room];
     loop {
         let mut len = 0;
         match call(text.as_mut_ptr(), text.len(), &mut len) {
@@ -368,7 +493,7 @@ impl Definition {
         let options = flags.options();
         // SAFETY: pointer and length are a `&str`'s, and the handle is empty.
         match unsafe { ffi::lrlex_definition_new(held.get(), rules.as_ptr(), rules.len(), &raw const options) } {
-            ffi::REFUSED => Err(Error::Rules(faults(&held)?)),
+            ffi::REFUSED => Err(Error::Rules(RulesError::new(held)?)),
             status => checked(status).map(|()| Definition {
                 held,
                 tokens: Density::default(),
@@ -428,11 +553,25 @@ impl Definition {
         Ok((pieces.into_iter().map(Piece::from).collect(), stop(text, &lexed)?))
     }
 
+    /// A report for people of where lexing the text stops: `FILE:LINE:COLUMN`, the message, the line, and a caret. `file` is the name to
+    /// show. `None` if lexing comes to the end.
+    ///
+    /// # Errors
+    ///
+    /// [`Error::OutOfMemory`].
+    pub fn stop_report(&self, text: &str, file: &str) -> Result<Option<String>, Error> {
+        text_by(REPORT, |out, room, len| {
+            let (name, size, text, bytes) = (file.as_ptr(), file.len(), text.as_ptr(), text.len());
+            // SAFETY: pointers and lengths are those of `&str`s, and there is room for `room` bytes.
+            unsafe { ffi::lrlex_stop_report(self.held.get(), name, size, text, bytes, out, room, len) }
+        })
+    }
+
     /// The name of the first rule that has a name and this id.
     #[must_use]
     pub fn name_of(&self, tok_id: u32) -> Option<String> {
         // SAFETY: (here and below) there is room for `room` bytes.
-        text_by(|out, room, len| unsafe { ffi::lrlex_name(self.held.get(), tok_id, out, room, len) }).ok()?
+        text_by(NAME, |out, room, len| unsafe { ffi::lrlex_name(self.held.get(), tok_id, out, room, len) }).ok()?
     }
 
     /// How many rules there are.
@@ -445,7 +584,7 @@ impl Definition {
     /// The name of the rule of this number, from 0. `None` if it has none.
     #[must_use]
     pub fn rule_name(&self, rule: usize) -> Option<String> {
-        text_by(|out, room, len| unsafe { ffi::lrlex_rule_name(self.held.get(), rule, out, room, len) }).ok()?
+        text_by(NAME, |out, room, len| unsafe { ffi::lrlex_rule_name(self.held.get(), rule, out, room, len) }).ok()?
     }
 
     /// Gives each named rule the map's id for its name, or none. Unnamed rules keep theirs. Lexing stops where a rule matches that has
@@ -508,12 +647,12 @@ impl Definition {
     /// The name of the start state of this number, from 0.
     #[must_use]
     pub fn state_name(&self, state: usize) -> Option<String> {
-        text_by(|out, room, len| unsafe { ffi::lrlex_state_name(self.held.get(), state, out, room, len) }).ok()?
+        text_by(NAME, |out, room, len| unsafe { ffi::lrlex_state_name(self.held.get(), state, out, room, len) }).ok()?
     }
 }
 
 /// The faults that the handle of a refused rule text holds.
-fn faults(held: &Held) -> Result<Vec<Fault>, Error> {
+fn faults_in(held: &Held) -> Result<Vec<Fault>, Error> {
     // SAFETY: (here and below) the handle holds faults, and what is written is one struct, and as many bytes as there is room for.
     let count = unsafe { ffi::lrlex_fault_count(held.get()) };
     let mut faults = Vec::with_capacity(count);
@@ -526,8 +665,8 @@ fn faults(held: &Held) -> Result<Vec<Fault>, Error> {
             checked(unsafe { ffi::lrlex_fault_span_at(held.get(), at, number, &raw mut it) })?;
             spans.push(FaultSpan { span: it.start..it.end, line: it.line, column: it.column });
         }
-        let message = text_by(|out, room, len| unsafe { ffi::lrlex_fault_text(held.get(), at, out, room, len) })?;
-        faults.push(Fault { message: message.unwrap_or_default(), spans });
+        let message = text_by(NAME, |out, room, len| unsafe { ffi::lrlex_fault_text(held.get(), at, out, room, len) })?;
+        faults.push(Fault { kind: FaultKind::of(fault.kind), message: message.unwrap_or_default(), spans });
     }
     Ok(faults)
 }

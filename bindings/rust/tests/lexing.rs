@@ -7,8 +7,8 @@ use std::sync::Mutex;
 use std::thread;
 
 use lrlex::{
-    Budget, Definition, Document, Error, Fault, FaultSpan, LexError, LexFlags, Lexeme, Lexer, Piece, PositionEncoding,
-    Scanner, Tile,
+    Budget, Definition, Document, Error, Fault, FaultKind, FaultSpan, LexError, LexFlags, Lexeme, Lexer, Piece,
+    PositionEncoding, RulesError, Scanner, Tile,
 };
 
 #[path = "../build.rs"]
@@ -99,15 +99,70 @@ fn ids_by_names() {
     assert_eq!(definition.name_of(0).as_deref(), Some("INT"));
 }
 
+fn refused(rules: &str) -> RulesError {
+    match rules.parse::<Definition>() {
+        Err(Error::Rules(error)) => error,
+        other => panic!("{rules:?}: {other:?}"),
+    }
+}
+
 #[test]
 fn a_refused_rule_text_has_faults() {
-    let Err(Error::Rules(faults)) = "%x A A\n%%\na+b 'A'\nb 'A'\nc( 'C'\n".parse::<Definition>() else {
-        panic!("the rules were taken");
-    };
+    let error = refused("%x A A\n%%\na+b 'A'\nb 'A'\nc( 'C'\n");
+    let faults = error.faults();
     assert_eq!(faults.len(), 3);
     assert_eq!(faults[0].message, "Start state already exists");
     assert_eq!(faults[0].spans.iter().map(|it| it.span.clone()).collect::<Vec<_>>(), [3..4, 5..6]);
     assert_eq!(faults[0].to_string(), "1:4: Start state already exists, again at 1:6");
+    assert_eq!(error.to_string().lines().count(), 3);
+    assert_eq!(Error::from(error.clone()).to_string(), error.to_string());
+}
+
+#[test]
+fn faults_have_kinds() {
+    use FaultKind::*;
+    for (rules, kinds) in [
+        ("", vec![PrematureEnd]),
+        ("%%\n%%\nmore", vec![RoutinesNotSupported]),
+        ("word\n%%\n", vec![UnknownDeclaration]),
+        ("%%\na\n", vec![MissingSpace]),
+        ("%%\nb 'B\n", vec![InvalidName]),
+        ("%%\n<B>b 'B'\n", vec![UnknownStartState]),
+        ("%x A A\n%%\n<c 'D'\n", vec![DuplicateStartState, InvalidStartState]),
+        ("%s 1\n%%\n", vec![InvalidStartStateName]),
+        ("%%\na 'A'\nb 'A'\n", vec![DuplicateName]),
+        ("%%\n code\n( 'A'\n", vec![VerbatimNotSupported, RegexError]),
+    ] {
+        let error = refused(rules);
+        assert_eq!(error.faults().iter().map(|it| it.kind).collect::<Vec<_>>(), kinds, "{rules:?}");
+    }
+}
+
+#[test]
+fn reports_of_faults() {
+    for (rules, report) in [
+        ("%%\na) 'A'\n", "tokens.l:2:1: Invalid regular expression: unopened group\n2 | a) 'A'\n  | ^\n"),
+        ("%x INITIAL\n%%\n", "tokens.l:1:4: Start state already exists\n1 | %x INITIAL\n  |    ^^^^^^^\n"),
+    ] {
+        assert_eq!(refused(rules).report("tokens.l").unwrap(), report);
+    }
+    // a report that needs more than the first room, and one of an error that went to another thread
+    let error = refused(&("%%\n".to_owned() + &" code\n".repeat(1_000)));
+    let report = error.report("é.l").unwrap();
+    let other = error.clone();
+    assert_eq!((report.lines().count(), report.contains("é.l:1001:1: ")), (3_000, true));
+    assert_eq!(thread::spawn(move || other.report("é.l").unwrap()).join().unwrap(), report);
+}
+
+#[test]
+fn reports_of_where_lexing_stops() {
+    let definition = words();
+    let report = "é:1:6: unexpected character '?'\n1 | ab 1 ?\n  |      ^\n";
+    for (text, report) in [("ab 1", None), ("ab 1 ?", Some(report)), ("", None)] {
+        assert_eq!(definition.stop_report(text, "é").unwrap().as_deref(), report, "{text:?}");
+    }
+    let long = "?".to_owned() + &"a".repeat(10_000);
+    assert!(definition.stop_report(&long, "long").unwrap().unwrap().contains(&long));
 }
 
 #[test]
@@ -278,9 +333,11 @@ const _: () = {
     const fn is_shared<T: Sync>() {}
     const fn is_error<T: error::Error + Clone + Eq + Send + Sync + Unpin + 'static>() {}
     goes::<(Definition, Document, Scanner<'_>, Lexer<'_>, Lexeme<'_>, Tile<'_>, Piece)>();
-    goes::<(Fault, FaultSpan, LexFlags, Budget, PositionEncoding)>();
+    goes::<(Fault, FaultKind, FaultSpan, LexFlags, Budget, PositionEncoding)>();
     is_shared::<(Mutex<Definition>, Mutex<Document>, Mutex<Scanner<'_>>)>();
-    is_shared::<(Lexer<'_>, Lexeme<'_>, Tile<'_>, Piece, Fault, FaultSpan, LexFlags, Budget, PositionEncoding)>();
+    is_shared::<(Lexer<'_>, Lexeme<'_>, Tile<'_>, Piece)>();
+    is_shared::<(Fault, FaultKind, FaultSpan, LexFlags, Budget, PositionEncoding)>();
+    is_error::<RulesError>();
     is_error::<LexError>();
     is_error::<Error>();
 };
