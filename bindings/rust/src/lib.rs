@@ -431,12 +431,15 @@ impl Drop for Held {
     }
 }
 
-/// Where and why lexing of the text stopped, if it did.
-fn stop(text: &str, lexed: &ffi::Lexed) -> Result<Option<LexError>, Error> {
+/// Where and why lexing stopped, if it did. `place` gives line and column of a byte.
+fn stop(
+    lexed: &ffi::Lexed,
+    place: impl FnOnce(usize) -> Result<(usize, usize), Error>,
+) -> Result<Option<LexError>, Error> {
     if !lexed.stopped {
         return Ok(None);
     }
-    let (line, column) = place(text, lexed.end)?;
+    let (line, column) = place(lexed.end)?;
     let state = lexed.unmatched.then_some(lexed.state);
     Ok(Some(LexError { start: lexed.end, line, column, state }))
 }
@@ -537,7 +540,8 @@ impl Definition {
             // SAFETY: pointer and length are a `&str`'s, and there is room for `room` tokens.
             unsafe { ffi::lrlex_lex(self.held.get(), text.as_ptr(), text.len(), out, room, lexed) }
         })?;
-        Lexer::new(text, tokens, &lexed, self.spare.clone())
+        let error = stop(&lexed, |byte| place(text, byte))?;
+        Ok(Lexer { text, tokens, next: 0, error, spare: self.spare.clone() })
     }
 
     /// The whole text as the rules cut it, also where a rule has no name, and where lexing stopped, if it did.
@@ -550,7 +554,7 @@ impl Definition {
             // SAFETY: pointer and length are a `&str`'s, and there is room for `room` pieces.
             unsafe { ffi::lrlex_pieces(self.held.get(), text.as_ptr(), text.len(), out, room, lexed) }
         })?;
-        Ok((pieces.into_iter().map(Piece::from).collect(), stop(text, &lexed)?))
+        Ok((pieces.into_iter().map(Piece::from).collect(), stop(&lexed, |byte| place(text, byte))?))
     }
 
     /// A report for people of where lexing the text stops: `FILE:LINE:COLUMN`, the message, the line, and a caret. `file` is the name to
@@ -727,12 +731,6 @@ pub struct Lexer<'text> {
     spare: Spare,
 }
 
-impl<'text> Lexer<'text> {
-    fn new(text: &'text str, tokens: Vec<ffi::Token>, lexed: &ffi::Lexed, spare: Spare) -> Result<Self, Error> {
-        Ok(Lexer { text, tokens, next: 0, error: stop(text, lexed)?, spare })
-    }
-}
-
 impl Drop for Lexer<'_> {
     fn drop(&mut self) {
         self.spare.put(mem::take(&mut self.tokens));
@@ -816,21 +814,24 @@ impl Document {
             // SAFETY: there is room for `room` tokens.
             unsafe { ffi::lrlex_document_tokens(self.held.get(), 0, out, room, lexed) }
         })?;
-        Lexer::new(&self.text, tokens, &lexed, Spare::default())
+        let error = stop(&lexed, |byte| Ok(self.place(byte)))?;
+        Ok(Lexer { text: &self.text, tokens, next: 0, error, spare: Spare::default() })
     }
 
     /// The pieces that have a byte in this range, such as those of the lines that an editor shows. Each is whole, so the first may
-    /// begin before the range, and the last end after it.
+    /// begin before the range, and the last end after it. Any range will do. After them comes where lexing of the document stopped, if
+    /// it did, in the range or not: there are no pieces from there on.
     ///
     /// # Errors
     ///
     /// [`Error::OutOfMemory`].
-    pub fn pieces_in(&self, range: Range<usize>) -> Result<Vec<Piece>, Error> {
-        let (pieces, _) = filled(Vec::new(), range.len().min(self.text.len()), |out, room, lexed| {
+    pub fn pieces_in(&self, range: Range<usize>) -> Result<(Vec<Piece>, Option<LexError>), Error> {
+        let (pieces, lexed) = filled(Vec::new(), range.len().min(self.text.len()), |out, room, lexed| {
             // SAFETY: there is room for `room` pieces.
             unsafe { ffi::lrlex_document_pieces_in(self.held.get(), range.start, range.end, out, room, lexed) }
         })?;
-        Ok(pieces.into_iter().map(Piece::from).collect())
+        let stop = stop(&lexed, |byte| Ok(self.place(byte)))?;
+        Ok((pieces.into_iter().map(Piece::from).collect(), stop))
     }
 
     /// Line and column of a byte, from 1; the column counts characters. A byte inside a character has the character's place.

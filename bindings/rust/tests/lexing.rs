@@ -210,10 +210,32 @@ fn a_document_through_edits() {
     assert_eq!(document.edit(Range { start: 2, end: 1 }, ""), Err(Error::DoesNotFit));
     document.edit(6..6, " x").unwrap();
     assert_eq!((document.place(7), document.position(7)), ((1, 8), (0, 7)));
-    assert_eq!(document.pieces_in(4..7).unwrap().iter().map(|it| it.span.clone()).collect::<Vec<_>>(), [3..6, 6..7]);
     assert_eq!(document.text(), "abc123 x");
     drop(definition);
     assert_eq!(document.lexer().unwrap().count(), 3);
+}
+
+#[test]
+fn pieces_of_a_part_of_a_document() {
+    let stop = LexError { start: 5, line: 2, column: 2, state: Some(0) };
+    let backwards = Range { start: 4, end: 1 };
+    for (text, range, wanted, stop) in [
+        ("abc123 x", 4..7, vec![(3, 6), (6, 7)], None),
+        ("abc123 x", 0..99, vec![(0, 3), (3, 6), (6, 7), (7, 8)], None),
+        ("abc123 x", backwards, vec![], None),
+        ("", 0..9, vec![], None),
+        // where lexing stops after the range, in it, and before it
+        ("ab \n1?c", 0..2, vec![(0, 2)], Some(stop)),
+        ("ab \n1?c", 4..6, vec![(4, 5)], Some(stop)),
+        ("ab \n1?c", 6..7, vec![], Some(stop)),
+    ] {
+        let rules = "%%\n[0-9]+ 'INT'\n[a-z]+ 'ID'\n[ \\n] ;\n";
+        let document = Document::new(&rules.parse().unwrap(), text).unwrap();
+        let (pieces, stopped) = document.pieces_in(range.clone()).unwrap();
+        let spans: Vec<_> = pieces.into_iter().map(|it| (it.span.start, it.span.end)).collect();
+        assert_eq!((spans, stopped), (wanted, stop), "{text:?} {range:?}");
+        assert_eq!(document.lexer().unwrap().last().and_then(Result::err), stop, "{text:?}");
+    }
 }
 
 #[test]
