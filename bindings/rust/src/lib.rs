@@ -340,6 +340,11 @@ fn text_by(room: usize, call: impl Fn(*mut u8, usize, &mut usize) -> c_int) -> R
     }
 }
 
+/// The name that a call writes, if there is one. These calls only copy: none answers that memory lacks.
+fn name_by(call: impl Fn(*mut u8, usize, &mut usize) -> c_int) -> Option<String> {
+    text_by(NAME, call).expect("a name is there to be copied")
+}
+
 /// Line and column of a byte of the text.
 fn place(text: &str, byte: usize) -> Result<(usize, usize), Error> {
     let mut place = ffi::Place::default();
@@ -571,11 +576,11 @@ impl Definition {
         })
     }
 
-    /// The name of the first rule that has a name and this id.
+    /// The name of the first rule that has a name and this id. `None` if there is no such rule.
     #[must_use]
     pub fn name_of(&self, tok_id: u32) -> Option<String> {
         // SAFETY: (here and below) there is room for `room` bytes.
-        text_by(NAME, |out, room, len| unsafe { ffi::lrlex_name(self.held.get(), tok_id, out, room, len) }).ok()?
+        name_by(|out, room, len| unsafe { ffi::lrlex_name(self.held.get(), tok_id, out, room, len) })
     }
 
     /// How many rules there are.
@@ -585,10 +590,10 @@ impl Definition {
         unsafe { ffi::lrlex_rule_count(self.held.get()) }
     }
 
-    /// The name of the rule of this number, from 0. `None` if it has none.
+    /// The name of the rule of this number, from 0. `None` if it has none, or there are fewer rules.
     #[must_use]
     pub fn rule_name(&self, rule: usize) -> Option<String> {
-        text_by(NAME, |out, room, len| unsafe { ffi::lrlex_rule_name(self.held.get(), rule, out, room, len) }).ok()?
+        name_by(|out, room, len| unsafe { ffi::lrlex_rule_name(self.held.get(), rule, out, room, len) })
     }
 
     /// Gives each named rule the map's id for its name, or none. Unnamed rules keep theirs. Lexing stops where a rule matches that has
@@ -648,10 +653,10 @@ impl Definition {
         unsafe { ffi::lrlex_state_count(self.held.get()) }
     }
 
-    /// The name of the start state of this number, from 0.
+    /// The name of the start state of this number, from 0. `None` if there are fewer.
     #[must_use]
     pub fn state_name(&self, state: usize) -> Option<String> {
-        text_by(NAME, |out, room, len| unsafe { ffi::lrlex_state_name(self.held.get(), state, out, room, len) }).ok()?
+        name_by(|out, room, len| unsafe { ffi::lrlex_state_name(self.held.get(), state, out, room, len) })
     }
 }
 

@@ -187,8 +187,13 @@ fn names_of_rules_and_start_states() {
         (definition.rule_name(0).as_deref(), definition.rule_name(1), definition.rule_name(2)),
         (Some("A"), None, None)
     );
-    assert_eq!(definition.state_name(1).as_deref(), Some("STRING"));
-    assert_eq!(definition.name_of(0).as_deref(), Some("A"));
+    assert_eq!((definition.state_name(1).as_deref(), definition.state_name(2)), (Some("STRING"), None));
+    assert_eq!((definition.name_of(0).as_deref(), definition.name_of(1)), (Some("A"), None));
+    // names that need more than the first room
+    let name = "N".repeat(1_000);
+    let definition: Definition = format!("%x {name}\n%%\na '{name}'\n").parse().unwrap();
+    let names = [definition.rule_name(0), definition.name_of(0), definition.state_name(1)];
+    assert_eq!(names, [(); 3].map(|()| Some(name.clone())));
 }
 
 #[test]
