@@ -21,7 +21,7 @@
 mod ffi;
 
 use std::cell::{Cell, UnsafeCell};
-use std::collections::{HashMap, HashSet};
+use std::collections::{HashMap, HashSet, TryReserveError};
 use std::error;
 use std::ffi::c_int;
 use std::fmt;
@@ -308,6 +308,12 @@ impl From<LexError> for Error {
     }
 }
 
+impl From<TryReserveError> for Error {
+    fn from(_: TryReserveError) -> Self {
+        Error::OutOfMemory
+    }
+}
+
 /// The result of a call that has no other status than these.
 fn checked(status: c_int) -> Result<(), Error> {
     match status {
@@ -333,6 +339,7 @@ fn text_by(room: usize, call: impl Fn(*mut u8, usize, &mut usize) -> c_int) -> R
             status => checked(status)?,
         }
         let is_all = len <= text.len();
+        text.try_reserve_exact(len.saturating_sub(text.len()))?;
         text.resize(len, 0);
         if is_all {
             return Ok(Some(String::from_utf8(text).expect("the library writes UTF-8")));
@@ -362,7 +369,7 @@ fn filled<T>(
     let mut lexed = ffi::Lexed::default();
     loop {
         rows.clear();
-        rows.try_reserve_exact(room).map_err(|_| Error::OutOfMemory)?;
+        rows.try_reserve_exact(room)?;
         checked(call(rows.as_mut_ptr(), room, &mut lexed))?;
         if lexed.count <= room {
             // SAFETY: there is room for `room` rows, and the call has written the first `count` of them.
@@ -783,10 +790,12 @@ impl Document {
     ///
     /// [`Error::OutOfMemory`].
     pub fn new(definition: &Definition, text: &str) -> Result<Self, Error> {
-        let held = Held::empty();
+        let (held, mut own) = (Held::empty(), String::new());
+        own.try_reserve_exact(text.len())?;
+        own.push_str(text);
         // SAFETY: pointer and length are a `&str`'s, and the new handle is empty.
         checked(unsafe { ffi::lrlex_document_new(definition.held.get(), held.get(), text.as_ptr(), text.len()) })?;
-        Ok(Document { held, text: text.to_owned() })
+        Ok(Document { held, text: own })
     }
 
     /// Puts a text in the place of these bytes.
@@ -796,6 +805,7 @@ impl Document {
     /// [`Error::DoesNotFit`] if the range isn't one of the text's characters, or [`Error::OutOfMemory`]. The document is then as
     /// it was.
     pub fn edit(&mut self, range: Range<usize>, put: &str) -> Result<(), Error> {
+        self.text.try_reserve(put.len())?;
         // SAFETY: pointer and length are a `&str`'s.
         checked(unsafe { ffi::lrlex_document_edit(self.held.get(), range.start, range.end, put.as_ptr(), put.len()) })?;
         self.text.replace_range(range, put);
@@ -950,7 +960,7 @@ impl Scanner<'_> {
         let mut scanned = ffi::Scanned::default();
         self.next = 0;
         self.tiles.clear();
-        self.tiles.try_reserve_exact(Self::ROOM).map_err(|_| Error::OutOfMemory)?;
+        self.tiles.try_reserve_exact(Self::ROOM)?;
         // SAFETY: there is room for `ROOM` tiles.
         checked(unsafe {
             ffi::lrlex_scanner_next(self.held.get(), self.tiles.as_mut_ptr(), Self::ROOM, &raw mut scanned)

@@ -1,8 +1,11 @@
 //! A first text, a refused rule text, a document through edits, and a scanner.
 
+use std::alloc::{GlobalAlloc, Layout, System};
+use std::cell::Cell;
 use std::collections::{HashMap, HashSet};
 use std::error;
 use std::ops::Range;
+use std::ptr::null_mut;
 use std::sync::Mutex;
 use std::thread;
 
@@ -16,6 +19,36 @@ use lrlex::{
 mod build;
 
 const WORDS: &str = "%%\n[0-9]+ 'INT'\n[a-z]+ 'ID'\n[ ] ;\n";
+
+/// The memory of this program, of which a thread can be refused large pieces. The library takes its own from `malloc`.
+struct Memory;
+
+thread_local! {
+    /// The most bytes that a thread is given at once.
+    static MOST: Cell<usize> = const { Cell::new(usize::MAX) };
+}
+
+#[global_allocator]
+static MEMORY: Memory = Memory;
+
+// SAFETY: it is `System`, or there is no memory.
+unsafe impl GlobalAlloc for Memory {
+    unsafe fn alloc(&self, layout: Layout) -> *mut u8 {
+        if layout.size() > MOST.get() { null_mut() } else { unsafe { System.alloc(layout) } }
+    }
+
+    unsafe fn dealloc(&self, at: *mut u8, layout: Layout) {
+        unsafe { System.dealloc(at, layout) }
+    }
+}
+
+/// What a call answers that has no more than 64 KiB at once.
+fn starved<T>(call: impl FnOnce() -> T) -> T {
+    MOST.set(1 << 16);
+    let answer = call();
+    MOST.set(usize::MAX);
+    answer
+}
 
 fn words() -> Definition {
     WORDS.parse().expect("the rules are right")
@@ -299,6 +332,29 @@ fn a_scanner_is_an_owner() {
     assert!(definition.set_rule_ids(&HashMap::new()).is_ok());
     let stop = LexError { start: 0, line: 1, column: 1, state: None };
     assert_eq!(definition.scanner("a").unwrap().next(), Some(Err(Error::Lex(stop))));
+}
+
+#[test]
+fn lack_of_memory_is_an_error() {
+    const LACK: Result<(), Error> = Err(Error::OutOfMemory);
+    let definition = words();
+    let text = "ab 1 ".repeat(20_000);
+    let mut document = Document::new(&definition, &text).unwrap();
+    let refused = refused(&("%%\n".to_owned() + &" code\n".repeat(5_000)));
+    let stops = text.clone() + "?";
+    assert_eq!(starved(|| definition.lexer(&text).map(drop)), LACK);
+    assert_eq!(starved(|| definition.pieces(&text).map(drop)), LACK);
+    assert_eq!(starved(|| definition.stop_report(&stops, "").map(drop)), LACK);
+    assert_eq!(starved(|| refused.report("").map(drop)), LACK);
+    assert_eq!(starved(|| Document::new(&definition, &text).map(drop)), LACK);
+    assert_eq!(starved(|| document.lexer().map(drop)), LACK);
+    assert_eq!(starved(|| document.pieces_in(0..text.len()).map(drop)), LACK);
+    assert_eq!(starved(|| document.edit(0..0, &text)), LACK);
+    // the document is as it was, and all goes well with memory
+    assert_eq!(document.text(), text);
+    assert_eq!(document.lexer().unwrap().len(), definition.lexer(&text).unwrap().len());
+    assert_eq!(document.edit(0..0, &text), Ok(()));
+    assert_eq!(document.lexer().unwrap().len(), 80_000);
 }
 
 /// Ids and places of all that a definition finds in a text: by a lexer, by a scanner, and in a document through edits.
