@@ -15,8 +15,13 @@
 //! edited. A [`Scanner`] gives the tiles of a text one after the other. The longest match wins; on a tie, the earliest rule. Spans are
 //! in bytes.
 //!
+//! Two kinds of errors have reports with the line and carets, as compilers show them: [`RulesError::report`] for rule files, and
+//! [`Definition::stop_report`] for texts.
+//!
 //! A definition, a document and a scanner may go to another thread, but two threads can't use one at the same time: they are `Send`,
 //! not `Sync`. [`Definition::try_clone`] gives each thread a definition of its own, without a copy of the rules.
+
+#![warn(missing_docs, missing_debug_implementations)]
 
 mod ffi;
 
@@ -33,6 +38,15 @@ use std::str::FromStr;
 use std::sync::{Arc, Mutex, PoisonError};
 
 /// The flags and limits of a rule file. `None` is the default that the rule file's format gives.
+///
+/// ```
+/// use lrlex::{Definition, LexFlags};
+///
+/// let flags = LexFlags { case_insensitive: Some(true), ..LexFlags::default() };
+/// let definition = Definition::new_with_options("%%\n[a-z]+ 'ID'\n[ ] ;", &flags)?;
+/// assert_eq!(definition.lexer("ab CD")?.count(), 2);
+/// # Ok::<(), lrlex::Error>(())
+/// ```
 #[derive(Clone, Debug, Default, PartialEq, Eq)]
 #[allow(missing_docs, reason = "the names are those of the program's options")]
 pub struct LexFlags {
@@ -185,6 +199,17 @@ impl fmt::Display for Fault {
 }
 
 /// The faults of a rule text that is refused. It keeps a copy of the text, for reports.
+///
+/// ```
+/// use lrlex::{Definition, Error, FaultKind};
+///
+/// let Err(Error::Rules(error)) = "%%\n[0-9]+ 'INT'\n[0-9 'DIGIT'".parse::<Definition>() else { panic!() };
+/// assert_eq!(error.faults()[0].kind, FaultKind::RegexError);
+/// let report = error.report("words.l")?;
+/// assert!(report.starts_with("words.l:3:1: Invalid regular expression"));
+/// assert!(report.ends_with("\n3 | [0-9 'DIGIT'\n  | ^\n"));
+/// # Ok::<(), Error>(())
+/// ```
 #[derive(Clone)]
 pub struct RulesError {
     faults: Vec<Fault>,
@@ -325,7 +350,7 @@ fn checked(status: c_int) -> Result<(), Error> {
     }
 }
 
-/// Room for most names, and for most reports, which take as long to make again as to make.
+/// Room for most names, and for most reports. Where it is too little the call is made again, and so is the report.
 const NAME: usize = 64;
 const REPORT: usize = 4096;
 
@@ -460,7 +485,6 @@ fn stop(
 pub type IdSets<'a> = (Option<HashSet<&'a str>>, Option<HashSet<String>>);
 
 /// The rules of a rule file, ready to lex texts.
-#[derive(Debug)]
 pub struct Definition {
     held: Held,
     tokens: Density,
@@ -468,8 +492,15 @@ pub struct Definition {
     spare: Spare,
 }
 
+impl fmt::Debug for Definition {
+    fn fmt(&self, f: &mut fmt::Formatter<'_>) -> fmt::Result {
+        let (rules, states) = (self.rule_count(), self.state_count());
+        f.debug_struct("Definition").field("rules", &rules).field("states", &states).finish_non_exhaustive()
+    }
+}
+
 /// A buffer that lexers of a definition have done with. The next lexer takes it, since new memory costs about as much as lexing.
-#[derive(Clone, Debug, Default)]
+#[derive(Clone, Default)]
 struct Spare(Arc<Mutex<Vec<ffi::Token>>>);
 
 impl Spare {
@@ -502,7 +533,7 @@ impl Definition {
     ///
     /// # Errors
     ///
-    /// [`Error::Rules`] with all faults of the rule text, or [`Error::OutOfMemory`].
+    /// [`Error::Rules`] with the faults of the rule text, or [`Error::OutOfMemory`].
     pub fn new_with_options(rules: &str, flags: &LexFlags) -> Result<Self, Error> {
         let held = Held::empty();
         let options = flags.options();
@@ -523,13 +554,13 @@ impl Definition {
     /// There is no `Clone`, since memory may lack.
     ///
     /// ```
-    /// # use lrlex::{Definition, Error};
+    /// # use lrlex::Definition;
     /// let definition: Definition = "%%\n[a-z]+ 'ID'\n[ ] ;".parse()?;
     /// let other = definition.try_clone()?;
     /// let counting = std::thread::spawn(move || other.lexer("ab c").map(Iterator::count));
     /// assert_eq!(definition.lexer("d")?.count(), 1);
     /// assert_eq!(counting.join().unwrap()?, 2);
-    /// # Ok::<(), Error>(())
+    /// # Ok::<(), lrlex::Error>(())
     /// ```
     ///
     /// # Errors
@@ -543,6 +574,15 @@ impl Definition {
     }
 
     /// Lexes the text.
+    ///
+    /// ```
+    /// # let definition: lrlex::Definition = "%%\n[0-9]+ 'INT'\n[a-z]+ 'ID'\n[ ] ;".parse()?;
+    /// let lexemes = definition.lexer("abc 123")?.collect::<Result<Vec<_>, _>>()?;
+    /// assert_eq!((lexemes[1].text(), lexemes[1].span()), ("123", 4..7));
+    /// let error = definition.lexer("abc ?")?.find_map(Result::err).unwrap();
+    /// assert_eq!((error.start, error.line, error.column), (4, 1, 5));
+    /// # Ok::<(), lrlex::Error>(())
+    /// ```
     ///
     /// # Errors
     ///
@@ -558,6 +598,14 @@ impl Definition {
 
     /// The whole text as the rules cut it, also where a rule has no name, and where lexing stopped, if it did.
     ///
+    /// ```
+    /// # let definition: lrlex::Definition = "%%\n[0-9]+ 'INT'\n[a-z]+ 'ID'\n[ ] ;".parse()?;
+    /// let (pieces, stop) = definition.pieces("ab 1")?;
+    /// assert_eq!(pieces.iter().map(|it| it.span.len()).collect::<Vec<_>>(), [2, 1, 1]);
+    /// assert!(definition.rule_name(pieces[1].rule).is_none() && stop.is_none());
+    /// # Ok::<(), lrlex::Error>(())
+    /// ```
+    ///
     /// # Errors
     ///
     /// [`Error::OutOfMemory`].
@@ -571,6 +619,14 @@ impl Definition {
 
     /// A report for people of where lexing the text stops: `FILE:LINE:COLUMN`, the message, the line, and a caret. `file` is the name to
     /// show. `None` if lexing comes to the end.
+    ///
+    /// ```
+    /// # let definition: lrlex::Definition = "%%\n[0-9]+ 'INT'\n[a-z]+ 'ID'\n[ ] ;".parse()?;
+    /// let report = definition.stop_report("ab ?", "words.txt")?.unwrap();
+    /// assert_eq!(report, "words.txt:1:4: unexpected character '?'\n1 | ab ?\n  |    ^\n");
+    /// assert!(definition.stop_report("ab 1", "words.txt")?.is_none());
+    /// # Ok::<(), lrlex::Error>(())
+    /// ```
     ///
     /// # Errors
     ///
@@ -609,6 +665,14 @@ impl Definition {
     /// The first set has the map's names that no rule has, the second the names of rules that the map lacks. `None` stands for an
     /// empty set.
     ///
+    /// ```
+    /// # let mut definition: lrlex::Definition = "%%\n[0-9]+ 'INT'\n[a-z]+ 'ID'\n[ ] ;".parse()?;
+    /// let (unknown, unused) = definition.set_rule_ids(&[("ID", 70), ("INT", 71)].into())?;
+    /// assert!(unknown.is_none() && unused.is_none());
+    /// assert_eq!(definition.name_of(70).as_deref(), Some("ID"));
+    /// # Ok::<(), lrlex::Error>(())
+    /// ```
+    ///
     /// # Errors
     ///
     /// [`Error::Shared`] while there is a clone, a document or a scanner of this definition, or [`Error::OutOfMemory`]. The definition
@@ -634,6 +698,16 @@ impl Definition {
     }
 
     /// The tiles of a text, one after the other, from its front.
+    ///
+    /// ```
+    /// # let definition: lrlex::Definition = "%%\n[0-9]+ 'INT'\n[a-z]+ 'ID'\n[ ] ;".parse()?;
+    /// let mut scanner = definition.scanner("ab 1 c")?;
+    /// let first = scanner.next().unwrap()?;
+    /// assert_eq!((first.text(), first.tok_id()), ("ab", Some(1)));
+    /// let blank = scanner.next().unwrap()?;
+    /// assert_eq!((blank.text(), blank.tok_id()), (" ", None));
+    /// # Ok::<(), lrlex::Error>(())
+    /// ```
     ///
     /// # Errors
     ///
@@ -734,13 +808,19 @@ impl From<ffi::Piece> for Piece {
 }
 
 /// The lexemes of a text, in order. If lexing stopped before the text's end, the last item is an error.
-#[derive(Clone, Debug)]
+#[derive(Clone)]
 pub struct Lexer<'text> {
     text: &'text str,
     tokens: Vec<ffi::Token>,
     next: usize,
     error: Option<LexError>,
     spare: Spare,
+}
+
+impl fmt::Debug for Lexer<'_> {
+    fn fmt(&self, f: &mut fmt::Formatter<'_>) -> fmt::Result {
+        f.debug_struct("Lexer").field("left", &self.len()).field("error", &self.error).finish_non_exhaustive()
+    }
 }
 
 impl Drop for Lexer<'_> {
@@ -777,6 +857,17 @@ impl ExactSizeIterator for Lexer<'_> {}
 impl FusedIterator for Lexer<'_> {}
 
 /// A text that is edited. An edit lexes again only what it changes. The definition may be dropped before it.
+///
+/// ```
+/// use lrlex::{Definition, Document};
+///
+/// let definition: Definition = "%%\n[0-9]+ 'INT'\n[a-z]+ 'ID'\n[ ] ;".parse()?;
+/// let mut document = Document::new(&definition, "abc 123")?;
+/// document.edit(3..4, "")?;
+/// assert_eq!(document.text(), "abc123");
+/// assert_eq!(document.lexer()?.map(|it| it.map(|it| it.span())).collect::<Result<Vec<_>, _>>()?, [0..3, 3..6]);
+/// # Ok::<(), lrlex::Error>(())
+/// ```
 #[derive(Debug)]
 pub struct Document {
     held: Held,
@@ -877,6 +968,16 @@ impl Document {
 
     /// The byte of a line and column, from 0, the column counted as the encoding says. Past a line's end it is the line's end, past the
     /// last line the text's end, and inside a character the place before that.
+    ///
+    /// ```
+    /// # let definition: lrlex::Definition = "%%\n. 'ANY'".parse()?;
+    /// use lrlex::{Document, PositionEncoding::{Utf8, Utf16}};
+    ///
+    /// let document = Document::new(&definition, "é\n😀x")?;
+    /// assert_eq!((document.offset_at((1, 2), Utf16), document.offset_at((1, 4), Utf8)), (7, 7));
+    /// assert_eq!((document.position(7), document.place(7)), ((1, 2), (2, 2)));
+    /// # Ok::<(), lrlex::Error>(())
+    /// ```
     #[must_use]
     pub fn offset_at(&self, position: (usize, usize), encoding: PositionEncoding) -> usize {
         let (mut byte, (line, column)) = (0, position);
@@ -941,7 +1042,6 @@ impl<'text> Tile<'text> {
 ///
 /// If lexing stops before the text's end, the last item is that error. An item can also be [`Error::OutOfMemory`]: the scanner is then
 /// where it was, and the next item is tried again.
-#[derive(Debug)]
 pub struct Scanner<'text> {
     held: Held,
     text: &'text str,
@@ -977,6 +1077,12 @@ impl Scanner<'_> {
         let (line, column) = place(self.text, scanned.place).inspect_err(|_| self.is_over = false)?;
         let state = (scanned.end == ffi::SCAN_NO_MATCH).then_some(scanned.state);
         Err(Error::Lex(LexError { start: scanned.place, line, column, state }))
+    }
+}
+
+impl fmt::Debug for Scanner<'_> {
+    fn fmt(&self, f: &mut fmt::Formatter<'_>) -> fmt::Result {
+        f.debug_struct("Scanner").field("text", &self.text).field("is_over", &self.is_over).finish_non_exhaustive()
     }
 }
 

@@ -335,6 +335,15 @@ fn a_scanner_is_an_owner() {
 }
 
 #[test]
+fn what_debugging_shows() {
+    let definition = words();
+    assert_eq!(format!("{definition:?}"), "Definition { rules: 3, states: 1, .. }");
+    assert_eq!(format!("{:?}", definition.lexer("ab 1").unwrap()), "Lexer { left: 2, error: None, .. }");
+    let scanner = definition.scanner("ab 1").unwrap();
+    assert_eq!(format!("{scanner:?}"), "Scanner { text: \"ab 1\", is_over: false, .. }");
+}
+
+#[test]
 fn lack_of_memory_is_an_error() {
     const LACK: Result<(), Error> = Err(Error::OutOfMemory);
     let definition = words();
