@@ -58,7 +58,8 @@ extern "C" {
 #define LRLEX_VERSION_MAJOR 0
 #define LRLEX_VERSION_MINOR 1
 #define LRLEX_VERSION_PATCH 0
-/* The version of this header as one number, as lrlex_version() gives that of the library. */
+/* The version of this header as one number, as lrlex_version() gives that of the library. Before 1.0 a header and a library fit where
+ * LRLEX_VERSION / 100 and lrlex_version() / 100 are the same: the first two numbers. The shared library has them in its name. */
 #define LRLEX_VERSION (LRLEX_VERSION_MAJOR * 10000 + LRLEX_VERSION_MINOR * 100 + LRLEX_VERSION_PATCH)
 
 /* The version of the library. Cannot fail. */

@@ -72,6 +72,10 @@ SHOWN = [
     (c_library.of_cpp, "bindings/cpp/tests/lexing.cpp"),
 ]
 
+# Of a shared library, the name that programs look for, and the version of its names.
+NAMED = r"\(SONAME\).*\[(.*)\]"
+MARKED = r"^LRLEX_([\d.]+) A"
+
 # What a user's program is, to be compiled by what pkg-config says.
 INCLUDED = "#include <lrlex.h>\nint main(void) { lrlex_definition d = {0}; lrlex_free(&d); return d.hidden != 0; }\n"
 
@@ -142,10 +146,20 @@ class CLibrary(unittest.TestCase):
     def test_both_libraries_have_the_names_of_the_header(self):
         c_library.need("nm")
         self.assertIn("lrlex_lex", declared())
-        self.assertEqual(names_in(c_library.shared(), "-D", "--defined-only") - {"LRLEX_0"}, declared())
+        self.assertEqual(names_in(c_library.shared(), "-D", "--defined-only") - {"LRLEX_0.1"}, declared())
         self.assertLessEqual(declared(), names_in(c_library.static(), "--defined-only", "-g"))
         undefined = names_in(c_library.static(), "--undefined-only") - names_in(c_library.static(), "--defined-only", "-g")
         self.assertLessEqual({it for it in undefined if not it.startswith(("liblrlex", "_GLOBAL_"))}, NEEDED)
+
+    def test_the_shared_library_is_named_by_the_first_two_numbers_of_the_version(self):
+        c_library.need("nm", "readelf")
+        numbers = dict(re.findall(r"^#define LRLEX_VERSION_(\w+) (\d+)$", programs.read("include/lrlex.h"), re.M))
+        first_two = f"{numbers['MAJOR']}.{numbers['MINOR']}"
+        told = programs.run(["readelf", "-d", c_library.shared()]).out + programs.run(["nm", "-P", "-D", c_library.shared()]).out
+        self.assertEqual(re.findall(NAMED, told), [f"liblrlex.so.{first_two}"])
+        self.assertEqual(re.findall(MARKED, told, re.M), [first_two])
+        self.assertEqual(os.path.basename(c_library.shared()), f"liblrlex.so.{first_two}")
+        self.assertEqual(os.readlink(f"{c_library.packed()}/lib/liblrlex.so"), f"liblrlex.so.{first_two}")
 
     def test_what_is_packed_is_whole(self):
         folder = c_library.packed()

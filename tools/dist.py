@@ -21,7 +21,8 @@ import prover
 
 LIBRARY = "lrlex_c"
 BUILT = f"{crates.TOP}/crates/{LIBRARY}/out/lib{LIBRARY}.a"
-SONAME = "liblrlex.so.0"
+# The name that programs look for: with the first two numbers of the version, of which a breaking change raises one.
+SONAME = "liblrlex.so.0.1"
 # What a packed program is called, by its crate.
 CALLED = {crates.PROGRAM: "lrlex"}
 FOLDER = f"{crates.TOP}/dist"

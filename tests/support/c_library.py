@@ -68,7 +68,7 @@ def static():
 
 def shared():
     """The shared library as users get it."""
-    return f"{packed()}/lib/liblrlex.so.0"
+    return f"{packed()}/lib/liblrlex.so.0.1"
 
 
 def compiled(compiler, source, *words):
