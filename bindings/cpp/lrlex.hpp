@@ -6,7 +6,8 @@
 ///
 /// A rule text with faults throws RulesError, memory that runs out std::bad_alloc. Texts are UTF-8; one that isn't throws
 /// Error. Spans are in bytes. A Definition, a Document and a Scanner stay on the thread that made them, and calls on one object come
-/// one at a time, also those that are const.
+/// one at a time, also those that are const. What is moved from is empty: it has no tokens, pieces and text, and takes other content;
+/// calls that need its handle throw Error, with the status LRLEX_MISUSE.
 #ifndef LRLEX_HPP
 #define LRLEX_HPP
 
@@ -68,14 +69,26 @@ private:
 
 namespace detail {
 
-/// A buffer of tokens or pieces. It grows, and keeps nothing of what was in it then.
+/// A buffer of tokens or pieces, and how many it has. It grows, and keeps nothing of what was in it then. One that is moved has none.
 template <class Row> struct Rows {
     std::unique_ptr<Row[]> rows;
-    std::size_t room = 0;
+    std::size_t room = 0, count = 0;
+
+    Rows() = default;
+    Rows(Rows &&other) noexcept
+        : rows(std::move(other.rows)), room(std::exchange(other.room, 0)), count(std::exchange(other.count, 0)) {}
+    Rows &operator=(Rows &&other) noexcept {
+        Rows taken(std::move(other));
+        rows.swap(taken.rows);
+        room = taken.room;
+        count = taken.count;
+        return *this;
+    }
 
     Row *with_room(std::size_t wanted) {
         if (!rows || room < wanted) {
             rows.reset();
+            room = 0;
             rows.reset(new Row[wanted]);
             room = wanted;
         }
@@ -124,10 +137,10 @@ public:
 
     Tokens() = default;
 
-    std::size_t size() const noexcept { return size_; }
-    bool empty() const noexcept { return size_ == 0; }
+    std::size_t size() const noexcept { return rows_.count; }
+    bool empty() const noexcept { return size() == 0; }
     iterator begin() const noexcept { return {text_, rows_.rows.get()}; }
-    iterator end() const noexcept { return {text_, rows_.rows.get() + size_}; }
+    iterator end() const noexcept { return {text_, rows_.rows.get() + size()}; }
     /// The token of this number, from 0, below `size()`.
     Token operator[](std::size_t at) const noexcept { return *iterator(text_, rows_.rows.get() + at); }
 
@@ -138,7 +151,6 @@ private:
     friend class Document;
     std::string_view text_;
     detail::Rows<lrlex_token> rows_;
-    std::size_t size_ = 0;
 };
 
 /// The pieces of a text as the rules cut it, also those of rules without a name, and where lexing stopped.
@@ -146,10 +158,10 @@ class Pieces {
 public:
     Pieces() = default;
 
-    std::size_t size() const noexcept { return size_; }
-    bool empty() const noexcept { return size_ == 0; }
+    std::size_t size() const noexcept { return rows_.count; }
+    bool empty() const noexcept { return size() == 0; }
     const lrlex_piece *begin() const noexcept { return rows_.rows.get(); }
-    const lrlex_piece *end() const noexcept { return rows_.rows.get() + size_; }
+    const lrlex_piece *end() const noexcept { return rows_.rows.get() + size(); }
     /// The piece of this number, from 0, below `size()`.
     const lrlex_piece &operator[](std::size_t at) const noexcept { return rows_.rows[at]; }
 
@@ -159,7 +171,6 @@ private:
     friend class Definition;
     friend class Document;
     detail::Rows<lrlex_piece> rows_;
-    std::size_t size_ = 0;
 };
 
 /// A tile: a piece of a text with its text, where that begins, the number of its rule, from 0, and the id of its token. A rule without
@@ -221,6 +232,8 @@ inline void check(int status) {
     case LRLEX_OK: return;
     case LRLEX_NOMEM: throw std::bad_alloc();
     case LRLEX_NOT_UTF8: throw Error("the text isn't UTF-8", status);
+    case LRLEX_MISUSE: throw Error("the object is empty: it was moved from", status);
+    case LRLEX_NONE: throw Error("there is nothing of this number", status);
     case LRLEX_DOES_NOT_FIT: throw Error("the edit doesn't fit the text", status);
     case LRLEX_SHARED: throw Error("the definition is that of a document or a scanner too", status);
     default: throw Error("lrlex status " + std::to_string(status), status);
@@ -241,13 +254,14 @@ template <class Call> std::string text_by(Call call) {
     }
 }
 
-/// An owner of a handle. It moves, and isn't copied.
+/// An owner of a handle. It moves, and isn't copied. One that is moved has an empty handle.
 template <class Handle> class Owner {
 public:
     Owner() = default;
     Owner(Owner &&other) noexcept : handle_(std::exchange(other.handle_, Handle{})) {}
     Owner &operator=(Owner &&other) noexcept {
-        std::swap(handle_, other.handle_);
+        Owner taken(std::move(other));
+        std::swap(handle_, taken.handle_);
         return *this;
     }
     ~Owner() { lrlex_free(&handle_); }
@@ -329,13 +343,13 @@ public:
     /// The tokens of a text in the place of others, whose memory they take: it is as quick as lrlex_lex where texts are many or long.
     void lex(std::string_view text, Tokens &tokens) const {
         lrlex_lexed lexed;
-        tokens.size_ = 0;
+        tokens.rows_.count = 0;
         tokens_.fill(tokens.rows_, text, lexed, [&](std::string_view part, lrlex_token *out, std::size_t room, lrlex_lexed *how) {
             return lrlex_lex(owner_.get(), detail::bytes(part), part.size(), out, room, how);
         });
         tokens.stop = detail::stop(text, lexed);
         tokens.text_ = text;
-        tokens.size_ = lexed.count;
+        tokens.rows_.count = lexed.count;
     }
 
     /// The whole text as the rules cut it, up to where lexing stops.
@@ -346,7 +360,7 @@ public:
             return lrlex_pieces(owner_.get(), detail::bytes(part), part.size(), out, room, how);
         });
         pieces.stop = detail::stop(text, lexed);
-        pieces.size_ = lexed.count;
+        pieces.rows_.count = lexed.count;
         return pieces;
     }
 
@@ -424,6 +438,13 @@ public:
     Document(const Definition &definition, std::string text) : text_(std::move(text)) {
         detail::check(lrlex_document_new(definition.get(), owner_.get(), detail::bytes(text_), text_.size()));
     }
+    Document(Document &&other) noexcept : owner_(std::move(other.owner_)) { text_.swap(other.text_); }
+    Document &operator=(Document &&other) noexcept {
+        Document taken(std::move(other));
+        text_.swap(taken.text_);
+        owner_ = std::move(taken.owner_);
+        return *this;
+    }
 
     /// Puts a text in the place of the bytes from `from` up to `to`. On an exception the document is as it was.
     void edit(std::size_t from, std::size_t to, std::string_view put) {
@@ -445,7 +466,7 @@ public:
         });
         tokens.stop = detail::stop(text_, lexed);
         tokens.text_ = text_;
-        tokens.size_ = lexed.count;
+        tokens.rows_.count = lexed.count;
         return tokens;
     }
 
@@ -458,7 +479,7 @@ public:
             return lrlex_document_pieces_in(owner_.get(), from, to, out, room, how);
         });
         pieces.stop = detail::stop(text_, lexed);
-        pieces.size_ = lexed.count;
+        pieces.rows_.count = lexed.count;
         return pieces;
     }
 
@@ -529,7 +550,8 @@ public:
 
     /// The next tile, or nothing at the text's end and where lexing stops. On an exception it is where it was.
     std::optional<Tile> next() {
-        if (at_ == scanned_.count || !tiles_) {
+        if (!tiles_) detail::check(LRLEX_MISUSE);
+        if (at_ == scanned_.count) {
             lrlex_scanned scanned;
             detail::check(lrlex_scanner_next(owner_.get(), tiles_.get(), room, &scanned));
             scanned_ = scanned;
@@ -545,7 +567,7 @@ public:
 
     /// Where lexing stopped, once `next()` gave nothing. It has no value at the text's end.
     std::optional<Stop> stop() const {
-        if (at_ != scanned_.count || scanned_.end == LRLEX_SCAN_MORE || scanned_.end == LRLEX_SCAN_DONE) return std::nullopt;
+        if (!tiles_ || at_ != scanned_.count || scanned_.end == LRLEX_SCAN_MORE || scanned_.end == LRLEX_SCAN_DONE) return std::nullopt;
         lrlex_place place;
         detail::check(lrlex_places(detail::bytes(text_), text_.size(), &scanned_.place, 1, &place, 1));
         const bool unmatched = scanned_.end == LRLEX_SCAN_NO_MATCH;

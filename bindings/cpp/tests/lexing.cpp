@@ -20,6 +20,18 @@ void expect(bool holds, const char *what, int line) {
 
 #define EXPECT(condition) expect((condition), #condition, __LINE__)
 
+/// The Error that a call throws. One of LRLEX_OK if it throws none.
+template <class Call> lrlex::Error error_of(Call call) {
+    try {
+        call();
+    } catch (const lrlex::Error &error) {
+        return error;
+    }
+    return {"no error", LRLEX_OK};
+}
+
+template <class Call> int status_of(Call call) { return error_of(call).status(); }
+
 const char *const WORDS = "%%\n[0-9]+ 'INT'\n[a-z]+ 'ID'\n[ ] ;\n";
 
 std::string shown(const lrlex::Definition &definition, const lrlex::Tokens &tokens) {
@@ -68,12 +80,7 @@ void ids_by_names() {
     EXPECT(definition.lex("1").stop && !definition.lex("1").stop->state);
     {
         const lrlex::Document document(definition, "a");
-        try {
-            definition.set_rule_ids({});
-            EXPECT(!"it was taken");
-        } catch (const lrlex::Error &error) {
-            EXPECT(error.status() == LRLEX_SHARED);
-        }
+        EXPECT(status_of([&] { definition.set_rule_ids({}); }) == LRLEX_SHARED);
     }
     EXPECT(definition.set_rule_ids({{"INT", 0}, {"ID", 1}}).unused.empty());
     EXPECT(definition.set_rule_ids({}).unused.size() == 2);
@@ -82,7 +89,7 @@ void ids_by_names() {
 void a_refused_rule_text() {
     try {
         lrlex::Definition definition("%x A A\n%%\na+b 'A'\nb 'A'\nc( 'C'\n");
-        EXPECT(!"it was taken");
+        expect(false, "it was taken", __LINE__);
     } catch (const lrlex::RulesError &error) {
         EXPECT(error.faults().size() == 3);
         EXPECT(error.faults()[0].message == "Start state already exists");
@@ -93,12 +100,7 @@ void a_refused_rule_text() {
 }
 
 void a_text_that_is_not_utf8() {
-    try {
-        lrlex::Definition(WORDS).lex("a\xff");
-        EXPECT(!"it was lexed");
-    } catch (const lrlex::Error &error) {
-        EXPECT(error.status() == LRLEX_NOT_UTF8);
-    }
+    EXPECT(status_of([] { lrlex::Definition(WORDS).lex("a\xff"); }) == LRLEX_NOT_UTF8);
 }
 
 void options_change_what_matches() {
@@ -123,14 +125,8 @@ void a_document_through_edits() {
     document.edit(3, 4, "");
     EXPECT(document.text() == "abc123");
     EXPECT(shown(definition, document.lex()) == "ID abc\nINT 123\n");
-    for (auto range : {std::pair<std::size_t, std::size_t>(4, 99), {2, 1}}) {
-        try {
-            document.edit(range.first, range.second, "");
-            EXPECT(!"it was taken");
-        } catch (const lrlex::Error &error) {
-            EXPECT(error.status() == LRLEX_DOES_NOT_FIT);
-        }
-    }
+    for (auto range : {std::pair<std::size_t, std::size_t>(4, 99), {2, 1}})
+        EXPECT(status_of([&] { document.edit(range.first, range.second, ""); }) == LRLEX_DOES_NOT_FIT);
     document.edit(6, 6, " x");
     EXPECT(document.text() == "abc123 x" && document.lex().size() == 3);
     EXPECT(document.place(7).column == 8 && document.position(7).column == 7);
@@ -145,12 +141,7 @@ void bytes_of_positions() {
     EXPECT(document.offset_at({0, 2}) == 1 && document.offset_at({0, 3}, LRLEX_UTF8) == 1);
     EXPECT(document.offset_at({0, 99}) == 6 && document.offset_at({1, 99}) == 10 && document.offset_at({2, 0}) == 10);
     EXPECT(lrlex::Document(definition, "").offset_at({0, 0}) == 0);
-    try {
-        document.offset_at({0, 0}, 2);
-        EXPECT(!"it was taken");
-    } catch (const lrlex::Error &error) {
-        EXPECT(error.status() == LRLEX_NONE);
-    }
+    EXPECT(status_of([&] { document.offset_at({0, 0}, 2); }) == LRLEX_NONE);
 }
 
 void a_scanner_gives_tiles() {
@@ -164,12 +155,7 @@ void a_scanner_gives_tiles() {
     lrlex::Definition definition(WORDS);
     {
         lrlex::Scanner other(definition, "a");
-        try {
-            definition.set_rule_ids({});
-            EXPECT(!"it was taken");
-        } catch (const lrlex::Error &error) {
-            EXPECT(error.status() == LRLEX_SHARED);
-        }
+        EXPECT(status_of([&] { definition.set_rule_ids({}); }) == LRLEX_SHARED);
         EXPECT(other.next()->start == 0 && !other.stop() && !other.next() && !other.stop());
     }
     definition.set_rule_ids({});
@@ -200,6 +186,55 @@ void a_definition_is_moved() {
     EXPECT(one.lex("a").size() == 1);
 }
 
+template <class Movable> void move_to_itself(Movable &it) {
+    Movable &same = it;
+    it = std::move(same);
+}
+
+void what_is_moved_from_is_empty() {
+    // texts that are too long for a std::string to hold them in itself
+    const std::string letters(100, 'a'), text = letters + " 1";
+    lrlex::Definition definition(WORDS);
+
+    lrlex::Tokens tokens = definition.lex(text), more = std::move(tokens);
+    EXPECT(tokens.empty() && tokens.begin() == tokens.end() && more.size() == 2);
+    tokens = std::move(more);
+    move_to_itself(tokens);
+    EXPECT(more.empty() && more.begin() == more.end() && tokens.size() == 2 && tokens[1].text == "1");
+    definition.lex(text, more);
+    EXPECT(more.size() == 2 && more[0].text == letters);
+
+    lrlex::Pieces pieces = definition.pieces(text), others = std::move(pieces);
+    EXPECT(pieces.empty() && pieces.begin() == pieces.end() && others.size() == 3);
+    pieces = std::move(others);
+    move_to_itself(pieces);
+    EXPECT(others.empty() && others.begin() == others.end() && pieces.size() == 3 && pieces[2].start == 101);
+
+    lrlex::Document document(definition, text), other(definition, "a b c");
+    document = std::move(other);
+    move_to_itself(document);
+    EXPECT(document.text() == "a b c" && document.lex().size() == 3);
+    EXPECT(other.text().empty() && status_of([&] { other.lex(); }) == LRLEX_MISUSE);
+    EXPECT(status_of([&] { other.edit(0, 0, "a"); }) == LRLEX_MISUSE && other.text().empty());
+    const lrlex::Document last = std::move(document);
+    EXPECT(document.text().empty() && status_of([&] { document.place(0); }) == LRLEX_MISUSE && last.text() == "a b c");
+    other = lrlex::Document(definition, text);
+    EXPECT(other.lex().size() == 2);
+
+    lrlex::Scanner scanner(definition, text), behind(definition, "a?");
+    EXPECT(behind.next().has_value());
+    scanner = std::move(behind);
+    move_to_itself(scanner);
+    EXPECT(status_of([&] { behind.next(); }) == LRLEX_MISUSE && !behind.stop());
+    EXPECT(!scanner.next() && scanner.stop() && scanner.stop()->start == 1);
+
+    lrlex::Definition owner = std::move(definition);
+    move_to_itself(owner);
+    EXPECT(owner.lex(text).size() == 2 && definition.rule_count() == 0);
+    EXPECT(status_of([&] { definition.name(0); }) == LRLEX_MISUSE);
+    EXPECT(error_of([&] { definition.lex("a"); }).what() == std::string("the object is empty: it was moved from"));
+}
+
 } // namespace
 
 int main() {
@@ -216,5 +251,6 @@ int main() {
     a_scanner_gives_tiles();
     a_scanner_gives_what_lexing_gives();
     a_definition_is_moved();
+    what_is_moved_from_is_empty();
     return failed;
 }
