@@ -15,6 +15,7 @@
 
 #include <cstddef>
 #include <cstdint>
+#include <functional>
 #include <iterator>
 #include <memory>
 #include <new>
@@ -446,9 +447,12 @@ public:
         return *this;
     }
 
-    /// Puts a text in the place of the bytes from `from` up to `to`. On an exception the document is as it was.
+    /// Puts a text in the place of the bytes from `from` up to `to`. It may be a part of the document's own text. On an exception the
+    /// document is as it was.
     void edit(std::size_t from, std::size_t to, std::string_view put) {
-        if (from <= to && to <= text_.size()) text_.reserve(text_.size() - (to - from) + put.size());
+        if (is_within(put, text_)) return edit(from, to, std::string(put));
+        const std::size_t length = from <= to && to <= text_.size() ? text_.size() - (to - from) + put.size() : 0;
+        if (length > text_.capacity()) text_.reserve(length);
         detail::check(lrlex_document_edit(owner_.get(), from, to, detail::bytes(put), put.size()));
         text_.replace(from, to - from, put);
     }
@@ -509,6 +513,11 @@ public:
     lrlex_document *get() const noexcept { return owner_.get(); }
 
 private:
+    static bool is_within(std::string_view part, const std::string &text) noexcept {
+        const std::less<const char *> is_before;
+        return !is_before(part.data(), text.data()) && !is_before(text.data() + text.size(), part.data());
+    }
+
     std::string text_;
     detail::Owner<lrlex_document> owner_;
 };

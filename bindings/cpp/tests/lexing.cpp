@@ -133,6 +133,25 @@ void a_document_through_edits() {
     EXPECT(document.pieces(4, 7).size() == 2 && document.pieces(0, SIZE_MAX).size() == 4 && document.pieces(3, 1).empty());
 }
 
+void a_document_takes_parts_of_its_own_text() {
+    const lrlex::Definition definition(WORDS);
+    // short texts are in the std::string itself, and long ones grow into new memory
+    for (const std::string &text : {std::string("ab 12 "), std::string("abcdefgh 12345678 ijklmnop 90123456 ")}) {
+        for (std::size_t from = 0; from <= text.size(); from++) {
+            for (std::size_t at = 0; at <= text.size(); at++) {
+                lrlex::Document document(definition, text);
+                document.edit(from, text.size(), std::string_view(document.text()).substr(at));
+                const std::string wanted = text.substr(0, from) + text.substr(at);
+                EXPECT(document.text() == wanted);
+                EXPECT(shown(definition, document.lex()) == shown(definition, definition.lex(wanted)));
+            }
+        }
+        lrlex::Document twice(definition, text);
+        twice.edit(0, 0, twice.text());
+        EXPECT(twice.text() == text + text && twice.lex().size() == 2 * definition.lex(text).size());
+    }
+}
+
 void bytes_of_positions() {
     const lrlex::Definition definition(WORDS);
     const lrlex::Document document(definition, "a\xf0\x9f\x98\x80" "b\n\xc3\xa9" "c");
@@ -247,6 +266,7 @@ int main() {
     options_change_what_matches();
     pieces_are_the_whole_text();
     a_document_through_edits();
+    a_document_takes_parts_of_its_own_text();
     bytes_of_positions();
     a_scanner_gives_tiles();
     a_scanner_gives_what_lexing_gives();
