@@ -70,6 +70,9 @@ private:
 
 namespace detail {
 
+/// A string that goes with its expression: nothing may view it longer.
+template <class Memory> using Temporary = const std::basic_string<char, std::char_traits<char>, Memory> &&;
+
 /// A buffer of tokens or pieces, and how many it has. It grows, and keeps nothing of what was in it then. One that is moved has none.
 template <class Row> struct Rows {
     std::unique_ptr<Row[]> rows;
@@ -113,7 +116,8 @@ struct Stop {
     std::optional<std::size_t> state;
 };
 
-/// The tokens of a text, in order, and where lexing stopped if that wasn't the text's end. They view the text, which has to outlive them.
+/// The tokens of a text, in order, and where lexing stopped if that wasn't the text's end. They view the text, which has to outlive them:
+/// a string that a call returns is kept in a variable first.
 class Tokens {
 public:
     /// Goes over the tokens. Each is made as it is asked for.
@@ -334,12 +338,13 @@ public:
         detail::check(status);
     }
 
-    /// The tokens of a text.
+    /// The tokens of a text, which view it.
     Tokens lex(std::string_view text) const {
         Tokens tokens;
         lex(text, tokens);
         return tokens;
     }
+    template <class Memory> Tokens lex(detail::Temporary<Memory> text) const = delete;
 
     /// The tokens of a text in the place of others, whose memory they take: it is as quick as lrlex_lex where texts are many or long.
     void lex(std::string_view text, Tokens &tokens) const {
@@ -352,6 +357,7 @@ public:
         tokens.text_ = text;
         tokens.rows_.count = lexed.count;
     }
+    template <class Memory> void lex(detail::Temporary<Memory> text, Tokens &tokens) const = delete;
 
     /// The whole text as the rules cut it, up to where lexing stops.
     Pieces pieces(std::string_view text) const {
@@ -458,10 +464,12 @@ public:
     }
 
     /// The text as it is now.
-    const std::string &text() const noexcept { return text_; }
+    const std::string &text() const & noexcept { return text_; }
+    const std::string &text() const && = delete;
 
-    /// The tokens of the text as it is now. They view the text, up to the next edit.
-    Tokens lex() const {
+    /// The tokens of the text as it is now. They view the text, until the document is edited or moved.
+    Tokens lex() const && = delete;
+    Tokens lex() const & {
         // a document is lexed, so the first call costs nothing: it says how many there are
         lrlex_lexed lexed;
         Tokens tokens;
@@ -556,6 +564,8 @@ public:
     Scanner(const Definition &definition, std::string_view text) : text_(text), tiles_(new lrlex_tile[room]) {
         detail::check(lrlex_scanner_new(definition.get(), owner_.get(), detail::bytes(text), text.size()));
     }
+
+    template <class Memory> Scanner(const Definition &definition, detail::Temporary<Memory> text) = delete;
 
     /// The next tile, or nothing at the text's end and where lexing stops. On an exception it is where it was.
     std::optional<Tile> next() {

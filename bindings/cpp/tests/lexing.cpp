@@ -3,7 +3,9 @@
 #include "lrlex.hpp"
 
 #include <cstdio>
+#include <memory_resource>
 #include <string>
+#include <type_traits>
 #include <utility>
 #include <vector>
 
@@ -47,8 +49,27 @@ void tokens_of_a_text() {
     EXPECT(tokens.size() == 2 && tokens[1].start == 4 && !tokens.stop);
     EXPECT(definition.lex({}).empty());
     EXPECT(definition.name(99).empty());
-    EXPECT(lrlex::Definition("%%\na 'A'\n").lex(std::string(1000, 'a')).size() == 1000);
+    const std::string letters(1000, 'a');
+    EXPECT(lrlex::Definition("%%\na 'A'\n").lex(letters).size() == 1000);
 }
+
+/// Whether a call takes, or is of, what it would view.
+template <template <class> class Call, class Viewed, class = void> constexpr bool is_there = false;
+template <template <class> class Call, class Viewed> constexpr bool is_there<Call, Viewed, std::void_t<Call<Viewed>>> = true;
+
+template <class Text> using Lex = decltype(std::declval<const lrlex::Definition &>().lex(std::declval<Text>()));
+template <class Text>
+using LexInto = decltype(std::declval<const lrlex::Definition &>().lex(std::declval<Text>(), std::declval<lrlex::Tokens &>()));
+template <class Text> using Scan = decltype(lrlex::Scanner(std::declval<const lrlex::Definition &>(), std::declval<Text>()));
+template <class Document> using TokensOf = decltype(std::declval<Document>().lex());
+template <class Document> using TextOf = decltype(std::declval<Document>().text());
+
+template <class Text> constexpr bool is_viewed = is_there<Lex, Text> && is_there<LexInto, Text> && is_there<Scan, Text>;
+template <class Text> constexpr bool is_refused = !is_there<Lex, Text> && !is_there<LexInto, Text> && !is_there<Scan, Text>;
+static_assert(is_viewed<std::string &> && is_viewed<const std::string &> && is_viewed<std::string_view> && is_viewed<const char *>);
+static_assert(is_refused<std::string> && is_refused<const std::string> && is_refused<std::pmr::string>);
+static_assert(is_there<TokensOf, const lrlex::Document &> && is_there<TextOf, const lrlex::Document &>);
+static_assert(!is_there<TokensOf, lrlex::Document> && !is_there<TextOf, lrlex::Document>);
 
 void a_text_that_grows_denser() {
     const lrlex::Definition definition(WORDS);
