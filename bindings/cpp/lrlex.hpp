@@ -38,6 +38,59 @@ private:
     int status_;
 };
 
+namespace detail {
+
+/// The bytes of a text. No pointer may be null.
+inline const std::uint8_t *bytes(std::string_view text) {
+    return reinterpret_cast<const std::uint8_t *>(text.data() ? text.data() : "");
+}
+
+inline void check(int status) {
+    switch (status) {
+    case LRLEX_OK: return;
+    case LRLEX_NOMEM: throw std::bad_alloc();
+    case LRLEX_NOT_UTF8: throw Error("the text isn't UTF-8", status);
+    case LRLEX_MISUSE: throw Error("the object is empty: it was moved from", status);
+    case LRLEX_NONE: throw Error("there is nothing of this number", status);
+    case LRLEX_DOES_NOT_FIT: throw Error("the edit doesn't fit the text", status);
+    case LRLEX_SHARED: throw Error("the definition is that of a document or a scanner too", status);
+    default: throw Error("lrlex status " + std::to_string(status), status);
+    }
+}
+
+/// The text that a call writes into a buffer, with its length; empty if there is none. Where it is longer than there is room for, the
+/// call is made twice.
+template <class Call> std::string text_by(Call call, std::size_t room = 64) {
+    std::string text(room, '\0');
+    for (;; room = text.size()) {
+        std::size_t length = 0;
+        const int status = call(reinterpret_cast<std::uint8_t *>(&text[0]), room, &length);
+        if (status == LRLEX_NONE) return {};
+        check(status);
+        text.resize(length);
+        if (length <= room) return text;
+    }
+}
+
+/// An owner of a handle. It moves, and isn't copied. One that is moved has an empty handle.
+template <class Handle> class Owner {
+public:
+    Owner() = default;
+    Owner(Owner &&other) noexcept : handle_(std::exchange(other.handle_, Handle{})) {}
+    Owner &operator=(Owner &&other) noexcept {
+        Owner taken(std::move(other));
+        std::swap(handle_, taken.handle_);
+        return *this;
+    }
+    ~Owner() { lrlex_free(&handle_); }
+    Handle *get() const noexcept { return &handle_; }
+
+private:
+    mutable Handle handle_{};
+};
+
+} // namespace detail
+
 /// A fault of a rule text: what is wrong, and where. There is more than one span if something is declared twice: the first place, and
 /// where it is declared again. Lines and columns count from 1.
 struct Fault {
@@ -46,11 +99,49 @@ struct Fault {
     std::vector<lrlex_fault_span> spans;
 };
 
-/// The rule text is refused. `faults()` has all that is wrong with it.
+namespace detail {
+
+inline std::vector<Fault> faults_of(const Owner<lrlex_definition> &refused) {
+    std::vector<Fault> found;
+    for (std::size_t at = 0, count = lrlex_fault_count(refused.get()); at < count; at++) {
+        lrlex_fault fault;
+        check(lrlex_fault_at(refused.get(), at, &fault));
+        Fault it{{}, fault.kind, std::vector<lrlex_fault_span>(fault.spans)};
+        for (std::size_t span = 0; span < fault.spans; span++) check(lrlex_fault_span_at(refused.get(), at, span, &it.spans[span]));
+        it.message = text_by([&](std::uint8_t *out, std::size_t room, std::size_t *length) {
+            return lrlex_fault_text(refused.get(), at, out, room, length);
+        });
+        found.push_back(std::move(it));
+    }
+    return found;
+}
+
+/// A rule text that is refused: the handle that has the text, and its faults.
+struct Refusal {
+    explicit Refusal(Owner<lrlex_definition> refused) : owner(std::move(refused)), faults(faults_of(owner)) {}
+    Owner<lrlex_definition> owner;
+    std::vector<Fault> faults;
+};
+
+} // namespace detail
+
+/// The rule text is refused. `faults()` has all that is wrong with it, and `report(file)` shows it. It is copied and not moved, so that it
+/// is never empty.
 class RulesError : public Error {
 public:
-    explicit RulesError(std::vector<Fault> faults) : Error(shown(faults), LRLEX_REFUSED), faults_(std::move(faults)) {}
-    const std::vector<Fault> &faults() const noexcept { return faults_; }
+    explicit RulesError(std::shared_ptr<const detail::Refusal> refusal) : Error(shown(refusal->faults), LRLEX_REFUSED), refusal_(std::move(refusal)) {}
+    RulesError(const RulesError &) noexcept = default;
+    RulesError &operator=(const RulesError &) noexcept = default;
+    const std::vector<Fault> &faults() const noexcept { return refusal_->faults; }
+
+    /// A report of all faults for people: of each FILE:LINE:COLUMN, the message, the line, and carets under the place. `file` is the name
+    /// to show. Throws Error if that isn't UTF-8.
+    std::string report(std::string_view file) const {
+        const auto call = [&](std::uint8_t *out, std::size_t room, std::size_t *length) {
+            return lrlex_fault_report(refusal_->owner.get(), detail::bytes(file), file.size(), out, room, length);
+        };
+        return detail::text_by(call, 1024);
+    }
 
 private:
     static std::string shown(const std::vector<Fault> &faults) {
@@ -65,7 +156,7 @@ private:
         }
         return text;
     }
-    std::vector<Fault> faults_;
+    std::shared_ptr<const detail::Refusal> refusal_;
 };
 
 namespace detail {
@@ -227,55 +318,6 @@ private:
 
 namespace detail {
 
-/// The bytes of a text. No pointer may be null.
-inline const std::uint8_t *bytes(std::string_view text) {
-    return reinterpret_cast<const std::uint8_t *>(text.data() ? text.data() : "");
-}
-
-inline void check(int status) {
-    switch (status) {
-    case LRLEX_OK: return;
-    case LRLEX_NOMEM: throw std::bad_alloc();
-    case LRLEX_NOT_UTF8: throw Error("the text isn't UTF-8", status);
-    case LRLEX_MISUSE: throw Error("the object is empty: it was moved from", status);
-    case LRLEX_NONE: throw Error("there is nothing of this number", status);
-    case LRLEX_DOES_NOT_FIT: throw Error("the edit doesn't fit the text", status);
-    case LRLEX_SHARED: throw Error("the definition is that of a document or a scanner too", status);
-    default: throw Error("lrlex status " + std::to_string(status), status);
-    }
-}
-
-/// The text that a call writes into a buffer, with its length; empty if there is none.
-template <class Call> std::string text_by(Call call) {
-    std::string text(64, '\0');
-    for (;;) {
-        const std::size_t room = text.size();
-        std::size_t length = 0;
-        const int status = call(reinterpret_cast<std::uint8_t *>(&text[0]), room, &length);
-        if (status == LRLEX_NONE) return {};
-        check(status);
-        text.resize(length);
-        if (length <= room) return text;
-    }
-}
-
-/// An owner of a handle. It moves, and isn't copied. One that is moved has an empty handle.
-template <class Handle> class Owner {
-public:
-    Owner() = default;
-    Owner(Owner &&other) noexcept : handle_(std::exchange(other.handle_, Handle{})) {}
-    Owner &operator=(Owner &&other) noexcept {
-        Owner taken(std::move(other));
-        std::swap(handle_, taken.handle_);
-        return *this;
-    }
-    ~Owner() { lrlex_free(&handle_); }
-    Handle *get() const noexcept { return &handle_; }
-
-private:
-    mutable Handle handle_{};
-};
-
 /// Has a call write tokens or pieces into a buffer. Where there are more than there is room for, the call is made twice.
 template <class Row, class Call> void fill(Rows<Row> &rows, std::size_t room, lrlex_lexed &lexed, Call call) {
     for (;; room = lexed.count) {
@@ -334,7 +376,7 @@ public:
     /// Reads a rule text. Throws RulesError with all faults if it has any.
     explicit Definition(std::string_view rules, const Options &options = {}) {
         const int status = lrlex_definition_new(owner_.get(), detail::bytes(rules), rules.size(), options.get());
-        if (status == LRLEX_REFUSED) throw RulesError(faults());
+        if (status == LRLEX_REFUSED) throw RulesError(std::make_shared<detail::Refusal>(std::move(owner_)));
         detail::check(status);
     }
 
@@ -346,10 +388,12 @@ public:
     }
     template <class Memory> Tokens lex(detail::Temporary<Memory> text) const = delete;
 
-    /// The tokens of a text in the place of others, whose memory they take: it is as quick as lrlex_lex where texts are many or long.
+    /// The tokens of a text in the place of others, whose memory they take: it is as quick as lrlex_lex where texts are many or long. On
+    /// an exception there are none.
     void lex(std::string_view text, Tokens &tokens) const {
         lrlex_lexed lexed;
         tokens.rows_.count = 0;
+        tokens.stop.reset();
         tokens_.fill(tokens.rows_, text, lexed, [&](std::string_view part, lrlex_token *out, std::size_t room, lrlex_lexed *how) {
             return lrlex_lex(owner_.get(), detail::bytes(part), part.size(), out, room, how);
         });
@@ -369,6 +413,15 @@ public:
         pieces.stop = detail::stop(text, lexed);
         pieces.rows_.count = lexed.count;
         return pieces;
+    }
+
+    /// A report for people of the place at which lexing this text stops: FILE:LINE:COLUMN, the message, the line, and a caret. Empty if
+    /// it doesn't stop. `file` is the name to show.
+    std::string stop_report(std::string_view text, std::string_view file) const {
+        const auto call = [&](std::uint8_t *out, std::size_t room, std::size_t *length) {
+            return lrlex_stop_report(owner_.get(), detail::bytes(file), file.size(), detail::bytes(text), text.size(), out, room, length);
+        };
+        return detail::text_by(call, 1024);
     }
 
     /// The name of the first rule that has a name and this id; empty if there is none.
@@ -419,22 +472,6 @@ public:
     lrlex_definition *get() const noexcept { return owner_.get(); }
 
 private:
-    std::vector<Fault> faults() const {
-        std::vector<Fault> found;
-        for (std::size_t at = 0, count = lrlex_fault_count(owner_.get()); at < count; at++) {
-            lrlex_fault fault;
-            detail::check(lrlex_fault_at(owner_.get(), at, &fault));
-            Fault it{{}, fault.kind, std::vector<lrlex_fault_span>(fault.spans)};
-            for (std::size_t span = 0; span < fault.spans; span++)
-                detail::check(lrlex_fault_span_at(owner_.get(), at, span, &it.spans[span]));
-            it.message = detail::text_by([&](std::uint8_t *out, std::size_t room, std::size_t *length) {
-                return lrlex_fault_text(owner_.get(), at, out, room, length);
-            });
-            found.push_back(std::move(it));
-        }
-        return found;
-    }
-
     detail::Owner<lrlex_definition> owner_;
     mutable detail::Density tokens_, pieces_;
 };

@@ -93,6 +93,16 @@ void lexing_stops_where_no_rule_matches() {
     EXPECT(tokens.stop->start == 2 && tokens.stop->line == 1 && tokens.stop->column == 3 && tokens.stop->state == 0U);
 }
 
+void a_report_of_a_stop() {
+    const lrlex::Definition definition(WORDS);
+    const std::string report = definition.stop_report("ab ?", "a.txt");
+    EXPECT(report.find("a.txt:1:4: ") == 0 && report.find("\n1 | ab ?\n  |    ^") != std::string::npos);
+    EXPECT(definition.stop_report("ab", "a.txt").empty());
+    EXPECT(status_of([&] { definition.stop_report("a\xff", "a.txt"); }) == LRLEX_NOT_UTF8);
+    const std::string line(5000, 'a');
+    EXPECT(definition.stop_report(line + "?", line).find(line + ":1:5001: ") == 0);
+}
+
 void ids_by_names() {
     lrlex::Definition definition(WORDS);
     const lrlex::Unmatched found = definition.set_rule_ids({{"ID", 70}, {"WORD", 8}});
@@ -111,16 +121,27 @@ void a_refused_rule_text() {
     try {
         lrlex::Definition definition("%x A A\n%%\na+b 'A'\nb 'A'\nc( 'C'\n");
         expect(false, "it was taken", __LINE__);
-    } catch (const lrlex::RulesError &error) {
+    } catch (lrlex::RulesError &error) {
         EXPECT(error.faults().size() == 3);
         EXPECT(error.faults()[0].message == "Start state already exists");
         EXPECT(error.faults()[0].kind == LRLEX_DUPLICATE_START_STATE);
         EXPECT(error.faults()[0].spans.size() == 2 && error.faults()[0].spans[1].start == 5);
         EXPECT(std::string(error.what()).find("1:4: Start state already exists, again at 1:6\n3:6: ") == 0);
+        const lrlex::RulesError kept = std::move(error);
+        for (const lrlex::RulesError *it : {&kept, static_cast<const lrlex::RulesError *>(&error)}) {
+            EXPECT(it->report("a.l").find("a.l:1:6: Start state already exists\n1 | %x A A\n  |      ^\na.l:1:4: first here\n") == 0);
+            EXPECT(it->report("").find(":1:6: ") == 0 && it->faults().size() == 3);
+            EXPECT(status_of([&] { it->report("\xff"); }) == LRLEX_NOT_UTF8);
+        }
     }
 }
 
+static_assert(std::is_nothrow_copy_constructible_v<lrlex::RulesError> && std::is_nothrow_copy_assignable_v<lrlex::RulesError>);
+
 void a_text_that_is_not_utf8() {
+    lrlex::Tokens tokens = lrlex::Definition(WORDS).lex("a?");
+    EXPECT(status_of([&] { lrlex::Definition(WORDS).lex("a\xff", tokens); }) == LRLEX_NOT_UTF8);
+    EXPECT(tokens.empty() && !tokens.stop);
     EXPECT(status_of([] { lrlex::Definition(WORDS).lex("a\xff"); }) == LRLEX_NOT_UTF8);
 }
 
@@ -281,6 +302,7 @@ int main() {
     tokens_of_a_text();
     a_text_that_grows_denser();
     lexing_stops_where_no_rule_matches();
+    a_report_of_a_stop();
     ids_by_names();
     a_refused_rule_text();
     a_text_that_is_not_utf8();
