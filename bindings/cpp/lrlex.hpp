@@ -360,6 +360,14 @@ private:
     std::size_t most_ = 0;
 };
 
+/// Keeps of the names those whose number, from 0, holds. It needs no memory.
+template <class Holds> void keep(std::vector<std::string> &names, Holds holds) {
+    std::size_t kept = 0;
+    for (std::size_t at = 0; at < names.size(); at++)
+        if (holds(at)) names[kept++].swap(names[at]);
+    names.resize(kept);
+}
+
 /// Where lexing of the text stopped, if it did.
 inline std::optional<Stop> stop(std::string_view text, const lrlex_lexed &lexed) {
     if (!lexed.stopped) return std::nullopt;
@@ -452,26 +460,33 @@ public:
     /// matches that has a name and no id. Throws Error if a document or a scanner has the definition too. On an exception it is as it
     /// was.
     Unmatched set_rule_ids(const std::vector<NamedId> &ids) {
+        // all names first: once the ids are set, nothing asks for memory
         std::vector<lrlex_named_id> given;
-        for (const NamedId &it : ids) given.push_back({detail::bytes(it.name), it.name.size(), it.id});
-        const std::unique_ptr<bool[]> missing(new bool[ids.size() + 1]());
-        given.push_back({});
-        detail::check(lrlex_definition_set_rule_ids(owner_.get(), given.data(), ids.size(), missing.get(), ids.size()));
-        Unmatched found;
-        for (std::size_t at = 0; at < ids.size(); at++)
-            if (missing[at]) found.missing.emplace_back(ids[at].name);
-        for (std::size_t at = 0; at < rule_count(); at++) {
-            lrlex_rule rule;
-            detail::check(lrlex_rule_at(owner_.get(), at, &rule));
-            if (rule.has_name && !rule.has_id) found.unused.push_back(rule_name(at));
+        Unmatched names;
+        for (const NamedId &it : ids) {
+            given.push_back({detail::bytes(it.name), it.name.size(), it.id});
+            names.missing.emplace_back(it.name);
         }
-        return found;
+        given.push_back({});
+        for (std::size_t rule = 0; rule < rule_count(); rule++) names.unused.push_back(rule_name(rule));
+        const std::unique_ptr<bool[]> missing(new bool[ids.size() + 1]());
+        detail::check(lrlex_definition_set_rule_ids(owner_.get(), given.data(), ids.size(), missing.get(), ids.size()));
+        detail::keep(names.missing, [&](std::size_t at) { return missing[at]; });
+        detail::keep(names.unused, [&](std::size_t at) { return is_unused(at); });
+        return names;
     }
 
     /// The handle, for calls of lrlex.h.
     lrlex_definition *get() const noexcept { return owner_.get(); }
 
 private:
+    /// Whether the rule of this number has a name and no id.
+    bool is_unused(std::size_t number) const {
+        lrlex_rule rule;
+        detail::check(lrlex_rule_at(owner_.get(), number, &rule));
+        return rule.has_name && !rule.has_id;
+    }
+
     detail::Owner<lrlex_definition> owner_;
     mutable detail::Density tokens_, pieces_;
 };
@@ -521,7 +536,7 @@ public:
 
     /// The pieces that have a byte from `from` up to `to`, such as those of the lines that an editor shows. Each is whole.
     Pieces pieces(std::size_t from, std::size_t to) const {
-        const std::size_t length = from < to ? (to < text_.size() ? to : text_.size()) : 0;
+        const std::size_t end = to < text_.size() ? to : text_.size(), length = from < end ? end - from : 0;
         lrlex_lexed lexed;
         Pieces pieces;
         detail::fill(pieces.rows_, length, lexed, [&](lrlex_piece *out, std::size_t room, lrlex_lexed *how) {
