@@ -10,8 +10,8 @@ from support import c_library, programs
 RUST = f"{programs.TOP}/bindings/rust"
 PYTHON = f"{programs.TOP}/bindings/python"
 
-# The tests of C++, each a program that prints what is wrong.
-CPP_TESTS = ["lexing", "memory"]
+# The tests of C++, each a program that prints what is wrong, and words for the compiler.
+CPP_TESTS = [["lexing"], ["memory"], ["ranges", "-std=c++20"]]
 
 # A text in C of about 1 MB, and one that stops.
 LONG = programs.read("examples/sorted.c") * (1_000_000 // len(programs.read("examples/sorted.c")))
@@ -93,9 +93,9 @@ class Bindings(unittest.TestCase):
         self.check_tokens([c_library.of_c("bindings/c/tokens.c")])
 
     def test_cpp(self):
-        for name in CPP_TESTS:
+        for name, *words in CPP_TESTS:
             with self.subTest(name=name):
-                came = programs.run([c_library.of_cpp(f"bindings/cpp/tests/{name}.cpp")])
+                came = programs.run([c_library.of_cpp(f"bindings/cpp/tests/{name}.cpp", *words)])
                 self.assertEqual(came, programs.Outcome())
 
     def test_cpp_prints_tokens(self):

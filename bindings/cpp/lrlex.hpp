@@ -214,13 +214,20 @@ public:
     /// Goes over the tokens. Each is made as it is asked for.
     class iterator {
     public:
+        /// A token for as long as one of its parts is asked for.
+        struct pointer {
+            Token token;
+            const Token *operator->() const noexcept { return &token; }
+        };
         using iterator_category = std::input_iterator_tag;
+        using iterator_concept = std::forward_iterator_tag;
         using value_type = Token;
         using difference_type = std::ptrdiff_t;
-        using pointer = const Token *;
         using reference = Token;
+        iterator() = default;
         iterator(std::string_view text, const lrlex_token *at) noexcept : text_(text), at_(at) {}
         Token operator*() const noexcept { return {std::string_view(text_.data() + at_->start, at_->len), at_->start, at_->id}; }
+        pointer operator->() const noexcept { return {**this}; }
         iterator &operator++() noexcept { ++at_; return *this; }
         iterator operator++(int) noexcept { iterator before = *this; ++at_; return before; }
         friend bool operator==(const iterator &one, const iterator &other) noexcept { return one.at_ == other.at_; }
@@ -228,7 +235,7 @@ public:
 
     private:
         std::string_view text_;
-        const lrlex_token *at_;
+        const lrlex_token *at_ = nullptr;
     };
 
     Tokens() = default;
@@ -590,7 +597,7 @@ private:
 ///     if (scanner.stop()) report(*scanner.stop());
 class Scanner {
 public:
-    /// Goes over the tiles that are left.
+    /// Goes over the tiles that are left. Two are equal if both are at the end, or if neither is and they are of one scanner.
     class iterator {
     public:
         using iterator_category = std::input_iterator_tag;
@@ -603,11 +610,13 @@ public:
         const Tile &operator*() const noexcept { return *tile_; }
         const Tile *operator->() const noexcept { return &*tile_; }
         iterator &operator++() { tile_ = scanner_->next(); return *this; }
-        void operator++(int) { ++*this; }
-        friend bool operator==(const iterator &one, const iterator &other) noexcept { return !one.tile_ && !other.tile_; }
+        iterator operator++(int) { iterator before = *this; ++*this; return before; }
+        friend bool operator==(const iterator &one, const iterator &other) noexcept { return one.behind() == other.behind(); }
         friend bool operator!=(const iterator &one, const iterator &other) noexcept { return !(one == other); }
 
     private:
+        /// The scanner that may give more tiles, or null at the end.
+        const Scanner *behind() const noexcept { return tile_ ? scanner_ : nullptr; }
         Scanner *scanner_ = nullptr;
         std::optional<Tile> tile_;
     };

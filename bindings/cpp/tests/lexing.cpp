@@ -2,7 +2,9 @@
 
 #include "lrlex.hpp"
 
+#include <algorithm>
 #include <cstdio>
+#include <iterator>
 #include <memory_resource>
 #include <string>
 #include <type_traits>
@@ -225,6 +227,24 @@ void a_scanner_gives_tiles() {
     EXPECT(!lrlex::Scanner(definition, "").next());
 }
 
+void iterators() {
+    using Names = std::iterator_traits<lrlex::Tokens::iterator>;
+    static_assert(std::is_same_v<Names::reference, lrlex::Token> && std::is_same_v<Names::pointer, lrlex::Tokens::iterator::pointer>);
+    const lrlex::Definition definition(WORDS);
+    const lrlex::Tokens tokens = definition.lex("ab 1");
+    lrlex::Tokens::iterator at;
+    at = tokens.begin();
+    EXPECT(at->text == "ab" && (*at++).id == 1 && at->start == 3 && at != tokens.end() && ++at == tokens.end());
+    EXPECT(lrlex::Tokens::iterator() == lrlex::Tokens().begin() && lrlex::Tokens().begin() == lrlex::Tokens().end());
+    EXPECT(std::count_if(tokens.begin(), tokens.end(), [](const lrlex::Token &it) { return it.id == 1; }) == 1);
+
+    lrlex::Scanner scanner(definition, "ab 1"), other(definition, "ab"), empty(definition, "");
+    lrlex::Scanner::iterator first = scanner.begin();
+    const lrlex::Scanner::iterator &same = first;
+    EXPECT(first == same && !(first != same) && first != scanner.end() && first != other.begin() && empty.begin() == empty.end());
+    EXPECT((*first++).text == "ab" && first->start == 2 && (++first)->rule == 0 && ++first == scanner.end() && first == same);
+}
+
 void a_scanner_gives_what_lexing_gives() {
     const lrlex::Definition definition(WORDS);
     std::string text;
@@ -312,6 +332,7 @@ int main() {
     a_document_takes_parts_of_its_own_text();
     bytes_of_positions();
     a_scanner_gives_tiles();
+    iterators();
     a_scanner_gives_what_lexing_gives();
     a_definition_is_moved();
     what_is_moved_from_is_empty();
