@@ -33,8 +33,9 @@
  * Failures. A call that returns an int returns a lrlex_status. LRLEX_NOMEM can come from each call that says so; after it the handle is
  * as it was, and the call can be made again. No call prints, exits, raises a signal, calls back or keeps a pointer of the caller.
  *
- * Threads. A handle is used by one call at a time and stays on the thread that made it. lrlex_definition_share makes a second handle of the
- * same definition without copying it. There is no global state.
+ * Threads. A handle is used by one call at a time, on any thread. Handles of one definition (shared ones, its documents and its scanners)
+ * may be used by several threads at the same time: what they share is only read, and counted atomically. There is no global state.
+ * lrlex_definition_share makes a second handle of the same definition without copying it.
  *
  * Memory. The library uses malloc, realloc and free of the program, which must align to 16 bytes. Patterns of the greatest depth
  * (nest_limit) take about 1 MB of stack.

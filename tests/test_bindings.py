@@ -11,7 +11,7 @@ RUST = f"{programs.TOP}/bindings/rust"
 PYTHON = f"{programs.TOP}/bindings/python"
 
 # The tests of C++, each a program that prints what is wrong, and words for the compiler.
-CPP_TESTS = [["lexing"], ["memory"], ["ranges", "-std=c++20"]]
+CPP_TESTS = [["lexing"], ["memory"], ["ranges", "-std=c++2a"], ["threads", "-pthread"]]
 
 # A text in C of about 1 MB, and one that stops.
 LONG = programs.read("examples/sorted.c") * (1_000_000 // len(programs.read("examples/sorted.c")))

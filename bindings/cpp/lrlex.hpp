@@ -5,9 +5,9 @@
 ///         std::cout << definition.name(token.id) << ' ' << token.text << '\n';
 ///
 /// A rule text with faults throws RulesError, memory that runs out std::bad_alloc. Texts are UTF-8; one that isn't throws
-/// Error. Spans are in bytes. A Definition, a Document and a Scanner stay on the thread that made them, and calls on one object come
-/// one at a time, also those that are const. What is moved from is empty: it has no tokens, pieces and text, and takes other content;
-/// calls that need its handle throw Error, with the status LRLEX_MISUSE.
+/// Error. Spans are in bytes. Calls on one object come one at a time, also those that are const, on any thread. For a second thread
+/// `share()` makes a second Definition of the same rules. What is moved from is empty: it has no tokens, pieces and text, and takes other
+/// content; calls that need its handle throw Error, with the status LRLEX_MISUSE.
 #ifndef LRLEX_HPP
 #define LRLEX_HPP
 
@@ -53,7 +53,7 @@ inline void check(int status) {
     case LRLEX_MISUSE: throw Error("the object is empty: it was moved from", status);
     case LRLEX_NONE: throw Error("there is nothing of this number", status);
     case LRLEX_DOES_NOT_FIT: throw Error("the edit doesn't fit the text", status);
-    case LRLEX_SHARED: throw Error("the definition is that of a document or a scanner too", status);
+    case LRLEX_SHARED: throw Error("the definition has other owners: it is shared, or that of a document or a scanner", status);
     default: throw Error("lrlex status " + std::to_string(status), status);
     }
 }
@@ -395,6 +395,15 @@ public:
         detail::check(status);
     }
 
+    /// The same definition once more, as for another thread. It is not copied, and goes with its last owner.
+    Definition share() const {
+        Definition other;
+        detail::check(lrlex_definition_share(owner_.get(), other.owner_.get()));
+        other.tokens_ = tokens_;
+        other.pieces_ = pieces_;
+        return other;
+    }
+
     /// The tokens of a text, which view it.
     Tokens lex(std::string_view text) const {
         Tokens tokens;
@@ -464,8 +473,8 @@ public:
     }
 
     /// Gives each named rule the id of its name here, or none, as for a parser whose grammar has the ids. Lexing stops where a rule
-    /// matches that has a name and no id. Throws Error if a document or a scanner has the definition too. On an exception it is as it
-    /// was.
+    /// matches that has a name and no id. Throws Error if the definition is shared, or a document or a scanner has it too. On an exception
+    /// it is as it was.
     Unmatched set_rule_ids(const std::vector<NamedId> &ids) {
         // all names first: once the ids are set, nothing asks for memory
         std::vector<lrlex_named_id> given;
@@ -487,6 +496,8 @@ public:
     lrlex_definition *get() const noexcept { return owner_.get(); }
 
 private:
+    Definition() = default;
+
     /// Whether the rule of this number has a name and no id.
     bool is_unused(std::size_t number) const {
         lrlex_rule rule;

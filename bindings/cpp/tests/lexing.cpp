@@ -115,6 +115,10 @@ void ids_by_names() {
         const lrlex::Document document(definition, "a");
         EXPECT(status_of([&] { definition.set_rule_ids({}); }) == LRLEX_SHARED);
     }
+    {
+        const lrlex::Definition other = definition.share();
+        EXPECT(status_of([&] { definition.set_rule_ids({}); }) == LRLEX_SHARED && other.lex("a")[0].id == 70);
+    }
     EXPECT(definition.set_rule_ids({{"INT", 0}, {"ID", 1}}).unused.empty());
     EXPECT(definition.set_rule_ids({}).unused.size() == 2);
 }
@@ -312,7 +316,7 @@ void what_is_moved_from_is_empty() {
     lrlex::Definition owner = std::move(definition);
     move_to_itself(owner);
     EXPECT(owner.lex(text).size() == 2 && definition.rule_count() == 0);
-    EXPECT(status_of([&] { definition.name(0); }) == LRLEX_MISUSE);
+    EXPECT(status_of([&] { definition.name(0); }) == LRLEX_MISUSE && status_of([&] { definition.share(); }) == LRLEX_MISUSE);
     EXPECT(error_of([&] { definition.lex("a"); }).what() == std::string("the object is empty: it was moved from"));
 }
 
