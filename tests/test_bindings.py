@@ -16,6 +16,9 @@ CPP_TESTS = [["lexing"], ["memory"], ["ranges", "-std=c++2a"], ["threads", "-pth
 # A text in C of about 1 MB, and one that stops.
 LONG = programs.read("examples/sorted.c") * (1_000_000 // len(programs.read("examples/sorted.c")))
 
+# The report of a faulty rule file.
+FAULTY = "{}:2:1: Invalid regular expression: unclosed group\n2 | ( 'A'\n  | ^\n"
+
 # What is lexed by each binding: a rule file, and the text.
 TEXTS = [
     ("examples/tokens.l", programs.read("examples/tokens.txt")),
@@ -26,6 +29,35 @@ TEXTS = [
     ("rules/conf.l", programs.read("tests/examples/conf.in")),
     ("tests/cli/stop.l", programs.read("tests/cli/stop.in")),
     ("rules/c.l", ""),
+]
+
+# Files for the programs in C and C++, by their names. A folder is there too.
+FILES = {
+    "words.l": "%%\n[a-z]+ 'ID'\n[ \\n] ;\n",
+    "long.l": f"%%\n[a-z]+ '{'n' * 300}'\n",
+    "faulty.l": "%%\n( 'A'\n",
+    "\udcff.l": "%%\n( 'A'\n",
+    "bad": "a\udcff",
+    "text": "ab c",
+    "word": "ab",
+    "stops": "ab ?",
+    "folder/file": "",
+}
+
+# What they are called with, and what comes of it.
+SAID = [
+    (["words.l", "text"], programs.Outcome("ID ab\nID c\n")),
+    (["long.l", "word"], programs.Outcome(f"{'n' * 300} ab\n")),
+    (["words.l", "stops"], programs.Outcome("ID ab\nCouldn't lex input starting at byte 3\n", "", 1)),
+    (["words.l"], programs.Outcome("", "Usage: tokens <lexer.l> <input file>\n", 1)),
+    (["none.l", "text"], programs.Outcome("", "Can't open file none.l\n", 1)),
+    (["words.l", "none"], programs.Outcome("", "Can't open file none\n", 1)),
+    (["folder", "text"], programs.Outcome("", "Can't open file folder\n", 1)),
+    (["words.l", "folder"], programs.Outcome("", "Can't open file folder\n", 1)),
+    (["bad", "text"], programs.Outcome("", "File bad is not UTF-8\n", 1)),
+    (["words.l", "bad"], programs.Outcome("", "File bad is not UTF-8\n", 1)),
+    (["faulty.l", "text"], programs.Outcome("", FAULTY.format("faulty.l"), 1)),
+    (["\udcff.l", "text"], programs.Outcome("", FAULTY.format("RULES"), 1)),
 ]
 
 
@@ -89,8 +121,22 @@ class Bindings(unittest.TestCase):
         self.check_shown("rs", lambda file: [rust_program(file)])
         self.check_shown("py", lambda file: [sys.executable, file])
 
+    def check_said(self, program):
+        """The program says what is wrong, also that it can't write."""
+        folder = f"{programs.scratch().name}/said"
+        programs.fill(folder, FILES)
+        for words, wanted in SAID:
+            with self.subTest(words=words):
+                self.assertEqual(programs.run([program, *words], cwd=folder), wanted)
+        words = ["sh", "-c", f"{program} {programs.TOP}/examples/tokens.l {programs.TOP}/examples/tokens.txt >/dev/full"]
+        self.assertEqual(programs.run(words), programs.Outcome("", "Can't write\n", 1))
+
     def test_c_prints_tokens(self):
         self.check_tokens([c_library.of_c("bindings/c/tokens.c")])
+
+    def test_the_programs_in_c_and_cpp_say_what_is_wrong(self):
+        self.check_said(c_library.of_c("bindings/c/tokens.c"))
+        self.check_said(c_library.of_cpp("bindings/cpp/tokens.cpp"))
 
     def test_cpp(self):
         for name, *words in CPP_TESTS:

@@ -172,12 +172,17 @@ class CLibrary(unittest.TestCase):
         c_library.need("pkg-config")
         folder, scratch = c_library.packed(), programs.scratch().name
         environment = {**os.environ, "PKG_CONFIG_PATH": f"{folder}/lib/pkgconfig"}
-        flags = programs.run(["pkg-config", "--cflags", "--libs", "lrlex"], environment=environment)
-        self.assertEqual((flags.status, flags.err), (0, ""))
         programs.fill(scratch, {"included.c": INCLUDED})
-        words = ["gcc", f"{scratch}/included.c", *flags.out.split(), "-o", f"{scratch}/included"]
-        self.check_run(words)
-        self.check_run([f"{scratch}/included"], environment={**os.environ, "LD_LIBRARY_PATH": f"{folder}/lib"})
+        told = {}
+        for it in ("--cflags", "--libs", "--variable=libdir"):
+            flags = programs.run(["pkg-config", it, "lrlex"], environment=environment)
+            self.assertEqual((flags.status, flags.err), (0, ""))
+            told[it] = flags.out.split()
+        [libdir] = told["--variable=libdir"]
+        # the shared library, where the loader is told of it, and the archive alone
+        for libraries, found in [(told["--libs"], {"LD_LIBRARY_PATH": f"{folder}/lib"}), ([f"{libdir}/liblrlex.a"], {})]:
+            self.check_run(["gcc", f"{scratch}/included.c", *told["--cflags"], *libraries, "-o", f"{scratch}/included"])
+            self.check_run([f"{scratch}/included"], environment={**os.environ, **found})
 
 
 if __name__ == "__main__":
