@@ -41,7 +41,7 @@ private:
 namespace detail {
 
 /// The bytes of a text. No pointer may be null.
-inline const std::uint8_t *bytes(std::string_view text) {
+inline const std::uint8_t *bytes(std::string_view text) noexcept {
     return reinterpret_cast<const std::uint8_t *>(text.data() ? text.data() : "");
 }
 
@@ -296,27 +296,33 @@ struct Unmatched {
 };
 
 /// The flags and limits of a rule file, as of lrlex_options. Options().on(LRLEX_CASE_INSENSITIVE).off(LRLEX_UNICODE)
+/// Those of a variable are changed, and those of an expression given changed.
 class Options {
 public:
-    Options &on(std::uint32_t flags) {
+    Options &on(std::uint32_t flags) & {
         options_.set |= flags;
         options_.on |= flags;
         return *this;
     }
-    Options &off(std::uint32_t flags) {
+    Options &off(std::uint32_t flags) & {
         options_.set |= flags;
         options_.on &= ~flags;
         return *this;
     }
-    Options &size_limit(std::size_t bytes) { options_.size_limit = bytes; return *this; }
-    Options &nest_limit(std::uint32_t levels) { options_.nest_limit = levels; return *this; }
+    Options &size_limit(std::size_t bytes) & { options_.size_limit = bytes; return *this; }
+    Options &nest_limit(std::uint32_t levels) & { options_.nest_limit = levels; return *this; }
     /// How much may be spent on tables. It changes how fast texts are lexed, and no answer.
-    Options &budget(std::size_t rows, std::size_t work) {
+    Options &budget(std::size_t rows, std::size_t work) & {
         options_.limit_tables = true;
         options_.table_rows = rows;
         options_.table_work = work;
         return *this;
     }
+    Options on(std::uint32_t flags) && { return on(flags); }
+    Options off(std::uint32_t flags) && { return off(flags); }
+    Options size_limit(std::size_t bytes) && { return size_limit(bytes); }
+    Options nest_limit(std::uint32_t levels) && { return nest_limit(levels); }
+    Options budget(std::size_t rows, std::size_t work) && { return budget(rows, work); }
     const lrlex_options *get() const noexcept { return &options_; }
 
 private:

@@ -152,7 +152,12 @@ void a_text_that_is_not_utf8() {
 }
 
 void options_change_what_matches() {
-    const lrlex::Definition definition(WORDS, lrlex::Options().on(LRLEX_CASE_INSENSITIVE));
+    const lrlex::Options &kept = lrlex::Options().on(LRLEX_CASE_INSENSITIVE).size_limit(1 << 20).nest_limit(10).off(LRLEX_OCTAL);
+    lrlex::Options changed = kept;
+    changed.off(LRLEX_CASE_INSENSITIVE).on(LRLEX_OCTAL);
+    EXPECT(kept.get()->on == LRLEX_CASE_INSENSITIVE && changed.get()->on == LRLEX_OCTAL && kept.get()->set == changed.get()->set);
+    EXPECT(kept.get()->size_limit == 1 << 20 && kept.get()->nest_limit == 10);
+    const lrlex::Definition definition(WORDS, kept);
     EXPECT(shown(definition, definition.lex("ABC")) == "ID ABC\n");
     EXPECT(lrlex::Definition(WORDS, lrlex::Options().budget(0, 0)).lex("a 1").size() == 2);
 }
@@ -270,6 +275,11 @@ void a_definition_is_moved() {
     one = std::move(other);
     EXPECT(one.lex("a").size() == 1);
 }
+
+template <class Movable> constexpr bool is_moved_alone =
+    std::is_nothrow_move_constructible_v<Movable> && std::is_nothrow_move_assignable_v<Movable> && !std::is_copy_constructible_v<Movable>;
+static_assert(is_moved_alone<lrlex::Definition> && is_moved_alone<lrlex::Document> && is_moved_alone<lrlex::Scanner>);
+static_assert(is_moved_alone<lrlex::Tokens> && is_moved_alone<lrlex::Pieces> && !std::is_default_constructible_v<lrlex::Definition>);
 
 template <class Movable> void move_to_itself(Movable &it) {
     Movable &same = it;

@@ -14,10 +14,14 @@ namespace {
 
 constexpr int THREADS = 8;
 
+const char *const RULES = "%x TEXT\n%%\nif 'IF'\n[0-9]+ 'INT'\n[a-z]+[0-9]* 'ID'\n[ \\n]+ ;\n"
+                          "\" <+TEXT>;\n<TEXT>\" <-TEXT>;\n<TEXT>[^\"]+ 'TEXT'\n";
+
 /// A text of some 100,000 bytes, which stops at its end.
 std::string long_text() {
     std::string text;
-    for (int line = 0; line < 2000; line++) text += "abc " + std::to_string(line) + " \"a text in quotes\" x" + std::to_string(line % 7) + " if\n";
+    for (int line = 0; line < 2000; line++)
+        text += "abc " + std::to_string(line) + " \"a text in quotes\" x" + std::to_string(line % 7) + " if\n";
     return text + "?";
 }
 
@@ -63,7 +67,7 @@ int main(int count, char **words) {
     const int rounds = count > 1 ? std::atoi(words[1]) : 3;
     // with tables, and with the regular expressions alone
     for (const lrlex::Options &options : {lrlex::Options(), lrlex::Options().budget(0, 0)}) {
-        const lrlex::Definition definition("%x TEXT\n%%\nif 'IF'\n[0-9]+ 'INT'\n[a-z]+[0-9]* 'ID'\n[ \\n]+ ;\n\" <+TEXT>;\n<TEXT>\" <-TEXT>;\n<TEXT>[^\"]+ 'TEXT'\n", options);
+        const lrlex::Definition definition(RULES, options);
         const std::string text = options.get()->limit_tables ? long_text().substr(0, 5000) : long_text();
         const Found wanted = work(definition, text);
         for (int round = 0; round < rounds; round++) {
