@@ -18,6 +18,7 @@
 #include <functional>
 #include <iterator>
 #include <memory>
+#include <mutex>
 #include <new>
 #include <optional>
 #include <stdexcept>
@@ -116,11 +117,13 @@ inline std::vector<Fault> faults_of(const Owner<lrlex_definition> &refused) {
     return found;
 }
 
-/// A rule text that is refused: the handle that has the text, and its faults.
+/// A rule text that is refused: the handle that has the text, and its faults. An exception may be copied to any thread, so calls on the
+/// handle wait for each other.
 struct Refusal {
     explicit Refusal(Owner<lrlex_definition> refused) : owner(std::move(refused)), faults(faults_of(owner)) {}
     Owner<lrlex_definition> owner;
     std::vector<Fault> faults;
+    mutable std::mutex mutex;
 };
 
 } // namespace detail
@@ -129,7 +132,8 @@ struct Refusal {
 /// is never empty.
 class RulesError : public Error {
 public:
-    explicit RulesError(std::shared_ptr<const detail::Refusal> refusal) : Error(shown(refusal->faults), LRLEX_REFUSED), refusal_(std::move(refusal)) {}
+    explicit RulesError(std::shared_ptr<const detail::Refusal> refusal)
+        : Error(shown(refusal->faults), LRLEX_REFUSED), refusal_(std::move(refusal)) {}
     RulesError(const RulesError &) noexcept = default;
     RulesError &operator=(const RulesError &) noexcept = default;
     const std::vector<Fault> &faults() const noexcept { return refusal_->faults; }
@@ -140,6 +144,7 @@ public:
         const auto call = [&](std::uint8_t *out, std::size_t room, std::size_t *length) {
             return lrlex_fault_report(refusal_->owner.get(), detail::bytes(file), file.size(), out, room, length);
         };
+        const std::lock_guard<std::mutex> alone(refusal_->mutex);
         return detail::text_by(call, 1024);
     }
 

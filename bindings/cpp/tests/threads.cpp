@@ -61,10 +61,33 @@ bool agree(lrlex::Definition definition, const std::string &text, const Found &w
     return equal == THREADS;
 }
 
+/// Threads that report one error each get the whole report.
+bool reports_agree(int rounds) {
+    try {
+        lrlex::Definition("%%\n( 'A'\n");
+    } catch (const lrlex::RulesError &error) {
+        const std::string wanted = error.report("a.l");
+        std::atomic<int> wrong{0};
+        std::vector<std::thread> threads;
+        for (int number = 0; number < THREADS; number++) {
+            threads.emplace_back([&, rounds, own = error] {
+                for (int round = 0; round < 100 * rounds; round++) wrong += own.report("a.l") != wanted;
+            });
+        }
+        for (std::thread &thread : threads) thread.join();
+        return wrong == 0 && !wanted.empty();
+    }
+    return false;
+}
+
 } // namespace
 
 int main(int count, char **words) {
     const int rounds = count > 1 ? std::atoi(words[1]) : 3;
+    if (!reports_agree(rounds)) {
+        std::puts("a thread got another report");
+        return 1;
+    }
     // with tables, and with the regular expressions alone
     for (const lrlex::Options &options : {lrlex::Options(), lrlex::Options().budget(0, 0)}) {
         const lrlex::Definition definition(RULES, options);
