@@ -17,7 +17,7 @@ CPP_TESTS = [["lexing"], ["memory"], ["ranges", "-std=c++2a"], ["threads", "-pth
 LONG = programs.read("examples/sorted.c") * (1_000_000 // len(programs.read("examples/sorted.c")))
 
 # The report of a faulty rule file.
-FAULTY = "{}:2:1: Invalid regular expression: unclosed group\n2 | ( 'A'\n  | ^\n"
+FAULTY = "{}:2:1: Invalid regular expression: unclosed group\n2 | c( 'C'\n  | ^\n"
 
 # What is lexed by each binding: a rule file, and the text.
 TEXTS = [
@@ -35,8 +35,8 @@ TEXTS = [
 FILES = {
     "words.l": "%%\n[a-z]+ 'ID'\n[ \\n] ;\n",
     "long.l": f"%%\n[a-z]+ '{'n' * 300}'\n",
-    "faulty.l": "%%\n( 'A'\n",
-    "\udcff.l": "%%\n( 'A'\n",
+    "faulty.l": "%%\nc( 'C'\n",
+    "\udcff.l": "%%\nc( 'C'\n",
     "bad": "a\udcff",
     "text": "ab c",
     "word": "ab",
