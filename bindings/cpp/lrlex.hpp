@@ -549,7 +549,6 @@ public:
     const std::string &text() const && = delete;
 
     /// The tokens of the text as it is now. They view the text, until the document is edited or moved.
-    Tokens lex() const && = delete;
     Tokens lex() const & {
         // a document is lexed, so the first call costs nothing: it says how many there are
         lrlex_lexed lexed;
@@ -562,6 +561,7 @@ public:
         tokens.rows_.count = lexed.count;
         return tokens;
     }
+    Tokens lex() const && = delete;
 
     /// The pieces that have a byte from `from` up to `to`, such as those of the lines that an editor shows. Each is whole.
     Pieces pieces(std::size_t from, std::size_t to) const {
@@ -647,7 +647,6 @@ public:
     Scanner(const Definition &definition, std::string_view text) : text_(text), tiles_(new lrlex_tile[room]) {
         detail::check(lrlex_scanner_new(definition.get(), owner_.get(), detail::bytes(text), text.size()));
     }
-
     template <class Memory> Scanner(const Definition &definition, detail::Temporary<Memory> text) = delete;
 
     /// The next tile, or nothing at the text's end and where lexing stops. On an exception it is where it was.
