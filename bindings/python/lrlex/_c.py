@@ -3,12 +3,18 @@
 from __future__ import annotations
 
 import ctypes
-import ctypes.util
 import os
 from ctypes import POINTER, Structure, byref, c_bool, c_char_p, c_int, c_size_t, c_uint32, c_void_p
-from typing import Callable, Optional
+from typing import Any, Callable, Optional
 
-NAME = "liblrlex.so.0"
+# The version of this package, and that of the header which it follows.
+VERSION = "0.1.0"
+
+# The library's name. It ends in the major and minor version, which are those of this package.
+NAME = "liblrlex.so.0.1"
+
+# What to do where the library isn't found, or is another.
+ADVICE = f"set LRLEX_LIBRARY to the path of {NAME}, which ./dev dist makes"
 
 OK, REFUSED, NOMEM, NOT_UTF8, MISUSE, NONE, DOES_NOT_FIT, SHARED = range(8)
 
@@ -125,7 +131,7 @@ HANDLE, SIZE, TEXT = POINTER(Handle), c_size_t, c_char_p
 LEXED, WRITTEN = POINTER(Lexed), [TEXT, SIZE, POINTER(SIZE)]
 
 # What each function gives and takes.
-FUNCTIONS = {
+FUNCTIONS: dict[str, tuple[Any, list[Any]]] = {
     "lrlex_version": (c_uint32, []),
     "lrlex_free": (None, [HANDLE]),
     "lrlex_definition_new": (c_int, [HANDLE, TEXT, SIZE, POINTER(Options)]),
@@ -165,20 +171,30 @@ def find() -> str:
     beside = os.path.join(os.path.dirname(os.path.abspath(__file__)), NAME)
     if given:
         return given
-    return beside if os.path.exists(beside) else ctypes.util.find_library("lrlex") or NAME
+    return beside if os.path.exists(beside) else NAME
 
 
 def load() -> ctypes.CDLL:
-    """The library with the types of its functions."""
+    """The library with the types of its functions. Raises ImportError where there is none that this package can call."""
     path = find()
     try:
         library = ctypes.CDLL(path)
+        check_version(path, library.lrlex_version())
+        for name, (gives, takes) in FUNCTIONS.items():
+            function = getattr(library, name)
+            function.restype, function.argtypes = gives, takes
     except OSError as fault:
-        raise ImportError(f"{path} can't be loaded: set LRLEX_LIBRARY to the path of {NAME}") from fault
-    for name, (gives, takes) in FUNCTIONS.items():
-        function = getattr(library, name)
-        function.restype, function.argtypes = gives, takes
+        raise ImportError(f"{path} can't be loaded: {ADVICE}") from fault
+    except AttributeError as fault:
+        raise ImportError(f"{path} isn't the C library of lrlex: {ADVICE}") from fault
     return library
+
+
+def check_version(path: str, found: int) -> None:
+    """Raises ImportError if what `lrlex_version` gives hasn't the major and minor version of this package."""
+    major, minor, _ = map(int, VERSION.split("."))
+    if found // 100 != major * 100 + minor:
+        raise ImportError(f"{path} has version {found // 10000}.{found // 100 % 100}, and this package needs {major}.{minor}: {ADVICE}")
 
 
 LIB = load()

@@ -8,12 +8,14 @@ import json
 import os
 import tempfile
 import threading
+import types
 import unittest
 from contextlib import redirect_stderr
 from unittest import mock
 
 import lrlex
 from lrlex import __main__ as program
+from lrlex import _c
 
 WORDS = "%%\n[0-9]+ 'INT'\n[a-zé😀]+ 'ID'\n[ ]+ ;\n"
 
@@ -197,6 +199,42 @@ class Scanners(unittest.TestCase):
         with self.assertRaises(lrlex.LexError) as raised:
             next(definition.scanner("a"))
         self.assertIsNone(raised.exception.state)
+
+
+class Loading(unittest.TestCase):
+    """Which library is loaded."""
+
+    def refused(self, path):
+        """With what words the library at this path is refused."""
+        with mock.patch.dict(os.environ, LRLEX_LIBRARY=path), self.assertRaises(ImportError) as raised:
+            _c.load()
+        self.assertIn(f"set LRLEX_LIBRARY to the path of {_c.NAME}", str(raised.exception))
+        return str(raised.exception).partition(":")[0]
+
+    def test_what_is_no_library_of_lrlex(self):
+        self.assertEqual(self.refused("/no/such/file"), "/no/such/file can't be loaded")
+        self.assertEqual(self.refused(__file__), f"{__file__} can't be loaded")
+        self.assertEqual(self.refused("libc.so.6"), "libc.so.6 isn't the C library of lrlex")
+
+    def test_other_versions_are_refused(self):
+        rows = [(99, "0.0"), (200, "0.2"), (10100, "1.1"), (1020304, "102.3")]
+        for number, version in rows:
+            library = types.SimpleNamespace(lrlex_version=lambda number=number: number)
+            with self.subTest(version=version), mock.patch("ctypes.CDLL", return_value=library):
+                self.assertEqual(self.refused("a.so"), f"a.so has version {version}, and this package needs 0.1")
+        _c.check_version("a.so", 199)
+
+    def test_the_name_is_left_to_the_loader(self):
+        with mock.patch.dict(os.environ), mock.patch("subprocess.Popen", side_effect=AssertionError("a process is started")):
+            os.environ.pop("LRLEX_LIBRARY", None)
+            self.assertEqual(_c.find(), "liblrlex.so.0.1")
+            with mock.patch("os.path.exists", return_value=True):
+                self.assertEqual(os.path.split(_c.find()), (os.path.dirname(_c.__file__), "liblrlex.so.0.1"))
+
+    def test_one_version(self):
+        with open(os.path.join(os.path.dirname(os.path.dirname(__file__)), "pyproject.toml"), encoding="utf-8") as file:
+            self.assertIn(f'version = "{lrlex.__version__}"\n', file.read())
+        self.assertEqual(_c.NAME, f"liblrlex.so.{lrlex.__version__.rpartition('.')[0]}")
 
 
 class Program(unittest.TestCase):
