@@ -43,16 +43,31 @@ class Fault(NamedTuple):
 
 
 class RulesError(Error, ValueError):
-    """The rule text is refused. `faults` has all that is wrong with it."""
+    """The rule text is refused. `faults` has all that is wrong with it.
 
-    def __init__(self, faults: list[Fault], held: Optional[_Held] = None) -> None:
-        super().__init__("\n".join(map(str, faults)))
-        self.faults, self._held = faults, held
+    It can be copied and pickled, and loses nothing by that: it has the rule text and its settings, not what the C library made of them.
+    """
+
+    def __init__(self, faults: list[Fault], rules: Optional[str] = None, settings: Optional[Mapping[str, Any]] = None) -> None:
+        super().__init__(faults, rules, settings)
+        self.faults, self._rules, self._settings = faults, rules, settings
+
+    def __str__(self) -> str:
+        return "\n".join(map(str, self.faults))
+
+    def __repr__(self) -> str:
+        return f"{type(self).__name__}({self.faults!r})"
 
     def report(self, file: str) -> str:
-        """All faults for people: the file's name with line and column, the message, the line itself, and carets below the place."""
+        """All faults for people: the file's name with line and column, the message, the line itself, and carets below the place.
+
+        This reads the rule text again. Without a rule text it is as `str`.
+        """
+        if self._rules is None:
+            return str(self)
+        held, _ = _read(_Text(self._rules), self._settings or {})
         name = file.encode()
-        return text_by(LIB.lrlex_fault_report, self._held.handle, name, len(name)) or "" if self._held else str(self)
+        return text_by(LIB.lrlex_fault_report, held.handle, name, len(name)) or ""
 
 
 class LexError(Error, ValueError):
@@ -62,8 +77,15 @@ class LexError(Error, ValueError):
     """
 
     def __init__(self, start: int, byte: int, line: int, column: int, state: Optional[int]) -> None:
-        super().__init__(f"{line}:{column}: no token begins here")
+        super().__init__(start, byte, line, column, state)
         self.start, self.byte, self.line, self.column, self.state = start, byte, line, column, state
+
+    def __str__(self) -> str:
+        return f"{self.line}:{self.column}: no token begins here"
+
+    def __repr__(self) -> str:
+        places = f"start={self.start}, byte={self.byte}, line={self.line}, column={self.column}, state={self.state}"
+        return f"{type(self).__name__}({places})"
 
 
 class Token(NamedTuple):
@@ -172,18 +194,10 @@ class Definition:
         `budget` is how many rows and how much work may be spent on tables. It changes how fast texts are lexed, and no answer.
         Raises RulesError with all faults if the rule text has any.
         """
-        unknown = flags.keys() - _c.FLAGS.keys()
-        if unknown:
-            raise TypeError(f"there is no flag {min(unknown)!r}")
-        rows, work = budget or (0, 0)
-        options = _c.Options(
-            size_limit, rows, work, sum(map(_c.FLAGS.__getitem__, flags)),
-            sum(_c.FLAGS[name] for name, is_on in flags.items() if is_on), nest_limit, budget is not None,
-        )
-        self._held, text = _Held("Definition"), _Text(rules)
-        status = LIB.lrlex_definition_new(self._held.handle, text.data, len(text.data), byref(options))
+        settings, text = {"size_limit": size_limit, "nest_limit": nest_limit, "budget": budget, **flags}, _Text(rules)
+        self._held, status = _read(text, settings)
         if status == _c.REFUSED:
-            raise RulesError(_faults(self._held, text), self._held)
+            raise RulesError(_faults(self._held, text), rules, settings)
         check(status)
         self._names: dict[int, str] = {}
         self._rule_names = [text_by(LIB.lrlex_rule_name, self._held.handle, rule) for rule in range(self.rule_count)]
@@ -282,6 +296,23 @@ def _until(error: Optional[LexError], tokens: Iterator[Token]) -> Iterator[Token
     yield from tokens
     if error:
         raise error
+
+
+def _options(size_limit: int, nest_limit: int, budget: Optional[tuple[int, int]], **flags: bool) -> _c.Options:
+    """These settings of a Definition, for the C library."""
+    unknown = flags.keys() - _c.FLAGS.keys()
+    if unknown:
+        raise TypeError(f"there is no flag {min(unknown)!r}")
+    rows, work = budget or (0, 0)
+    given = sum(map(_c.FLAGS.__getitem__, flags))
+    on = sum(_c.FLAGS[name] for name, is_on in flags.items() if is_on)
+    return _c.Options(size_limit, rows, work, given, on, nest_limit, budget is not None)
+
+
+def _read(rules: _Text, settings: Mapping[str, Any]) -> tuple[_Held, int]:
+    """The handle that a rule text is read into by settings of a Definition, and the status of that."""
+    held, options = _Held("Definition"), _options(**settings)
+    return held, LIB.lrlex_definition_new(held.handle, rules.data, len(rules.data), byref(options))
 
 
 def _faults(held: _Held, rules: _Text) -> list[Fault]:

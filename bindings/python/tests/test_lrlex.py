@@ -2,10 +2,13 @@
 
 from __future__ import annotations
 
+import concurrent.futures
+import copy
 import gc
 import io
 import json
 import os
+import pickle
 import tempfile
 import threading
 import types
@@ -23,6 +26,25 @@ WORDS = "%%\n[0-9]+ 'INT'\n[a-zé😀]+ 'ID'\n[ ]+ ;\n"
 def pairs(tokens):
     """Name and text of each token."""
     return [(token.name, token.text) for token in tokens]
+
+
+def error_of(call):
+    """The error of this package that a call raises."""
+    try:
+        call()
+    except lrlex.Error as error:
+        return error
+    raise AssertionError("nothing is raised")
+
+
+def lex_what_stops():
+    """Raises LexError."""
+    lrlex.Definition(WORDS).spans("?")
+
+
+def read_what_is_refused():
+    """Raises RulesError."""
+    lrlex.Definition("%%\n( 'A'")
 
 
 class Tokens(unittest.TestCase):
@@ -64,6 +86,24 @@ class Tokens(unittest.TestCase):
         self.assertEqual([(it.start, it.end) for it in faults[0].places], [(3, 4), (5, 6)])
         self.assertTrue(str(raised.exception).startswith("1:4: Start state already exists, again at 1:6\n3:6: "))
         self.assertTrue(raised.exception.report("words.l").startswith("words.l:1:6: Start state already exists\n1 | %x A A\n"))
+
+    def test_errors_are_copied_and_pickled(self):
+        stop = error_of(lambda: lrlex.Definition(WORDS).spans("é ?"))
+        # It is refused by this setting alone.
+        refused = error_of(lambda: lrlex.Definition("%%\n\\052 'A'", octal=False))
+        for copied in [copy.copy, copy.deepcopy, lambda it: pickle.loads(pickle.dumps(it))]:
+            its_stop, its_refused = copied(stop), copied(refused)
+            self.assertEqual((type(its_stop), vars(its_stop), str(its_stop)), (lrlex.LexError, vars(stop), str(stop)))
+            self.assertEqual((type(its_refused), its_refused.faults, str(its_refused)), (lrlex.RulesError, refused.faults, str(refused)))
+            self.assertEqual(its_refused.report("words.l"), refused.report("words.l"))
+            self.assertTrue(its_refused.report("words.l").startswith("words.l:2:1: "))
+        self.assertEqual(lrlex.RulesError(refused.faults).report("words.l"), str(refused))
+
+    def test_errors_come_back_from_other_processes(self):
+        with concurrent.futures.ProcessPoolExecutor(1) as pool:
+            for kind, function in [(lrlex.LexError, lex_what_stops), (lrlex.RulesError, read_what_is_refused)]:
+                with self.subTest(kind=kind), self.assertRaises(kind):
+                    pool.submit(function).result(60)
 
     def test_ids_by_names(self):
         definition = lrlex.Definition(WORDS)
