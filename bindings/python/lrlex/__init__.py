@@ -14,9 +14,10 @@ A Definition, a Document and a Scanner stay on the thread that made them.
 """
 
 from ._c import VERSION as __version__
-from ._c import Error, SharedError
+from ._c import Error, FaultKind, SharedError
 from ._lexing import Definition, Document, Fault, LexError, Piece, Place, RulesError, Scanner, Tile, Token
 
 __all__ = [
-    "Definition", "Document", "Error", "Fault", "LexError", "Piece", "Place", "RulesError", "Scanner", "SharedError", "Tile", "Token"
+    "Definition", "Document", "Error", "Fault", "FaultKind", "LexError", "Piece", "Place", "RulesError", "Scanner", "SharedError", "Tile",
+    "Token",
 ]

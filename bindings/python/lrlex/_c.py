@@ -3,6 +3,7 @@
 from __future__ import annotations
 
 import ctypes
+import enum
 import os
 from ctypes import POINTER, Structure, byref, c_bool, c_char_p, c_int, c_size_t, c_uint32, c_void_p
 from typing import Any, Callable, Optional
@@ -35,6 +36,24 @@ FLAGS = {
     "ignore_whitespace": 128,
     "unicode": 256,
 }
+
+
+class FaultKind(enum.IntEnum):
+    """The kinds of faults, by the names and numbers of the header."""
+
+    PREMATURE_END = 0
+    ROUTINES_NOT_SUPPORTED = 1
+    UNKNOWN_DECLARATION = 2
+    MISSING_SPACE = 3
+    INVALID_NAME = 4
+    UNKNOWN_START_STATE = 5
+    DUPLICATE_START_STATE = 6
+    INVALID_START_STATE = 7
+    INVALID_START_STATE_NAME = 8
+    DUPLICATE_NAME = 9
+    REGEX_ERROR = 10
+    VERBATIM_NOT_SUPPORTED = 11
+    TOO_MANY_RULES = 12
 
 
 class Handle(Structure):

@@ -10,7 +10,7 @@ from ctypes import byref
 from typing import Any, Callable, Iterable, Iterator, Mapping, NamedTuple, Optional
 
 from . import _c
-from ._c import LIB, Error, check, text_by
+from ._c import LIB, Error, FaultKind, check, text_by
 
 # A token and a piece of the C library as `struct` reads them: start, length, and id or rule.
 _TOKEN = struct.Struct(f"@NNI{ctypes.sizeof(_c.Token) - 2 * ctypes.sizeof(ctypes.c_size_t) - 4}x")
@@ -36,6 +36,7 @@ class Fault(NamedTuple):
 
     message: str
     places: list[Place]
+    kind: FaultKind
 
     def __str__(self) -> str:
         first, *more = [f"{it.line}:{it.column}" for it in self.places]
@@ -325,7 +326,7 @@ def _faults(held: _Held, rules: _Text) -> list[Fault]:
             it = _c.FaultSpan()
             check(LIB.lrlex_fault_span_at(held.handle, number, at, byref(it)))
             places.append(Place(it.line, it.column, rules.index(it.start), rules.index(it.end)))
-        found.append(Fault(text_by(LIB.lrlex_fault_text, held.handle, number) or "", places))
+        found.append(Fault(text_by(LIB.lrlex_fault_text, held.handle, number) or "", places, FaultKind(fault.kind)))
     return found
 
 

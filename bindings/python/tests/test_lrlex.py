@@ -9,6 +9,7 @@ import io
 import json
 import os
 import pickle
+import re
 import tempfile
 import threading
 import types
@@ -82,6 +83,7 @@ class Tokens(unittest.TestCase):
             lrlex.Definition.from_str("%x A A\n%%\na+b 'A'\nb 'A'\nc( 'C'\n")
         faults = raised.exception.faults
         self.assertEqual([it.places[0][:2] for it in faults], [(1, 4), (3, 6), (5, 1)])
+        self.assertEqual([it.kind.name for it in faults], ["DUPLICATE_START_STATE", "REGEX_ERROR", "MISSING_SPACE"])
         self.assertEqual(faults[0].message, "Start state already exists")
         self.assertEqual([(it.start, it.end) for it in faults[0].places], [(3, 4), (5, 6)])
         self.assertTrue(str(raised.exception).startswith("1:4: Start state already exists, again at 1:6\n3:6: "))
@@ -270,6 +272,20 @@ class Loading(unittest.TestCase):
             self.assertEqual(_c.find(), "liblrlex.so.0.1")
             with mock.patch("os.path.exists", return_value=True):
                 self.assertEqual(os.path.split(_c.find()), (os.path.dirname(_c.__file__), "liblrlex.so.0.1"))
+
+    def test_what_the_header_declares(self):
+        path = os.path.join(os.path.dirname(__file__), "..", "..", "..", "include", "lrlex.h")
+        if not os.path.exists(path):
+            raise unittest.SkipTest("the header isn't there")
+        with open(path, encoding="utf-8") as file:
+            header = file.read()
+        numbers = {name: int(number) for name, number in re.findall(r"\bLRLEX_([A-Z0-9_]+) = (\d+)\b", header)}
+        for names in [lrlex.FaultKind.__members__, {name.upper(): bit for name, bit in _c.FLAGS.items()}]:
+            self.assertEqual({name: numbers.get(name) for name in names}, dict(names))
+        kinds = re.search(r"LRLEX_PREMATURE_END.*?}", header, re.S)[0]
+        self.assertEqual(len(lrlex.FaultKind), kinds.count("="))
+        called = set(re.findall(r"^\w[\w *]*?\b(lrlex_\w+)\(", header, re.M))
+        self.assertLessEqual(_c.FUNCTIONS.keys(), called)
 
     def test_one_version(self):
         with open(os.path.join(os.path.dirname(os.path.dirname(__file__)), "pyproject.toml"), encoding="utf-8") as file:
