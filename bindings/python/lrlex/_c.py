@@ -175,6 +175,8 @@ FUNCTIONS: dict[str, tuple[Any, list[Any]]] = {
     "lrlex_document_edit": (c_int, [HANDLE, SIZE, SIZE, TEXT, SIZE]),
     "lrlex_document_tokens": (c_int, [HANDLE, SIZE, POINTER(Token), SIZE, LEXED]),
     "lrlex_document_pieces_in": (c_int, [HANDLE, SIZE, SIZE, POINTER(Piece), SIZE, LEXED]),
+    "lrlex_document_len": (c_int, [HANDLE, POINTER(SIZE)]),
+    "lrlex_document_text": (c_int, [HANDLE, SIZE, SIZE, *WRITTEN]),
     "lrlex_document_place": (c_int, [HANDLE, SIZE, POINTER(Place)]),
     "lrlex_document_position": (c_int, [HANDLE, SIZE, POINTER(Place)]),
     "lrlex_document_position_in": (c_int, [HANDLE, SIZE, c_uint32, POINTER(Place)]),

@@ -7,7 +7,8 @@ import struct
 import threading
 import weakref
 from ctypes import byref
-from typing import Any, Callable, Iterable, Iterator, Mapping, NamedTuple, Optional
+from functools import partial
+from typing import Any, Callable, Iterable, Iterator, Mapping, NamedTuple, Optional, Sequence, TypeVar
 
 from . import _c
 from ._c import LIB, Error, FaultKind, check, text_by
@@ -20,6 +21,8 @@ _TILE = struct.Struct(f"@NNNI?{ctypes.sizeof(_c.Tile) - 3 * ctypes.sizeof(ctypes
 
 # Number, start and end of a token or a piece.
 _Span = tuple[int, int, int]
+
+_T = TypeVar("_T")
 
 
 class Place(NamedTuple):
@@ -68,7 +71,7 @@ class RulesError(Error, ValueError):
             return str(self)
         held, _ = _read(_Text(self._rules), self._settings or {})
         name = file.encode()
-        return text_by(LIB.lrlex_fault_report, held.handle, name, len(name)) or ""
+        return text_by(held.call, LIB.lrlex_fault_report, name, len(name)) or ""
 
 
 class LexError(Error, ValueError):
@@ -159,33 +162,45 @@ class _Text:
 
 
 class _Held:
-    """A handle of the C library, which stays on the thread that made it."""
+    """A handle of the C library, for one call at a time: other threads wait for their turn.
 
-    def __init__(self, of: str) -> None:
-        self._handle, self._of, self._thread = _c.Handle(), of, threading.get_ident()
-        weakref.finalize(self, LIB.lrlex_free, byref(self._handle))
+    The thread that has the lock can take it again, so that a signal's handler can make a call between two others. What nothing refers to
+    is freed without the lock, as nothing can call it then.
+    """
 
-    @property
-    def handle(self) -> Any:
-        """The handle's address, for a call."""
-        if threading.get_ident() != self._thread:
-            raise RuntimeError(f"a {self._of} is used on another thread than it was made on")
-        return byref(self._handle)
+    def __init__(self) -> None:
+        self.pointer, self.lock = byref(_c.Handle()), threading.RLock()
+        free = weakref.finalize(self, LIB.lrlex_free, self.pointer)
+        # At a program's end other threads may be in a call.
+        free.atexit = False
+
+    def call(self, function: Callable[..., _T], *words: object) -> _T:
+        """What a function of the C library gives for this handle and these words."""
+        with self.lock:
+            return function(self.pointer, *words)
 
 
-def _rows(call: Callable[..., int], kind: type, form: struct.Struct, size: int) -> tuple[Iterator[Any], _c.Lexed]:
+def _rows(call: Callable[..., int], kind: type[ctypes.Structure], form: struct.Struct, size: int) -> tuple[Iterator[Any], _c.Lexed]:
     """The rows that a call writes into a buffer of tokens or pieces, of a text of this size, and how lexing went."""
     lexed, room = _c.Lexed(), size // 2 + 16
     while True:
-        buffer = (kind * room)()  # type: ignore[operator]
+        buffer = (kind * room)()
         check(call(buffer, room, byref(lexed)))
         if lexed.count <= room:
-            return form.iter_unpack(memoryview(buffer).cast("B")[: lexed.count * form.size]), lexed
+            return _unpacked(form, buffer, lexed.count), lexed
         room = lexed.count
 
 
+def _unpacked(form: struct.Struct, buffer: ctypes.Array[Any], count: int) -> Iterator[Any]:
+    """So many rows of a buffer.
+
+    They are copied: an iterator over a view of the buffer has CPython crash if both are garbage in a cycle, as that of an exception.
+    """
+    return form.iter_unpack(ctypes.string_at(buffer, count * form.size))
+
+
 class Definition:
-    """The rules of a rule file, ready to lex texts. It stays on the thread that made it."""
+    """The rules of a rule file, ready to lex texts."""
 
     def __init__(
         self, rules: str, *, size_limit: int = 0, nest_limit: int = 0, budget: Optional[tuple[int, int]] = None, **flags: bool
@@ -200,8 +215,9 @@ class Definition:
         if status == _c.REFUSED:
             raise RulesError(_faults(self._held, text), rules, settings)
         check(status)
-        self._names: dict[int, str] = {}
-        self._rule_names = [text_by(LIB.lrlex_rule_name, self._held.handle, rule) for rule in range(self.rule_count)]
+        count = self._held.call(LIB.lrlex_rule_count)
+        self._rule_names = [text_by(self._held.call, LIB.lrlex_rule_name, rule) for rule in range(count)]
+        self._known: Optional[Mapping[int, str]] = None
 
     @classmethod
     def from_str(cls, rules: str, **settings: Any) -> Definition:
@@ -211,7 +227,7 @@ class Definition:
     @property
     def rule_count(self) -> int:
         """How many rules there are."""
-        return int(LIB.lrlex_rule_count(self._held.handle))
+        return len(self._rule_names)
 
     def rule_name(self, rule: int) -> Optional[str]:
         """The name of the rule of this number, from 0. None if it has none."""
@@ -219,13 +235,11 @@ class Definition:
 
     def state_name(self, state: int) -> Optional[str]:
         """The name of the start state of this number, from 0. None if there is none."""
-        return text_by(LIB.lrlex_state_name, self._held.handle, state)
+        return text_by(self._held.call, LIB.lrlex_state_name, state)
 
     def name(self, token_id: int) -> str:
         """The name of the first rule that has a name and this id, or "" if there is none."""
-        if token_id not in self._names:
-            self._names[token_id] = text_by(LIB.lrlex_name, self._held.handle, token_id) or ""
-        return self._names[token_id]
+        return self._names.get(token_id, "")
 
     def set_rule_ids(self, ids: Mapping[str, int]) -> tuple[set[str], set[str]]:
         """Gives each named rule the id of its name here, or none, as for a parser whose grammar has the ids.
@@ -238,33 +252,59 @@ class Definition:
         names = [name.encode() for name in ids]
         given = (_c.NamedId * (len(names) + 1))(*[_c.NamedId(name, len(name), it) for name, it in zip(names, ids.values())])
         missing = (ctypes.c_bool * (len(names) + 1))()
-        check(LIB.lrlex_definition_set_rule_ids(self._held.handle, given, len(names), missing, len(names)))
-        self._names.clear()
-        unused = {name for rule, name in enumerate(self._rule_names) if name is not None and not self._has_id(rule)}
+        with self._held.lock:
+            # An exception after the call, such as that of Ctrl-C, leaves no names that aren't so.
+            self._known = None
+            check(self._held.call(LIB.lrlex_definition_set_rule_ids, given, len(names), missing, len(names)))
+            self._known = None
+            unused = {name for name, token_id in self._named() if token_id is None}
         return {name for name, is_missing in zip(ids, missing) if is_missing}, unused
 
-    def _has_id(self, rule: int) -> bool:
-        it = _c.Rule()
-        check(LIB.lrlex_rule_at(self._held.handle, rule, byref(it)))
-        return bool(it.has_id)
+    def _named(self) -> list[tuple[str, Optional[int]]]:
+        """Name and id of each rule that has a name."""
+        found = []
+        for rule, name in enumerate(self._rule_names):
+            it = _c.Rule()
+            check(self._held.call(LIB.lrlex_rule_at, rule, byref(it)))
+            if name is not None:
+                found.append((name, it.id if it.has_id else None))
+        return found
+
+    @property
+    def _names(self) -> Mapping[int, str]:
+        """The name of each id, which is that of the first rule with a name and the id."""
+        with self._held.lock:
+            if self._known is None:
+                self._known = {token_id: name for name, token_id in reversed(self._named()) if token_id is not None}
+            return self._known
 
     def lex(self, text: str) -> Iterator[Token]:
         """The tokens of the text, in order. Where no rule matches it raises LexError, after the tokens before that place."""
-        return self._tokens(*self._lexed(text))
+        it = _Text(text)
+        with self._held.lock:
+            rows, lexed = self._lexed(it)
+            names = self._names
+        return _tokens(names, it, rows, lexed)
 
     def spans(self, text: str) -> list[_Span]:
         """Id, start and end of each token: the quickest way to all of them. It raises LexError if lexing stops."""
-        _, spans, error = self._lexed(text)
+        it = _Text(text)
+        rows, lexed = self._lexed(it)
+        spans, error = it.spans(rows), it.error(lexed)
         if error:
             raise error
         return spans
 
+    def _lexed(self, text: _Text) -> tuple[Iterator[_Span], _c.Lexed]:
+        size = len(text.data)
+        return _rows(partial(self._held.call, LIB.lrlex_lex, text.data, size), _c.Token, _TOKEN, size)
+
     def pieces(self, text: str) -> tuple[list[Piece], Optional[LexError]]:
         """The whole text as the rules cut it, also where a rule has no name, and where lexing stopped, if it did."""
-        held = _Text(text)
-        data = held.data
-        rows, lexed = _rows(lambda *out: LIB.lrlex_pieces(self._held.handle, data, len(data), *out), _c.Piece, _PIECE, len(data))
-        return self._pieces(held, rows), held.error(lexed)
+        it = _Text(text)
+        size = len(it.data)
+        rows, lexed = _rows(partial(self._held.call, LIB.lrlex_pieces, it.data, size), _c.Piece, _PIECE, size)
+        return _pieces(self._rule_names, it, rows), it.error(lexed)
 
     def scanner(self, text: str) -> Scanner:
         """The tiles of the text, one after the other, as they are asked for."""
@@ -276,20 +316,18 @@ class Definition:
         None if the whole text is lexed.
         """
         name, data = file.encode(), text.encode()
-        return text_by(LIB.lrlex_stop_report, self._held.handle, name, len(name), data, len(data))
+        return text_by(self._held.call, LIB.lrlex_stop_report, name, len(name), data, len(data))
 
-    def _lexed(self, text: str) -> tuple[str, list[_Span], Optional[LexError]]:
-        held = _Text(text)
-        data = held.data
-        rows, lexed = _rows(lambda *out: LIB.lrlex_lex(self._held.handle, data, len(data), *out), _c.Token, _TOKEN, len(data))
-        return text, held.spans(rows), held.error(lexed)
 
-    def _tokens(self, text: str, spans: list[_Span], error: Optional[LexError]) -> Iterator[Token]:
-        names = {token_id: self.name(token_id) for token_id in {token_id for token_id, _, _ in spans}}
-        return _until(error, (Token(names[it], text[start:end], start, end, it) for it, start, end in spans))
+def _tokens(names: Mapping[int, str], text: _Text, rows: Iterable[_Span], lexed: _c.Lexed) -> Iterator[Token]:
+    """The tokens of these rows by the names of their ids, and then where lexing stopped, if it did."""
+    spans, all_of_it = text.spans(rows), text.text
+    return _until(text.error(lexed), (Token(names[it], all_of_it[start:end], start, end, it) for it, start, end in spans))
 
-    def _pieces(self, held: _Text, rows: Iterable[_Span]) -> list[Piece]:
-        return [Piece(self._rule_names[rule], held.text[start:end], start, end, rule) for rule, start, end in held.spans(rows)]
+
+def _pieces(names: Sequence[Optional[str]], text: _Text, rows: Iterable[_Span]) -> list[Piece]:
+    """The pieces of these rows by the names of the rules."""
+    return [Piece(names[rule], text.text[start:end], start, end, rule) for rule, start, end in text.spans(rows)]
 
 
 def _until(error: Optional[LexError], tokens: Iterator[Token]) -> Iterator[Token]:
@@ -312,82 +350,106 @@ def _options(size_limit: int, nest_limit: int, budget: Optional[tuple[int, int]]
 
 def _read(rules: _Text, settings: Mapping[str, Any]) -> tuple[_Held, int]:
     """The handle that a rule text is read into by settings of a Definition, and the status of that."""
-    held, options = _Held("Definition"), _options(**settings)
-    return held, LIB.lrlex_definition_new(held.handle, rules.data, len(rules.data), byref(options))
+    held, options = _Held(), _options(**settings)
+    return held, held.call(LIB.lrlex_definition_new, rules.data, len(rules.data), byref(options))
 
 
 def _faults(held: _Held, rules: _Text) -> list[Fault]:
     """The faults that the handle of a refused rule text has."""
     found = []
-    for number in range(LIB.lrlex_fault_count(held.handle)):
+    for number in range(held.call(LIB.lrlex_fault_count)):
         fault, places = _c.Fault(), []
-        check(LIB.lrlex_fault_at(held.handle, number, byref(fault)))
+        check(held.call(LIB.lrlex_fault_at, number, byref(fault)))
         for at in range(fault.spans):
             it = _c.FaultSpan()
-            check(LIB.lrlex_fault_span_at(held.handle, number, at, byref(it)))
+            check(held.call(LIB.lrlex_fault_span_at, number, at, byref(it)))
             places.append(Place(it.line, it.column, rules.index(it.start), rules.index(it.end)))
-        found.append(Fault(text_by(LIB.lrlex_fault_text, held.handle, number) or "", places, FaultKind(fault.kind)))
+        found.append(Fault(text_by(held.call, LIB.lrlex_fault_text, number) or "", places, FaultKind(fault.kind)))
     return found
 
 
 class Document:
-    """A text that is edited. An edit lexes again only what it changes. It stays on the thread that made it."""
+    """A text that is edited. An edit lexes again only what it changes."""
 
     def __init__(self, definition: Definition, text: str) -> None:
         """Lexes the text."""
-        self.definition, self._held, self._text = definition, _Held("Document"), _Text(text)
+        self.definition, self._held = definition, _Held()
+        # The text as it is now. During an edit, and once an exception such as that of Ctrl-C has ended one, it is None.
+        self._text: Optional[_Text] = _Text(text)
         data = self._text.data
         # pylint: disable-next=protected-access
-        check(LIB.lrlex_document_new(definition._held.handle, self._held.handle, data, len(data)))
+        check(definition._held.call(LIB.lrlex_document_new, self._held.pointer, data, len(data)))
 
     @property
     def text(self) -> str:
         """The text as it is now."""
-        return self._text.text
+        with self._held.lock:
+            return self._kept().text
+
+    def _kept(self) -> _Text:
+        """The text as it is now. Where an edit may have been made or not, the C library's text says so."""
+        if self._text is not None:
+            return self._text
+        length = ctypes.c_size_t()
+        check(self._held.call(LIB.lrlex_document_len, byref(length)))
+        return _Text(text_by(self._held.call, LIB.lrlex_document_text, 0, length.value) or "")
 
     def edit(self, start: int, end: int, text: str) -> None:
-        """Puts a text in the place of `self.text[start:end]`. Raises IndexError if these aren't indices of it, in order."""
-        before = self._text.text
-        if not 0 <= start <= end <= len(before):
-            raise IndexError(f"{start}:{end} isn't in a text of {len(before)} characters")
-        put, after = text.encode(), _Text(before[:start] + text + before[end:])
-        first, last = self._text.byte(start), self._text.byte(end)
-        check(LIB.lrlex_document_edit(self._held.handle, first, last, put, len(put)))
-        self._text = after
+        """Puts a text in the place of `self.text[start:end]`. Raises IndexError if these aren't indices of it, in order.
+
+        If it raises any other exception, `self.text` says whether the edit was made.
+        """
+        put = text.encode()
+        with self._held.lock:
+            kept = self._kept()
+            before = kept.text
+            if not 0 <= start <= end <= len(before):
+                raise IndexError(f"{start}:{end} isn't in a text of {len(before)} characters")
+            after = _Text(before[:start] + text + before[end:])
+            first, last = kept.byte(start), kept.byte(end)
+            self._text = None
+            check(self._held.call(LIB.lrlex_document_edit, first, last, put, len(put)))
+            # It is another's text if a signal's handler made an edit in between: then the C library knows.
+            self._text = after if self._text is None else None
 
     def lex(self) -> Iterator[Token]:
         """The tokens of the text as it is now. Where no rule matches it raises LexError, after the tokens before that place."""
-        text, call = self._text, lambda *out: LIB.lrlex_document_tokens(self._held.handle, 0, *out)
-        rows, lexed = _rows(call, _c.Token, _TOKEN, len(text.data))
+        with self._held.lock:
+            text = self._kept()
+            rows, lexed = _rows(partial(self._held.call, LIB.lrlex_document_tokens, 0), _c.Token, _TOKEN, len(text.data))
         # pylint: disable-next=protected-access
-        return self.definition._tokens(text.text, text.spans(rows), text.error(lexed))
+        return _tokens(self.definition._names, text, rows, lexed)
 
     def pieces(self, start: int = 0, end: Optional[int] = None) -> list[Piece]:
         """The pieces that have a character of `self.text[start:end]`, such as those of the lines that an editor shows.
 
         Each is whole, so the first may begin before `start`, and the last end after `end`.
         """
-        text = self._text
-        first, last, _ = slice(start, end).indices(len(text.text))
-        first, last = text.byte(first), text.byte(last)
-        call = lambda *out: LIB.lrlex_document_pieces_in(self._held.handle, first, last, *out)  # noqa: E731
-        rows, _ = _rows(call, _c.Piece, _PIECE, max(0, last - first))
+        with self._held.lock:
+            text = self._kept()
+            first, last, _ = slice(start, end).indices(len(text.text))
+            first, last = text.byte(first), text.byte(last)
+            call = partial(self._held.call, LIB.lrlex_document_pieces_in, first, last)
+            rows, _ = _rows(call, _c.Piece, _PIECE, max(0, last - first))
         # pylint: disable-next=protected-access
-        return self.definition._pieces(text, rows)
+        return _pieces(self.definition._rule_names, text, rows)
 
     def place(self, index: int) -> tuple[int, int]:
         """Line and column of an index of the text, both from 1; the column counts characters."""
-        place = _c.Place()
-        check(LIB.lrlex_document_place(self._held.handle, self._text.byte(index), byref(place)))
-        return place.line, place.column
+        return self._placed(index, LIB.lrlex_document_place)
 
     def position(self, index: int, encoding: str = "utf-16") -> tuple[int, int]:
         """The same place as the Language Server Protocol counts it: both from 0, the column in code units of UTF-16.
 
         `encoding` may be "utf-8" too: then the column counts bytes.
         """
+        return self._placed(index, LIB.lrlex_document_position_in, _encoding(encoding))
+
+    def _placed(self, index: int, function: Callable[..., int], *words: int) -> tuple[int, int]:
+        """Line and column that a function of the C library gives for an index of the text."""
         place = _c.Place()
-        check(LIB.lrlex_document_position_in(self._held.handle, self._text.byte(index), _encoding(encoding), byref(place)))
+        with self._held.lock:
+            check(self._held.call(function, self._kept().byte(index), *words, byref(place)))
         return place.line, place.column
 
     def offset_at(self, line: int, column: int, encoding: str = "utf-16") -> int:
@@ -399,8 +461,9 @@ class Document:
             raise ValueError(f"{line}:{column} is no position")
         byte, most = ctypes.c_size_t(), ctypes.c_size_t(-1).value
         words = [min(line, most), min(column, most), _encoding(encoding)]
-        check(LIB.lrlex_document_offset_at(self._held.handle, *words, byref(byte)))
-        return self._text.index(byte.value)
+        with self._held.lock:
+            check(self._held.call(LIB.lrlex_document_offset_at, *words, byref(byte)))
+            return self._kept().index(byte.value)
 
 
 def _encoding(name: str) -> int:
@@ -411,7 +474,7 @@ def _encoding(name: str) -> int:
 
 
 class Scanner:
-    """The tiles of a text, one after the other: an iterator. It keeps none of them, and stays on the thread that made it.
+    """The tiles of a text, one after the other: an iterator. It keeps none of them.
 
     Where lexing stops before the text's end it raises LexError, after the tiles before that place.
     """
@@ -420,10 +483,10 @@ class Scanner:
 
     def __init__(self, definition: Definition, text: str) -> None:
         """Stands at the front of the text."""
-        self.definition, self._held, self._text = definition, _Held("Scanner"), _Text(text)
+        self.definition, self._held, self._text = definition, _Held(), _Text(text)
         data = self._text.data
         # pylint: disable-next=protected-access
-        check(LIB.lrlex_scanner_new(definition._held.handle, self._held.handle, data, len(data)))
+        check(definition._held.call(LIB.lrlex_scanner_new, self._held.pointer, data, len(data)))
         self._buffer, self._scanned = (_c.Tile * self._ROOM)(), _c.Scanned()
         self._tiles: Iterator[Tile] = iter(())
         self._index = 0
@@ -434,9 +497,8 @@ class Scanner:
     def __next__(self) -> Tile:
         for tile in self._tiles:
             return tile
-        check(LIB.lrlex_scanner_next(self._held.handle, self._buffer, self._ROOM, byref(self._scanned)))
-        rows = _TILE.iter_unpack(memoryview(self._buffer).cast("B")[: self._scanned.count * _TILE.size])
-        self._tiles = self._of(list(rows))
+        check(self._held.call(LIB.lrlex_scanner_next, self._buffer, self._ROOM, byref(self._scanned)))
+        self._tiles = self._of(_unpacked(_TILE, self._buffer, self._scanned.count))
         for tile in self._tiles:
             return tile
         if self._scanned.end in (_c.SCAN_MORE, _c.SCAN_DONE):

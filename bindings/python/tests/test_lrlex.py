@@ -10,8 +10,9 @@ import json
 import os
 import pickle
 import re
+import subprocess
+import sys
 import tempfile
-import threading
 import types
 import unittest
 from contextlib import redirect_stderr
@@ -150,19 +151,66 @@ class Tokens(unittest.TestCase):
         with self.assertRaises(UnicodeEncodeError):
             lrlex.Definition(WORDS).lex("\ud800")
 
-    def test_another_thread_is_refused(self):
-        definition, raised = lrlex.Definition(WORDS), []
 
-        def use():
-            try:
-                definition.lex("a")
-            except RuntimeError as fault:
-                raised.append(str(fault))
+class Threads(unittest.TestCase):
+    """Definitions, documents and scanners that more than one thread uses."""
 
-        thread = threading.Thread(target=use)
-        thread.start()
-        thread.join()
-        self.assertEqual(raised, ["a Definition is used on another thread than it was made on"])
+    def setUp(self):
+        self.addCleanup(sys.setswitchinterval, sys.getswitchinterval())
+        sys.setswitchinterval(1e-6)
+        self.definition = lrlex.Definition(WORDS)
+
+    def in_threads(self, function, rows):
+        """What the function gives for each of the rows, on eight threads."""
+        with concurrent.futures.ThreadPoolExecutor(8) as pool:
+            return list(pool.map(function, rows))
+
+    def test_threads_get_what_one_thread_gets(self):
+        def work(text):
+            document = lrlex.Document(self.definition, text)
+            document.edit(0, 0, "é 1 ")
+            edited = (document.text, pairs(document.lex()), document.position(2), document.offset_at(0, 2))
+            return self.definition.spans(text), pairs(self.definition.lex(text)), list(self.definition.scanner(text)), edited
+
+        texts = [f"a{number} é" * number for number in range(100)]
+        self.assertEqual(self.in_threads(work, texts), [work(text) for text in texts])
+
+    def test_one_scanner(self):
+        text = "ab 12 é " * 500
+        scanner = self.definition.scanner(text)
+        parts = self.in_threads(lambda _: list(scanner), range(8))
+        self.assertEqual(sorted((it for part in parts for it in part), key=lambda it: it.start), list(self.definition.scanner(text)))
+
+    def test_one_document(self):
+        document = lrlex.Document(self.definition, "é")
+
+        def work(_):
+            document.edit(0, 0, "1 ")
+            text, lexed, pieces = document.text, list(document.lex()), document.pieces()
+            return text[-1], lexed[-1].text, pieces[-1].text, document.place(1)
+
+        self.assertEqual(set(self.in_threads(work, range(200))), {("é", "é", "é", (1, 2))})
+        self.assertEqual(document.text, "1 " * 200 + "é")
+
+    def test_ids_change_between_two_calls(self):
+        def work(number):
+            if number % 2:
+                return self.definition.set_rule_ids({"INT": number, "ID": number + 1})
+            return pairs(self.definition.lex("a 1"))
+
+        found = self.in_threads(work, range(400))
+        self.assertEqual([it for it in found if it not in ([("ID", "a"), ("INT", "1")], (set(), set()))], [])
+
+    def test_nothing_is_freed_at_the_end(self):
+        words = f"""if True:
+            import lrlex
+            lrlex._c.LIB.lrlex_free = print
+            definition = lrlex.Definition({WORDS!r})
+            document, scanner = lrlex.Document(definition, "a"), definition.scanner("a")
+        """
+        environment = {**os.environ, "PYTHONPATH": os.pathsep.join(sys.path)}
+        came = subprocess.run([sys.executable, "-c", words], env=environment, capture_output=True, check=True)
+        self.assertEqual((came.stdout, came.stderr), (b"", b""))
 
 
 class Documents(unittest.TestCase):
