@@ -21,6 +21,10 @@ _TILE = struct.Struct(f"@NNNI?{ctypes.sizeof(_c.Tile) - 3 * ctypes.sizeof(ctypes
 
 # Number, start and end of a token or a piece.
 _Span = tuple[int, int, int]
+# A tile: start and length in bytes, rule, id, and whether it has one.
+_Row = tuple[int, int, int, int, bool]
+# Tiles, and the byte and the index behind them.
+_Ahead = tuple[Iterator["Tile"], int, int]
 
 _T = TypeVar("_T")
 
@@ -138,11 +142,14 @@ class _Text:
         """The byte at which the character of this index begins."""
         return index if self.is_ascii else len(self.text[:index].encode())
 
-    def spans(self, rows: Iterable[_Span]) -> list[_Span]:
-        """Number, start and end of each of these rows of start, length and number, which are in order of their starts."""
+    def spans(self, rows: Iterable[_Span], at: int = 0, index: int = 0) -> list[_Span]:
+        """Number, start and end of each of these rows of start, length and number, which are in order of their starts.
+
+        The character of this index begins at the byte `at`, and no row before it.
+        """
         if self.is_ascii:
             return [(number, start, start + length) for start, length, number in rows]
-        found, at, index, data = [], 0, 0, self.data
+        found, data = [], self.data
         for start, length, number in rows:
             first = index + len(data[at:start].decode())
             at = start + length
@@ -376,6 +383,8 @@ class Document:
         self.definition, self._held = definition, _Held()
         # The text as it is now. During an edit, and once an exception such as that of Ctrl-C has ended one, it is None.
         self._text: Optional[_Text] = _Text(text)
+        # How many edits have begun.
+        self._edits = 0
         data = self._text.data
         # pylint: disable-next=protected-access
         check(definition._held.call(LIB.lrlex_document_new, self._held.pointer, data, len(data)))
@@ -401,6 +410,7 @@ class Document:
         """
         put = text.encode()
         with self._held.lock:
+            number = self._edits = self._edits + 1
             kept = self._kept()
             before = kept.text
             if not 0 <= start <= end <= len(before):
@@ -409,8 +419,8 @@ class Document:
             first, last = kept.byte(start), kept.byte(end)
             self._text = None
             check(self._held.call(LIB.lrlex_document_edit, first, last, put, len(put)))
-            # It is another's text if a signal's handler made an edit in between: then the C library knows.
-            self._text = after if self._text is None else None
+            # If a signal's handler has made an edit in between, the C library alone knows the text.
+            self._text = after if self._edits == number else None
 
     def lex(self) -> Iterator[Token]:
         """The tokens of the text as it is now. Where no rule matches it raises LexError, after the tokens before that place."""
@@ -476,7 +486,8 @@ def _encoding(name: str) -> int:
 class Scanner:
     """The tiles of a text, one after the other: an iterator. It keeps none of them.
 
-    Where lexing stops before the text's end it raises LexError, after the tiles before that place.
+    Where lexing stops before the text's end it raises LexError, after the tiles before that place. After any other exception, such as
+    that of Ctrl-C, it goes on where it was.
     """
 
     _ROOM = 512
@@ -487,30 +498,49 @@ class Scanner:
         data = self._text.data
         # pylint: disable-next=protected-access
         check(definition._held.call(LIB.lrlex_scanner_new, self._held.pointer, data, len(data)))
+        # What the C library gave last.
         self._buffer, self._scanned = (_c.Tile * self._ROOM)(), _c.Scanned()
-        self._tiles: Iterator[Tile] = iter(())
-        self._index = 0
+        # The tiles that come next, and the byte and the index behind them. They change at once.
+        self._state: _Ahead = (iter(()), 0, 0)
 
     def __iter__(self) -> Scanner:
         return self
 
     def __next__(self) -> Tile:
-        for tile in self._tiles:
-            return tile
-        check(self._held.call(LIB.lrlex_scanner_next, self._buffer, self._ROOM, byref(self._scanned)))
-        self._tiles = self._of(_unpacked(_TILE, self._buffer, self._scanned.count))
-        for tile in self._tiles:
-            return tile
-        if self._scanned.end in (_c.SCAN_MORE, _c.SCAN_DONE):
-            raise StopIteration
-        state = self._scanned.state if self._scanned.end == _c.SCAN_NO_MATCH else None
-        raise self._text.error_at(self._scanned.place, state)
+        while True:
+            state = self._state
+            tile = next(state[0], None)
+            if tile is not None:
+                return tile
+            self._fill(state)
 
-    def _of(self, rows: Iterable[tuple[int, int, int, int, bool]]) -> Iterator[Tile]:
-        text, data = self._text.text, self._text.data
-        for start, length, rule, token_id, has_id in rows:
-            end = self._index + (length if self._text.is_ascii else len(data[start:start + length].decode()))
+    def _fill(self, used: _Ahead) -> None:
+        """Makes the tiles that come after those of a state, unless another thread or a signal's handler has."""
+        with self._held.lock:
+            _, byte, index = used
+            rows = self._fetched(byte) if self._state is used else []
+            if self._state is not used:
+                return
+            spans = self._text.spans([(start, length, rule) for start, length, rule, _, _ in rows], byte, index)
             # pylint: disable-next=protected-access
-            name = self.definition._rule_names[rule]
-            yield Tile(name, text[self._index:end], self._index, end, rule, token_id if has_id else None)
-            self._index = end
+            names, text = self.definition._rule_names, self._text.text
+            tiles = [
+                Tile(names[rule], text[start:end], start, end, rule, token_id if has_id else None)
+                for (rule, start, end), (_, _, _, token_id, has_id) in zip(spans, rows)
+            ]
+            self._state = iter(tiles), sum(rows[-1][:2]), tiles[-1].end
+
+    def _fetched(self, byte: int) -> list[_Row]:
+        """The tiles from this byte on, as the C library has them. At the end it raises StopIteration or LexError."""
+        scanned = self._scanned
+        # A call that was interrupted may have fetched them.
+        if not scanned.count or self._buffer[0].start != byte:
+            status = self._held.call(LIB.lrlex_scanner_next, self._buffer, self._ROOM, byref(scanned))
+            if status != _c.OK:
+                scanned.count = 0
+            check(status)
+        if scanned.count:
+            return list(_unpacked(_TILE, self._buffer, scanned.count))
+        if scanned.end in (_c.SCAN_MORE, _c.SCAN_DONE):
+            raise StopIteration
+        raise self._text.error_at(byte, scanned.state if scanned.end == _c.SCAN_NO_MATCH else None)

@@ -6,6 +6,7 @@ import concurrent.futures
 import copy
 import gc
 import io
+import itertools
 import json
 import os
 import pickle
@@ -37,6 +38,44 @@ def error_of(call):
     except lrlex.Error as error:
         return error
     raise AssertionError("nothing is raised")
+
+
+class Interrupted(BaseException):
+    """What a signal's handler raises, as that of Ctrl-C raises KeyboardInterrupt."""
+
+
+def interrupt():
+    """A signal's handler that raises."""
+    raise Interrupted
+
+
+def had_step(number, handler, call):
+    """Calls, and has a handler called before this step in the package, as if a signal came. Whether the call has so many steps.
+
+    Where the handler raises, each instruction of the interpreter is a step, and else each line.
+    """
+    steps, kind = 0, "opcode" if handler is interrupt else "line"
+
+    def trace(frame, event, _):
+        nonlocal steps
+        if not frame.f_code.co_filename.startswith(os.path.dirname(lrlex.__file__)):
+            return None
+        frame.f_trace_opcodes = kind == "opcode"
+        steps += event == kind
+        if event == kind and steps == number:
+            handler()
+        return trace
+
+    # Python 3.12 tells of instructions only where a frame asked for them before.
+    sys._getframe().f_trace_opcodes = kind == "opcode"  # pylint: disable=protected-access
+    sys.settrace(trace)
+    try:
+        call()
+    except Interrupted as raised:
+        kept = raised  # noqa: F841  a cycle of garbage, with all that the frames have
+    finally:
+        sys.settrace(None)
+    return steps >= number
 
 
 def lex_what_stops():
@@ -289,6 +328,108 @@ class Scanners(unittest.TestCase):
         with self.assertRaises(lrlex.LexError) as raised:
             next(definition.scanner("a"))
         self.assertIsNone(raised.exception.state)
+
+
+class Signals(unittest.TestCase):
+    """Handlers of signals between any two steps of a call: those that raise, and those that call."""
+
+    def setUp(self):
+        self.definition = lrlex.Definition(WORDS)
+        room = mock.patch.object(lrlex.Scanner, "_ROOM", 2)
+        room.start()
+        self.addCleanup(room.stop)
+
+    def each_step(self, make):
+        """For each step of a call, `make` gives the handler, the call, and what tests the outcome."""
+        for number in itertools.count(1):
+            handler, call, test = make()
+            if not had_step(number, handler, call):
+                break
+            with self.subTest(step=number):
+                test()
+        gc.collect()
+        self.assertGreater(number, 10)
+
+    def test_a_scanner_goes_on_where_it_was(self):
+        for text in ["é 1 a", "e 1"]:
+            wanted = list(self.definition.scanner(text))
+
+            def make():
+                scanner, got = self.definition.scanner(text), []
+
+                def test():
+                    got.extend(scanner)
+                    self.assertEqual(got, [it for it in wanted if it in got])
+                    # The tile that was on its way is lost, if it was made.
+                    self.assertLessEqual(len(wanted) - len(got), 1)
+
+                return interrupt, lambda: got.extend(it for it in scanner), test
+
+            self.each_step(make)
+
+    def test_a_scanner_in_its_own_call(self):
+        text = "é 1 ab 2"
+        wanted = set(self.definition.scanner(text))
+
+        def make():
+            scanner, got = self.definition.scanner(text), []
+            return lambda: got.extend(scanner), lambda: got.extend(it for it in scanner), lambda: self.assertEqual(set(got), wanted)
+
+        self.each_step(make)
+
+    def check_text(self, document, texts):
+        """The document has one of these texts, and its tokens and places are those of the text."""
+        text = document.text
+        self.assertIn(text, texts)
+        self.assertEqual(pairs(document.lex()), pairs(self.definition.lex(text)))
+        document.edit(len(text), len(text), "é")
+        self.assertEqual(document.text, f"{text}é")
+        self.assertEqual(document.place(len(text)), (1, len(text) + 1))
+
+    def test_an_edit_is_made_or_not(self):
+        def make():
+            document = lrlex.Document(self.definition, "é 1")
+            return interrupt, lambda: document.edit(1, 2, "b 😀"), lambda: self.check_text(document, ["é 1", "éb 😀1"])
+
+        self.each_step(make)
+
+    def test_a_document_in_its_own_edit(self):
+        def make():
+            document = lrlex.Document(self.definition, "é 1")
+
+            def handler():
+                self.check_text(document, ["é 1", "éb 😀1"])
+
+            # The other edit is made before this one or after it.
+            return handler, lambda: document.edit(1, 2, "b 😀"), lambda: self.check_text(document, ["éb 😀1é"])
+
+        self.each_step(make)
+
+    def test_ids_are_set_or_not(self):
+        def make():
+            definition = lrlex.Definition(WORDS)
+            definition.name(0)
+
+            def test():
+                self.assertEqual([it.name for it in definition.lex("a 1")], ["ID", "INT"])
+                self.assertIn([definition.name(it) for it in [0, 1, 7]], [["INT", "ID", ""], ["INT", "", "ID"]])
+
+            return interrupt, lambda: definition.set_rule_ids({"INT": 0, "ID": 7}), test
+
+        self.each_step(make)
+
+    def test_a_definition_in_its_own_call(self):
+        def make():
+            definition = lrlex.Definition(WORDS)
+            test = lambda: self.assertEqual(pairs(definition.lex("a 1")), [("ID", "a"), ("INT", "1")])  # noqa: E731
+            return test, lambda: definition.set_rule_ids({"INT": 0, "ID": 7}), test
+
+        self.each_step(make)
+
+    def test_garbage_of_interrupted_calls(self):
+        document = lrlex.Document(self.definition, "é 1")
+        for call in [lambda: self.definition.spans("é 1"), document.lex, document.pieces, lambda: self.definition.pieces("é 1")]:
+            self.each_step(lambda: (interrupt, call, lambda: None))  # pylint: disable=cell-var-from-loop
 
 
 class Loading(unittest.TestCase):
