@@ -19,6 +19,9 @@ _PIECE = struct.Struct("@NNN")
 # A tile: start, length, rule, id, and whether it has one.
 _TILE = struct.Struct(f"@NNNI?{ctypes.sizeof(_c.Tile) - 3 * ctypes.sizeof(ctypes.c_size_t) - 5}x")
 
+# The largest number of the C library.
+_MOST: int = ctypes.c_size_t(-1).value
+
 # Number, start and end of a token or a piece.
 _Span = tuple[int, int, int]
 # A tile: start and length in bytes, rule, id, and whether it has one.
@@ -139,7 +142,9 @@ class _Text:
         return byte if self.is_ascii else len(self.data[:byte].decode())
 
     def byte(self, index: int) -> int:
-        """The byte at which the character of this index begins."""
+        """The byte at which the character of this index begins. Raises IndexError if it isn't from 0 to the text's length."""
+        if not 0 <= index <= len(self.text):
+            raise IndexError(f"{index} isn't in a text of {len(self.text)} characters")
         return index if self.is_ascii else len(self.text[:index].encode())
 
     def spans(self, rows: Iterable[_Span], at: int = 0, index: int = 0) -> list[_Span]:
@@ -210,12 +215,15 @@ class Definition:
     """The rules of a rule file, ready to lex texts."""
 
     def __init__(
-        self, rules: str, *, size_limit: int = 0, nest_limit: int = 0, budget: Optional[tuple[int, int]] = None, **flags: bool
+        self, rules: str, *, size_limit: Optional[int] = None, nest_limit: Optional[int] = None,
+        budget: Optional[tuple[int, int]] = None, **flags: Optional[bool],
     ) -> None:
         """Reads a rule text. Flags are those of the program, with `_` for `-`, such as `case_insensitive=True`.
 
-        `budget` is how many rows and how much work may be spent on tables. It changes how fast texts are lexed, and no answer.
-        Raises RulesError with all faults if the rule text has any.
+        `size_limit` is about how many bytes a compiled pattern may take, and `nest_limit` how deep it may nest. None of a flag or a limit
+        is the default, and so is 0 of a limit. `budget` is how many rows and how much work may be spent on tables: it changes how fast
+        texts are lexed, and no answer.
+        Raises RulesError with all faults if the rule text has any, and OverflowError if a number is below 0 or too large.
         """
         settings, text = {"size_limit": size_limit, "nest_limit": nest_limit, "budget": budget, **flags}, _Text(rules)
         self._held, status = _read(text, settings)
@@ -237,32 +245,35 @@ class Definition:
         return len(self._rule_names)
 
     def rule_name(self, rule: int) -> Optional[str]:
-        """The name of the rule of this number, from 0. None if it has none."""
+        """The name of the rule of this number, from 0. None if it has none. Raises IndexError if there is no such rule."""
+        if not 0 <= rule < len(self._rule_names):
+            raise IndexError(f"there is no rule {rule} of {len(self._rule_names)}")
         return self._rule_names[rule]
 
     def state_name(self, state: int) -> Optional[str]:
         """The name of the start state of this number, from 0. None if there is none."""
+        if not 0 <= state <= _MOST:
+            return None
         return text_by(self._held.call, LIB.lrlex_state_name, state)
 
     def name(self, token_id: int) -> str:
-        """The name of the first rule that has a name and this id, or "" if there is none."""
-        return self._names.get(token_id, "")
+        """The name of the first rule that has a name and this id, or "" if there is none. Raises OverflowError as `set_rule_ids` does."""
+        return self._names.get(_fitting("id", token_id, 32), "")
 
     def set_rule_ids(self, ids: Mapping[str, int]) -> tuple[set[str], set[str]]:
         """Gives each named rule the id of its name here, or none, as for a parser whose grammar has the ids.
 
         Returns the names here that no rule has, and the names of rules that have no id now. Lexing stops where such a rule matches.
-        Raises SharedError while there is a document of this definition. An id is below 2 ** 32.
+        Raises SharedError while there is a document or a scanner of this definition, and OverflowError if an id is below 0 or not below
+        2 ** 32.
         """
-        if not all(0 <= it < 1 << 32 for it in ids.values()):
-            raise OverflowError("an id isn't below 2 ** 32")
-        names = [name.encode() for name in ids]
-        given = (_c.NamedId * (len(names) + 1))(*[_c.NamedId(name, len(name), it) for name, it in zip(names, ids.values())])
-        missing = (ctypes.c_bool * (len(names) + 1))()
+        rows = [(name.encode(), _fitting("id", token_id, 32)) for name, token_id in ids.items()]
+        given = (_c.NamedId * (len(rows) + 1))(*[_c.NamedId(name, len(name), token_id) for name, token_id in rows])
+        missing = (ctypes.c_bool * (len(rows) + 1))()
         with self._held.lock:
             # An exception after the call, such as that of Ctrl-C, leaves no names that aren't so.
             self._known = None
-            check(self._held.call(LIB.lrlex_definition_set_rule_ids, given, len(names), missing, len(names)))
+            check(self._held.call(LIB.lrlex_definition_set_rule_ids, given, len(rows), missing, len(rows)))
             self._known = None
             unused = {name for name, token_id in self._named() if token_id is None}
         return {name for name, is_missing in zip(ids, missing) if is_missing}, unused
@@ -344,15 +355,26 @@ def _until(error: Optional[LexError], tokens: Iterator[Token]) -> Iterator[Token
         raise error
 
 
-def _options(size_limit: int, nest_limit: int, budget: Optional[tuple[int, int]], **flags: bool) -> _c.Options:
+def _options(
+    size_limit: Optional[int] = None, nest_limit: Optional[int] = None, budget: Optional[tuple[int, int]] = None, **flags: Optional[bool]
+) -> _c.Options:
     """These settings of a Definition, for the C library."""
     unknown = flags.keys() - _c.FLAGS.keys()
     if unknown:
         raise TypeError(f"there is no flag {min(unknown)!r}")
-    rows, work = budget or (0, 0)
-    given = sum(map(_c.FLAGS.__getitem__, flags))
-    on = sum(_c.FLAGS[name] for name, is_on in flags.items() if is_on)
-    return _c.Options(size_limit, rows, work, given, on, nest_limit, budget is not None)
+    given = {_c.FLAGS[name]: is_on for name, is_on in flags.items() if is_on is not None}
+    size, (rows, work) = 8 * ctypes.sizeof(ctypes.c_size_t), budget or (0, 0)
+    return _c.Options(
+        _fitting("size_limit", size_limit or 0, size), _fitting("budget", rows, size), _fitting("budget", work, size),
+        sum(given), sum(bit for bit, is_on in given.items() if is_on), _fitting("nest_limit", nest_limit or 0, 32), budget is not None,
+    )
+
+
+def _fitting(name: str, number: int, bits: int) -> int:
+    """The number. Raises OverflowError if it is below 0 or has more bits than these: ctypes would cut it off."""
+    if not 0 <= number < 1 << bits:
+        raise OverflowError(f"{name}: {number} isn't below 2 ** {bits}" if number >= 0 else f"{name}: {number} is below 0")
+    return number
 
 
 def _read(rules: _Text, settings: Mapping[str, Any]) -> tuple[_Held, int]:
@@ -445,13 +467,16 @@ class Document:
         return _pieces(self.definition._rule_names, text, rows)
 
     def place(self, index: int) -> tuple[int, int]:
-        """Line and column of an index of the text, both from 1; the column counts characters."""
+        """Line and column of an index of the text, both from 1; the column counts characters.
+
+        Raises IndexError if the index isn't from 0 to the text's length.
+        """
         return self._placed(index, LIB.lrlex_document_place)
 
     def position(self, index: int, encoding: str = "utf-16") -> tuple[int, int]:
         """The same place as the Language Server Protocol counts it: both from 0, the column in code units of UTF-16.
 
-        `encoding` may be "utf-8" too: then the column counts bytes.
+        `encoding` may be "utf-8" too: then the column counts bytes. Raises IndexError as `place` does.
         """
         return self._placed(index, LIB.lrlex_document_position_in, _encoding(encoding))
 
@@ -469,8 +494,8 @@ class Document:
         """
         if line < 0 or column < 0:
             raise ValueError(f"{line}:{column} is no position")
-        byte, most = ctypes.c_size_t(), ctypes.c_size_t(-1).value
-        words = [min(line, most), min(column, most), _encoding(encoding)]
+        byte = ctypes.c_size_t()
+        words = [min(line, _MOST), min(column, _MOST), _encoding(encoding)]
         with self._held.lock:
             check(self._held.call(LIB.lrlex_document_offset_at, *words, byref(byte)))
             return self._kept().index(byte.value)

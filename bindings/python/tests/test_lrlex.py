@@ -171,6 +171,37 @@ class Tokens(unittest.TestCase):
         with self.assertRaises(TypeError):
             lrlex.Definition.from_str(WORDS, no_such_flag=True)
 
+    def test_none_of_a_setting_is_the_default(self):
+        settings = dict.fromkeys(["size_limit", "nest_limit", "budget", *_c.FLAGS])
+        # By default classes are Unicode's, a dot matches a newline, and `\\052` is an octal escape.
+        rules = "%%\n\\w 'W'\n\\052 'STAR'\n. 'ANY'\n"
+        for given in [settings, dict.fromkeys(["size_limit", "nest_limit"], 0), {}]:
+            definition = lrlex.Definition(rules, **given)
+            self.assertEqual([it.name for it in definition.lex("é*\n")], ["W", "STAR", "ANY"])
+
+    def test_numbers_that_do_not_fit(self):
+        definition = lrlex.Definition(WORDS)
+        documents = [lrlex.Document(definition, text) for text in ["abc 12", "abé 12"]]
+        numbers = [-1, 7, 99, -1 << 64, 1 << 32, 1 << 64, (1 << 64) + 1]
+        for document, number in itertools.product(documents, numbers):
+            for call in [document.place, document.position, lambda it: document.position(it, "utf-8"), lambda it: document.edit(0, it, "")]:
+                with self.subTest(text=document.text, number=number), self.assertRaises(IndexError):
+                    call(number)
+        for number in numbers:
+            with self.subTest(number=number), self.assertRaises(IndexError):
+                definition.rule_name(number)
+            self.assertIsNone(definition.state_name(number))
+        for number in [-1, 1 << 32, 1 << 64]:
+            calls = [
+                lambda it: lrlex.Definition(WORDS, nest_limit=it), lambda it: definition.set_rule_ids({"INT": it}), definition.name,
+                lambda it: lrlex.Definition(WORDS, size_limit=it << 32), lambda it: lrlex.Definition(WORDS, budget=(it << 32, 0)),
+                lambda it: lrlex.Definition(WORDS, budget=(0, it << 32)),
+            ]
+            for at, call in enumerate(calls):
+                with self.subTest(number=number, call=at), self.assertRaises(OverflowError):
+                    call(number)
+        self.assertEqual(definition.name((1 << 32) - 1), "")
+
     def test_pieces_are_the_whole_text(self):
         pieces, stop = lrlex.Definition(WORDS).pieces("é  1?")
         self.assertEqual([(it.name, it.text) for it in pieces], [("ID", "é"), (None, "  "), ("INT", "1")])
