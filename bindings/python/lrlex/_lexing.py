@@ -452,19 +452,20 @@ class Document:
         # pylint: disable-next=protected-access
         return _tokens(self.definition._names, text, rows, lexed)
 
-    def pieces(self, start: int = 0, end: Optional[int] = None) -> list[Piece]:
+    def pieces(self, start: int = 0, end: Optional[int] = None) -> tuple[list[Piece], Optional[LexError]]:
         """The pieces that have a character of `self.text[start:end]`, such as those of the lines that an editor shows.
 
-        Each is whole, so the first may begin before `start`, and the last end after `end`.
+        Each is whole, so the first may begin before `start`, and the last end after `end`. The second value is where lexing of the whole
+        text stops, if it does: as of `Definition.pieces`, behind that place there are no pieces.
         """
         with self._held.lock:
             text = self._kept()
             first, last, _ = slice(start, end).indices(len(text.text))
             first, last = text.byte(first), text.byte(last)
             call = partial(self._held.call, LIB.lrlex_document_pieces_in, first, last)
-            rows, _ = _rows(call, _c.Piece, _PIECE, max(0, last - first))
+            rows, lexed = _rows(call, _c.Piece, _PIECE, max(0, last - first))
         # pylint: disable-next=protected-access
-        return _pieces(self.definition._rule_names, text, rows)
+        return _pieces(self.definition._rule_names, text, rows), text.error(lexed)
 
     def place(self, index: int) -> tuple[int, int]:
         """Line and column of an index of the text, both from 1; the column counts characters.

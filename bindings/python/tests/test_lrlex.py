@@ -256,7 +256,7 @@ class Threads(unittest.TestCase):
 
         def work(_):
             document.edit(0, 0, "1 ")
-            text, lexed, pieces = document.text, list(document.lex()), document.pieces()
+            text, lexed, (pieces, _) = document.text, list(document.lex()), document.pieces()
             return text[-1], lexed[-1].text, pieces[-1].text, document.place(1)
 
         self.assertEqual(set(self.in_threads(work, range(200))), {("é", "é", "é", (1, 2))})
@@ -294,13 +294,16 @@ class Documents(unittest.TestCase):
         for start, end in [(3, 2), (0, 99), (-1, 0)]:
             with self.assertRaises(IndexError):
                 document.edit(start, end, "")
+        self.assertEqual(document.pieces()[1], None)
         document.edit(4, 4, "?")
-        with self.assertRaises(lrlex.LexError):
+        with self.assertRaises(lrlex.LexError) as raised:
             list(document.lex())
+        for start in [0, 3, 9]:
+            self.assertEqual(vars(document.pieces(start)[1]), vars(raised.exception))
         document.edit(4, 5, "😀")
         self.assertEqual(pairs(document.lex()), pairs(definition.lex("éb 1😀")))
-        self.assertEqual([it.text for it in document.pieces(1, 3)], ["éb", " "])
-        self.assertEqual([it.text for it in document.pieces()], ["éb", " ", "1", "😀"])
+        self.assertEqual([it.text for it in document.pieces(1, 3)[0]], ["éb", " "])
+        self.assertEqual(document.pieces(), definition.pieces("éb 1😀"))
         self.assertEqual((document.place(5), document.position(5)), ((1, 6), (0, 6)))
 
     def test_indices_of_positions(self):
