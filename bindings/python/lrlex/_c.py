@@ -226,7 +226,7 @@ def check(status: int) -> None:
     if status == NOMEM:
         raise MemoryError
     if status == SHARED:
-        raise SharedError("a document or a scanner has the definition too, so it can't be changed")
+        raise SharedError("a document or a scanner has the definition too, so it can't be changed: close it first")
     if status != OK:
         raise Error(f"the C library answered status {status}")
 

@@ -30,6 +30,7 @@ _Row = tuple[int, int, int, int, bool]
 _Ahead = tuple[Iterator["Tile"], int, int]
 
 _T = TypeVar("_T")
+_Self = TypeVar("_Self", bound="_Closing")
 
 
 class Place(NamedTuple):
@@ -180,16 +181,53 @@ class _Held:
     is freed without the lock, as nothing can call it then.
     """
 
-    def __init__(self) -> None:
-        self.pointer, self.lock = byref(_c.Handle()), threading.RLock()
-        free = weakref.finalize(self, LIB.lrlex_free, self.pointer)
+    def __init__(self, of: str) -> None:
+        self.pointer, self.lock, self.is_closed, self._of = byref(_c.Handle()), threading.RLock(), False, of
+        self._free = weakref.finalize(self, LIB.lrlex_free, self.pointer)
         # At a program's end other threads may be in a call.
-        free.atexit = False
+        self._free.atexit = False
+
+    def need(self) -> None:
+        """Raises ValueError if it is closed."""
+        if self.is_closed:
+            raise ValueError(f"the {self._of} is closed")
 
     def call(self, function: Callable[..., _T], *words: object) -> _T:
-        """What a function of the C library gives for this handle and these words."""
+        """What a function of the C library gives for this handle and these words. Raises ValueError if it is closed."""
         with self.lock:
+            self.need()
             return function(self.pointer, *words)
+
+    def close(self) -> None:
+        """Frees what it has, once no other thread is in a call."""
+        with self.lock:
+            self.is_closed = True
+            self._free()
+
+
+class _Closing:
+    """What has a handle of the C library, and is closed as a file is."""
+
+    _held: _Held
+
+    @property
+    def closed(self) -> bool:
+        """Whether it is closed."""
+        return self._held.is_closed
+
+    def close(self) -> None:
+        """Frees what the C library has for it, and not only once nothing refers to it. After that all but `close` raises ValueError."""
+        self._held.close()
+
+    def __enter__(self: _Self) -> _Self:
+        self._held.need()
+        return self
+
+    def __exit__(self, *_: object) -> None:
+        self.close()
+
+    def __reduce__(self) -> str:
+        raise TypeError(f"a {type(self).__name__} can't be copied or pickled")
 
 
 def _rows(call: Callable[..., int], kind: type[ctypes.Structure], form: struct.Struct, size: int) -> tuple[Iterator[Any], _c.Lexed]:
@@ -211,8 +249,8 @@ def _unpacked(form: struct.Struct, buffer: ctypes.Array[Any], count: int) -> Ite
     return form.iter_unpack(ctypes.string_at(buffer, count * form.size))
 
 
-class Definition:
-    """The rules of a rule file, ready to lex texts."""
+class Definition(_Closing):
+    """The rules of a rule file, ready to lex texts. Its documents and scanners can be used once it is closed."""
 
     def __init__(
         self, rules: str, *, size_limit: Optional[int] = None, nest_limit: Optional[int] = None,
@@ -242,12 +280,13 @@ class Definition:
     @property
     def rule_count(self) -> int:
         """How many rules there are."""
+        self._held.need()
         return len(self._rule_names)
 
     def rule_name(self, rule: int) -> Optional[str]:
         """The name of the rule of this number, from 0. None if it has none. Raises IndexError if there is no such rule."""
-        if not 0 <= rule < len(self._rule_names):
-            raise IndexError(f"there is no rule {rule} of {len(self._rule_names)}")
+        if not 0 <= rule < self.rule_count:
+            raise IndexError(f"there is no rule {rule} of {self.rule_count}")
         return self._rule_names[rule]
 
     def state_name(self, state: int) -> Optional[str]:
@@ -258,14 +297,15 @@ class Definition:
 
     def name(self, token_id: int) -> str:
         """The name of the first rule that has a name and this id, or "" if there is none. Raises OverflowError as `set_rule_ids` does."""
+        self._held.need()
         return self._names.get(_fitting("id", token_id, 32), "")
 
     def set_rule_ids(self, ids: Mapping[str, int]) -> tuple[set[str], set[str]]:
         """Gives each named rule the id of its name here, or none, as for a parser whose grammar has the ids.
 
         Returns the names here that no rule has, and the names of rules that have no id now. Lexing stops where such a rule matches.
-        Raises SharedError while there is a document or a scanner of this definition, and OverflowError if an id is below 0 or not below
-        2 ** 32.
+        Raises SharedError while the definition has a document or a scanner that isn't closed, and OverflowError if an id is below 0 or not
+        below 2 ** 32.
         """
         rows = [(name.encode(), _fitting("id", token_id, 32)) for name, token_id in ids.items()]
         given = (_c.NamedId * (len(rows) + 1))(*[_c.NamedId(name, len(name), token_id) for name, token_id in rows])
@@ -379,7 +419,7 @@ def _fitting(name: str, number: int, bits: int) -> int:
 
 def _read(rules: _Text, settings: Mapping[str, Any]) -> tuple[_Held, int]:
     """The handle that a rule text is read into by settings of a Definition, and the status of that."""
-    held, options = _Held(), _options(**settings)
+    held, options = _Held("Definition"), _options(**settings)
     return held, held.call(LIB.lrlex_definition_new, rules.data, len(rules.data), byref(options))
 
 
@@ -397,19 +437,22 @@ def _faults(held: _Held, rules: _Text) -> list[Fault]:
     return found
 
 
-class Document:
+class Document(_Closing):
     """A text that is edited. An edit lexes again only what it changes."""
 
     def __init__(self, definition: Definition, text: str) -> None:
         """Lexes the text."""
-        self.definition, self._held = definition, _Held()
+        self.definition, self._held = definition, _Held("Document")
         # The text as it is now. During an edit, and once an exception such as that of Ctrl-C has ended one, it is None.
         self._text: Optional[_Text] = _Text(text)
         # How many edits have begun.
         self._edits = 0
         data = self._text.data
-        # pylint: disable-next=protected-access
-        check(definition._held.call(LIB.lrlex_document_new, self._held.pointer, data, len(data)))
+        # pylint: disable=protected-access
+        with definition._held.lock:
+            check(definition._held.call(LIB.lrlex_document_new, self._held.pointer, data, len(data)))
+            # They can't change while there is a document.
+            self._names, self._rule_names = definition._names, definition._rule_names
 
     @property
     def text(self) -> str:
@@ -419,6 +462,7 @@ class Document:
 
     def _kept(self) -> _Text:
         """The text as it is now. Where an edit may have been made or not, the C library's text says so."""
+        self._held.need()
         if self._text is not None:
             return self._text
         length = ctypes.c_size_t()
@@ -449,8 +493,7 @@ class Document:
         with self._held.lock:
             text = self._kept()
             rows, lexed = _rows(partial(self._held.call, LIB.lrlex_document_tokens, 0), _c.Token, _TOKEN, len(text.data))
-        # pylint: disable-next=protected-access
-        return _tokens(self.definition._names, text, rows, lexed)
+        return _tokens(self._names, text, rows, lexed)
 
     def pieces(self, start: int = 0, end: Optional[int] = None) -> tuple[list[Piece], Optional[LexError]]:
         """The pieces that have a character of `self.text[start:end]`, such as those of the lines that an editor shows.
@@ -464,8 +507,7 @@ class Document:
             first, last = text.byte(first), text.byte(last)
             call = partial(self._held.call, LIB.lrlex_document_pieces_in, first, last)
             rows, lexed = _rows(call, _c.Piece, _PIECE, max(0, last - first))
-        # pylint: disable-next=protected-access
-        return _pieces(self.definition._rule_names, text, rows), text.error(lexed)
+        return _pieces(self._rule_names, text, rows), text.error(lexed)
 
     def place(self, index: int) -> tuple[int, int]:
         """Line and column of an index of the text, both from 1; the column counts characters.
@@ -509,7 +551,7 @@ def _encoding(name: str) -> int:
     return _c.ENCODINGS[name]
 
 
-class Scanner:
+class Scanner(_Closing):
     """The tiles of a text, one after the other: an iterator. It keeps none of them.
 
     Where lexing stops before the text's end it raises LexError, after the tiles before that place. After any other exception, such as
@@ -520,7 +562,7 @@ class Scanner:
 
     def __init__(self, definition: Definition, text: str) -> None:
         """Stands at the front of the text."""
-        self.definition, self._held, self._text = definition, _Held(), _Text(text)
+        self.definition, self._held, self._text = definition, _Held("Scanner"), _Text(text)
         data = self._text.data
         # pylint: disable-next=protected-access
         check(definition._held.call(LIB.lrlex_scanner_new, self._held.pointer, data, len(data)))
@@ -528,6 +570,12 @@ class Scanner:
         self._buffer, self._scanned = (_c.Tile * self._ROOM)(), _c.Scanned()
         # The tiles that come next, and the byte and the index behind them. They change at once.
         self._state: _Ahead = (iter(()), 0, 0)
+
+    def close(self) -> None:
+        with self._held.lock:
+            super().close()
+            # Those that are made already aren't given.
+            self._state, self._scanned.count = (iter(()), 0, 0), 0
 
     def __iter__(self) -> Scanner:
         return self

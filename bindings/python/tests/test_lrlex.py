@@ -364,6 +364,67 @@ class Scanners(unittest.TestCase):
         self.assertIsNone(raised.exception.state)
 
 
+class Closing(unittest.TestCase):
+    """What is closed, as files are."""
+
+    def test_what_is_closed_is_not_used(self):
+        open_one = lrlex.Definition(WORDS)
+        rows = [
+            (lrlex.Definition(WORDS), [
+                lambda it: it.lex("a"), lambda it: it.spans("a"), lambda it: it.pieces("a"), lambda it: it.scanner("a"),
+                lambda it: lrlex.Document(it, "a"), lambda it: it.name(0), lambda it: it.rule_name(0), lambda it: it.rule_count,
+                lambda it: it.state_name(0), lambda it: it.set_rule_ids({}), lambda it: it.stop_report("?", "a"),
+            ]),
+            (lrlex.Document(open_one, "a 1"), [
+                lambda it: it.lex(), lambda it: it.pieces(), lambda it: it.text, lambda it: it.edit(0, 0, "b"), lambda it: it.place(0),
+                lambda it: it.position(0), lambda it: it.offset_at(0, 0),
+            ]),
+            (open_one.scanner("a 1"), [next, list]),
+        ]
+        for it, uses in rows:
+            self.assertFalse(it.closed)
+            with it as entered:
+                self.assertIs(entered, it)
+                # A scanner has made tiles before it is closed.
+                uses[0](it)
+            self.assertTrue(it.closed)
+            it.close()
+            for number, use in enumerate([*uses, lambda it: it.__enter__()]):
+                with self.subTest(kind=type(it), use=number):
+                    with self.assertRaises(ValueError) as raised:
+                        use(it)
+                    self.assertEqual(str(raised.exception), f"the {type(it).__name__} is closed")
+
+    def test_an_exception_closes(self):
+        with self.assertRaises(LookupError), lrlex.Document(lrlex.Definition(WORDS), "a") as document:
+            raise LookupError
+        self.assertTrue(document.closed)
+
+    def test_no_collection_is_needed_to_set_ids(self):
+        definition = lrlex.Definition(WORDS)
+        for make in [lambda: lrlex.Document(definition, "a"), lambda: definition.scanner("a")]:
+            with make() as it:
+                with self.assertRaises(lrlex.SharedError):
+                    definition.set_rule_ids({"ID": 7})
+            self.assertEqual(definition.set_rule_ids({"ID": 7}), (set(), {"INT"}))
+            self.assertTrue(it.closed)
+
+    def test_a_closed_definition_leaves_its_documents(self):
+        with lrlex.Definition(WORDS) as definition:
+            document, scanner = lrlex.Document(definition, "a"), definition.scanner("a 1")
+        document.edit(1, 1, " 1")
+        self.assertEqual(pairs(document.lex()), [("ID", "a"), ("INT", "1")])
+        self.assertEqual(pairs(scanner), [("ID", "a"), (None, " "), ("INT", "1")])
+
+    def test_what_has_a_handle_is_not_copied(self):
+        definition = lrlex.Definition(WORDS)
+        for it in [definition, lrlex.Document(definition, "a"), definition.scanner("a")]:
+            for copied in [copy.copy, copy.deepcopy, pickle.dumps]:
+                with self.subTest(kind=type(it)), self.assertRaises(TypeError) as raised:
+                    copied(it)
+                self.assertEqual(str(raised.exception), f"a {type(it).__name__} can't be copied or pickled")
+
+
 class Signals(unittest.TestCase):
     """Handlers of signals between any two steps of a call: those that raise, and those that call."""
 
