@@ -1,47 +1,62 @@
 """Prints the tokens of a text: python3 -m lrlex RULES INPUT [--json].
 
-Without --json it writes what the program lrlex does. With it, each token is a line of JSON: its name, text, start, end and id.
+Without --json it writes what the program lrlex does. With it, each token is a line of JSON: its name, text, start, end and id; where
+lexing stops, standard error shows the place. The status is that of the program: 0 if the whole text is lexed, and 1 for anything else.
 """
 
 from __future__ import annotations
 
 import argparse
 import json
+import os
 import sys
+from typing import NoReturn
 
 from . import Definition, LexError, RulesError
 from ._c import FLAGS
 
 
+class Refused(Exception):
+    """What is said where a file can't be read, or nothing can be written."""
+
+
+class Parser(argparse.ArgumentParser):
+    """A command line whose faults give the status 1."""
+
+    def error(self, message: str) -> NoReturn:
+        """Says how the command line is written, and ends."""
+        self.print_usage(sys.stderr)
+        self.exit(1, f"{self.prog}: error: {message}\n")
+
+
 def parsed(words: list[str]) -> argparse.Namespace:
     """The command line."""
-    parser = argparse.ArgumentParser(prog="python3 -m lrlex", description="Prints the tokens of a text.")
+    parser = Parser(prog="python3 -m lrlex", description="Prints the tokens of a text.")
     parser.add_argument("rules", metavar="RULES", help="a rule file, or - for standard input")
     parser.add_argument("input", metavar="INPUT", help="the text, or - for standard input")
     parser.add_argument("--json", action="store_true", help="print each token as a line of JSON")
     for name in FLAGS:
         parser.add_argument(f"--{name.replace('_', '-')}", dest=name, choices=["true", "false"])
-    return parser.parse_args(words)
+    asked = parser.parse_args(words)
+    if asked.rules == asked.input == "-":
+        parser.error("RULES and INPUT can't both be standard input")
+    return asked
 
 
 def read(path: str) -> str:
     """The file's text, with its line ends as they are."""
-    if path == "-":
-        return sys.stdin.buffer.read().decode()
-    with open(path, "rb") as file:
-        return file.read().decode()
-
-
-def main(words: list[str]) -> int:
-    """Lexes the input, and gives the status: 1 if it or the rule file is refused."""
-    asked = parsed(words)
-    flags = {name: value == "true" for name in FLAGS if (value := getattr(asked, name))}
+    is_input = path == "-"
     try:
-        rules, text = read(asked.rules), read(asked.input)
-        definition = Definition.from_str(rules, **flags)
-    except (OSError, UnicodeDecodeError, RulesError) as fault:
-        print(fault, file=sys.stderr)
-        return 1
+        with open(0 if is_input else path, "rb", closefd=not is_input) as file:
+            return file.read().decode()
+    except UnicodeDecodeError as fault:
+        raise Refused(f"File {path} is not UTF-8") from fault
+    except OSError as fault:
+        raise Refused(f"Can't open file {path}") from fault
+
+
+def write(definition: Definition, text: str, asked: argparse.Namespace) -> int:
+    """Writes the tokens, and gives the status: 1 if lexing stops."""
     out, status = sys.stdout.buffer, 0
     try:
         for token in definition.lex(text):
@@ -55,6 +70,24 @@ def main(words: list[str]) -> int:
             out.write(f"Couldn't lex input starting at byte {stop.byte}\n".encode())
     out.flush()
     return status
+
+
+def main(words: list[str]) -> int:
+    """Lexes the input, and gives the status: 1 if lexing stops, or anything is refused."""
+    asked = parsed(words)
+    flags = {name: value == "true" for name in FLAGS if (value := getattr(asked, name))}
+    try:
+        rules, text = read(asked.rules), read(asked.input)
+        return write(Definition.from_str(rules, **flags), text, asked)
+    except (Refused, RulesError) as fault:
+        print(fault, file=sys.stderr)
+    except MemoryError:
+        print("Out of memory", file=sys.stderr)
+    except OSError:
+        print("Can't write", file=sys.stderr)
+        # What is left to be written goes nowhere: Python writes it at the end, and would give another status.
+        os.dup2(os.open(os.devnull, os.O_WRONLY), sys.stdout.fileno())
+    return 1
 
 
 if __name__ == "__main__":

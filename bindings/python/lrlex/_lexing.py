@@ -78,8 +78,13 @@ class RulesError(Error, ValueError):
         if self._rules is None:
             return str(self)
         held, _ = _read(_Text(self._rules), self._settings or {})
-        name = file.encode()
+        name = _name(file)
         return text_by(held.call, LIB.lrlex_fault_report, name, len(name)) or ""
+
+
+def _name(file: str) -> bytes:
+    """The name of a file for a report. Bytes of it that aren't text, as os.fsdecode gives them, are question marks."""
+    return file.encode(errors="replace")
 
 
 class LexError(Error, ValueError):
@@ -373,7 +378,7 @@ class Definition(_Closing):
 
         None if the whole text is lexed.
         """
-        name, data = file.encode(), text.encode()
+        name, data = _name(file), text.encode()
         return text_by(self._held.call, LIB.lrlex_stop_report, name, len(name), data, len(data))
 
 

@@ -580,25 +580,82 @@ class Loading(unittest.TestCase):
 class Program(unittest.TestCase):
     """python3 -m lrlex"""
 
-    def run_on(self, rules, text, *words):
-        """The status, and the bytes of standard output."""
-        with tempfile.TemporaryDirectory() as folder:
-            for name, content in [("rules", rules), ("text", text)]:
-                with open(f"{folder}/{name}", "w", encoding="utf-8", newline="") as file:
-                    file.write(content)
-            with mock.patch("sys.stdout", io.TextIOWrapper(io.BytesIO())) as out, redirect_stderr(io.StringIO()):
-                status = program.main([f"{folder}/rules", f"{folder}/text", *words])
-                return status, out.buffer.getvalue().decode()
+    def setUp(self):
+        folder = tempfile.TemporaryDirectory()
+        self.addCleanup(folder.cleanup)
+        self.folder = folder.name
+
+    def file(self, name, content):
+        """The path of a file that has this content."""
+        path = os.path.join(os.fsencode(self.folder), os.fsencode(name))
+        with open(path, "wb") as file:
+            file.write(content if isinstance(content, bytes) else content.encode())
+        return os.fsdecode(path)
+
+    def run_on(self, rules, text, *words, name="text"):
+        """The status, and the texts of standard output and standard error."""
+        words = [self.file("rules", rules), self.file(name, text), *words]
+        with mock.patch("sys.stdout", io.TextIOWrapper(io.BytesIO())) as out, redirect_stderr(io.StringIO()) as err:
+            return program.main(words), out.buffer.getvalue().decode(), err.getvalue()
+
+    def run_alone(self, *words, **how):
+        """The status, and the texts of standard output and standard error, in a process of its own."""
+        environment = {**os.environ, "PYTHONPATH": os.pathsep.join(sys.path), "PYTHONIOENCODING": "ascii"}
+        how = {"stdout": subprocess.PIPE, **how}
+        came = subprocess.run([sys.executable, "-m", "lrlex", *words], env=environment, stderr=subprocess.PIPE, check=False, **how)
+        return came.returncode, (came.stdout or b"").decode(), came.stderr.decode()
 
     def test_tokens_as_text_and_as_json(self):
-        self.assertEqual(self.run_on(WORDS, "é 1"), (0, "ID é\nINT 1\n"))
-        status, out = self.run_on(WORDS, "é 1", "--json")
-        self.assertEqual(status, 0)
+        self.assertEqual(self.run_on(WORDS, "é 1"), (0, "ID é\nINT 1\n", ""))
+        status, out, err = self.run_on(WORDS, "é 1", "--json")
+        self.assertEqual((status, err), (0, ""))
         self.assertEqual([json.loads(line)["text"] for line in out.splitlines()], ["é", "1"])
 
     def test_what_is_refused(self):
-        self.assertEqual(self.run_on(WORDS, "a ?"), (1, "ID a\nCouldn't lex input starting at byte 2\n"))
-        self.assertEqual(self.run_on("%%\n( 'A'", ""), (1, ""))
+        self.assertEqual(self.run_on(WORDS, "a ?"), (1, "ID a\nCouldn't lex input starting at byte 2\n", ""))
+        status, out, err = self.run_on("%%\n( 'A'", "")
+        self.assertEqual((status, out), (1, ""))
+        self.assertRegex(err, r"\A\d+:\d+: .+\n\Z")
+        path = os.path.join(self.folder, "text")
+        self.assertEqual(self.run_on(WORDS, b"a \xff"), (1, "", f"File {path} is not UTF-8\n"))
+        rules = os.path.join(self.folder, "rules")
+        for words, missing in [([self.folder, rules], self.folder), ([rules, f"{path}.no"], f"{path}.no")]:
+            with redirect_stderr(io.StringIO()) as err:
+                self.assertEqual(program.main(words), 1)
+            self.assertEqual(err.getvalue(), f"Can't open file {missing}\n")
+
+    def test_the_name_of_a_file_is_any_bytes(self):
+        status, out, err = self.run_on(WORDS, "a ?", "--json", name=b"\xff.txt")
+        self.assertEqual((status, len(out.splitlines())), (1, 1))
+        self.assertTrue(err.startswith(f"{self.folder}/?.txt:1:3: "), err)
+        name = os.fsdecode(b"\xff.txt")
+        self.assertTrue(lrlex.Definition(WORDS).stop_report("?", name).startswith("?.txt:1:1: "))
+        self.assertTrue(error_of(lambda: lrlex.Definition("%%\n( 'A'")).report(name).startswith("?.txt:"))
+        rules, missing = self.file("rules", WORDS), os.path.join(self.folder, name)
+        self.assertEqual(self.run_alone(rules, f"{missing}.no"), (1, "", f"Can't open file {self.folder}/\\udcff.txt.no\n"))
+
+    def test_words_that_are_wrong(self):
+        for words, message in [
+            (["-", "-"], "RULES and INPUT can't both be standard input"), (["rules"], "the following arguments are required: INPUT"),
+            (["rules", "text", "--unicode", "maybe"], "argument --unicode: invalid choice"),
+        ]:
+            with self.subTest(words=words), redirect_stderr(io.StringIO()) as err:
+                with self.assertRaises(SystemExit) as raised:
+                    program.main(words)
+                self.assertEqual(raised.exception.code, 1)
+                self.assertIn(f"python3 -m lrlex: error: {message}", err.getvalue())
+
+    def test_standard_streams(self):
+        rules, text = self.file("rules", WORDS), self.file("text", "é 1")
+        self.assertEqual(self.run_alone(rules, "-", input="é 1".encode()), (0, "ID é\nINT 1\n", ""))
+        self.assertEqual(self.run_alone("-", text, input=WORDS.encode()), (0, "ID é\nINT 1\n", ""))
+        with open("/dev/full", "wb") as full:
+            self.assertEqual(self.run_alone(rules, text, stdout=full), (1, "", "Can't write\n"))
+
+    def test_memory_that_has_run_out(self):
+        with mock.patch.object(program, "Definition") as definition:
+            definition.from_str.side_effect = MemoryError
+            self.assertEqual(self.run_on(WORDS, ""), (1, "", "Out of memory\n"))
 
 
 class Pygments(unittest.TestCase):
