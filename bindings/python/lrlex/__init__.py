@@ -10,7 +10,8 @@ A rule text with faults raises RulesError; a text that no rule matches raises Le
 A Document keeps a text through edits, and lexes again only what each changes. A Scanner gives the tiles of a text as they are asked
 for. Offsets are indices of the `str`.
 
-A Definition, a Document and a Scanner stay on the thread that made them.
+A Definition, a Document and a Scanner may be used from any thread; calls of one of them wait for each other. They are freed once nothing
+refers to them, or by close() and at the end of a `with` statement.
 """
 
 from ._c import VERSION as __version__
@@ -19,5 +20,5 @@ from ._lexing import Definition, Document, Fault, LexError, Piece, Place, RulesE
 
 __all__ = [
     "Definition", "Document", "Error", "Fault", "FaultKind", "LexError", "Piece", "Place", "RulesError", "Scanner", "SharedError", "Tile",
-    "Token",
+    "Token", "__version__",
 ]

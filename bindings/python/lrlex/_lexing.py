@@ -224,6 +224,13 @@ class _Closing:
         """Frees what the C library has for it, and not only once nothing refers to it. After that all but `close` raises ValueError."""
         self._held.close()
 
+    def _described(self) -> str:
+        """What it is, for people."""
+        raise NotImplementedError
+
+    def __repr__(self) -> str:
+        return f"<lrlex.{type(self).__name__} {'that is closed' if self.closed else self._described()}>"
+
     def __enter__(self: _Self) -> _Self:
         self._held.need()
         return self
@@ -276,6 +283,9 @@ class Definition(_Closing):
         count = self._held.call(LIB.lrlex_rule_count)
         self._rule_names = [text_by(self._held.call, LIB.lrlex_rule_name, rule) for rule in range(count)]
         self._known: Optional[Mapping[int, str]] = None
+
+    def _described(self) -> str:
+        return f"of {len(self._rule_names)} rules"
 
     @classmethod
     def from_str(cls, rules: str, **settings: Any) -> Definition:
@@ -459,6 +469,10 @@ class Document(_Closing):
             # They can't change while there is a document.
             self._names, self._rule_names = definition._names, definition._rule_names
 
+    def _described(self) -> str:
+        text = self._text
+        return f"of {len(text.text)} characters" if text else "after an edit that was interrupted"
+
     @property
     def text(self) -> str:
         """The text as it is now."""
@@ -576,7 +590,11 @@ class Scanner(_Closing):
         # The tiles that come next, and the byte and the index behind them. They change at once.
         self._state: _Ahead = (iter(()), 0, 0)
 
+    def _described(self) -> str:
+        return f"of {len(self._text.text)} characters"
+
     def close(self) -> None:
+        """Frees what the C library has for it. After that it gives no tile, and raises ValueError."""
         with self._held.lock:
             super().close()
             # Those that are made already aren't given.

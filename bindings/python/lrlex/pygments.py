@@ -23,6 +23,8 @@ from lrlex import Definition
 from pygments.lexer import Lexer
 from pygments.token import Error, Text, Whitespace, string_to_tokentype
 
+__all__ = ["CustomLexer", "RulesLexer", "read_types"]
+
 # After so many places at which no rule matches, the rest of the text is shown as one error.
 MOST_ERRORS = 1000
 

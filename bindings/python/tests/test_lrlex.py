@@ -5,6 +5,7 @@ from __future__ import annotations
 import concurrent.futures
 import copy
 import gc
+import importlib.util
 import io
 import itertools
 import json
@@ -15,6 +16,7 @@ import subprocess
 import sys
 import tempfile
 import types
+import typing
 import unittest
 from contextlib import redirect_stderr
 from unittest import mock
@@ -423,6 +425,43 @@ class Closing(unittest.TestCase):
                 with self.subTest(kind=type(it)), self.assertRaises(TypeError) as raised:
                     copied(it)
                 self.assertEqual(str(raised.exception), f"a {type(it).__name__} can't be copied or pickled")
+
+
+class Names(unittest.TestCase):
+    """What the package shows of itself."""
+
+    def test_what_each_object_is(self):
+        definition = lrlex.Definition(WORDS)
+        document, scanner = lrlex.Document(definition, "é 1"), definition.scanner("é 1")
+        self.assertEqual(repr(definition), "<lrlex.Definition of 3 rules>")
+        self.assertEqual([repr(document), repr(scanner)], ["<lrlex.Document of 3 characters>", "<lrlex.Scanner of 3 characters>"])
+        for it in [definition, document, scanner]:
+            it.close()
+            self.assertEqual(repr(it), f"<lrlex.{type(it).__name__} that is closed>")
+        stop = lrlex.LexError(3, 4, 1, 4, None)
+        self.assertEqual(repr(stop), "LexError(start=3, byte=4, line=1, column=4, state=None)")
+        fault = lrlex.Fault("Invalid name", [lrlex.Place(2, 1, 3, 4)], lrlex.FaultKind.INVALID_NAME)
+        self.assertEqual(repr(lrlex.RulesError([fault], "%%", {})), f"RulesError([{fault!r}])")
+        self.assertEqual(str(fault), "2:1: Invalid name")
+
+    def test_all_names_are_there(self):
+        for module in [lrlex, *([importlib.import_module("lrlex.pygments")] if importlib.util.find_spec("pygments") else [])]:
+            self.assertEqual([name for name in module.__all__ if not hasattr(module, name)], [])
+        shown = {name for name, it in vars(lrlex).items() if isinstance(it, type)}
+        self.assertEqual(shown, {name for name in lrlex.__all__ if name != "__version__"})
+
+    def test_all_is_typed(self):
+        """Each function says what it takes and gives, and each type that it names is there."""
+        for module in [importlib.import_module(name) for name in ["lrlex._c", "lrlex._lexing", "lrlex.__main__"]]:
+            for owner in [module, *(it for it in vars(module).values() if isinstance(it, type) and it.__module__ == module.__name__)]:
+                for name, it in vars(owner).items():
+                    it = getattr(it, "fget", None) or getattr(it, "__func__", it)
+                    if not isinstance(it, types.FunctionType) or it.__module__ != module.__name__:
+                        continue
+                    taken = it.__code__.co_varnames[:it.__code__.co_argcount + it.__code__.co_kwonlyargcount]
+                    with self.subTest(function=f"{owner.__name__}.{name}"):
+                        hints = typing.get_type_hints(it)
+                        self.assertLessEqual({*taken, "return"} - {"self", "cls"}, hints.keys())
 
 
 class Signals(unittest.TestCase):
