@@ -200,7 +200,8 @@ class _Held:
     def call(self, function: Callable[..., _T], *words: object) -> _T:
         """What a function of the C library gives for this handle and these words. Raises ValueError if it is closed."""
         with self.lock:
-            self.need()
+            if self.is_closed:
+                self.need()
             return function(self.pointer, *words)
 
     def close(self) -> None:
@@ -258,7 +259,7 @@ def _unpacked(form: struct.Struct, buffer: ctypes.Array[Any], count: int) -> Ite
 
     They are copied: an iterator over a view of the buffer has CPython crash if both are garbage in a cycle, as that of an exception.
     """
-    return form.iter_unpack(ctypes.string_at(buffer, count * form.size))
+    return form.iter_unpack(memoryview(buffer).cast("B")[: count * form.size].tobytes())
 
 
 class Definition(_Closing):
