@@ -77,7 +77,9 @@ class RulesError(Error, ValueError):
         """
         if self._rules is None:
             return str(self)
-        held, _ = _read(_Text(self._rules), self._settings or {})
+        held, status = _read(_Text(self._rules), self._settings or {})
+        if status != _c.REFUSED:
+            check(status)
         name = _name(file)
         return text_by(held.call, LIB.lrlex_fault_report, name, len(name)) or ""
 
@@ -200,8 +202,7 @@ class _Held:
     def call(self, function: Callable[..., _T], *words: object) -> _T:
         """What a function of the C library gives for this handle and these words. Raises ValueError if it is closed."""
         with self.lock:
-            if self.is_closed:
-                self.need()
+            self.need()
             return function(self.pointer, *words)
 
     def close(self) -> None:
@@ -222,7 +223,10 @@ class _Closing:
         return self._held.is_closed
 
     def close(self) -> None:
-        """Frees what the C library has for it, and not only once nothing refers to it. After that all but `close` raises ValueError."""
+        """Frees what the C library has for it, which else is freed once nothing refers to it. After that each use raises ValueError.
+
+        It waits for calls of other threads. To close it again does nothing.
+        """
         self._held.close()
 
     def _described(self) -> str:
@@ -263,7 +267,7 @@ def _unpacked(form: struct.Struct, buffer: ctypes.Array[Any], count: int) -> Ite
 
 
 class Definition(_Closing):
-    """The rules of a rule file, ready to lex texts. Its documents and scanners can be used once it is closed."""
+    """The rules of a rule file, ready to lex texts. Its documents and scanners stay usable after it is closed."""
 
     def __init__(
         self, rules: str, *, size_limit: Optional[int] = None, nest_limit: Optional[int] = None,
@@ -327,7 +331,7 @@ class Definition(_Closing):
         given = (_c.NamedId * (len(rows) + 1))(*[_c.NamedId(name, len(name), token_id) for name, token_id in rows])
         missing = (ctypes.c_bool * (len(rows) + 1))()
         with self._held.lock:
-            # An exception after the call, such as that of Ctrl-C, leaves no names that aren't so.
+            # None before the call, if an exception such as that of Ctrl-C comes after it; and after it, if a signal's handler reads them.
             self._known = None
             check(self._held.call(LIB.lrlex_definition_set_rule_ids, given, len(rows), missing, len(rows)))
             self._known = None
@@ -572,7 +576,7 @@ def _encoding(name: str) -> int:
 
 
 class Scanner(_Closing):
-    """The tiles of a text, one after the other: an iterator. It keeps none of them.
+    """The tiles of a text, one after the other: an iterator. It makes some hundred of them at a time.
 
     Where lexing stops before the text's end it raises LexError, after the tiles before that place. After any other exception, such as
     that of Ctrl-C, it goes on where it was.
@@ -595,10 +599,9 @@ class Scanner(_Closing):
         return f"of {len(self._text.text)} characters"
 
     def close(self) -> None:
-        """Frees what the C library has for it. After that it gives no tile, and raises ValueError."""
+        """Frees what the C library has for it. After that it gives no more tiles, also of those that it has made, and raises ValueError."""
         with self._held.lock:
             super().close()
-            # Those that are made already aren't given.
             self._state, self._scanned.count = (iter(()), 0, 0), 0
 
     def __iter__(self) -> Scanner:

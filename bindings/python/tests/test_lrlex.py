@@ -353,6 +353,27 @@ class Scanners(unittest.TestCase):
             self.assertEqual([(it.id, it.start, it.end) for it in tiles if it.id is not None], definition.spans(text))
             self.assertEqual("".join(it.text for it in tiles), text)
 
+    def test_memory_that_has_run_out(self):
+        definition = lrlex.Definition(WORDS)
+        scanner, document = definition.scanner("é 1"), lrlex.Document(definition, "é 1")
+
+        def out_of_memory(_handle, _tiles, _room, scanned):
+            # What is written then is anything.
+            scanned._obj.count = scanned._obj.place = 7  # pylint: disable=protected-access
+            return _c.NOMEM
+
+        with mock.patch.object(_c.LIB, "lrlex_scanner_next", out_of_memory), self.assertRaises(MemoryError):
+            next(scanner)
+        self.assertEqual(list(scanner), list(definition.scanner("é 1")))
+        with mock.patch.object(_c.LIB, "lrlex_document_edit", return_value=_c.NOMEM), self.assertRaises(MemoryError):
+            document.edit(0, 1, "b")
+        self.assertEqual((document.text, pairs(document.lex())), ("é 1", [("ID", "é"), ("INT", "1")]))
+        document.edit(0, 1, "b")
+        self.assertEqual((document.text, pairs(document.lex())), ("b 1", [("ID", "b"), ("INT", "1")]))
+        refused = error_of(lambda: lrlex.Definition("%%\n( 'A'"))
+        with mock.patch.object(_c.LIB, "lrlex_definition_new", return_value=_c.NOMEM), self.assertRaises(MemoryError):
+            refused.report("words.l")
+
     def test_a_scanner_is_an_owner(self):
         definition = lrlex.Definition(WORDS)
         scanner = definition.scanner("a")
