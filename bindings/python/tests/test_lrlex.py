@@ -273,6 +273,16 @@ class Threads(unittest.TestCase):
         found = self.in_threads(work, range(400))
         self.assertEqual([it for it in found if it not in ([("ID", "a"), ("INT", "1")], (set(), set()))], [])
 
+    def test_what_nothing_refers_to_is_freed_without_a_lock(self):
+        document = lrlex.Document(self.definition, "a")
+        # pylint: disable-next=protected-access
+        lock, cycle = document._held.lock, [document]
+        cycle.append(cycle)
+        del cycle, document
+        with concurrent.futures.ThreadPoolExecutor(1) as pool, lock:
+            pool.submit(gc.collect).result(60)
+        self.assertEqual(self.definition.set_rule_ids({"INT": 0, "ID": 1}), (set(), set()))
+
     def test_nothing_is_freed_at_the_end(self):
         words = f"""if True:
             import lrlex
