@@ -125,7 +125,7 @@ class Tokens(unittest.TestCase):
             lrlex.Definition.from_str("%x A A\n%%\na+b 'A'\nb 'A'\nc( 'C'\n")
         faults = raised.exception.faults
         self.assertEqual([it.places[0][:2] for it in faults], [(1, 4), (3, 6), (5, 1)])
-        self.assertEqual([it.kind.name for it in faults], ["DUPLICATE_START_STATE", "REGEX_ERROR", "MISSING_SPACE"])
+        self.assertEqual([it.kind.name for it in faults], ["DUPLICATE_START_STATE", "DUPLICATE_NAME", "REGEX_ERROR"])
         self.assertEqual(faults[0].message, "Start state already exists")
         self.assertEqual([(it.start, it.end) for it in faults[0].places], [(3, 4), (5, 6)])
         self.assertTrue(str(raised.exception).startswith("1:4: Start state already exists, again at 1:6\n3:6: "))
