@@ -361,7 +361,7 @@ class Definition(_Closing):
         it = _Text(text)
         with self._held.lock:
             rows, lexed = self._lexed(it)
-            names = self._names
+            names = self._known or self._names
         return _tokens(names, it, rows, lexed)
 
     def spans(self, text: str) -> list[_Span]:
@@ -622,12 +622,12 @@ class Scanner(_Closing):
             rows = self._fetched(byte) if self._state is used else []
             if self._state is not used:
                 return
-            spans = self._text.spans([(start, length, rule) for start, length, rule, _, _ in rows], byte, index)
+            spans = self._text.spans([row[:3] for row in rows], byte, index)
             # pylint: disable-next=protected-access
             names, text = self.definition._rule_names, self._text.text
             tiles = [
-                Tile(names[rule], text[start:end], start, end, rule, token_id if has_id else None)
-                for (rule, start, end), (_, _, _, token_id, has_id) in zip(spans, rows)
+                Tile(names[rule], text[start:end], start, end, rule, row[3] if row[4] else None)
+                for (rule, start, end), row in zip(spans, rows)
             ]
             self._state = iter(tiles), sum(rows[-1][:2]), tiles[-1].end
 
