@@ -610,8 +610,7 @@ class Scanner(_Closing):
     def __next__(self) -> Tile:
         while True:
             state = self._state
-            tile = next(state[0], None)
-            if tile is not None:
+            for tile in state[0]:
                 return tile
             self._fill(state)
 
@@ -625,8 +624,10 @@ class Scanner(_Closing):
             spans = self._text.spans([row[:3] for row in rows], byte, index)
             # pylint: disable-next=protected-access
             names, text = self.definition._rule_names, self._text.text
+            # As `Tile(..)` makes them, in two thirds of the time.
+            make = tuple.__new__
             tiles = [
-                Tile(names[rule], text[start:end], start, end, rule, row[3] if row[4] else None)
+                make(Tile, (names[rule], text[start:end], start, end, rule, row[3] if row[4] else None))
                 for (rule, start, end), row in zip(spans, rows)
             ]
             self._state = iter(tiles), sum(rows[-1][:2]), tiles[-1].end
