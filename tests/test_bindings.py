@@ -155,7 +155,7 @@ class Bindings(unittest.TestCase):
         c_library.need("rustdoc")
         crate, native = f"lrlex={programs.scratch().name}/liblrlex.rlib", f"native={os.path.dirname(c_library.static())}"
         words = ["rustdoc", "--edition", "2024", "--crate-name", "lrlex", "--extern", crate, "-L", native, "--test", f"{RUST}/src/lib.rs"]
-        self.assertIn("1 passed", run_well(words).out)
+        self.assertRegex(run_well(words).out, r"[1-9]\d* passed; 0 failed")
 
     def test_rust_prints_tokens(self):
         self.check_tokens([rust_program("examples/tokens.rs")])
