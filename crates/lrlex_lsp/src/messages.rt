@@ -96,10 +96,10 @@ pub(crate) fn refusal(
     }
 }
 
-/// A message for the client's log, as a warning. The text is as JSON has it.
-pub(crate) fn warning(alloc: Global, text: &str) -> Result<String, AllocError> {
+/// A warning, for the client's log by `window/logMessage`, or for its user by `window/showMessage`. The text is as JSON has it.
+pub(crate) fn warning(alloc: Global, method: &str, text: &str) -> Result<String, AllocError> {
     format!(in alloc;
-        "{{\"jsonrpc\":\"2.0\",\"method\":\"window/logMessage\",\"params\":{{\"type\":2,\"message\":\"{text}\"}}}}"
+        "{{\"jsonrpc\":\"2.0\",\"method\":\"{method}\",\"params\":{{\"type\":2,\"message\":\"{text}\"}}}}"
     )
 }
 

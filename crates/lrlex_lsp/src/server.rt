@@ -82,6 +82,18 @@ impl<'d> Server<'d> {
         })
     }
 
+    /// Tells the user that the given rules have faults, if they do: then no text is lexed by them.
+    fn did_initialize(&self, told: &mut Vec<String>) -> Result<Next, AllocError> {
+        if self.texts.lacks_language() {
+            told.push(warning(
+                self.alloc,
+                "window/showMessage",
+                "The rule file has faults, so no text is lexed by it. Open it to see them",
+            )?)?;
+        }
+        Ok(Next::GoOn)
+    }
+
     fn did_open(&mut self, message: &Value, told: &mut Vec<String>) -> Result<Next, AllocError> {
         let text = text_at(message, "/params/textDocument/text");
         let (Some(uri), Some(text)) = (uri_of(message), text) else {
@@ -101,6 +113,7 @@ impl<'d> Server<'d> {
         if !self.texts.change(uri, changes, version_of(message))? {
             told.push(warning(
                 self.alloc,
+                "window/logMessage",
                 "A change doesn't fit the document, which is as it was before it",
             )?)?;
         }
@@ -116,6 +129,7 @@ impl<'d> Server<'d> {
     ) -> Result<Next, AllocError> {
         match (self.phase, method) {
             (phase, "exit") => Ok(Next::End(phase == Phase::ShutDown)),
+            (Phase::Serving, "initialized") => self.did_initialize(told),
             (Phase::Serving, "textDocument/didOpen") => self.did_open(message, told),
             (Phase::Serving, "textDocument/didChange") => self.did_change(message, told),
             (Phase::Serving, "textDocument/didClose") => {

@@ -49,6 +49,11 @@ impl<'d> Texts<'d> {
         }
     }
 
+    /// Whether there are given rules, but no language of theirs.
+    pub(crate) fn lacks_language(&self) -> bool {
+        !self.given.uri.is_empty() && self.given.language.is_none()
+    }
+
     /// Opens what was open before, and tells what is wrong with each document.
     pub(crate) fn reopen(
         &mut self,
