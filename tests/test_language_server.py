@@ -7,6 +7,9 @@ import unittest
 from language_server import dialogues, mutated, refused
 from language_server.client import REFRESH, Client, applied, decoded, ranged, rules_file, spot
 from support import programs
+from support.messages import (
+    LIST, LOOKS, LOST, MARGIN, NEVER_ENTERED, NEVER_WINS, NO_MARK, OPERATOR, QUOTES, RULE, STATE_NAME,
+)
 
 URI, TEXT = "file:///texts/rules.l", "file:///texts/a.txt"
 
@@ -30,16 +33,6 @@ LINES = """%%
 
 FAULTS = "%s here here\n%%\n[a-z]+ 'ID'\n[A-Z] 'ID'\n 'indented'\n( 'OPEN'\n"
 
-# What the messages of faults end with.
-NO_MARK = "no line begins with %%; write one before the rules"
-QUOTES = "write it in quotes and without blanks, or ; for no name"
-LIST = "a pattern that begins with < lists start states; write \\< for the character"
-MARGIN = "white space begins the line; write the rule without it, or an empty line"
-
-NEVER_ENTERED = "no rule enters this start state; name it as the target of a rule"
-NEVER_WINS = "this rule never wins: it matches no byte, or other rules match all that it does; put it before them"
-LOOKS = "this rule has no table, and is slower: $, \\b, \\z and a ^ within it look at what is beside the match; leave them out"
-LOST = "a backslash is dropped here, before a letter that begins no escape; write the letter, or \\x41 in place of \\x{41}"
 # The severity of a warning, and its tags: 2 a warning, 4 a hint; tag 1 is that of what does nothing.
 WEIGHTS = {NEVER_WINS: (2, [1]), LOOKS: (4, None), LOST: (2, None)}
 
@@ -182,7 +175,7 @@ class RuleFiles(Session):
         self.assertEqual((URI, 1), (told["uri"], told["version"]))
         wanted = [
             (0, 8, "Start state already exists"), (3, 7, "Rule name already exists"), (4, 0, f"Verbatim code not supported: {MARGIN}"),
-            (5, 0, "Invalid regular expression: unclosed group"),
+            (5, 0, f"Invalid regular expression: unclosed group: {OPERATOR}"),
         ]
         self.assertEqual(wanted, [(spot(it)[0], spot(it)[1], spot(it)[4]) for it in told["diagnostics"]])
         first = told["diagnostics"][1]["relatedInformation"][0]
@@ -203,8 +196,8 @@ class RuleFiles(Session):
         client.begin()
         text = "%s one\n%x 1\n%%\n[a-z]+ 'ID'\n[0-9+ 'NUMBER'\n<one,two>x 'X'\ny'Y'\nz Z\n<one w 'W'\n[a-z]* 'ID'\n"
         wanted = [
-            (1, 3, 1, 4, "Invalid start state name"), (4, 0, 4, 5, "Invalid regular expression: unclosed character class"),
-            (5, 0, 5, 9, f"Start state not known: {LIST}"), (6, 0, 6, 4, "Rule is missing a space"), (7, 2, 7, 3, f"Invalid rule name: {QUOTES}"),
+            (1, 3, 1, 4, f"Invalid start state name: {STATE_NAME}"), (4, 0, 4, 5, "Invalid regular expression: unclosed character class"),
+            (5, 0, 5, 9, f"Start state not known: {LIST}"), (6, 0, 6, 4, f"Rule is missing a space: {RULE}"), (7, 2, 7, 3, f"Invalid rule name: {QUOTES}"),
             (8, 0, 8, 10, f"Invalid start state: {LIST}"), (9, 8, 9, 10, "Rule name already exists"),
         ]
         self.assertEqual(wanted, sorted(spot(it) for it in client.open(URI, text)["diagnostics"]))
@@ -217,7 +210,7 @@ class RuleFiles(Session):
         rows = [
             ("[a-z]+ 'ID'\nif 'IF'\n", [(2, 0, 2, 2, NEVER_WINS)]), ("if 'IF'\n[a-z]+ 'ID'\n", []), ("() 'NONE'\n", [(1, 0, 1, 2, NEVER_WINS)]),
             ("😀\\q 'Q'\na$ 'A'\n", [(1, 0, 1, 4, LOST), (2, 0, 2, 2, LOOKS)]),
-            ("[a-z]+ 'ID'\nif 'IF'\n( 'OPEN'\n", [(3, 0, 3, 1, "Invalid regular expression: unclosed group")]),
+            ("[a-z]+ 'ID'\nif 'IF'\n( 'OPEN'\n", [(3, 0, 3, 1, f"Invalid regular expression: unclosed group: {OPERATOR}")]),
         ]
         for rules, wanted in rows:
             with self.subTest(rules=rules):
@@ -451,12 +444,11 @@ class Texts(Session):
         self.assertEqual(0, client.end())
 
     def test_rules_change_while_open(self):
-        # a path with characters that clients escape, and as some escape them
-        path = rules_file(RULES, "a b#é.l")
-        client = self.client("--rules", path)
+        # a path with characters that clients escape, and as some escape them; as it is given, it goes up and down again
+        folder, name = os.path.split(rules_file(RULES, "a b#é.l"))
+        client = self.client("--rules", f"{folder}/../{os.path.basename(folder)}/./{name}")
         client.begin({"workspace": {"semanticTokens": {"refreshSupport": True}}})
         self.assertEqual(1, len(client.open(TEXT, "let a!")["diagnostics"]))
-        folder = os.path.dirname(path)
         rules = f"file://{folder}/a%20b%23%c3%A9%2El"
         self.assertEqual(rules, client.open(rules, RULES, "lex")["uri"])
         told = {it["uri"]: len(it["diagnostics"]) for it in (client.told(), client.told())}
@@ -469,6 +461,18 @@ class Texts(Session):
         kinds = [it[3] for it in decoded(client.tokens(TEXT)["data"], client.types)]
         self.assertEqual(["keyword", "variable", "operator"], kinds)
         self.assertIn(REFRESH, [it.get("method") for it in client.notes])
+        self.assertEqual(0, client.end())
+
+    def test_rules_with_faults(self):
+        path = rules_file("%%\n( 'OPEN'\n")
+        client = self.client("--rules", path)
+        client.begin()
+        shown = client.told("window/showMessage")
+        self.assertEqual((2, "The rule file has faults, so no text is lexed by it. Open it to see them"), (shown["type"], shown["message"]))
+        self.assertEqual([], client.open(TEXT, "let a?")["diagnostics"])
+        self.assertEqual(1, len(client.open(f"file://{path}", "%%\n( 'OPEN'\n", "lex")["diagnostics"]))
+        client.change(f"file://{path}", RULES)
+        self.assertEqual(1, len(client.told_of(TEXT, 1)["diagnostics"]))
         self.assertEqual(0, client.end())
 
     def test_no_rules(self):

@@ -12,7 +12,10 @@ import tempfile
 import unittest
 
 from support import programs, replay
-from support.fault_notes import BACKSLASH, BEFORE_RULES, COMMENT, LIST, MARGIN, NO_MARK, QUOTES
+from support.messages import (
+    BACKSLASH, BARE, BEFORE_RULES, BLANK, COMMENT, IN_PATTERN, LIST, LOOKS, LOST, MARGIN, NEVER_ENTERED, NEVER_WINS, NO_MARK, NO_RULES,
+    NO_TABLE, OPERATOR, QUOTED, QUOTES, SHORTER, WORD,
+)
 from support.programs import Outcome
 
 PROGRAM = "rolgumzai"
@@ -48,7 +51,7 @@ STOP = "stop:1:4: unexpected character '@'\n1 | ab @\n  |    ^\n"
 BAD = (
     "bad.l:3:4: Rule name already exists\n3 | b 'A'\n  |    ^\n"
     "bad.l:2:4: first here\n2 | a 'A'\n  |    ^\n"
-    "bad.l:4:1: Invalid regular expression: unclosed group\n4 | ( 'B'\n  | ^\n"
+    f"bad.l:4:1: Invalid regular expression: unclosed group: {OPERATOR}\n4 | ( 'B'\n  | ^\n"
 )
 FIRST = (
     f"first.l:2:1: Invalid start state: {LIST}\n2 | <= 'LE'\n  | ^\n"
@@ -65,6 +68,12 @@ LATIN = "latin:2:1: not UTF-8, byte 0xE9 at offset 3\n2 | \n  | ^\n"
 MISSING = "rolgumzai: none: No such file or directory (os error 2)\n"
 FOLDER = "rolgumzai: folder: Is a directory (os error 21)\n"
 
+# What names no place of `input`, which has 18 bytes, and lines of 6 and 9 characters.
+NO_PLACE = "rolgumzai: input: there is no place {}; write a byte from 0 to 18, or LINE:COLUMN\n"
+NO_PLACES = ["19", "x", "18446744073709551616", "1:8", "2:11", "3:1", "0:1", "1:0", "1:", ":1", "1:2:3", "1:x", "-1:1"]
+
+TWICE = "rolgumzai: - is given twice, but standard input can be one file only\n"
+
 NO_TYPE = "rolgumzai: --map {}: NAME=TOKENTYPE is wanted, with a type of the Language Server Protocol\n"
 
 # Words, standard input, and what comes of them.
@@ -72,7 +81,7 @@ ROWS = [
     ("tokens tokens.l input", "", Outcome(LINES)),
     ("tokens tokens.l -", "if 1", Outcome('1:1 0..2 IF "if"\n1:4 3..4 INT "1"\n')),
     ("tokens - input", FILES["tokens.l"], Outcome(LINES)),
-    ("tokens - -", FILES["tokens.l"], Outcome()),
+    *((words, FILES["tokens.l"], Outcome("", TWICE, 2)) for words in ("tokens - -", "highlight - -", "explain - - 0", "check - -")),
     ("tokens tokens.l empty", "", Outcome()),
     ("tokens tokens.l stop", "", Outcome('1:1 0..2 ID "ab"\n', STOP, 1)),
     ("tokens --case-insensitive true tokens.l -", "IF", Outcome('1:1 0..2 IF "IF"\n')),
@@ -213,7 +222,7 @@ ROWS = [
             1,
         ),
     ),
-    ("explain tokens.l input 99", "", Outcome("", "rolgumzai: input: there is no byte 99, the text has 18\n", 2)),
+    *((f"explain tokens.l input {word}", "", Outcome("", NO_PLACE.format(word), 2)) for word in NO_PLACES),
     ("lsp --rules none", "", Outcome("", MISSING, 2)),
     ("lsp --rules -", FILES["tokens.l"], Outcome("", "rolgumzai: lsp: the rules can't come from standard input, which is the client's\n", 2)),
     ("lsp --rules latin", "", Outcome("", LATIN, 2)),
@@ -224,20 +233,6 @@ ROWS = [
     ("explain bad.l input 0", "", Outcome("", BAD, 1)),
     ("explain tokens.l none 0", "", Outcome("", MISSING, 2)),
 ]
-
-NEVER_WINS = "this rule never wins: it matches no byte, or other rules match all that it does; put it before them"
-LOOKS = "this rule has no table, and is slower: $, \\b, \\z and a ^ within it look at what is beside the match; leave them out"
-NO_TABLE = (
-    "this rule has no table, and is slower: its table, or all tables together, would be too large; repeat fewer times, "
-    "or part the pattern"
-)
-IN_PATTERN = "this target is part of the pattern; write no blank between the target and the name"
-BLANK = "the blank after these start states is part of the pattern; leave it out, or write [ ]"
-LOST = "a backslash is dropped here, before a letter that begins no escape; write the letter, or \\x41 in place of \\x{41}"
-WORD = "after start states \\< and \\> are the beginning and the end of a word; write < and > without the backslash"
-SHORTER = "an alternative never matches here: it begins with an earlier one, which is tried first; put the longer one first"
-NEVER_ENTERED = "no rule enters this start state; name it as the target of a rule"
-NO_RULES = "no rule is active in this start state, so lexing stops there; list it before a pattern"
 
 # Rule texts, and their warnings: line, column, how many characters are underlined, and the message.
 WARNED = [
@@ -278,6 +273,15 @@ WARNED = [
     ("%%\nint|integer|in 'INT'\n", [(2, 1, 14, SHORTER)]),
     # the longer one first, a letter after a backslash, a class, a repetition, more than a group
     ("%%\ninteger|int 'INT'\na|\\d 'A'\n[b]|bc 'B'\ne|ef* 'E'\n(g|gh)i 'G'\n(j)|(jk) 'J'\n", []),
+    ("%%\n|a|ab 'A'\n(|b|bc) 'B'\na||ab 'C'\n", [(2, 1, 5, NEVER_WINS), (3, 1, 7, NEVER_WINS), (4, 1, 5, SHORTER)]),
+    ("%%\n| 'A'\n|| 'B'\n^ 'C'\n", [(line, 1, len_, it) for line, len_ in [(2, 1), (3, 2), (4, 1)] for it in (NEVER_WINS, BARE)]),
+    ("%%\n$ 'A'\n", [(2, 1, 1, LOOKS), (2, 1, 1, BARE)]),
+    ("%%\n\\| 'A'\n[|] 'B'\na| 'C'\n", []),
+    ("%%\n\"if\" 'A'\n\"+\" 'B'\n'a' 'C'\n\"<=\" 'D'\n", [(line, 1, len_, QUOTED) for line, len_ in [(2, 4), (3, 3), (4, 3), (5, 4)]]),
+    ("%s S\n%%\na <+S>;\n<S>\"b\" 'B'\n", [(4, 1, 6, QUOTED)]),
+    # a pattern for texts in quotes, one quote or two of them, and different ones
+    ("%%\n\".*\" 'A'\n'[a-z]' 'B'\n\"\\\\w+\" 'C'\n\"[^\"]*\" 'D'\n", []),
+    ("%%\n\" 'A'\n\"\" 'B'\n'a\" 'C'\n\"b\"c 'D'\n", []),
     ("%x S T\n%%\na <S>'A'\n", [(1, 4, 1, NO_RULES), (1, 6, 1, NEVER_ENTERED), (1, 6, 1, NO_RULES)]),
     ("%s S\n%%\na <-S>'A'\n", [(1, 4, 1, NEVER_ENTERED)]),
     ("%%\n", [(1, 1, 1, NO_RULES)]),
@@ -300,9 +304,7 @@ REFUSED = [
     ("tokens --size-limit=-1 tokens.l input", "-1"),
     ("check", "<RULES>"),
     ("highlight --page tokens.l input", "--page"),
-    ("explain tokens.l input", "<OFFSET>"),
-    ("explain tokens.l input x", "x"),
-    ("explain tokens.l input 18446744073709551616", "18446744073709551616"),
+    ("explain tokens.l input", "<PLACE>"),
 ]
 
 COMMANDS = ["check", "tokens", "highlight", "explain", "lsp"]
@@ -395,6 +397,14 @@ class Rolgumzai(unittest.TestCase):
             self.assertEqual((ended.stdout, ended.returncode), (b"", 2))
             self.assertTrue(ended.stderr.startswith(b"rolgumzai: "), ended.stderr)
 
+    def test_a_place_by_its_byte_and_by_line_and_column(self):
+        rows = [("0", "1:1"), ("6", "1:7"), ("7", "2:1"), ("13", "2:7"), ("16", "2:8"), ("18", "2:10")]
+        for program, (byte, place) in self.each(rows):
+            with self.subTest(byte=byte, program=program):
+                wanted = self.run_in_folder(program, ["explain", "tokens.l", "input", byte])
+                self.assertEqual((wanted.err, wanted.status), ("", 0))
+                self.assertEqual(self.run_in_folder(program, ["explain", "tokens.l", "input", place]), wanted)
+
     def test_help(self):
         for program in programs.by_each_compiler(PROGRAM):
             out, err, status = self.run_in_folder(program, ["--help"])
@@ -464,6 +474,18 @@ class Rolgumzai(unittest.TestCase):
             out, err, status = self.run_in_folder(program, ["explain", "many.l", "-", "0"], "a1999")
             self.assertIn("R1999 of many.l:2001 wins with 5 bytes: no other rule matches as many\n", out)
             self.assertEqual((len(out.splitlines()), err, status), (2_005, "", 0))
+
+    def test_tokens_of_a_long_line(self):
+        # some minutes if each token's column were counted from the beginning of the line
+        text = "é ab " * 100_000
+        rules = "%%\n[a-z]+ 'ID'\n[\\p{L}]+ 'WORD'\n[ ] ;\n"
+        programs.fill(self.folder, {"long.l": rules, "line": text})
+        for program in programs.by_each_compiler(PROGRAM):
+            out, err, status = self.run_in_folder(program, ["tokens", "long.l", "line"])
+            self.assertEqual((err, status), ("", 0))
+            lines = out.splitlines()
+            self.assertEqual((len(lines), lines[0], lines[1]), (200_000, '1:1 0..2 WORD "é"', '1:3 3..5 ID "ab"'))
+            self.assertEqual(lines[-1], '1:499998 599997..599999 ID "ab"')
 
     def test_standard_output_that_fails(self):
         rows = ["tokens tokens.l input", "highlight tokens.l input", "check bad.l", "explain tokens.l input 0"]

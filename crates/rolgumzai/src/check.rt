@@ -1,5 +1,5 @@
 //! `rolgumzai check RULES..`: what is wrong with rule files.
-use crate::files::{name_of, text_at};
+use crate::files::{is_read_twice, name_of, text_at};
 use crate::findings::findings_of;
 use crate::flags::flags_of;
 use crate::output::{FAULTY, UNABLE, print};
@@ -20,8 +20,12 @@ fn check(rt: &HostRuntime, path: &str, flags: LexFlags) -> io::Result<u8> {
 /// Shows what is wrong with the files that the words name. Gives the greatest status of all.
 pub fn serve(rt: &HostRuntime, words: &ArgMatches<'_>) -> io::Result<u8> {
     let flags = flags_of(words);
+    let paths = words.get_strs("rules").unwrap_or(&[]);
+    if is_read_twice(rt, paths)? {
+        return Ok(UNABLE);
+    }
     let mut status = 0;
-    for path in words.get_strs("rules").unwrap_or(&[]) {
+    for path in paths {
         status = status.max(check(rt, path, flags)?);
     }
     Ok(status)

@@ -1,6 +1,6 @@
 //! The words of the command line.
 use crate::flags::with_flags;
-use clap::{Arg, ArgAction, Command, value_parser};
+use clap::{Arg, ArgAction, Command};
 use std::alloc::{AllocError, Global};
 
 /// A path that has to be there.
@@ -87,20 +87,19 @@ fn highlight<'a>(alloc: Global) -> Result<Command<'a>, AllocError> {
 
 /// What says why a token is what it is.
 fn explain<'a>(alloc: Global) -> Result<Command<'a>, AllocError> {
-    let offset = path(
+    let place = path(
         alloc,
-        "offset",
-        "OFFSET",
-        "A byte of the text, from 0, as START of tokens",
-    )
-    .value_parser(value_parser!(usize));
+        "place",
+        "PLACE",
+        "A place of the text: LINE:COLUMN, or a byte from 0, as tokens prints them",
+    );
     let command = Command::new(alloc, "explain")
-        .about("Says which rule wins at a byte of a text, and why")
+        .about("Says which rule wins at a place of a text, and why")
         .after_help(
-            "It shows the piece with this byte, the start states on the stack, each rule that is active there, and how many bytes \
+            "It shows the piece at this place, the start states on the stack, each rule that is active there, and how many bytes \
             it matches.",
         );
-    with_files(alloc, command, "The text to lex")?.arg(offset)
+    with_files(alloc, command, "The text to lex")?.arg(place)
 }
 
 /// What serves an editor.

@@ -52,6 +52,23 @@ pub fn text_at(rt: &HostRuntime, path: &str) -> io::Result<Option<String>> {
     }
 }
 
+/// Whether two of these paths are standard input, which is reported. It can be read once.
+pub fn is_read_twice(rt: &HostRuntime, paths: &[&str]) -> io::Result<bool> {
+    let mut found = false;
+    for path in paths {
+        if *path == "-" {
+            if found {
+                eprintln!(rt;
+                    "rolgumzai: - is given twice, but standard input can be one file only"
+                )?;
+                return Ok(true);
+            }
+            found = true;
+        }
+    }
+    Ok(false)
+}
+
 /// The path that the words name by this id. It is there: the command takes no words without it.
 pub fn path_of<'a>(words: &ArgMatches<'a>, id: &str) -> &'a str {
     words.get_str(id).unwrap_or("")
@@ -90,6 +107,9 @@ pub fn rules_of(
     rt: &HostRuntime,
     words: &ArgMatches<'_>,
 ) -> io::Result<Result<(String, Definition), u8>> {
+    if is_read_twice(rt, &[path_of(words, "rules"), path_of(words, "input")])? {
+        return Ok(Err(UNABLE));
+    }
     let Some(text) = text_at(rt, path_of(words, "rules"))? else {
         return Ok(Err(UNABLE));
     };

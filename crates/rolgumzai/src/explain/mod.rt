@@ -1,7 +1,8 @@
-//! `rolgumzai explain RULES INPUT OFFSET`: which rule wins at a byte of a text, and why.
+//! `rolgumzai explain RULES INPUT PLACE`: which rule wins at a place of a text, and why.
 mod active;
 mod boundary;
 mod lines;
+mod place;
 mod reasons;
 mod rule_file;
 
@@ -9,31 +10,30 @@ use crate::files::{name_of, path_of, rules_of, text_at};
 use crate::output::{UNABLE, print};
 use clap::ArgMatches;
 use lines::{Input, explained};
+use place::byte_named;
 use rule_file::RuleFile;
 use std::io;
 
-/// Reports that a byte isn't in the text.
-fn refuse(rt: &HostRuntime, file: &str, offset: usize, length: usize) -> io::Result<u8> {
-    eprintln!(rt; "rolgumzai: {file}: there is no byte {offset}, the text has {length}")?;
+/// Reports that a word names no place of the text.
+fn refuse(rt: &HostRuntime, input: Input<'_>, word: &str) -> io::Result<u8> {
+    let (file, length) = (input.file, input.text.len());
+    eprintln!(rt;
+        "rolgumzai: {file}: there is no place {word}; write a byte from 0 to {length}, or LINE:COLUMN"
+    )?;
     Ok(UNABLE)
 }
 
-/// Explains a byte of a text by the rules. Gives the status.
-fn explain(
-    rt: &HostRuntime,
-    rules: &RuleFile<'_>,
-    input: Input<'_>,
-    offset: usize,
-) -> io::Result<u8> {
-    if offset > input.text.len() {
-        return refuse(rt, input.file, offset, input.text.len());
-    }
+/// Explains the place of a text that a word names by the rules. Gives the status.
+fn explain(rt: &HostRuntime, rules: &RuleFile<'_>, input: Input<'_>, word: &str) -> io::Result<u8> {
+    let Some(offset) = byte_named(input.text, word) else {
+        return refuse(rt, input, word);
+    };
     let (shown, status) = explained(rt.alloc(), rules, input, offset)?;
     print(rt, &shown)?;
     Ok(status)
 }
 
-/// Explains the byte that the words name. Gives the status.
+/// Explains the place that the words name. Gives the status.
 pub fn serve(rt: &HostRuntime, words: &ArgMatches<'_>) -> io::Result<u8> {
     let (rules, definition) = match rules_of(rt, words)? {
         Ok(found) => found,
@@ -49,6 +49,5 @@ pub fn serve(rt: &HostRuntime, words: &ArgMatches<'_>) -> io::Result<u8> {
         file: name_of(path),
         text: &text,
     };
-    let offset = words.get_one::<usize>("offset").unwrap_or(0);
-    explain(rt, &rules, input, offset)
+    explain(rt, &rules, input, path_of(words, "place"))
 }

@@ -1,6 +1,7 @@
 //! A token, and its line.
 use crate::files::{Definition, Types};
 use crate::output::Output;
+use crate::tokens::cursor::Cursor;
 use lrlex::{DefaultLexeme, LRNonStreamingLexer, Lexeme};
 use serde::Serialize;
 use std::alloc::{AllocError, Global};
@@ -23,15 +24,16 @@ pub struct Token<'a> {
     end_column: usize,
 }
 
-/// The token of a lexeme.
+/// The token of a lexeme. The cursor isn't after the lexeme, and moves to its end.
 pub fn token_of<'a>(
     definition: &'a Definition,
     lexer: &LexerOf<'a, 'a>,
+    cursor: &mut Cursor<'_>,
     lexeme: &DefaultLexeme<u32>,
 ) -> Token<'a> {
     let span = lexeme.span();
-    let (line, column) = lexer.place(span.start());
-    let (end_line, end_column) = lexer.place(span.end());
+    let (line, column) = cursor.move_to(span.start());
+    let (end_line, end_column) = cursor.move_to(span.end());
     Token {
         name: definition.name_of(lexeme.tok_id()).unwrap_or(""),
         text: lexer.text_of(span),

@@ -1,10 +1,12 @@
 //! `rolgumzai tokens [--json] RULES INPUT`: the tokens of a text, where lexing it stops, and in which start state it ends.
+mod cursor;
 mod ending;
 mod lines;
 
 use crate::files::{Definition, name_of, path_of, rules_of, text_at};
 use crate::output::{FAULTY, UNABLE, output};
 use clap::ArgMatches;
+use cursor::Cursor;
 use ending::{Ending, ending_of, ending_text};
 use lines::{LexerOf, token_of, write_token};
 use lrlex::{LRLexError, Lexer};
@@ -12,19 +14,21 @@ use lrlex_report::stop_text_in;
 use std::io;
 use std::io::Write;
 
-/// Writes a line for each token. Gives the error that stopped lexing, if one did.
+/// Writes a line for each token of a text. Gives the error that stopped lexing, if one did.
 fn write_tokens<'a>(
     rt: &HostRuntime,
     definition: &'a Definition,
     lexer: &LexerOf<'a, 'a>,
+    input: &str,
     is_json: bool,
 ) -> io::Result<Option<LRLexError>> {
     let mut out = output(rt)?;
+    let mut cursor = Cursor::new(input);
     let mut stop = None;
     for item in lexer.iter() {
         match item {
             Ok(lexeme) => {
-                let token = token_of(definition, lexer, &lexeme);
+                let token = token_of(definition, lexer, &mut cursor, &lexeme);
                 write_token(rt.alloc(), &mut out, &token, is_json)?;
             }
             Err(error) => stop = Some(error),
@@ -69,7 +73,7 @@ fn show(
     let run = definition.run(rt.alloc(), input)?;
     let ending = ending_of(&run);
     let lexer = run.into_lexer(rt.alloc())?;
-    let stop = write_tokens(rt, definition, &lexer, is_json)?;
+    let stop = write_tokens(rt, definition, &lexer, input, is_json)?;
     tell_end(rt, definition, file, input, stop, ending)
 }
 
