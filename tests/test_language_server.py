@@ -8,7 +8,7 @@ from language_server import dialogues, mutated, refused
 from language_server.client import REFRESH, Client, applied, decoded, ranged, rules_file, spot
 from support import programs
 from support.messages import (
-    LIST, LOOKS, LOST, MARGIN, NEVER_ENTERED, NEVER_WINS, NO_MARK, OPERATOR, QUOTES, RULE, STATE_NAME,
+    DECLARE_LIST, LIST, LOOKS, LOST, MARGIN, NEVER_ENTERED, NEVER_WINS, NO_MARK, OPERATOR, QUOTES, RULE, STATE_NAME,
 )
 
 URI, TEXT = "file:///texts/rules.l", "file:///texts/a.txt"
@@ -197,7 +197,7 @@ class RuleFiles(Session):
         text = "%s one\n%x 1\n%%\n[a-z]+ 'ID'\n[0-9+ 'NUMBER'\n<one,two>x 'X'\ny'Y'\nz Z\n<one w 'W'\n[a-z]* 'ID'\n"
         wanted = [
             (1, 3, 1, 4, f"Invalid start state name: {STATE_NAME}"), (4, 0, 4, 5, "Invalid regular expression: unclosed character class"),
-            (5, 0, 5, 9, f"Start state not known: {LIST}"), (6, 0, 6, 4, f"Rule is missing a space: {RULE}"), (7, 2, 7, 3, f"Invalid rule name: {QUOTES}"),
+            (5, 0, 5, 9, f"Start state not known: {DECLARE_LIST}"), (6, 0, 6, 4, f"Rule is missing a space: {RULE}"), (7, 2, 7, 3, f"Invalid rule name: {QUOTES}"),
             (8, 0, 8, 10, f"Invalid start state: {LIST}"), (9, 8, 9, 10, "Rule name already exists"),
         ]
         self.assertEqual(wanted, sorted(spot(it) for it in client.open(URI, text)["diagnostics"]))

@@ -6,7 +6,7 @@ import unittest
 from support import replay
 from support.definitions import from_text
 from support.messages import (
-    BACKSLASH, BEFORE_RULES, BRACES, COMMENT, LIST, MARGIN, NO_MARK, OPERATOR, QUOTES, ROUTINES, RULE, STATE_NAME,
+    BACKSLASH, BEFORE_RULES, BRACES, COMMENT, DECLARE, DECLARE_LIST, LIST, MARGIN, NO_END, NO_MARK, OPERATOR, QUOTES, ROUTINES, RULE, STATE_NAME,
 )
 
 # Rule texts, and what is shown of their faults.
@@ -99,9 +99,11 @@ MARKS = [
     ("%%\n# a «comment»\n", f"Invalid rule name: {QUOTES}"),
     ("%%\n[a-z]+ «ID»\n", f"Invalid rule name: {QUOTES}"),
     ("%%\n[a-z]+ «'ID»\t\r\n", f"Invalid rule name: {QUOTES}"),
-    ("%x A\n%%\nb «<+B>»'ID'\n", "Start state not known"),
-    ("%x A\n%%\n«<A, B>»b c 'ID'\n", f"Start state not known: {LIST}"),
-    ("%%\n«<->» 'ARROW'\n", f"Start state not known: {LIST}"),
+    ("%x A\n%%\nb «<+B>»'ID'\n", f"Start state not known: {DECLARE}"),
+    ("%x A\n%%\n«<A, B>»b c 'ID'\n", f"Start state not known: {DECLARE_LIST}"),
+    ("%x A\n%%\n«<A,B>»c <A>;\n", f"Start state not known: {DECLARE_LIST}"),
+    ("%%\n«<->» 'ARROW'\n", f"Start state not known: {DECLARE_LIST}"),
+    ("%%\n«<<EOF>»> ;\n", f"Start state not known: {NO_END}"),
     ("%%\n«<=\t'LE'»\n", f"Invalid start state: {LIST}"),
     # a list that doesn't end
     ("%%\nb« <+INITIAL'ID'» \n", "Invalid start state"),

@@ -13,8 +13,8 @@ import unittest
 
 from support import programs, replay
 from support.messages import (
-    BACKSLASH, BARE, BEFORE_RULES, BLANK, COMMENT, IN_PATTERN, LIST, LOOKS, LOST, MARGIN, NEVER_ENTERED, NEVER_WINS, NO_MARK, NO_RULES,
-    NO_TABLE, OPERATOR, QUOTED, QUOTES, SHORTER, WORD,
+    BACKSLASH, BARE, BEFORE_RULES, BLANK, COMMENT, IN_PATTERN, LIST, LOOKS, LOST, MARGIN, NAME_IN_PATTERN, NEVER_ENTERED, NEVER_WINS, NO_MARK,
+    NO_RULES, NO_TABLE, OPERATOR, QUOTED, QUOTES, SHORTER, WORD,
 )
 from support.programs import Outcome
 
@@ -277,6 +277,10 @@ WARNED = [
     ("%%\n| 'A'\n|| 'B'\n^ 'C'\n", [(line, 1, len_, it) for line, len_ in [(2, 1), (3, 2), (4, 1)] for it in (NEVER_WINS, BARE)]),
     ("%%\n$ 'A'\n", [(2, 1, 1, LOOKS), (2, 1, 1, BARE)]),
     ("%%\n\\| 'A'\n[|] 'B'\na| 'C'\n", []),
+    ("%%\n[a-z]+ 'ID' ;\na \"B\" ''\n", [(2, 1, 11, NAME_IN_PATTERN), (3, 1, 5, NAME_IN_PATTERN)]),
+    ("%s S\n%%\na <+S>;\n<S>b 'B' <-S>;\n", [(4, 1, 8, NAME_IN_PATTERN)]),
+    # a name, one word alone, a pattern for texts in quotes, and a blank in a class
+    ("%%\na 'A' 'B'\n\"[^\"]*\" ;\na '[^']*' ;\n[ ]'b' ;\n", []),
     ("%%\n\"if\" 'A'\n\"+\" 'B'\n'a' 'C'\n\"<=\" 'D'\n", [(line, 1, len_, QUOTED) for line, len_ in [(2, 4), (3, 3), (4, 3), (5, 4)]]),
     ("%s S\n%%\na <+S>;\n<S>\"b\" 'B'\n", [(4, 1, 6, QUOTED)]),
     # a pattern for texts in quotes, one quote or two of them, and different ones

@@ -1,5 +1,5 @@
 -- What the message of a fault ends with: the mistake that it usually comes of, and what to write.
-use Rattle.std.specs.Prelude.{ℕ, ◌&&◌, if◌then◌else◌, List, [], drop, codes}
+use Rattle.std.specs.Prelude.{ℕ, Bool, ◌&&◌, if◌then◌else◌, List, [], drop, codes}
 use Rattle.std.specs.List.{list_any}
 use Rattle.lrlex_base.specs.Classes.{is_blank}
 use Rattle.lrlex_rules.specs.LexBuildError.{fault_kind, fault_spans}
@@ -40,11 +40,28 @@ declaration_note rules at =
 abbrev pub name_note : (rules : List ℕ) (at : ℕ) → List ℕ
 name_note rules at = or_note (comment_note (source_of rules at)) (codes ": write it in quotes and without blanks, or ; for no name")
 
--- of a line whose pattern begins with `<`; a target, which can begin with `<` too, has no blank after it
+-- a line that begins with a list of start states; a target, which begins with `<` too, has no blank after it
+abbrev pub begins_list : (line : List ℕ) → Bool
+begins_list line = begins_with (codes "<") line && list_any is_blank (trim_end line)
+
+-- of a line whose pattern begins with `<`
 abbrev pub list_note : (line : List ℕ) → List ℕ
 list_note line =
-    if begins_with (codes "<") line && list_any is_blank (trim_end line)
+    if begins_list line
     then codes ": a pattern that begins with < lists start states; write \\< for the character" else []
+
+-- of a rule for the end of the text, as flex has it
+abbrev pub end_note : (line : List ℕ) → List ℕ
+end_note line = if begins_with (codes "<<EOF>>") line then codes ": no rule matches at the end of the text; leave it out" else []
+
+-- of a start state that isn't declared: in a list, which begins the line, or in a target
+abbrev pub undeclared_note : (line : List ℕ) → List ℕ
+undeclared_note line =
+    if begins_list line
+    then codes ": declare it with %s or %x; a pattern that begins with the character < begins with \\<" else codes ": declare it with %s or %x"
+
+abbrev pub state_note : (line : List ℕ) → List ℕ
+state_note line = or_note (end_note line) (undeclared_note line)
 
 -- of a rule without a blank
 abbrev pub space_note : (text : List ℕ) → List ℕ
@@ -60,7 +77,7 @@ kind_note rules at PrematureEnd = codes ": no line begins with %%; write one bef
 kind_note rules at UnknownDeclaration = declaration_note rules at
 kind_note rules at MissingSpace = space_note (text_from rules at)
 kind_note rules at InvalidName = name_note rules at
-kind_note rules at UnknownStartState = list_note (line_from rules at)
+kind_note rules at UnknownStartState = state_note (line_from rules at)
 kind_note rules at InvalidStartState = list_note (line_from rules at)
 kind_note rules at (RegexError e) = pattern_note (line_from rules at)
 kind_note rules at InvalidStartStateName = codes ": a name is an ASCII letter, then ASCII letters, digits, _ or .; one blank separates two names"

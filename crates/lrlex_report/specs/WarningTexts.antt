@@ -4,7 +4,7 @@ use Rattle.lrlex_report.specs.PlaceTexts.{place_text}
 use Rattle.lrlex_report.specs.Warnings.{as_told}
 use Rattle.lrlex_report.specs.declared.warnings.kinds.Warning.{Warning}
 use Rattle.lrlex_report.specs.declared.warnings.kinds.WarningKind.{WarningKind}
-use Rattle.lrlex_report.specs.declared.warnings.kinds.WarningKind.TheVariants.{NeverWins, NeverActive, LooksAround, NoTable, TargetInPattern, BlankAfterStates, LostEscape, EscapeAfterStates, LostAlternative, QuotedPattern, BareOperator, NeverEntered, NoRules}
+use Rattle.lrlex_report.specs.declared.warnings.kinds.WarningKind.TheVariants.{NeverWins, NeverActive, LooksAround, NoTable, TargetInPattern, BlankAfterStates, LostEscape, EscapeAfterStates, LostAlternative, NameInPattern, QuotedPattern, BareOperator, NeverEntered, NoRules}
 
 -- what is unusual, why, and what to write in its place
 abbrev pub warning_message : WarningKind → List ℕ
@@ -17,6 +17,7 @@ warning_message BlankAfterStates = codes "the blank after these start states is 
 warning_message LostEscape = codes "a backslash is dropped here, before a letter that begins no escape; write the letter, or \\x41 in place of \\x{41}"
 warning_message EscapeAfterStates = codes "after start states \\< and \\> are the beginning and the end of a word; write < and > without the backslash"
 warning_message LostAlternative = codes "an alternative never matches here: it begins with an earlier one, which is tried first; put the longer one first"
+warning_message NameInPattern = codes "this name is part of the pattern, since the last blank of a line is before its name; write nothing after the name"
 warning_message QuotedPattern = codes "the quotes are part of this pattern; leave them out, and write operators with a backslash, as \\+"
 warning_message BareOperator = codes "this pattern is an operator, and matches no byte; write a backslash before it to match its character"
 warning_message NeverEntered = codes "no rule enters this start state; name it as the target of a rule"

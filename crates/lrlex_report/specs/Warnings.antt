@@ -1,5 +1,5 @@
 -- What a rule text says and its author hardly meant: each kind of warning is a test of a rule or of a start state.
-use Rattle.std.specs.Prelude.{◌≡◌, ◌<◌, ℕ, suc, zero, ◌+◌, ◌-◌, max, ◌==◌, Bool, true, false, not, ◌&&◌, ◌||◌, if◌then◌else◌, Option, Some, None, option_map, List, [], ◌∷◌, ◌++◌, length, take, drop, slice_get, slice_index, flat_map, codes}
+use Rattle.std.specs.Prelude.{◌≡◌, ◌<◌, ℕ, suc, zero, ◌+◌, ◌-◌, max, ◌==◌, Bool, true, false, not, ◌&&◌, ◌||◌, if◌then◌else◌, Option, Some, None, is_none, option_map, List, [], ◌∷◌, ◌++◌, length, take, drop, slice_get, slice_index, flat_map, codes}
 use Rattle.std.specs.Char.{is_ascii_alphabetic}
 use Rattle.std.specs.List.{list_any, slice_index_or, before_last, after_last}
 use Rattle.std.specs.Str.{chars, byte, encode_utf8_all}
@@ -19,9 +19,9 @@ use Rattle.lrlex_report.specs.Alternatives.{loses_word}
 use Rattle.lrlex_report.specs.FaultRanges.{before_blank}
 use Rattle.lrlex_report.specs.Looks.{at_beginning, looks_around}
 use Rattle.lrlex_report.specs.PlaceTexts.{nearest}
-use Rattle.lrlex_report.specs.Signs.{is_bare, is_quoted}
+use Rattle.lrlex_report.specs.Signs.{ends_in_name, is_bare, is_quoted}
 use Rattle.lrlex_report.specs.declared.warnings.kinds.WarningKind.{WarningKind}
-use Rattle.lrlex_report.specs.declared.warnings.kinds.WarningKind.TheVariants.{NeverWins, NeverActive, LooksAround, NoTable, TargetInPattern, BlankAfterStates, LostEscape, EscapeAfterStates, LostAlternative, QuotedPattern, BareOperator, NeverEntered, NoRules}
+use Rattle.lrlex_report.specs.declared.warnings.kinds.WarningKind.TheVariants.{NeverWins, NeverActive, LooksAround, NoTable, TargetInPattern, BlankAfterStates, LostEscape, EscapeAfterStates, LostAlternative, NameInPattern, QuotedPattern, BareOperator, NeverEntered, NoRules}
 use Rattle.lrlex_report.specs.declared.warnings.kinds.Warning.{Warning}
 use Rattle.lrlex_report.specs.declared.warnings.answers.Answers.{Answers}
 use Rattle.lrlex_report.specs.declared.warnings.answers.Facts.{Facts}
@@ -140,6 +140,10 @@ begins_empty words = begins_with (codes "|") words
 abbrev pub loses_alternative : Rule → Bool
 loses_alternative r = let words = ungrouped r.re_str in not (begins_empty words) && loses_word words
 
+-- it has no name, and its pattern ends in one
+abbrev pub has_name_in_pattern : Rule → Bool
+has_name_in_pattern r = is_none r.name && ends_in_name r.re_str
+
 -- the tests of a rule of which this is known, and what they answer
 abbrev pub rule_tests : Facts → List StartState → (source : List ℕ) → Rule → List (WarningKind × Bool)
 rule_tests known states source r =
@@ -152,6 +156,7 @@ rule_tests known states source r =
     ∷ (LostEscape, loses_escape source r)
     ∷ (EscapeAfterStates, has_escape_after_states r)
     ∷ (LostAlternative, loses_alternative r)
+    ∷ (NameInPattern, has_name_in_pattern r)
     ∷ (QuotedPattern, is_quoted r.re_str)
     ∷ (BareOperator, is_bare r.re_str)
     ∷ []

@@ -3,7 +3,7 @@ ghost use Rattle.std.specs.Prelude.{◌≡◌};
 ghost use Rattle.std.specs.List.{list_any};
 ghost use Rattle.lrlex_base.specs.Classes.{is_blank};
 ghost use Rattle.lrlex_rules.specs.Text.{trim_end};
-ghost use Rattle.lrlex_report.specs.Notes.{text_from, or_note, comment_note, declaration_note, name_note, list_note, space_note, pattern_note, kind_note, fault_note};
+ghost use Rattle.lrlex_report.specs.Notes.{text_from, or_note, comment_note, declaration_note, name_note, begins_list, list_note, end_note, undeclared_note, state_note, space_note, pattern_note, kind_note, fault_note};
 
 use crate::encoding::mark_note;
 use crate::pattern_notes::{braces_note, escape_note, operator_note, pattern_of};
@@ -67,16 +67,51 @@ fn has_blank(line: &str) -> bool
     text.as_bytes().iter().any(|b| *b == b' ' || *b == b'\t')
 }
 
-/// How to write a `<`, if a pattern that begins with one begins this line. A target, which may begin with `<` too, has no blank
-/// after it.
+/// Whether a line begins with a list of start states. A target, which begins with `<` too, has no blank after it.
+fn begins_list(line: &str) -> bool
+    ensures { result ≡ begins_list line.now }
+{
+    line.starts_with("<") && has_blank(line)
+}
+
+/// How to write a `<`, if a pattern that begins with one begins this line.
 fn list_note(line: &str) -> &'static str
     ensures { result.now ≡ list_note line.now }
 {
-    if line.starts_with("<") && has_blank(line) {
+    if begins_list(line) {
         ": a pattern that begins with < lists start states; write \\< for the character"
     } else {
         ""
     }
+}
+
+/// Tells that no rule matches at the end of the text, if this line is a rule for that, as flex has it.
+fn end_note(line: &str) -> &'static str
+    ensures { result.now ≡ end_note line.now }
+{
+    if line.starts_with("<<EOF>>") {
+        ": no rule matches at the end of the text; leave it out"
+    } else {
+        ""
+    }
+}
+
+/// How to declare the start state that this line names, and how to write a `<`, if a pattern that begins with one begins the line.
+fn undeclared_note(line: &str) -> &'static str
+    ensures { result.now ≡ undeclared_note line.now }
+{
+    if begins_list(line) {
+        ": declare it with %s or %x; a pattern that begins with the character < begins with \\<"
+    } else {
+        ": declare it with %s or %x"
+    }
+}
+
+/// What to write in place of the start state that this line names, which isn't declared.
+fn state_note(line: &str) -> &'static str
+    ensures { result.now ≡ state_note line.now }
+{
+    or_note(end_note(line), undeclared_note(line))
 }
 
 /// What a rule is, or that its line is a comment, where the text from the line on has no blank before the line's end.
@@ -107,9 +142,8 @@ fn kind_note(rules: &str, at: usize, kind: &LexErrorKind) -> &'static str
         LexErrorKind::UnknownDeclaration => declaration_note(rules, at),
         LexErrorKind::MissingSpace => space_note(text_from(rules, at)),
         LexErrorKind::InvalidName => name_note(rules, at),
-        LexErrorKind::UnknownStartState | LexErrorKind::InvalidStartState => {
-            list_note(first_line(text_from(rules, at)))
-        }
+        LexErrorKind::UnknownStartState => state_note(first_line(text_from(rules, at))),
+        LexErrorKind::InvalidStartState => list_note(first_line(text_from(rules, at))),
         LexErrorKind::RegexError(_) => pattern_note(first_line(text_from(rules, at))),
         LexErrorKind::InvalidStartStateName => {
             ": a name is an ASCII letter, then ASCII letters, digits, _ or .; one blank separates two names"

@@ -32,6 +32,8 @@ pub enum WarningKind {
     /// A rule whose pattern is words that `|` parts, perhaps in a group, one of which begins with an earlier one, so that it never
     /// matches. It is told of patterns of at most 4,096 bytes, and not where the first word is empty, since then none does.
     LostAlternative,
+    /// A rule without a name whose pattern ends in a blank and a text in quotes, as in `a 'A' ;`.
+    NameInPattern,
     /// A rule whose pattern is a text in quotes, `"` or `'`, as flex has it. The quotes are part of the pattern. It isn't told where
     /// a quote, a backslash, `.` or `[` is between them.
     QuotedPattern,
@@ -82,6 +84,9 @@ impl WarningKind {
             }
             WarningKind::LostAlternative => {
                 "an alternative never matches here: it begins with an earlier one, which is tried first; put the longer one first"
+            }
+            WarningKind::NameInPattern => {
+                "this name is part of the pattern, since the last blank of a line is before its name; write nothing after the name"
             }
             WarningKind::QuotedPattern => {
                 "the quotes are part of this pattern; leave them out, and write operators with a backslash, as \\+"

@@ -2,14 +2,14 @@
 ghost use Rattle.std.specs.Prelude.{◌≡◌, ◌++◌, All, OnOk, map};
 ghost use Rattle.lrlex.specs.Active.{lists_none};
 ghost use Rattle.lrlex_rules.specs.RuleParts.{as_rule};
-ghost use Rattle.lrlex_report.specs.Warnings.{as_told, SpanFits, never_wins, has_no_table_but_looks, has_no_table, has_blank_after_states, loses_escape, has_escape_after_states, loses_alternative, rule_warnings};
+ghost use Rattle.lrlex_report.specs.Warnings.{as_told, SpanFits, never_wins, has_no_table_but_looks, has_no_table, has_blank_after_states, loses_escape, has_escape_after_states, loses_alternative, has_name_in_pattern, rule_warnings};
 
 use crate::warnings::alternatives::loses_word;
 use crate::warnings::answers::Facts;
 use crate::warnings::kinds::{Warning, WarningKind, push_all};
 use crate::warnings::looks::looks_around;
 use crate::warnings::patterns::{begins_blank, ends_in_target, has_unmeant, source_of, ungrouped};
-use crate::warnings::signs::{is_bare, is_quoted};
+use crate::warnings::signs::{ends_in_name, is_bare, is_quoted};
 use lrlex::{Rule, StartState};
 use lrlex_base::{Numbered, Span};
 use std::alloc::AllocError;
@@ -71,6 +71,13 @@ fn loses_alternative<S: Numbered>(rule: &Rule<S>) -> bool
     !words.starts_with("|") && loses_word(words)
 }
 
+/// Whether the rule has no name, and its pattern ends in one.
+fn has_name_in_pattern<S: Numbered>(rule: &Rule<S>) -> bool
+    ensures { result ≡ has_name_in_pattern (as_rule S.number rule.now) }
+{
+    rule.name().is_none() && ends_in_name(rule.re_str())
+}
+
 /// Adds the warnings of a rule of which this is known, where these are the start states of its text.
 pub(crate) fn push_rule<S: Numbered>(
     told: &mut Vec<Warning>,
@@ -102,6 +109,7 @@ pub(crate) fn push_rule<S: Numbered>(
             has_escape_after_states(rule),
         ),
         (WarningKind::LostAlternative, loses_alternative(rule)),
+        (WarningKind::NameInPattern, has_name_in_pattern(rule)),
         (
             WarningKind::QuotedPattern,
             is_quoted(rule.re_str().as_bytes()),

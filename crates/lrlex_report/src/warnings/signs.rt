@@ -1,6 +1,8 @@
 //! Patterns whose signs are hardly meant: a text in quotes, and operators alone.
 ghost use Rattle.std.specs.Prelude.{◌≡◌};
-ghost use Rattle.lrlex_report.specs.Signs.{is_quote, is_varied, varies, is_literal, is_quoted, is_bare_operator, are_bare_operators, is_bare};
+ghost use Rattle.lrlex_report.specs.Signs.{is_quote, is_varied, varies, is_literal, is_quoted, ends_in_name, is_bare_operator, are_bare_operators, is_bare};
+
+use crate::ranges::before_blank;
 
 /// Whether the byte is a quote.
 fn is_quote(byte: u8) -> bool
@@ -47,6 +49,14 @@ pub(crate) fn is_quoted(pattern: &[u8]) -> bool
         [inside @ .., last] => is_quote(*quote) && *last == *quote && is_literal(inside),
         [] => false,
     }
+}
+
+/// Whether the last word of a pattern is a text in quotes, as a name is.
+pub(crate) fn ends_in_name(pattern: &str) -> bool
+    ensures { result ≡ ends_in_name pattern.now }
+{
+    let front = before_blank(pattern).len();
+    front < pattern.len() && is_quoted(&pattern.as_bytes()[front + 1..])
 }
 
 /// Whether the byte is an operator that matches no byte.
