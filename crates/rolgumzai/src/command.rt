@@ -3,8 +3,8 @@ use crate::flags::with_flags;
 use clap::{Arg, ArgAction, Command};
 use std::alloc::{AllocError, Global};
 
-/// A path that has to be there.
-fn path<'a>(alloc: Global, name: &'a str, shown: &'a str, help: &'a str) -> Arg<'a> {
+/// A word that has to be there.
+fn needed<'a>(alloc: Global, name: &'a str, shown: &'a str, help: &'a str) -> Arg<'a> {
     Arg::new(alloc, name)
         .value_name(shown)
         .help(help)
@@ -25,8 +25,8 @@ fn with_files<'a>(
     command: Command<'a>,
     input: &'a str,
 ) -> Result<Command<'a>, AllocError> {
-    let command = command.arg(path(alloc, "rules", "RULES", "The rule file"))?;
-    let command = command.arg(path(alloc, "input", "INPUT", input))?;
+    let command = command.arg(needed(alloc, "rules", "RULES", "The rule file"))?;
+    let command = command.arg(needed(alloc, "input", "INPUT", input))?;
     with_flags(alloc, command)
 }
 
@@ -38,7 +38,7 @@ fn check<'a>(alloc: Global) -> Result<Command<'a>, AllocError> {
             "Each fault is shown with its place, its line and carets. The status is 1 where a file has one.",
         )
         .arg(
-            path(alloc, "rules", "RULES", "The rule files")
+            needed(alloc, "rules", "RULES", "The rule files")
                 .action(ArgAction::Append)
                 .num_args(1..),
         )?;
@@ -87,7 +87,7 @@ fn highlight<'a>(alloc: Global) -> Result<Command<'a>, AllocError> {
 
 /// What says why a token is what it is.
 fn explain<'a>(alloc: Global) -> Result<Command<'a>, AllocError> {
-    let place = path(
+    let place = needed(
         alloc,
         "place",
         "PLACE",

@@ -69,8 +69,8 @@ pub fn is_read_twice(rt: &HostRuntime, paths: &[&str]) -> io::Result<bool> {
     Ok(false)
 }
 
-/// The path that the words name by this id. It is there: the command takes no words without it.
-pub fn path_of<'a>(words: &ArgMatches<'a>, id: &str) -> &'a str {
+/// The word with this id. It is there: the command takes no words without it.
+pub fn word_of<'a>(words: &ArgMatches<'a>, id: &str) -> &'a str {
     words.get_str(id).unwrap_or("")
 }
 
@@ -95,7 +95,7 @@ fn definition_of(
     match Definition::new_with_options(rt.alloc(), text, flags)? {
         Ok(definition) => Ok(Ok(definition)),
         Err(faults) => {
-            let name = name_of(path_of(words, "rules"));
+            let name = name_of(word_of(words, "rules"));
             report_faults(rt, name, text, &faults)?;
             Ok(Err(FAULTY))
         }
@@ -107,10 +107,10 @@ pub fn rules_of(
     rt: &HostRuntime,
     words: &ArgMatches<'_>,
 ) -> io::Result<Result<(String, Definition), u8>> {
-    if is_read_twice(rt, &[path_of(words, "rules"), path_of(words, "input")])? {
+    if is_read_twice(rt, &[word_of(words, "rules"), word_of(words, "input")])? {
         return Ok(Err(UNABLE));
     }
-    let Some(text) = text_at(rt, path_of(words, "rules"))? else {
+    let Some(text) = text_at(rt, word_of(words, "rules"))? else {
         return Ok(Err(UNABLE));
     };
     match definition_of(rt, words, &text)? {

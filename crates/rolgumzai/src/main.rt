@@ -14,6 +14,7 @@ mod flags;
 mod highlight;
 mod lsp;
 mod output;
+mod places;
 mod states;
 mod tokens;
 

@@ -6,7 +6,7 @@ mod place;
 mod reasons;
 mod rule_file;
 
-use crate::files::{name_of, path_of, rules_of, text_at};
+use crate::files::{name_of, rules_of, text_at, word_of};
 use crate::output::{UNABLE, print};
 use clap::ArgMatches;
 use lines::{Input, explained};
@@ -39,15 +39,15 @@ pub fn serve(rt: &HostRuntime, words: &ArgMatches<'_>) -> io::Result<u8> {
         Ok(found) => found,
         Err(status) => return Ok(status),
     };
-    let path = path_of(words, "input");
+    let path = word_of(words, "input");
     let Some(text) = text_at(rt, path)? else {
         return Ok(UNABLE);
     };
-    let file = name_of(path_of(words, "rules"));
+    let file = name_of(word_of(words, "rules"));
     let rules = RuleFile::new(rt.alloc(), file, &rules, &definition)?;
     let input = Input {
         file: name_of(path),
         text: &text,
     };
-    explain(rt, &rules, input, path_of(words, "place"))
+    explain(rt, &rules, input, word_of(words, "place"))
 }

@@ -1,25 +1,18 @@
 //! The place of a text that a word names.
+use crate::places::{FIRST, LineColumn, after};
 
-/// The byte at a line and a column of a text, both from 1; columns count characters. None where the text has no such place.
-fn byte_at(text: &str, line: usize, column: usize) -> Option<usize> {
-    let mut place = (1usize, 1usize);
+/// The byte at a line and a column of a text. None where the text has no such place.
+fn byte_at(text: &str, wanted: LineColumn) -> Option<usize> {
+    let mut place = FIRST;
     let mut byte = 0usize;
     for c in text.chars() {
-        if place == (line, column) {
+        if place == wanted {
             return Some(byte);
         }
-        place = if c == '\n' {
-            (place.0.saturating_add(1), 1)
-        } else {
-            (place.0, place.1.saturating_add(1))
-        };
+        place = after(place, c);
         byte = byte.saturating_add(c.len_utf8());
     }
-    if place == (line, column) {
-        Some(byte)
-    } else {
-        None
-    }
+    if place == wanted { Some(byte) } else { None }
 }
 
 /// The byte of a text that a word names: by its number from 0, up to the text's end, or by LINE:COLUMN. None where it names none.
@@ -28,7 +21,7 @@ pub fn byte_named(text: &str, word: &str) -> Option<usize> {
         Some((line, column)) => {
             let line = line.parse::<usize>().ok()?;
             let column = column.parse::<usize>().ok()?;
-            byte_at(text, line, column)
+            byte_at(text, (line, column))
         }
         None => {
             let byte = word.parse::<usize>().ok()?;

@@ -4,7 +4,7 @@ mod map;
 mod marks;
 mod types;
 
-use crate::files::{Definition, Types, path_of, rules_of, text_at};
+use crate::files::{Definition, Types, rules_of, text_at, word_of};
 use crate::output::{FAULTY, UNABLE, print};
 use clap::ArgMatches;
 use classes::class_of;
@@ -106,7 +106,7 @@ fn show_input(
     definition: &Definition,
     map: &Map,
 ) -> io::Result<u8> {
-    match text_at(rt, path_of(words, "input"))? {
+    match text_at(rt, word_of(words, "input"))? {
         Some(input) => show(rt, definition, map, &input, marks_of(words)),
         None => Ok(UNABLE),
     }

@@ -1,7 +1,7 @@
 //! A token, and its line.
 use crate::files::{Definition, Types};
 use crate::output::Output;
-use crate::tokens::cursor::Cursor;
+use crate::places::Cursor;
 use lrlex::{DefaultLexeme, LRNonStreamingLexer, Lexeme};
 use serde::Serialize;
 use std::alloc::{AllocError, Global};

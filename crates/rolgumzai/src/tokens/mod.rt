@@ -1,12 +1,11 @@
 //! `rolgumzai tokens [--json] RULES INPUT`: the tokens of a text, where lexing it stops, and in which start state it ends.
-mod cursor;
 mod ending;
 mod lines;
 
-use crate::files::{Definition, name_of, path_of, rules_of, text_at};
+use crate::files::{Definition, name_of, rules_of, text_at, word_of};
 use crate::output::{FAULTY, UNABLE, output};
+use crate::places::Cursor;
 use clap::ArgMatches;
-use cursor::Cursor;
 use ending::{Ending, ending_of, ending_text};
 use lines::{LexerOf, token_of, write_token};
 use lrlex::{LRLexError, Lexer};
@@ -79,7 +78,7 @@ fn show(
 
 /// Prints the tokens of the input that the words name, by these rules. Gives the status.
 fn show_input(rt: &HostRuntime, words: &ArgMatches<'_>, definition: &Definition) -> io::Result<u8> {
-    let path = path_of(words, "input");
+    let path = word_of(words, "input");
     match text_at(rt, path)? {
         Some(input) => show(
             rt,
