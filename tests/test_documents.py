@@ -284,7 +284,9 @@ class Documents(replay.TestCase):
             for of_run in [False, True]:
                 with self.subTest(text=text, bytes=at, spans=spans, of_run=of_run):
                     answers = replay.answer(from_text(FACES).case(["lexer", text, of_run, spans, at]))
-                    self.assertEqual(format_places(answers.values("place")), places)
+                    told = answers.values("place")
+                    self.assertEqual(format_places([of_lexer for *of_lexer, _ in told]), places)
+                    self.assertEqual([of_cursor for *_, of_cursor in told], [place for place, *_ in told])
                     of_spans = answers.values("told")[len(answers.last("items")):]
                     self.assertEqual(format_texts(span[2] for span in of_spans), texts)
 

@@ -5,7 +5,7 @@ import unittest
 from support import replay
 from support.definitions import from_text
 from support.formatting import format_place
-from support.places import said_of_span
+from support.places import counted, said_of_span
 
 WORDS = "%%\n[a-z❤]+ 'ID'\n[ \\n] ;"
 
@@ -57,6 +57,19 @@ FITTING = [
     (" a\n❤ b", (8, 8), True),
     (" a\n❤ b", (3, 4), False),
     (" a\n❤ b", (9, 9), False),
+]
+
+MANY_LINES = "é\n❤ b\n\n😀x\r\ny"
+
+LONG_LINE = "é b" * 5_000
+
+# What a cursor is asked one after the other: a text, and bytes of it.
+ASKED_OF_CURSORS = [
+    ("forward", MANY_LINES, range(len(MANY_LINES.encode()) + 2)),
+    ("back", MANY_LINES, range(len(MANY_LINES.encode()) + 2, -1, -1)),
+    ("to and fro", MANY_LINES, [9, 0, 4, 4, 17, 2**64 - 1, 1, 12]),
+    ("in a long line", LONG_LINE, range(len(LONG_LINE.encode()) + 1)),
+    ("in an empty text", "", [0, 1, 0, 2**64 - 1]),
 ]
 
 
@@ -128,6 +141,13 @@ class Lexers(replay.TestCase):
         for answers in lexers(STAIR_RULES, "a b c", [(100, 100)]):
             self.assertEqual(", ".join(self.format_lexer(answers)), wanted)
             self.assertEqual(answers.values("told")[-1][2:6], ["", None, None, None])
+
+    def test_the_places_that_a_cursor_tells(self):
+        cases = [from_text("%%\n(?s:.) ;").case(["lexer", text, False, [], list(asked)]) for _, text, asked in ASKED_OF_CURSORS]
+        for (name, text, asked), answers in zip(ASKED_OF_CURSORS, replay.answers(cases), strict=True):
+            with self.subTest(row=name):
+                wanted = [counted(text.encode(), byte)[0] for byte in asked]
+                self.assertEqual([of_cursor for *_, of_cursor in answers.values("place")], wanted)
 
 
 if __name__ == "__main__":

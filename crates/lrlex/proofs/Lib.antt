@@ -46,6 +46,7 @@ pub mod RowKindLemmas
 pub mod PieceLemmas
 mod PieceLawLemmas
 pub mod DocumentLemmas
+pub mod LineCursorLemmas
 pub mod LinearLemmas
 pub mod ListLemmas
 pub mod NotedLemmas

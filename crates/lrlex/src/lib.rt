@@ -20,6 +20,7 @@ pub use crate::lexing::run::LexRun;
 pub use crate::lexing::scanner::{ScanEnd, ScannedTile, Scanner, Step};
 pub use crate::lexing::steps::Steps;
 pub use crate::reading::lexer::LRNonStreamingLexer;
+pub use crate::reading::line_cursor::LineCursor;
 pub use crate::reading::pieces::{Piece, piece_laws};
 pub use lrlex_base::{
     DefaultLexeme, Edit, Id, Items, LexError, Lexeme, Lexer, LexerTypes, NewlineCache,

@@ -1,5 +1,5 @@
 //! The program that README shows: `lrlex_bench --example first < TEXT` prints the place, the name and the text of each word and number.
-use lrlex::{DefaultLexerTypes, LRNonStreamingLexerDef, Lexeme, Lexer, LexerDef};
+use lrlex::{DefaultLexerTypes, LRNonStreamingLexerDef, Lexeme, Lexer, LexerDef, LineCursor};
 use lrlex_report::{faults_text, stop_text};
 use std::io;
 use std::process::ExitCode;
@@ -10,8 +10,7 @@ const RULES: &str = r#"%%
 [ \t\r\n]+ ;"#;
 
 fn failed(rt: &HostRuntime, shown: &str) -> io::Result<ExitCode> {
-    rt.eprint(shown)?;
-    Ok(ExitCode::FAILURE)
+    rt.eprint(shown).and(Ok(ExitCode::FAILURE))
 }
 
 pub fn main(rt: HostRuntime) -> io::Result<ExitCode> {
@@ -21,12 +20,13 @@ pub fn main(rt: HostRuntime) -> io::Result<ExitCode> {
     };
     let input = io::read_to_string(rt.alloc(), rt.reader())?;
     let lexer = rules.lexer(rt.alloc(), &input)?;
+    let mut cursor = LineCursor::new(&input);
     for item in lexer.iter() {
         let lexeme = match item {
             Ok(lexeme) => lexeme,
             Err(error) => return failed(&rt, &stop_text(rt.alloc(), "stdin", &input, &error)?),
         };
-        let (line, column) = lexer.place(lexeme.span().start());
+        let (line, column) = cursor.place(lexeme.span().start());
         let name = rules.name_of(lexeme.tok_id()).unwrap_or("");
         println!(rt; "{line}:{column} {name} {}", lexer.text_of(lexeme.span()))?;
     }

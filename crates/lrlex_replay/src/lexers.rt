@@ -4,7 +4,7 @@ ghost use Rattle.lrlex.specs.Lexer.{lexer_text};
 
 use crate::building::Definition;
 use crate::items::{item_seen, tell_items};
-use lrlex::{DefaultLexeme, DefaultLexerTypes, LRLexError, LRNonStreamingLexer};
+use lrlex::{DefaultLexeme, DefaultLexerTypes, LRLexError, LRNonStreamingLexer, LineCursor};
 use lrlex_base::{Lexer, NonStreamingLexer, Span};
 use lrlex_replay_cases::facts::{Fitting, tell_fitting};
 use lrlex_replay_cases::reading::{Trouble, count_of, list_of, span_of};
@@ -86,11 +86,13 @@ fn tell_spans(told: &mut Told, lexer: &LexerOf<'_, '_>, input: &str, spans: &[Va
     }
 }
 
-/// Tells the places of these bytes, each on a line.
-fn tell_bytes(told: &mut Told, lexer: &LexerOf<'_, '_>, bytes: &[Value]) {
+/// Tells the places of these bytes, each on a line: those of the lexer, and that of a cursor of its input.
+fn tell_bytes(told: &mut Told, lexer: &LexerOf<'_, '_>, input: &str, bytes: &[Value]) {
+    let mut cursor = LineCursor::new(input);
     for value in bytes {
         told.list("place");
         tell_place(told, lexer, count_of(value));
+        told.pair(cursor.place(count_of(value)));
         told.close();
     }
 }
@@ -107,7 +109,7 @@ fn tell_lexer(
     tell_lexed(told, lexer)?;
     tell_each(told, lexer, input);
     tell_spans(told, lexer, input, asked.0);
-    tell_bytes(told, lexer, asked.1);
+    tell_bytes(told, lexer, input, asked.1);
     Ok(())
 }
 

@@ -14,7 +14,6 @@ mod flags;
 mod highlight;
 mod lsp;
 mod output;
-mod places;
 mod states;
 mod tokens;
 

@@ -1,5 +1,5 @@
 //! The tokens of a text, and where it ends. No clause and no proof file.
-use lrlex::{DefaultLexerTypes, LRNonStreamingLexerDef, Lexeme, Lexer, LexerDef};
+use lrlex::{DefaultLexerTypes, LRNonStreamingLexerDef, Lexeme, Lexer, LexerDef, LineCursor};
 use std::alloc::{AllocError, Global};
 
 /// A token: the name of its rule, its text, and the line and column of its first character, both from 1.
@@ -18,10 +18,11 @@ pub fn tokens<'d, 't>(
     text: &'t str,
 ) -> Result<Vec<Token<'d, 't>>, AllocError> {
     let lexer = definition.lexer(alloc, text)?;
+    let mut cursor = LineCursor::new(text);
     let mut tokens = Vec::new(alloc);
     for item in lexer.iter() {
         if let Ok(lexeme) = item {
-            let (line, column) = lexer.place(lexeme.span().start());
+            let (line, column) = cursor.place(lexeme.span().start());
             tokens.push(Token {
                 name: definition.name_of(lexeme.tok_id()).unwrap_or(""),
                 text: lexer.text_of(lexeme.span()),

@@ -1,18 +1,16 @@
 //! The place of a text that a word names.
-use crate::places::{FIRST, LineColumn, after};
+use lrlex::LineCursor;
 
 /// The byte at a line and a column of a text. None where the text has no such place.
-fn byte_at(text: &str, wanted: LineColumn) -> Option<usize> {
-    let mut place = FIRST;
-    let mut byte = 0usize;
-    for c in text.chars() {
-        if place == wanted {
+fn byte_at(text: &str, wanted: (usize, usize)) -> Option<usize> {
+    let mut cursor = LineCursor::new(text);
+    for (byte, _) in text.char_indices() {
+        if cursor.place(byte) == wanted {
             return Some(byte);
         }
-        place = after(place, c);
-        byte = byte.saturating_add(c.len_utf8());
     }
-    if place == wanted { Some(byte) } else { None }
+    let end = text.len();
+    if cursor.place(end) == wanted { Some(end) } else { None }
 }
 
 /// The byte of a text that a word names: by its number from 0, up to the text's end, or by LINE:COLUMN. None where it names none.

@@ -1,8 +1,7 @@
 //! A token, and its line.
 use crate::files::{Definition, Types};
 use crate::output::Output;
-use crate::places::Cursor;
-use lrlex::{DefaultLexeme, LRNonStreamingLexer, Lexeme};
+use lrlex::{DefaultLexeme, LRNonStreamingLexer, Lexeme, LineCursor};
 use serde::Serialize;
 use std::alloc::{AllocError, Global};
 use std::io;
@@ -24,16 +23,16 @@ pub struct Token<'a> {
     end_column: usize,
 }
 
-/// The token of a lexeme. The cursor isn't after the lexeme, and moves to its end.
+/// The token of a lexeme. The cursor moves to its end.
 pub fn token_of<'a>(
     definition: &'a Definition,
     lexer: &LexerOf<'a, 'a>,
-    cursor: &mut Cursor<'_>,
+    cursor: &mut LineCursor<'_>,
     lexeme: &DefaultLexeme<u32>,
 ) -> Token<'a> {
     let span = lexeme.span();
-    let (line, column) = cursor.move_to(span.start());
-    let (end_line, end_column) = cursor.move_to(span.end());
+    let (line, column) = cursor.place(span.start());
+    let (end_line, end_column) = cursor.place(span.end());
     Token {
         name: definition.name_of(lexeme.tok_id()).unwrap_or(""),
         text: lexer.text_of(span),

@@ -4,11 +4,10 @@ mod lines;
 
 use crate::files::{Definition, name_of, rules_of, text_at, word_of};
 use crate::output::{FAULTY, UNABLE, output};
-use crate::places::Cursor;
 use clap::ArgMatches;
 use ending::{Ending, ending_of, ending_text};
 use lines::{LexerOf, token_of, write_token};
-use lrlex::{LRLexError, Lexer};
+use lrlex::{LRLexError, Lexer, LineCursor};
 use lrlex_report::stop_text_in;
 use std::io;
 use std::io::Write;
@@ -22,7 +21,7 @@ fn write_tokens<'a>(
     is_json: bool,
 ) -> io::Result<Option<LRLexError>> {
     let mut out = output(rt)?;
-    let mut cursor = Cursor::new(input);
+    let mut cursor = LineCursor::new(input);
     let mut stop = None;
     for item in lexer.iter() {
         match item {
