@@ -317,7 +317,8 @@ typedef struct lrlex_place {
 } lrlex_place;
 
 /* Line and column, from 1, of the place before each of these bytes; a column counts characters. Inside a character it is the place
- * before that, and past the text's end the end. Writes as many as both `n` and `cap` allow.
+ * before that, and past the text's end the end. Writes as many as both `n` and `cap` allow. Each call reads the whole text, so ask for
+ * many places at once. In ascending order they take no further pass, however long the lines are.
  * LRLEX_OK; LRLEX_NOT_UTF8; LRLEX_NOMEM. */
 int lrlex_places(const uint8_t *text, size_t text_len, const size_t *bytes, size_t n, lrlex_place *out, size_t cap);
 

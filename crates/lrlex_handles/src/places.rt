@@ -6,7 +6,7 @@ ghost use Rattle.lrlex_handles.specs.Buffers.{filled, place_by};
 
 use crate::status::{NO_MEMORY, NOT_UTF8, OK};
 use crate::structs::Place;
-use lrlex::NewlineCache;
+use lrlex::{LineCursor, NewlineCache};
 use std::alloc::Global;
 use std::str;
 
@@ -29,15 +29,32 @@ pub(crate) fn place_at(newlines: &NewlineCache, text: &str, byte: usize) -> Plac
     Place { line, column }
 }
 
-/// Writes line and column of as many of the bytes as there is room for.
+/// The same, told by a cursor of the text.
+fn place_by_cursor(cursor: &mut LineCursor<'_>, text: &str, byte: usize) -> Place
+    requires { cursor.old ≡ text.now }
+    ensures place { result ≡ place_by (place_of text.now (nearest text.now byte)) }
+    ensures text { cursor.new ≡ text.now }
+{
+    let (line, column) = cursor.place(nearest(text, byte));
+    Place { line, column }
+}
+
+/// Writes line and column of as many of the bytes as there is room for. A cursor tells those of bytes that ascend.
 fn copy_places(newlines: &NewlineCache, text: &str, bytes: &[usize], out: &mut [Place])
     requires { AreBreaksOf text.now newlines.now }
     ensures { out.new ≡ filled (λ b _. place_by (place_of text.now (nearest text.now b))) bytes.now
         out.old }
 {
     let room = bytes.len().min(out.len());
+    let mut cursor = LineCursor::new(text);
+    let mut last = 0usize;
     for i in 0..room {
-        out[i] = place_at(newlines, text, bytes[i]);
+        if bytes[i] < last {
+            out[i] = place_at(newlines, text, bytes[i]);
+        } else {
+            last = bytes[i];
+            out[i] = place_by_cursor(&mut cursor, text, last);
+        }
     }
 }
 
