@@ -1,5 +1,5 @@
 -- How the characters of a line are shown, and the blanks and carets under them.
-use Rattle.std.specs.Prelude.{ℕ, ◌==◌, ◌&&◌, not, List, [], ◌∷◌, flat_map, replicate, unwrap_or, false, if◌then◌else◌}
+use Rattle.std.specs.Prelude.{ℕ, ◌-◌, ◌==◌, ◌&&◌, nat_lt, not, List, [], ◌∷◌, ◌++◌, length, take, drop, flat_map, replicate, codes, unwrap_or, false, if◌then◌else◌}
 use Rattle.std.specs.Char.{encode_utf8, is_control}
 use Rattle.unicode_width.specs.Width.{char_width}
 
@@ -9,6 +9,22 @@ shown_char c = if is_control c && not (c == 9) then 0xFFFD else c
 
 abbrev pub shown_line : List ℕ → List ℕ
 shown_line cs = flat_map (λ c. encode_utf8 (shown_char c)) cs
+
+-- how many characters of a line are shown before a place, and how many from there on: 80 where the line has more than 200
+abbrev pub most_of : List ℕ → ℕ
+most_of line = if nat_lt 200 (length line) then 80 else 200
+
+-- this text where characters aren't shown
+abbrev pub if_hidden : (hidden : ℕ) → List ℕ → List ℕ
+if_hidden hidden text = if nat_lt 0 hidden then text else []
+
+-- what is shown of the characters before a place: the last ones, and `...` before them for the others
+abbrev pub shown_front : (most : ℕ) → List ℕ → List ℕ
+shown_front most cs = if_hidden (length cs - most) (codes "...") ++ drop (length cs - most) cs
+
+-- what is shown of the characters from a place on: the first ones, and `...` behind them for the others
+abbrev pub shown_rest : (most : ℕ) → List ℕ → List ℕ
+shown_rest most cs = take most cs ++ if_hidden (length cs - most) (codes "...")
 
 -- how many columns a character takes in a terminal; a tab counts as one
 abbrev pub columns : ℕ → ℕ

@@ -1,11 +1,11 @@
 -- How a place of a text is shown: its file, line and column with a message, then its line with the line's number, then carets
 -- under the place.
-use Rattle.std.specs.Prelude.{ℕ, ◌-◌, ◌==◌, ◌&&◌, nat_lt, min, List, [], ◌∷◌, ◌++◌, length, replicate, slice_index, slice_range, codes, decimal, if◌then◌else◌}
+use Rattle.std.specs.Prelude.{ℕ, ◌-◌, ◌==◌, ◌&&◌, nat_lt, min, List, [], ◌∷◌, ◌++◌, length, take, replicate, slice_index, slice_range, codes, decimal, if◌then◌else◌}
 use Rattle.std.specs.Str.{chars}
 use Rattle.std.specs.Fmt.Cut.{floor_char_boundary}
 use Rattle.lrlex_base.specs.Places.{line_of, column_of, whole_lines}
 use Rattle.lrlex_base.specs.Spans.{Span, at_place}
-use Rattle.lrlex_report.specs.Carets.{shown_line, padding, carets}
+use Rattle.lrlex_report.specs.Carets.{shown_line, most_of, shown_front, shown_rest, padding, carets}
 
 -- the greatest character boundary of the text up to the number
 abbrev pub nearest : List ℕ → ℕ → ℕ
@@ -27,22 +27,25 @@ abbrev pub heading : (file : List ℕ) (line column : ℕ) (message : List ℕ) 
 heading file line column message =
     file ++ 58 ∷ (decimal line ++ 58 ∷ (decimal column ++ (codes ": " ++ (message ++ 10 ∷ []))))
 
--- a line's number and its text
-abbrev pub numbered : (line : ℕ) (text : List ℕ) → List ℕ
-numbered line text = decimal line ++ (codes " | " ++ (shown_line (chars text) ++ 10 ∷ []))
+-- a line's number and what is shown of its characters
+abbrev pub numbered : (line : ℕ) (shown : List ℕ) → List ℕ
+numbered line shown = decimal line ++ (codes " | " ++ (shown_line shown ++ 10 ∷ []))
 
--- the line of carets: they are under `part`, and `front` is the text of the line before it
+-- the line of carets: they are under `part`, and `front` is what is shown of the line before it
 abbrev pub underlined : (line : ℕ) (front part : List ℕ) → List ℕ
 underlined line front part =
-    replicate (length (decimal line)) 32
-    ++ (codes " | " ++ (padding (chars front) ++ (carets (chars part) ++ 10 ∷ [])))
+    replicate (length (decimal line)) 32 ++ (codes " | " ++ (padding front ++ (carets part ++ 10 ∷ [])))
 
--- the line of a place, and carets from there up to another place, or to the line's end if that comes first
+-- the line of a place, a long one in part, and carets from there up to another place, or to the end of what is shown if that
+-- comes first
 abbrev pub excerpt : (text : List ℕ) (at to : ℕ) → List ℕ
 excerpt text at to =
     let line = line_at text at in
-    numbered (line_of text at) (slice_range text line.start line.end)
-    ++ underlined (line_of text at) (slice_range text line.start at) (slice_range text at (min to line.end))
+    let place = min at line.end in
+    let most = most_of (chars (slice_range text line.start line.end)) in
+    let front = shown_front most (chars (slice_range text line.start place)) in
+    numbered (line_of text at) (front ++ shown_rest most (chars (slice_range text place line.end)))
+    ++ underlined (line_of text at) front (take most (chars (slice_range text at (min to line.end))))
 
 -- what is shown of a span with a message; a span end inside a character is moved back to the character's start, and one after
 -- the text's end to that end

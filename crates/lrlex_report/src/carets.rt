@@ -1,7 +1,7 @@
 //! How the characters of a line are shown, and the blanks and carets under them.
-ghost use Rattle.std.specs.Prelude.{◌≡◌, ◌<◌, ◌++◌, OnOk, replicate, string_bytes};
+ghost use Rattle.std.specs.Prelude.{◌≡◌, ◌<◌, ◌-◌, ◌++◌, OnOk, length, take, drop, replicate, string_bytes};
 ghost use Rattle.std.specs.Str.{chars};
-ghost use Rattle.lrlex_report.specs.Carets.{shown_char, shown_line, columns, under, padding, marks, carets};
+ghost use Rattle.lrlex_report.specs.Carets.{shown_char, shown_line, most_of, if_hidden, shown_front, shown_rest, columns, under, padding, marks, carets};
 
 use std::alloc::AllocError;
 use unicode_width::UnicodeWidthChar;
@@ -37,15 +37,70 @@ pub(crate) fn push_times(out: &mut String, c: char, times: usize) -> Result<(), 
     Ok(())
 }
 
-/// Adds a line, each character as it is shown.
-pub(crate) fn push_line(out: &mut String, line: &str) -> Result<(), AllocError>
-    ensures { OnOk result (string_bytes out.new ≡ string_bytes out.old
-        ++ shown_line (chars line.now)) }
+/// How many characters of a line are shown before a place, and how many from there on.
+pub(crate) fn most_of(line: &str) -> usize
+    ensures { result ≡ most_of (chars line.now) }
 {
-    for c in line.chars() {
+    if line.chars().count() > 200 { 80 } else { 200 }
+}
+
+/// How many characters of a text aren't shown, if so many are shown at most.
+fn hidden(text: &str, most: usize) -> usize
+    ensures { result ≡ length (chars text.now) - most }
+{
+    text.chars().count().saturating_sub(most)
+}
+
+/// Adds a text if characters are hidden.
+fn push_if_hidden(out: &mut String, hidden: usize, text: &str) -> Result<(), AllocError>
+    ensures { OnOk result (string_bytes out.new ≡ string_bytes out.old ++ if_hidden hidden text.now) }
+{
+    if hidden > 0 {
+        out.push_str(text)
+    } else {
+        Ok(())
+    }
+}
+
+/// Adds the characters of a text behind so many, each as it is shown.
+fn push_behind(out: &mut String, text: &str, hidden: usize) -> Result<(), AllocError>
+    ensures { OnOk result (string_bytes out.new ≡ string_bytes out.old
+        ++ shown_line (drop hidden (chars text.now))) }
+{
+    for c in text.chars().skip(hidden) {
         out.push(shown_char(c))?;
     }
     Ok(())
+}
+
+/// Adds the first characters of a text, so many at most, each as it is shown.
+fn push_first(out: &mut String, text: &str, most: usize) -> Result<(), AllocError>
+    ensures { OnOk result (string_bytes out.new ≡ string_bytes out.old
+        ++ shown_line (take most (chars text.now))) }
+{
+    for c in text.chars().take(most) {
+        out.push(shown_char(c))?;
+    }
+    Ok(())
+}
+
+/// Adds what is shown of the text of a line before a place: so many characters at most.
+pub(crate) fn push_front(out: &mut String, front: &str, most: usize) -> Result<(), AllocError>
+    ensures { OnOk result (string_bytes out.new ≡ string_bytes out.old
+        ++ shown_line (shown_front most (chars front.now))) }
+{
+    let hidden = hidden(front, most);
+    push_if_hidden(out, hidden, "...")?;
+    push_behind(out, front, hidden)
+}
+
+/// Adds what is shown of the text of a line from a place on: so many characters at most.
+pub(crate) fn push_rest(out: &mut String, rest: &str, most: usize) -> Result<(), AllocError>
+    ensures { OnOk result (string_bytes out.new ≡ string_bytes out.old
+        ++ shown_line (shown_rest most (chars rest.now))) }
+{
+    push_first(out, rest, most)?;
+    push_if_hidden(out, hidden(rest, most), "...")
 }
 
 /// Adds what goes under a character before the carets: a tab under a tab, and else blanks.
@@ -59,34 +114,45 @@ fn push_under(out: &mut String, c: char) -> Result<(), AllocError>
     }
 }
 
-/// Adds what goes under the text before the carets, as wide as that text is in a terminal.
-pub(crate) fn push_padding(out: &mut String, front: &str) -> Result<(), AllocError>
+/// Adds what goes under the characters of a text behind so many.
+fn push_under_behind(out: &mut String, text: &str, hidden: usize) -> Result<(), AllocError>
     ensures { OnOk result (string_bytes out.new ≡ string_bytes out.old
-        ++ padding (chars front.now)) }
+        ++ padding (drop hidden (chars text.now))) }
 {
-    for c in front.chars() {
+    for c in text.chars().skip(hidden) {
         push_under(out, c)?;
     }
     Ok(())
 }
 
-/// Adds a caret in each column of a text.
-fn push_marks(out: &mut String, part: &str) -> Result<(), AllocError>
-    ensures { OnOk result (string_bytes out.new ≡ string_bytes out.old ++ marks (chars part.now)) }
+/// Adds what goes under the text before the carets, as wide as what is shown of that text is in a terminal.
+pub(crate) fn push_padding(out: &mut String, front: &str, most: usize) -> Result<(), AllocError>
+    ensures { OnOk result (string_bytes out.new ≡ string_bytes out.old
+        ++ padding (shown_front most (chars front.now))) }
 {
-    for c in part.chars() {
+    let hidden = hidden(front, most);
+    push_if_hidden(out, hidden, "   ")?;
+    push_under_behind(out, front, hidden)
+}
+
+/// Adds a caret in each column of the first characters of a text, so many at most.
+fn push_marks(out: &mut String, part: &str, most: usize) -> Result<(), AllocError>
+    ensures { OnOk result (string_bytes out.new ≡ string_bytes out.old
+        ++ marks (take most (chars part.now))) }
+{
+    for c in part.chars().take(most) {
         push_times(out, '^', columns(c))?;
     }
     Ok(())
 }
 
-/// Adds a caret in each column of a text, and at least one.
-pub(crate) fn push_carets(out: &mut String, part: &str) -> Result<(), AllocError>
+/// Adds a caret in each column of the first characters of a text, so many at most, and at least one caret.
+pub(crate) fn push_carets(out: &mut String, part: &str, most: usize) -> Result<(), AllocError>
     ensures { OnOk result (string_bytes out.new ≡ string_bytes out.old
-        ++ carets (chars part.now)) }
+        ++ carets (take most (chars part.now))) }
 {
     let before = out.len();
-    push_marks(out, part)?;
+    push_marks(out, part, most)?;
     if out.len() == before {
         out.push('^')?;
     }

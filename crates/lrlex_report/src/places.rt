@@ -1,10 +1,12 @@
 //! A place in a text, its line, and carets under it.
-ghost use Rattle.std.specs.Prelude.{◌≡◌, ◌≤◌, ◌++◌, IfOk, OnOk, IsCharBoundary, codes, string_bytes, length, min, slice_range};
+ghost use Rattle.std.specs.Prelude.{◌≡◌, ◌≤◌, ◌++◌, IfOk, OnOk, IsCharBoundary, codes, string_bytes, length, take, min, slice_range};
+ghost use Rattle.std.specs.Str.{chars};
 ghost use Rattle.lrlex_base.specs.Places.{AreBreaksOf, line_of, column_of, whole_lines};
 ghost use Rattle.lrlex_base.specs.Spans.{as_span, span_start, span_end, span};
+ghost use Rattle.lrlex_report.specs.Carets.{shown_front, shown_rest};
 ghost use Rattle.lrlex_report.specs.PlaceTexts.{nearest, before_return, line_at, heading, numbered, underlined, excerpt, place_text};
 
-use crate::carets::{push_carets, push_line, push_padding, push_times};
+use crate::carets::{most_of, push_carets, push_front, push_padding, push_rest, push_times};
 use lrlex_base::{NewlineCache, Span};
 use std::alloc::{AllocError, Global};
 use std::fmt::Write;
@@ -75,31 +77,41 @@ fn push_heading(
     write!(out, "{file}:{line}:{column}: {message}\n")
 }
 
-/// Adds a line's number and its text.
-fn push_numbered(out: &mut String, line: usize, text: &str) -> Result<(), AllocError>
-    ensures { OnOk result (string_bytes out.new ≡ string_bytes out.old ++ numbered line text.now) }
+/// Adds a line's number, and what is shown of the line before a place and from there on: so many characters each at most.
+fn push_numbered(
+    out: &mut String,
+    line: usize,
+    front: &str,
+    rest: &str,
+    most: usize,
+) -> Result<(), AllocError>
+    ensures { OnOk result (string_bytes out.new ≡ string_bytes out.old
+        ++ numbered line (shown_front most (chars front.now) ++ shown_rest most (chars rest.now))) }
 {
     write!(out, "{line} | ")?;
-    push_line(out, text)?;
+    push_front(out, front, most)?;
+    push_rest(out, rest, most)?;
     out.push_str("\n")
 }
 
-/// Adds the line of carets: they are under `part`, and `front` is the text of the line before it.
+/// Adds the line of carets: they are under `part`, and `front` is the text of the line before it, of which so many characters are
+/// shown at most.
 fn push_underlined(
     alloc: Global,
     out: &mut String,
     line: usize,
     front: &str,
     part: &str,
+    most: usize,
 ) -> Result<(), AllocError>
     ensures { OnOk result (string_bytes out.new ≡ string_bytes out.old
-        ++ underlined line front.now part.now) }
+        ++ underlined line (shown_front most (chars front.now)) (take most (chars part.now))) }
 {
     let number = format!(in alloc; "{line}")?;
     push_times(out, ' ', number.len())?;
     out.push_str(" | ")?;
-    push_padding(out, front)?;
-    push_carets(out, part)?;
+    push_padding(out, front, most)?;
+    push_carets(out, part, most)?;
     out.push_str("\n")
 }
 
@@ -117,7 +129,8 @@ impl<'t> Source<'t> {
         })
     }
 
-    /// Adds the line of a place, and carets from there up to another place, or to the line's end if that comes first.
+    /// Adds the line of a place, a long one in part, and carets from there up to another place, or to the end of what is shown if
+    /// that comes first.
     fn push_excerpt(
         &self,
         alloc: Global,
@@ -134,9 +147,12 @@ impl<'t> Source<'t> {
     {
         let line = line_at(&self.newlines, self.text, at);
         let (start, end) = (line.start(), line.end());
-        push_numbered(out, number, part(self.text, start, end))?;
-        let front = part(self.text, start, at);
-        push_underlined(alloc, out, number, front, part(self.text, at, to.min(end)))
+        let most = most_of(part(self.text, start, end));
+        let place = at.min(end);
+        let front = part(self.text, start, place);
+        push_numbered(out, number, front, part(self.text, place, end), most)?;
+        let part = part(self.text, at, to.min(end));
+        push_underlined(alloc, out, number, front, part, most)
     }
 
     /// Adds a message at a span, the line where the span begins, and carets under the span.

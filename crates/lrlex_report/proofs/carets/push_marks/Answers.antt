@@ -1,10 +1,11 @@
 use Rattle.std.proofs.Common.{◌++◌, string_bytes, sym, ap, ◌∙◌, map-id}
-use Rattle.std.proofs.lemmas.Iterator.{YieldsList-from_chars}
+use Rattle.std.proofs.lemmas.Iterator.{YieldsList-from_chars, YieldsList-from_take}
 use Rattle.std.proofs.lemmas.Iterator.Consumers.{YieldsList-end}
 use Rattle.lrlex_report.specs.Carets.{marks}
 use Rattle.lrlex_report.proofs.carets.push_marks.Goals as goal
 
 pub returns : goal.returns
 returns c =
-    let end = YieldsList-end (YieldsList-from_chars c.args.part.now c.utf8.part cc) c.loop-c.yielded _ c.loop-c.yielded_by _ _ c.in-None.is c.next.ensures.steps in
+    let yields = YieldsList-from_take c.args.most (YieldsList-from_chars c.args.part.now c.utf8.part cc) cc in
+    let end = YieldsList-end yields c.loop-c.yielded _ c.loop-c.yielded_by _ _ c.in-None.is c.next.ensures.steps in
     c.loop-c.invariant ∙ ap (λ cs. string_bytes c.args.out.now ++ marks cs) (sym (map-id c.loop-c.yielded) ∙ end.0)
