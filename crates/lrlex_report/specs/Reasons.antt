@@ -1,16 +1,21 @@
 -- Why lexing stopped, in words.
-use Rattle.std.specs.Prelude.{ℕ, ◌==◌, false, List, [], ◌∷◌, ◌++◌, drop, codes, Option, Some, None, slice_get, if◌then◌else◌}
-use Rattle.std.specs.Char.{encode_utf8, is_control}
+use Rattle.std.specs.Prelude.{ℕ, ◌==◌, ◌&&◌, ◌||◌, not, Bool, false, List, [], ◌∷◌, ◌++◌, drop, codes, Option, Some, None, slice_get, unwrap_or, if◌then◌else◌}
+use Rattle.std.specs.Char.{encode_utf8, is_whitespace}
 use Rattle.std.specs.Fmt.{digits}
 use Rattle.std.specs.Str.{chars}
+use Rattle.unicode_width.specs.Width.{char_width}
 
--- a character in single quotes; a control character as Rust escapes it
+-- a character that nobody sees: white space other than the blank, or one that takes no column in a terminal
+abbrev pub is_unseen : ℕ → Bool
+is_unseen c = not (c == 32) && (is_whitespace c || (unwrap_or (char_width false c) 0 == 0))
+
+-- a character in single quotes; one that nobody sees as Rust escapes it
 abbrev pub quoted : ℕ → List ℕ
 quoted c =
     if c == 9 then codes "'\\t'"
     else if c == 10 then codes "'\\n'"
     else if c == 13 then codes "'\\r'"
-    else if is_control c then codes "'\\u{" ++ (digits 16 false c ++ codes "}'")
+    else if is_unseen c then codes "'\\u{" ++ (digits 16 false c ++ codes "}'")
     else 39 ∷ (encode_utf8 c ++ 39 ∷ [])
 
 -- what was found where no rule matches: a character, or the end of the text

@@ -1,11 +1,19 @@
 //! Why lexing stopped, in words.
 ghost use Rattle.std.specs.Prelude.{◌≡◌, ◌++◌, IfOk, OnOk, IsCharBoundary, option_map, string_bytes};
-ghost use Rattle.lrlex_report.specs.Reasons.{quoted, unexpected, in_state, reason, char_at};
+ghost use Rattle.lrlex_report.specs.Reasons.{is_unseen, quoted, unexpected, in_state, reason, char_at};
 
 use std::alloc::{AllocError, Global};
 use std::fmt::Write;
+use unicode_width::UnicodeWidthChar;
 
-/// Adds a character in single quotes; a control character as Rust escapes it.
+/// Whether nobody sees a character: it is white space other than the blank, or it takes no column in a terminal.
+fn is_unseen(c: char) -> bool
+    ensures { result ≡ is_unseen c }
+{
+    c != ' ' && (c.is_whitespace() || c.width().unwrap_or(0) == 0)
+}
+
+/// Adds a character in single quotes; one that nobody sees as Rust escapes it.
 fn push_quoted(out: &mut String, c: char) -> Result<(), AllocError>
     ensures { OnOk result (string_bytes out.new ≡ string_bytes out.old ++ quoted c) }
 {
@@ -13,7 +21,7 @@ fn push_quoted(out: &mut String, c: char) -> Result<(), AllocError>
         '\t' => out.push_str("'\\t'"),
         '\n' => out.push_str("'\\n'"),
         '\r' => out.push_str("'\\r'"),
-        _ if c.is_control() => {
+        _ if is_unseen(c) => {
             let code = c as u32;
             out.push_str("'\\u{")?;
             write!(out, "{code:x}")?;
