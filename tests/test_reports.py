@@ -49,9 +49,41 @@ STOPS = [
     ("aa[bba", "input.txt:1:6: unexpected character 'a' in start state TEXT\n1 | aa[bba\n  |      ^\n"),
     (
         "\ufeffa",
-        "input.txt:1:1: unexpected character '\ufeff': the text begins with a byte order mark (U+FEFF)\n1 | \ufeffa\n  | ^\n",
+        "input.txt:1:1: unexpected character '\\u{feff}': the text begins with a byte order mark (U+FEFF)\n1 | \ufeffa\n  | ^\n",
     ),
-    ("a\ufeff", "input.txt:1:2: unexpected character '\ufeff'\n1 | a\ufeff\n  |  ^\n"),
+    ("a\ufeff", "input.txt:1:2: unexpected character '\\u{feff}'\n1 | a\ufeff\n  |  ^\n"),
+    # blanks and other characters that nobody sees; the blank itself is shown
+    ("a a", "input.txt:1:2: unexpected character ' '\n1 | a a\n  |  ^\n"),
+    ("a\xa0", "input.txt:1:2: unexpected character '\\u{a0}'\n1 | a\xa0\n  |  ^\n"),
+    ("a\u3000a", "input.txt:1:2: unexpected character '\\u{3000}'\n1 | a\u3000a\n  |  ^^\n"),
+    ("a\u2028a", "input.txt:1:2: unexpected character '\\u{2028}'\n1 | a\u2028a\n  |  ^\n"),
+    ("a\u200ba", "input.txt:1:2: unexpected character '\\u{200b}'\n1 | a\u200ba\n  |  ^\n"),
+    ("a\u202ea", "input.txt:1:2: unexpected character '\\u{202e}'\n1 | a\u202ea\n  |  ^\n"),
+    ("a\u0301a", "input.txt:1:2: unexpected character '\\u{301}'\n1 | a\u0301a\n  |  ^\n"),
+    ("é", "input.txt:1:1: unexpected character 'é'\n1 | é\n  | ^\n"),
+    # lines of 200 characters, and longer ones: what is before the place is cut, what is behind it, both
+    ("a" * 199 + "x\r\n", f"input.txt:1:200: unexpected character 'x'\n1 | {'a' * 199}x\n  | {' ' * 199}^\n"),
+    ("x" + "a" * 199, f"input.txt:1:1: unexpected character 'x'\n1 | x{'a' * 199}\n  | ^\n"),
+    ("a" * 200 + "x", f"input.txt:1:201: unexpected character 'x'\n1 | ...{'a' * 80}x\n  |    {' ' * 80}^\n"),
+    ("x" + "a" * 200, f"input.txt:1:1: unexpected character 'x'\n1 | x{'a' * 79}...\n  | ^\n"),
+    (
+        "a\n" + "a" * 100 + "x" + "a" * 100 + "\n",
+        f"input.txt:2:101: unexpected character 'x'\n2 | ...{'a' * 80}x{'a' * 79}...\n  |    {' ' * 80}^\n",
+    ),
+    # no more than is shown before the place, and from there on
+    (
+        "a" * 80 + "x" + "a" * 120,
+        f"input.txt:1:81: unexpected character 'x'\n1 | {'a' * 80}x{'a' * 79}...\n  | {' ' * 80}^\n",
+    ),
+    (
+        "a" * 121 + "x" + "a" * 79,
+        f"input.txt:1:122: unexpected character 'x'\n1 | ...{'a' * 80}x{'a' * 79}\n  |    {' ' * 80}^\n",
+    ),
+    # wide characters and tabs before the place
+    (
+        "漢\t" * 150 + "x",
+        "input.txt:1:301: unexpected character 'x'\n1 | ..." + "漢\t" * 40 + "x\n  |    " + "  \t" * 40 + "^\n",
+    ),
 ]
 
 # Rule files, and what is shown of the bytes that aren't text or of the faults.
@@ -74,6 +106,18 @@ SPANS = [
     ([21, 99], "f:10:2: m\n10 | 漢字 x\n   |   ^^^^\n"),
     ([99, 99], "f:11:1: m\n11 | \n   | ^\n"),
     ([0, 99], "f:1:1: m\n1 | 1\n  | ^\n"),
+]
+
+# 100 characters and 200 others, in one line.
+LONG_LINE = "b" * 100 + "語" * 200
+
+# Texts, spans, and what is shown of them: carets under what is shown of a long line, at least one; the end of a line.
+LONG_SPANS = [
+    (LONG_LINE, [100, 700], f"f:1:101: m\n1 | ...{'b' * 80}{'語' * 80}...\n  |    {' ' * 80}{'^' * 160}\n"),
+    (LONG_LINE, [99, 103], f"f:1:100: m\n1 | ...{'b' * 80}b{'語' * 79}...\n  |    {' ' * 80}^^^\n"),
+    (LONG_LINE, [700, 700], f"f:1:301: m\n1 | ...{'語' * 80}\n  |    {' ' * 160}^\n"),
+    ("a\r\n", [1, 1], "f:1:2: m\n1 | a\n  |  ^\n"),
+    ("a\r\n", [2, 3], "f:1:3: m\n1 | a\n  |  ^\n"),
 ]
 
 # Rule texts, the text of the first fault alone, and what is shown of it.
@@ -242,7 +286,9 @@ class Reports(replay.TestCase):
                 self.assertTrue(start <= end <= len(rf"\A(?:{pattern})"), displayed)
                 self.assertEqual(found[3], reason)
                 note = f": {OPERATOR}" if pattern == "*" else ""
-                self.assertEqual(text, f"tokens.l:2:1: Invalid regular expression: {reason}{note}\n2 | <*>{pattern} 'A'\n  | ^\n")
+                line = f"<*>{pattern} 'A'"
+                shown_line = line if len(line) <= 200 else f"{line[:80]}..."
+                self.assertEqual(text, f"tokens.l:2:1: Invalid regular expression: {reason}{note}\n2 | {shown_line}\n  | ^\n")
 
     def test_a_pattern_that_is_too_large_has_this_reason(self):
         pattern = "((a{100}){100}){100}"
@@ -255,6 +301,9 @@ class Reports(replay.TestCase):
 
     def test_any_span(self):
         self.check_shown([(["place_text", TEN_LINES, span, "m"], wanted) for span, wanted in SPANS])
+
+    def test_spans_of_long_lines(self):
+        self.check_shown([(["place_text", text, span, "m"], wanted) for text, span, wanted in LONG_SPANS])
 
     def test_a_stop_past_the_end(self):
         wanted = "f:2:1: unexpected end of the text\n2 | \n  | ^\n"

@@ -467,9 +467,8 @@ class Rolgumzai(unittest.TestCase):
         for program in programs.by_each_compiler(PROGRAM):
             out, err, status = self.run_in_folder(program, ["tokens", "states.l", "deep"])
             self.assertEqual((out, status), ("", 0))
-            told = "deep:1:399999: the text ends in start state COMMENT, which is entered here\n1 | /*"
-            self.assertEqual(err[:len(told)], told)
-            self.assertTrue(err.rstrip("\n").endswith(" ^^"))
+            told = "deep:1:399999: the text ends in start state COMMENT, which is entered here"
+            self.assertEqual(err, f"{told}\n1 | ...{'/*' * 41}\n  |    {' ' * 80}^^\n")
             out, err, status = self.run_in_folder(program, ["explain", "states.l", "deep", "400000"])
             self.assertEqual((err, status), ("", 0))
             self.assertIn("stack, from the bottom: INITIAL COMMENT (200000 times)\n", out)
