@@ -55,7 +55,7 @@ STOPS = [
     # blanks and other characters that nobody sees; the blank itself is shown
     ("a a", "input.txt:1:2: unexpected character ' '\n1 | a a\n  |  ^\n"),
     ("a\xa0", "input.txt:1:2: unexpected character '\\u{a0}'\n1 | a\xa0\n  |  ^\n"),
-    ("a\u3000a", "input.txt:1:2: unexpected character '\\u{3000}'\n1 | a\u3000a\n  |  ^^\n"),
+    ("a\u3000a", "input.txt:1:2: unexpected character '\\u{3000}'\n1 | a\u3000a\n  |  ^\n"),
     ("a\u2028a", "input.txt:1:2: unexpected character '\\u{2028}'\n1 | a\u2028a\n  |  ^\n"),
     ("a\u200ba", "input.txt:1:2: unexpected character '\\u{200b}'\n1 | a\u200ba\n  |  ^\n"),
     ("a\u202ea", "input.txt:1:2: unexpected character '\\u{202e}'\n1 | a\u202ea\n  |  ^\n"),
