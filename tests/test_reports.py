@@ -52,7 +52,7 @@ STOPS = [
         "input.txt:1:1: unexpected character '\\u{feff}': the text begins with a byte order mark (U+FEFF)\n1 | \ufeffa\n  | ^\n",
     ),
     ("a\ufeff", "input.txt:1:2: unexpected character '\\u{feff}'\n1 | a\ufeff\n  |  ^\n"),
-    # blanks and other characters that nobody sees; the blank itself is shown
+    # white space and other characters that nobody sees; the space is shown
     ("a a", "input.txt:1:2: unexpected character ' '\n1 | a a\n  |  ^\n"),
     ("a\xa0", "input.txt:1:2: unexpected character '\\u{a0}'\n1 | a\xa0\n  |  ^\n"),
     ("a\u3000a", "input.txt:1:2: unexpected character '\\u{3000}'\n1 | a\u3000a\n  |  ^\n"),

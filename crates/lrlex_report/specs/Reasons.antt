@@ -5,7 +5,7 @@ use Rattle.std.specs.Fmt.{digits}
 use Rattle.std.specs.Str.{chars}
 use Rattle.unicode_width.specs.Width.{char_width}
 
--- a character that nobody sees: white space other than the blank, or one that takes no column in a terminal
+-- a character that nobody sees: white space other than the space, or one that takes no column in a terminal
 abbrev pub is_unseen : ℕ → Bool
 is_unseen c = not (c == 32) && (is_whitespace c || (unwrap_or (char_width false c) 0 == 0))
 

@@ -6,7 +6,7 @@ use std::alloc::{AllocError, Global};
 use std::fmt::Write;
 use unicode_width::UnicodeWidthChar;
 
-/// Whether nobody sees a character: it is white space other than the blank, or it takes no column in a terminal.
+/// Whether nobody sees a character: it is white space other than the space, or it takes no column in a terminal.
 fn is_unseen(c: char) -> bool
     ensures { result ≡ is_unseen c }
 {
