@@ -31,6 +31,10 @@ through_angle text = take (position_or_len is_greater text + 1) text
 abbrev pub before_blank : List ℕ → List ℕ
 before_blank text = if list_any is_blank text then before_last is_blank text else text
 
+-- the pattern of a rule's line with its list of start states, before the blank that separates it from the name
+abbrev pub source_in : (line : List ℕ) → List ℕ
+source_in line = trim_end (before_blank (trim_end line))
+
 -- what is wrong of the line that begins at the fault's place
 abbrev pub wrong_part : LexErrorKind → (len : ℕ) → (line : List ℕ) → List ℕ
 -- a name that is declared again, and code that begins with white space: what the fault's own span covers
@@ -41,8 +45,8 @@ wrong_part VerbatimNotSupported len line = first_bytes len line
 wrong_part InvalidStartStateName len line = first_word line
 -- a start state that isn't declared: the list or the target in angles
 wrong_part UnknownStartState len line = through_angle line
--- a pattern that `regex` refuses: it, with its list, up to the blank before the rule's name
-wrong_part (RegexError e) len line = trim_end (before_blank (trim_end line))
+-- a pattern that `regex` refuses: it, with its list
+wrong_part (RegexError e) len line = source_in line
 -- a declaration, a rule, a rule's name, a section's mark: the rest of the line, without the white space at its end
 wrong_part kind len line = trim_end line
 

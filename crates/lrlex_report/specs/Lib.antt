@@ -3,12 +3,12 @@ pub mod Carets
 pub mod Encoding
 pub mod FaultRanges
 pub mod FaultTexts
+pub mod Literals
 pub mod Looks
 pub mod Notes
 pub mod PatternNotes
 pub mod PlaceTexts
 pub mod Reasons
-pub mod Signs
 pub mod StopTexts
 pub mod WarningTexts
 pub mod Warnings

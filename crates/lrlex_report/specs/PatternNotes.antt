@@ -6,12 +6,11 @@ use Rattle.std.specs.Str.{byte}
 use Rattle.lrlex_rules.specs.Escape.{ends_in_escape, is_backslash, is_one_of}
 use Rattle.lrlex_rules.specs.RuleLine.{after_angles}
 use Rattle.lrlex_rules.specs.Text.{begins_with, trim_end}
-use Rattle.lrlex_report.specs.FaultRanges.{before_blank}
+use Rattle.lrlex_report.specs.FaultRanges.{before_blank, source_in}
 
--- the pattern of a rule's line, before the blank that parts it from the name and without its list of start states
+-- the pattern of a rule's line, without its list of start states
 abbrev pub pattern_of : (line : List ℕ) → List ℕ
-pattern_of line =
-    let source = trim_end (before_blank (trim_end line)) in if begins_with (codes "<") source then after_angles source else source
+pattern_of line = let source = source_in line in if begins_with (codes "<") source then after_angles source else source
 
 -- of a line whose pattern ends in a backslash
 abbrev pub escape_note : (line : List ℕ) → List ℕ
@@ -24,13 +23,13 @@ abbrev pub begins_name : (before b c : ℕ) → Bool
 begins_name before b c = (b == byte "{") && is_ascii_alphabetic c && not (is_ascii_alphabetic before || is_backslash before)
 
 -- a pattern with a name in braces, as flex has it; `before` is the byte before it, or 0
-abbrev pub has_name : (before : ℕ) → List ℕ → Bool
-has_name before [] = false
-has_name before (b ∷ []) = false
-has_name before (b ∷ c ∷ rest) = begins_name before b c || has_name b (c ∷ rest)
+abbrev pub has_braced_name : (before : ℕ) → List ℕ → Bool
+has_braced_name before [] = false
+has_braced_name before (b ∷ []) = false
+has_braced_name before (b ∷ c ∷ rest) = begins_name before b c || has_braced_name b (c ∷ rest)
 
 abbrev pub braces_note : (pattern : List ℕ) → List ℕ
-braces_note pattern = if has_name 0 pattern then codes ": a name in braces stands for no pattern; write the pattern in its place" else []
+braces_note pattern = if has_braced_name 0 pattern then codes ": a name in braces stands for no pattern; write the pattern in its place" else []
 
 -- an operator of patterns, or a quote
 abbrev pub is_operator : ℕ → Bool

@@ -17,9 +17,9 @@ use Rattle.lrlex.specs.Views.{definition_by}
 use Rattle.lrlex.specs.declared.definition.rule_table.RuleTable.{RuleTable}
 use Rattle.lrlex_report.specs.Alternatives.{loses_word}
 use Rattle.lrlex_report.specs.FaultRanges.{before_blank}
+use Rattle.lrlex_report.specs.Literals.{ends_in_name, is_bare, is_quoted}
 use Rattle.lrlex_report.specs.Looks.{at_beginning, looks_around}
 use Rattle.lrlex_report.specs.PlaceTexts.{nearest}
-use Rattle.lrlex_report.specs.Signs.{ends_in_name, is_bare, is_quoted}
 use Rattle.lrlex_report.specs.declared.warnings.kinds.WarningKind.{WarningKind}
 use Rattle.lrlex_report.specs.declared.warnings.kinds.WarningKind.TheVariants.{NeverWins, NeverActive, LooksAround, NoTable, TargetInPattern, BlankAfterStates, LostEscape, EscapeAfterStates, LostAlternative, NameInPattern, QuotedPattern, BareOperator, NeverEntered, NoRules}
 use Rattle.lrlex_report.specs.declared.warnings.kinds.Warning.{Warning}

@@ -1,15 +1,15 @@
 //! What the message of a pattern that `regex` refuses ends with: the mistake that it usually comes of, and what to write.
 ghost use Rattle.std.specs.Prelude.{◌≡◌};
 ghost use Rattle.lrlex_rules.specs.Escape.{ends_in_escape};
-ghost use Rattle.lrlex_report.specs.PatternNotes.{pattern_of, escape_note, begins_name, has_name, braces_note, is_operator, are_operators, repeats_nothing, operator_note};
+ghost use Rattle.lrlex_report.specs.PatternNotes.{pattern_of, escape_note, begins_name, has_braced_name, braces_note, is_operator, are_operators, repeats_nothing, operator_note};
 
-use crate::ranges::{before_blank, trim_end};
+use crate::ranges::{before_blank, source_in, trim_end};
 
-/// The pattern of a rule's line, before the blank that separates it from the name and without its list of start states.
+/// The pattern of a rule's line, without its list of start states.
 pub(crate) fn pattern_of(line: &str) -> &str
     ensures { result.now ≡ pattern_of line.now }
 {
-    let source = trim_end(before_blank(trim_end(line)));
+    let source = source_in(line);
     if !source.starts_with("<") {
         return source;
     }
@@ -50,8 +50,8 @@ fn begins_name(before: u8, b: u8, c: u8) -> bool
 }
 
 /// Whether a pattern has a name in braces, as flex has it.
-fn has_name(pattern: &[u8]) -> bool
-    ensures { result ≡ has_name 0 pattern.now }
+fn has_braced_name(pattern: &[u8]) -> bool
+    ensures { result ≡ has_braced_name 0 pattern.now }
 {
     let mut before = 0;
     let mut rest = pattern;
@@ -69,7 +69,7 @@ fn has_name(pattern: &[u8]) -> bool
 pub(crate) fn braces_note(pattern: &str) -> &'static str
     ensures { result.now ≡ braces_note pattern.now }
 {
-    if has_name(pattern.as_bytes()) {
+    if has_braced_name(pattern.as_bytes()) {
         ": a name in braces stands for no pattern; write the pattern in its place"
     } else {
         ""

@@ -4,7 +4,7 @@ ghost use Rattle.lrlex_base.specs.Spans.{Fits, as_span, span_end, span_start};
 ghost use Rattle.lrlex_rules.specs.Declaration.{first_word};
 ghost use Rattle.lrlex_rules.specs.LexBuildError.{fault_spans};
 ghost use Rattle.lrlex_rules.specs.Text.{trim_end};
-ghost use Rattle.lrlex_report.specs.FaultRanges.{first_line, first_bytes, through_angle, before_blank, wrong_part, or_first_char, told_span, fault_range};
+ghost use Rattle.lrlex_report.specs.FaultRanges.{first_line, first_bytes, through_angle, before_blank, source_in, wrong_part, or_first_char, told_span, fault_range};
 
 use crate::places::nearest;
 use lrlex_base::{Span, Spanned, is_blank, is_line_sep, is_white_space};
@@ -76,6 +76,15 @@ pub(crate) fn before_blank(text: &str) -> &str
     }
 }
 
+/// The pattern of a rule's line with its list of start states, before the blank that separates it from the name.
+pub(crate) fn source_in(line: &str) -> &str
+    ensures value { result.now ≡ source_in line.now }
+    ensures front { result.now ≡ take (length result.now) line.now }
+    ensures bound { length result.now ≤ length line.now }
+{
+    trim_end(before_blank(trim_end(line)))
+}
+
 /// What is wrong of the line that begins at the place of a fault, whose span has so many bytes.
 fn wrong_part<'t>(kind: &LexErrorKind, len: usize, line: &'t str) -> &'t str
     ensures value { result.now ≡ wrong_part kind.now len line.now }
@@ -88,7 +97,7 @@ fn wrong_part<'t>(kind: &LexErrorKind, len: usize, line: &'t str) -> &'t str
         | LexErrorKind::VerbatimNotSupported => first_bytes(line, len),
         LexErrorKind::InvalidStartStateName => first_word(line),
         LexErrorKind::UnknownStartState => through_angle(line),
-        LexErrorKind::RegexError(_) => trim_end(before_blank(trim_end(line))),
+        LexErrorKind::RegexError(_) => source_in(line),
         _ => trim_end(line),
     }
 }

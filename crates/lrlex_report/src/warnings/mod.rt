@@ -5,10 +5,10 @@ ghost use Rattle.lrlex_report.specs.Warnings.{as_answered, as_told, SpanFits, st
 mod alternatives;
 mod answers;
 pub(crate) mod kinds;
+mod literals;
 pub(crate) mod looks;
 pub(crate) mod patterns;
 mod rules;
-mod signs;
 mod states;
 pub(crate) mod texts;
 

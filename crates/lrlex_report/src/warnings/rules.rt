@@ -7,9 +7,9 @@ ghost use Rattle.lrlex_report.specs.Warnings.{as_told, SpanFits, never_wins, has
 use crate::warnings::alternatives::loses_word;
 use crate::warnings::answers::Facts;
 use crate::warnings::kinds::{Warning, WarningKind, push_all};
+use crate::warnings::literals::{ends_in_name, is_bare, is_quoted};
 use crate::warnings::looks::looks_around;
 use crate::warnings::patterns::{begins_blank, ends_in_target, has_unmeant, source_of, ungrouped};
-use crate::warnings::signs::{ends_in_name, is_bare, is_quoted};
 use lrlex::{Rule, StartState};
 use lrlex_base::{Numbered, Span};
 use std::alloc::AllocError;

@@ -1,6 +1,6 @@
-//! Patterns whose signs are hardly meant: a text in quotes, and operators alone.
+//! Patterns that are meant literally: a text in quotes, and operators alone.
 ghost use Rattle.std.specs.Prelude.{◌≡◌};
-ghost use Rattle.lrlex_report.specs.Signs.{is_quote, is_varied, varies, is_literal, is_quoted, ends_in_name, is_bare_operator, are_bare_operators, is_bare};
+ghost use Rattle.lrlex_report.specs.Literals.{is_quote, is_varied, varies, is_literal, is_quoted, ends_in_name, is_bare_operator, are_bare_operators, is_bare};
 
 use crate::ranges::before_blank;
 
@@ -14,7 +14,7 @@ fn is_quote(byte: u8) -> bool
     }
 }
 
-/// Whether a pattern has this byte between quotes only where it matches more than one text, or where it is a quote.
+/// Whether a byte between quotes is a quote too, or lets the pattern match more than one text: a backslash, `.` or `[`.
 fn is_varied(byte: u8) -> bool
     ensures { result ≡ is_varied byte }
 {

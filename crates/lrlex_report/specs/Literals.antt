@@ -1,4 +1,4 @@
--- Patterns whose signs are hardly meant: a text in quotes, and operators alone.
+-- Patterns that are meant literally: a text in quotes, and operators alone.
 use Rattle.std.specs.Prelude.{ℕ, Bool, false, not, ◌&&◌, ◌+◌, ◌-◌, ◌==◌, nat_lt, List, [], ◌∷◌, length, slice_index, take, drop, codes}
 use Rattle.std.specs.List.{list_all, list_any}
 use Rattle.lrlex_rules.specs.Escape.{is_one_of}
