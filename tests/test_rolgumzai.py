@@ -13,8 +13,8 @@ import unittest
 
 from support import programs, replay
 from support.messages import (
-    BACKSLASH, BARE, BEFORE_RULES, BLANK, COMMENT, IN_PATTERN, LIST, LOOKS, LOST, MARGIN, NAME_IN_PATTERN, NEVER_ENTERED, NEVER_WINS, NO_MARK,
-    NO_RULES, NO_TABLE, OPERATOR, QUOTED, QUOTES, SHORTER, WORD,
+    BACKSLASH, BARE, BEFORE_RULES, BLANK, CLASS, COMMENT, IN_PATTERN, LIST, LOOKS, LOST, MARGIN, NAME_IN_PATTERN, NEVER_ENTERED, NEVER_WINS,
+    NO_MARK, NO_RULES, NO_TABLE, OPERATOR, QUOTED, QUOTES, SHORTER, WORD,
 )
 from support.programs import Outcome
 
@@ -253,7 +253,7 @@ WARNED = [
     ),
     # a class within a class, and `]` as the first character of one
     ("%%\n[[:alpha:]$]{3000} 'A'\n[]$]{3000} 'B'\n[^]$]{3000} 'C'\n", [(2, 1, 18, NO_TABLE), (3, 1, 10, NO_TABLE), (4, 1, 11, NO_TABLE)]),
-    ("%%\n[^^]a$ 'A'\n[[b]]b$ 'B'\n", [(2, 1, 6, LOOKS), (3, 1, 7, LOOKS)]),
+    ("%%\n[^^]a$ 'A'\n[[b]]b$ 'B'\n", [(2, 1, 6, LOOKS), (3, 1, 7, LOOKS), (3, 1, 7, CLASS)]),
     ("%%\na^b 'A'\n^a 'B'\n(^c|^d)e 'C'\n", [(2, 1, 3, LOOKS)]),
     (
         "%x COMMENT\n%%\n/\\* <+COMMENT> ;\n<COMMENT>\\*/ <-COMMENT>;\n",
@@ -286,6 +286,10 @@ WARNED = [
     # a pattern for texts in quotes, one quote or two of them, and different ones
     ("%%\n\"\\w+\" 'A'\n'[a-z]' 'B'\n\"[^\"]*\" 'C'\n\".*\" 'D'\n", []),
     ("%%\n\" 'A'\n\"\" 'B'\n'a\" 'C'\n\"b\"c 'D'\n", []),
+    ("%%\n[+--/] 'A'\n[ab&&b] 'B'\n[c~~d] 'C'\n[[e]f] 'D'\n", [(2, 1, 6, CLASS), (3, 1, 7, CLASS), (4, 1, 6, CLASS), (5, 1, 6, CLASS)]),
+    ("%s S\n%%\na <+S>;\n<S>x[^]\\]y[z]] 'X'\n", [(4, 1, 14, CLASS)]),
+    # at the front of a class hyphens are characters, and classes with names, escapes and what is outside a class are no operators
+    ("%%\n[[:digit:]] 'A'\n[--/] 'B'\n[]\\[\\-\\-&\\&~] 'C'\n[^--a[:space:]]+ 'D'\n--&& 'E'\n", []),
     ("%x S T\n%%\na <S>'A'\n", [(1, 4, 1, NO_RULES), (1, 6, 1, NEVER_ENTERED), (1, 6, 1, NO_RULES)]),
     ("%s S\n%%\na <-S>'A'\n", [(1, 4, 1, NEVER_ENTERED)]),
     ("%%\n", [(1, 1, 1, NO_RULES)]),

@@ -29,6 +29,10 @@ WORD = "after start states \\< and \\> are the beginning and the end of a word; 
 NAME_IN_PATTERN = "this name is part of the pattern, since the last blank of a line is before its name; write nothing after the name"
 QUOTED = "the quotes are part of this pattern; leave them out, and write operators with a backslash, as \\+"
 BARE = "this pattern is an operator, and matches no byte; write a backslash before it to match its character"
+CLASS = (
+    "this class has an operator: [ begins another class, and --, && and ~~ are operations on sets; "
+    "write a backslash before the character, as \\[ or \\-"
+)
 SHORTER = "an alternative never matches here: it begins with an earlier one, which is tried first; put the longer one first"
 NEVER_ENTERED = "no rule enters this start state; name it as the target of a rule"
 NO_RULES = "no rule is active in this start state, so lexing stops there; list it before a pattern"

@@ -1,4 +1,5 @@
 pub mod CaretLemmas
+pub mod ClassLemmas
 pub mod FaultLemmas
 pub mod LookLemmas
 pub mod PlaceLemmas

@@ -1,5 +1,6 @@
 pub mod Alternatives
 pub mod Carets
+pub mod ClassOperators
 pub mod Encoding
 pub mod FaultRanges
 pub mod FaultTexts

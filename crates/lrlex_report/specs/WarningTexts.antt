@@ -4,7 +4,7 @@ use Rattle.lrlex_report.specs.PlaceTexts.{place_text}
 use Rattle.lrlex_report.specs.Warnings.{as_told}
 use Rattle.lrlex_report.specs.declared.warnings.kinds.Warning.{Warning}
 use Rattle.lrlex_report.specs.declared.warnings.kinds.WarningKind.{WarningKind}
-use Rattle.lrlex_report.specs.declared.warnings.kinds.WarningKind.TheVariants.{NeverWins, NeverActive, LooksAround, NoTable, TargetInPattern, BlankAfterStates, LostEscape, EscapeAfterStates, LostAlternative, NameInPattern, QuotedPattern, BareOperator, NeverEntered, NoRules}
+use Rattle.lrlex_report.specs.declared.warnings.kinds.WarningKind.TheVariants.{NeverWins, NeverActive, LooksAround, NoTable, TargetInPattern, BlankAfterStates, LostEscape, EscapeAfterStates, LostAlternative, NameInPattern, QuotedPattern, BareOperator, ClassOperator, NeverEntered, NoRules}
 
 -- what is unusual, why, and what to write in its place
 abbrev pub warning_message : WarningKind → List ℕ
@@ -20,6 +20,7 @@ warning_message LostAlternative = codes "an alternative never matches here: it b
 warning_message NameInPattern = codes "this name is part of the pattern, since the last blank of a line is before its name; write nothing after the name"
 warning_message QuotedPattern = codes "the quotes are part of this pattern; leave them out, and write operators with a backslash, as \\+"
 warning_message BareOperator = codes "this pattern is an operator, and matches no byte; write a backslash before it to match its character"
+warning_message ClassOperator = codes "this class has an operator: [ begins another class, and --, && and ~~ are operations on sets; write a backslash before the character, as \\[ or \\-"
 warning_message NeverEntered = codes "no rule enters this start state; name it as the target of a rule"
 warning_message NoRules = codes "no rule is active in this start state, so lexing stops there; list it before a pattern"
 

@@ -16,12 +16,14 @@ use Rattle.lrlex.specs.Never.{NeverWinsAnywhere, WinsAtNoRow, enters, is_active_
 use Rattle.lrlex.specs.Views.{definition_by}
 use Rattle.lrlex.specs.declared.definition.rule_table.RuleTable.{RuleTable}
 use Rattle.lrlex_report.specs.Alternatives.{loses_word}
+use Rattle.lrlex_report.specs.ClassOperators.{has_class_operator}
 use Rattle.lrlex_report.specs.FaultRanges.{before_blank}
 use Rattle.lrlex_report.specs.Literals.{ends_in_name, is_bare, is_quoted}
 use Rattle.lrlex_report.specs.Looks.{at_beginning, looks_around}
 use Rattle.lrlex_report.specs.PlaceTexts.{nearest}
+use Rattle.lrlex_report.specs.declared.warnings.class_operators.ClassPart.TheVariants.{Outside}
 use Rattle.lrlex_report.specs.declared.warnings.kinds.WarningKind.{WarningKind}
-use Rattle.lrlex_report.specs.declared.warnings.kinds.WarningKind.TheVariants.{NeverWins, NeverActive, LooksAround, NoTable, TargetInPattern, BlankAfterStates, LostEscape, EscapeAfterStates, LostAlternative, NameInPattern, QuotedPattern, BareOperator, NeverEntered, NoRules}
+use Rattle.lrlex_report.specs.declared.warnings.kinds.WarningKind.TheVariants.{NeverWins, NeverActive, LooksAround, NoTable, TargetInPattern, BlankAfterStates, LostEscape, EscapeAfterStates, LostAlternative, NameInPattern, QuotedPattern, BareOperator, ClassOperator, NeverEntered, NoRules}
 use Rattle.lrlex_report.specs.declared.warnings.kinds.Warning.{Warning}
 use Rattle.lrlex_report.specs.declared.warnings.answers.Answers.{Answers}
 use Rattle.lrlex_report.specs.declared.warnings.answers.Facts.{Facts}
@@ -159,6 +161,7 @@ rule_tests known states source r =
     ∷ (NameInPattern, has_name_in_pattern r)
     ∷ (QuotedPattern, is_quoted r.re_str)
     ∷ (BareOperator, is_bare r.re_str)
+    ∷ (ClassOperator, has_class_operator Outside r.re_str)
     ∷ []
 
 -- the warnings of the rule, at its pattern

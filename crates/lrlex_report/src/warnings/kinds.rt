@@ -39,6 +39,9 @@ pub enum WarningKind {
     QuotedPattern,
     /// A rule whose pattern is `|`, `^` and `$` alone.
     BareOperator,
+    /// A rule whose pattern has an operator within a class of characters: a `[` that begins another class, but none with a name, as
+    /// `[:alpha:]`, or `--`, `&&` or `~~`. It isn't told of a `-` at the front of a class, which is a character.
+    ClassOperator,
     /// A start state other than `INITIAL` that no rule enters.
     NeverEntered,
     /// A start state that no rule is active in.
@@ -93,6 +96,9 @@ impl WarningKind {
             }
             WarningKind::BareOperator => {
                 "this pattern is an operator, and matches no byte; write a backslash before it to match its character"
+            }
+            WarningKind::ClassOperator => {
+                "this class has an operator: [ begins another class, and --, && and ~~ are operations on sets; write a backslash before the character, as \\[ or \\-"
             }
             WarningKind::NeverEntered => {
                 "no rule enters this start state; name it as the target of a rule"

@@ -4,6 +4,7 @@ ghost use Rattle.lrlex_report.specs.Warnings.{as_answered, as_told, SpanFits, st
 
 mod alternatives;
 mod answers;
+pub(crate) mod class_operators;
 pub(crate) mod kinds;
 mod literals;
 pub(crate) mod looks;

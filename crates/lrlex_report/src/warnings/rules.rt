@@ -6,6 +6,7 @@ ghost use Rattle.lrlex_report.specs.Warnings.{as_told, SpanFits, never_wins, has
 
 use crate::warnings::alternatives::loses_word;
 use crate::warnings::answers::Facts;
+use crate::warnings::class_operators::has_class_operator;
 use crate::warnings::kinds::{Warning, WarningKind, push_all};
 use crate::warnings::literals::{ends_in_name, is_bare, is_quoted};
 use crate::warnings::looks::looks_around;
@@ -115,6 +116,10 @@ pub(crate) fn push_rule<S: Numbered>(
             is_quoted(rule.re_str().as_bytes()),
         ),
         (WarningKind::BareOperator, is_bare(rule.re_str().as_bytes())),
+        (
+            WarningKind::ClassOperator,
+            has_class_operator(rule.re_str().as_bytes()),
+        ),
     ];
     push_all(told, &tests, span)
 }

@@ -1,0 +1,108 @@
+//! Operators within a class of characters, in brackets: `[` begins another class, and `--`, `&&` and `~~` are operations on sets.
+ghost use Rattle.std.specs.Prelude.{◌≡◌};
+ghost use Rattle.lrlex_report.specs.declared.warnings.class_operators.ClassPart.TheVariants.{Outside};
+ghost use Rattle.lrlex_report.specs.ClassOperators.{after_front, after, after_escape, begins_class, is_front_operator, is_class_operator, has_class_operator};
+
+/// Where a byte of a pattern stands.
+#[derive(Clone, Copy)]
+enum ClassPart {
+    /// In no class.
+    Outside,
+    /// Behind the `[` of a class.
+    Bracket,
+    /// Behind the `[^` of a class.
+    Caret,
+    /// Behind these and `-`, of which all are characters.
+    Hyphens,
+    /// Further in a class.
+    Inside,
+    /// In a class with a name within a class, as `[:alpha:]`.
+    Named,
+}
+
+/// What is behind this byte at the front of a class, where `-` and `]` are characters.
+fn after_front(b: u8) -> ClassPart
+    ensures { result ≡ after_front b }
+{
+    match b {
+        b'-' => ClassPart::Hyphens,
+        b'[' => ClassPart::Named,
+        _ => ClassPart::Inside,
+    }
+}
+
+/// Whether these bytes begin a class, but none with a name.
+fn begins_class(b: u8, c: u8) -> bool
+    ensures { result ≡ begins_class b c }
+{
+    b == b'[' && c != b':'
+}
+
+/// Whether these bytes are an operator also at the front of a class, or begin with one.
+fn is_front_operator(b: u8, c: u8) -> bool
+    ensures { result ≡ is_front_operator b c }
+{
+    begins_class(b, c) || b == c && (b == b'&' || b == b'~')
+}
+
+impl ClassPart {
+    /// What is behind this byte, which is no operator, nor part of an escape.
+    fn after(self, b: u8) -> ClassPart
+        ensures { result ≡ after self b }
+    {
+        match (self, b) {
+            (ClassPart::Outside, b'[') => ClassPart::Bracket,
+            (ClassPart::Outside, _) => ClassPart::Outside,
+            (ClassPart::Bracket, b'^') => ClassPart::Caret,
+            (ClassPart::Bracket | ClassPart::Caret, _) => after_front(b),
+            (ClassPart::Hyphens | ClassPart::Inside, b']') => ClassPart::Outside,
+            (ClassPart::Hyphens, _) => after_front(b),
+            (ClassPart::Inside, b'[') => ClassPart::Named,
+            (ClassPart::Inside, _) => ClassPart::Inside,
+            (ClassPart::Named, b']') => ClassPart::Inside,
+            (ClassPart::Named, _) => ClassPart::Named,
+        }
+    }
+
+    /// What is behind an escape.
+    fn after_escape(self) -> ClassPart
+        ensures { result ≡ after_escape self }
+    {
+        match self {
+            ClassPart::Outside => ClassPart::Outside,
+            _ => ClassPart::Inside,
+        }
+    }
+
+    /// Whether these bytes are an operator, or begin with one.
+    fn is_operator(self, b: u8, c: u8) -> bool
+        ensures { result ≡ is_class_operator self b c }
+    {
+        match self {
+            ClassPart::Outside | ClassPart::Named => false,
+            ClassPart::Bracket | ClassPart::Caret | ClassPart::Hyphens => is_front_operator(b, c),
+            ClassPart::Inside => is_front_operator(b, c) || b == b'-' && c == b'-',
+        }
+    }
+}
+
+/// Whether a pattern has an operator within a class of characters.
+pub(crate) fn has_class_operator(pattern: &[u8]) -> bool
+    ensures { result ≡ has_class_operator Outside pattern.now }
+{
+    let mut part = ClassPart::Outside;
+    let mut rest = pattern;
+    while let [b, c, after @ ..] = rest {
+        if *b == b'\\' {
+            part = part.after_escape();
+            rest = after;
+            continue;
+        }
+        if part.is_operator(*b, *c) {
+            return true;
+        }
+        part = part.after(*b);
+        rest = &rest[1..];
+    }
+    false
+}
