@@ -6,7 +6,8 @@ import unittest
 from support import replay
 from support.definitions import from_text
 from support.messages import (
-    BACKSLASH, BEFORE_RULES, BRACES, COMMENT, DECLARE, DECLARE_LIST, LIST, MARGIN, NO_END, NO_MARK, OPERATOR, QUOTES, ROUTINES, RULE, STATE_NAME,
+    BACKSLASH, BEFORE_RULES, BRACES, COMMENT, DECLARE, DECLARE_LIST, IN_CLASS, LIST, MARGIN, NO_END, NO_MARK, NUMBER, OPERATOR, QUOTES,
+    ROUTINES, RULE, STATE_NAME,
 )
 
 # Rule texts, and what is shown of their faults.
@@ -179,6 +180,16 @@ MARKS = [
     ("%%\n«{D}+» 'A'\n", f"Invalid regular expression: repetition operator missing expression: {BRACES}"),
     ("%%\n«-?[0-9]{Digits}» 'A'\n", f"Invalid regular expression: repetition quantifier expects a valid decimal: {BRACES}"),
     ("%x S\n%%\n«<S>{D}» 'A'\n", f"Invalid regular expression: repetition operator missing expression: {BRACES}"),
+    # a `[` in a class, also where the pattern is operators alone, and after an escape
+    ("%%\n«[a-z[]» 'A'\n", f"Invalid regular expression: unclosed character class: {IN_CLASS}"),
+    ("%%\n«[^[]+» 'A'\n", f"Invalid regular expression: unclosed character class: {IN_CLASS}"),
+    ("%x S\n%%\n«<S>\\[[b[]» 'A'\n", f"Invalid regular expression: unclosed character class: {IN_CLASS}"),
+    ("%%\n«[a\\[» 'A'\n", "Invalid regular expression: unclosed character class"),
+    # a number in braces whose backslash is dropped, one behind two backslashes, and one in a rule with a list
+    ("%%\n«\\u{1F600}» 'A'\n", f"Invalid regular expression: unclosed counted repetition: {NUMBER}"),
+    ("%%\n«a\\x{D7}» 'A'\n", f"Invalid regular expression: repetition quantifier expects a valid decimal: {NUMBER}"),
+    ("%%\n«\\\\u{1F600}» 'A'\n", "Invalid regular expression: unclosed counted repetition"),
+    ("%x S\n%%\n«<S>(\\u{1F600}» 'A'\n", "Invalid regular expression: unclosed group"),
     # a brace behind a letter or a backslash, and one without a letter
     ("%%\n«a{b}» 'A'\n", "Invalid regular expression: repetition quantifier expects a valid decimal"),
     ("%%\n«(\\{b» 'A'\n", "Invalid regular expression: unclosed group"),

@@ -12,6 +12,10 @@ BACKSLASH = "the pattern ends in a backslash; write [ ] for a blank, \\\\ for a 
 MARGIN = "white space begins the line; write the rule without it, or an empty line"
 OPERATOR = "write a backslash before an operator to match its character, as \\+ or \\("
 BRACES = "a name in braces stands for no pattern; write the pattern in its place"
+NUMBER = "\\x{..} and \\u{..} lose their backslash in a rule without start states; write \\U0001F600, or <INITIAL>\\u{1F600}"
+IN_CLASS = (
+    "in a class [ begins another, and --, && and ~~ are operations on sets; write a backslash before the character, as \\[ or \\-"
+)
 RULE = "a rule is a pattern, a blank and a name in quotes, or ; for no name"
 STATE_NAME = "a name is an ASCII letter, then ASCII letters, digits, _ or .; one blank separates two names"
 ROUTINES = "%% ends the rules, and only white space may follow; write \\%% for a pattern that begins with it"

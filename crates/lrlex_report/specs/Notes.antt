@@ -8,8 +8,8 @@ use Rattle.lrlex_rules.specs.declared.faults.LexErrorKind.{LexErrorKind}
 use Rattle.lrlex_rules.specs.declared.faults.LexErrorKind.TheVariants.{PrematureEnd, UnknownDeclaration, MissingSpace, InvalidName, UnknownStartState, InvalidStartState, InvalidStartStateName, RegexError, RoutinesNotSupported, VerbatimNotSupported}
 use Rattle.lrlex_rules.specs.declared.faults.LexBuildError.{LexBuildError}
 use Rattle.lrlex_report.specs.Encoding.{mark_note}
-use Rattle.lrlex_report.specs.FaultRanges.{first_line, told_span}
-use Rattle.lrlex_report.specs.PatternNotes.{braces_note, escape_note, operator_note, pattern_of}
+use Rattle.lrlex_report.specs.FaultRanges.{first_line, source_in, told_span}
+use Rattle.lrlex_report.specs.PatternNotes.{braces_note, class_note, escape_note, number_note, operator_note, pattern_of}
 use Rattle.lrlex_report.specs.PlaceTexts.{nearest}
 use Rattle.lrlex_report.specs.Warnings.{source_of}
 
@@ -69,7 +69,10 @@ space_note text = or_note (comment_note text) (codes ": a rule is a pattern, a b
 
 -- of a line whose pattern `regex` refuses
 abbrev pub pattern_note : (line : List ℕ) → List ℕ
-pattern_note line = or_note (escape_note line) (or_note (braces_note (pattern_of line)) (operator_note (pattern_of line)))
+pattern_note line =
+    let pattern = pattern_of line in
+    or_note (escape_note line) (or_note (number_note (source_in line))
+        (or_note (braces_note pattern) (or_note (class_note pattern) (operator_note pattern))))
 
 -- of a fault of this kind at this place
 abbrev pub kind_note : (rules : List ℕ) (at : ℕ) → LexErrorKind → List ℕ

@@ -1,12 +1,14 @@
 -- What the message of a pattern that `regex` refuses ends with: the mistake that it usually comes of, and what to write.
-use Rattle.std.specs.Prelude.{ℕ, Bool, false, not, ◌&&◌, ◌||◌, ◌==◌, if◌then◌else◌, List, [], ◌∷◌, codes}
+use Rattle.std.specs.Prelude.{ℕ, Bool, false, not, ◌&&◌, ◌||◌, ◌==◌, if◌then◌else◌, List, [], ◌∷◌, slice_index, codes}
 use Rattle.std.specs.Char.{is_ascii_alphabetic}
 use Rattle.std.specs.List.{list_all}
 use Rattle.std.specs.Str.{byte}
 use Rattle.lrlex_rules.specs.Escape.{ends_in_escape, is_backslash, is_one_of}
 use Rattle.lrlex_rules.specs.RuleLine.{after_angles}
 use Rattle.lrlex_rules.specs.Text.{begins_with, trim_end}
+use Rattle.lrlex_report.specs.ClassOperators.{has_class_operator}
 use Rattle.lrlex_report.specs.FaultRanges.{before_blank, source_in}
+use Rattle.lrlex_report.specs.declared.warnings.class_operators.ClassPart.TheVariants.{Outside}
 
 -- the pattern of a rule's line, without its list of start states
 abbrev pub pattern_of : (line : List ℕ) → List ℕ
@@ -17,6 +19,29 @@ abbrev pub escape_note : (line : List ℕ) → List ℕ
 escape_note line =
     if ends_in_escape (before_blank (trim_end line))
     then codes ": the pattern ends in a backslash; write [ ] for a blank, \\\\ for a backslash" else []
+
+-- behind a backslash, a character's number in braces begins, as `u{1F600}`
+abbrev pub is_braced_number : ℕ → List ℕ → Bool
+is_braced_number c rest = is_one_of (codes "xuU") c && (slice_index rest 0 == byte "{")
+
+-- a pattern with such a number
+abbrev pub has_braced_number : List ℕ → Bool
+has_braced_number [] = false
+has_braced_number (b ∷ []) = false
+has_braced_number (b ∷ c ∷ rest) =
+    if is_backslash b then is_braced_number c rest || has_braced_number rest else has_braced_number (c ∷ rest)
+
+-- of a rule without a list, whose pattern has such a number: the backslash is dropped before `regex` reads it
+abbrev pub number_note : (source : List ℕ) → List ℕ
+number_note source =
+    if not (begins_with (codes "<") source) && has_braced_number source
+    then codes ": \\x{..} and \\u{..} lose their backslash in a rule without start states; write \\U0001F600, or <INITIAL>\\u{1F600}" else []
+
+-- of a pattern with an operator within a class of characters
+abbrev pub class_note : (pattern : List ℕ) → List ℕ
+class_note pattern =
+    if has_class_operator Outside pattern
+    then codes ": in a class [ begins another, and --, && and ~~ are operations on sets; write a backslash before the character, as \\[ or \\-" else []
 
 -- a brace and a letter begin a name, at the front or behind neither a letter nor a backslash
 abbrev pub begins_name : (before b c : ℕ) → Bool

@@ -6,9 +6,11 @@ ghost use Rattle.lrlex_rules.specs.Text.{trim_end};
 ghost use Rattle.lrlex_report.specs.Notes.{text_from, or_note, comment_note, declaration_note, name_note, begins_list, list_note, end_note, undeclared_note, state_note, space_note, pattern_note, kind_note, fault_note};
 
 use crate::encoding::mark_note;
-use crate::pattern_notes::{braces_note, escape_note, operator_note, pattern_of};
+use crate::pattern_notes::{
+    braces_note, class_note, escape_note, number_note, operator_note, pattern_of,
+};
 use crate::places::nearest;
-use crate::ranges::{first_line, told_span, trim_end};
+use crate::ranges::{first_line, source_in, told_span, trim_end};
 use crate::warnings::patterns::source_of;
 use lrlex_rules::{LexBuildError, LexErrorKind};
 
@@ -129,8 +131,9 @@ fn pattern_note(line: &str) -> &'static str
     ensures { result.now ≡ pattern_note line.now }
 {
     let pattern = pattern_of(line);
-    let note = or_note(braces_note(pattern), operator_note(pattern));
-    or_note(escape_note(line), note)
+    let operator = or_note(class_note(pattern), operator_note(pattern));
+    let note = or_note(braces_note(pattern), operator);
+    or_note(escape_note(line), or_note(number_note(source_in(line)), note))
 }
 
 /// What the message of a fault of this kind at this place ends with. `rules` is the text that has the fault.

@@ -1,9 +1,10 @@
 //! What the message of a pattern that `regex` refuses ends with: the mistake that it usually comes of, and what to write.
 ghost use Rattle.std.specs.Prelude.{◌≡◌};
 ghost use Rattle.lrlex_rules.specs.Escape.{ends_in_escape};
-ghost use Rattle.lrlex_report.specs.PatternNotes.{pattern_of, escape_note, begins_name, has_braced_name, braces_note, is_operator, are_operators, repeats_nothing, operator_note};
+ghost use Rattle.lrlex_report.specs.PatternNotes.{pattern_of, escape_note, is_braced_number, has_braced_number, number_note, class_note, begins_name, has_braced_name, braces_note, is_operator, are_operators, repeats_nothing, operator_note};
 
 use crate::ranges::{before_blank, source_in, trim_end};
+use crate::warnings::class_operators::has_class_operator;
 
 /// The pattern of a rule's line, without its list of start states.
 pub(crate) fn pattern_of(line: &str) -> &str
@@ -36,6 +37,56 @@ pub(crate) fn escape_note(line: &str) -> &'static str
 {
     if ends_in_escape(before_blank(trim_end(line))) {
         ": the pattern ends in a backslash; write [ ] for a blank, \\\\ for a backslash"
+    } else {
+        ""
+    }
+}
+
+/// Whether a character's number in braces begins behind a backslash, as `u{1F600}`.
+fn is_braced_number(c: u8, rest: &[u8]) -> bool
+    ensures { result ≡ is_braced_number c rest.now }
+{
+    match c {
+        b'x' | b'u' | b'U' => rest.first().is_some_and(|b| *b == b'{'),
+        _ => false,
+    }
+}
+
+/// Whether a pattern has a character by its number in braces.
+fn has_braced_number(pattern: &[u8]) -> bool
+    ensures { result ≡ has_braced_number pattern.now }
+{
+    let mut rest = pattern;
+    while let [b, c, after @ ..] = rest {
+        if *b != b'\\' {
+            rest = &rest[1..];
+            continue;
+        }
+        if is_braced_number(*c, after) {
+            return true;
+        }
+        rest = after;
+    }
+    false
+}
+
+/// Tells that the backslash before a character's number in braces is dropped, if the pattern has one and no list of start states.
+pub(crate) fn number_note(source: &str) -> &'static str
+    ensures { result.now ≡ number_note source.now }
+{
+    if !source.starts_with("<") && has_braced_number(source.as_bytes()) {
+        ": \\x{..} and \\u{..} lose their backslash in a rule without start states; write \\U0001F600, or <INITIAL>\\u{1F600}"
+    } else {
+        ""
+    }
+}
+
+/// Tells what begins another class or is an operation on sets, if the pattern has an operator within a class of characters.
+pub(crate) fn class_note(pattern: &str) -> &'static str
+    ensures { result.now ≡ class_note pattern.now }
+{
+    if has_class_operator(pattern.as_bytes()) {
+        ": in a class [ begins another, and --, && and ~~ are operations on sets; write a backslash before the character, as \\[ or \\-"
     } else {
         ""
     }
