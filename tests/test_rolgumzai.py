@@ -288,7 +288,11 @@ WARNED = [
     ("%%\n\" 'A'\n\"\" 'B'\n'a\" 'C'\n\"b\"c 'D'\n", []),
     ("%%\n[+--/] 'A'\n[ab&&b] 'B'\n[c~~d] 'C'\n[[e]f] 'D'\n", [(2, 1, 6, CLASS), (3, 1, 7, CLASS), (4, 1, 6, CLASS), (5, 1, 6, CLASS)]),
     ("%s S\n%%\na <+S>;\n<S>x[^]\\]y[z]] 'X'\n", [(4, 1, 14, CLASS)]),
-    # at the front of a class hyphens are characters, and classes with names, escapes and what is outside a class are no operators
+    # behind a range, and behind a character that is none of one
+    ("%%\n[a-z--b] 'A'\n[0-9-[.]] 'B'\n", [(2, 1, 8, CLASS), (3, 1, 9, CLASS)]),
+    # the end of a range is a character
+    ("%%\n[#-[\\]-~]+ 'A'\n[ -~~]+ 'B'\n", []),
+    # so are hyphens at the front of a class; classes with names, escapes and what is outside a class are no operators
     ("%%\n[[:digit:]] 'A'\n[--/] 'B'\n[]\\[\\-\\-&\\&~] 'C'\n[^--a[:space:]]+ 'D'\n--&& 'E'\n", []),
     ("%x S T\n%%\na <S>'A'\n", [(1, 4, 1, NO_RULES), (1, 6, 1, NEVER_ENTERED), (1, 6, 1, NO_RULES)]),
     ("%s S\n%%\na <-S>'A'\n", [(1, 4, 1, NEVER_ENTERED)]),

@@ -3,12 +3,16 @@ use Rattle.std.specs.Prelude.{ℕ, Bool, false, not, ◌&&◌, ◌||◌, ◌==�
 use Rattle.std.specs.Str.{byte}
 use Rattle.lrlex_rules.specs.Escape.{is_backslash}
 use Rattle.lrlex_report.specs.declared.warnings.class_operators.ClassPart.{ClassPart}
-use Rattle.lrlex_report.specs.declared.warnings.class_operators.ClassPart.TheVariants.{Outside, Bracket, Caret, Hyphens, Inside, Named}
+use Rattle.lrlex_report.specs.declared.warnings.class_operators.ClassPart.TheVariants.{Outside, Bracket, Caret, Hyphens, Inside, Member, Range, Named}
 
 -- ---- where the next byte stands
 -- behind a byte at the front of a class, where `-` and `]` are characters
 abbrev pub after_front : ℕ → ClassPart
-after_front b = if b == byte "-" then Hyphens else if b == byte "[" then Named else Inside
+after_front b = if b == byte "-" then Hyphens else if b == byte "[" then Named else Member
+
+-- behind a byte further in a class
+abbrev pub after_inside : ℕ → ClassPart
+after_inside b = if b == byte "]" then Outside else if b == byte "[" then Named else Member
 
 -- behind a byte that is no operator, nor part of an escape
 abbrev pub after : ClassPart → ℕ → ClassPart
@@ -16,17 +20,21 @@ after Outside b = if b == byte "[" then Bracket else Outside
 after Bracket b = if b == byte "^" then Caret else after_front b
 after Caret b = after_front b
 after Hyphens b = if b == byte "]" then Outside else after_front b
-after Inside b = if b == byte "]" then Outside else if b == byte "[" then Named else Inside
+after Inside b = after_inside b
+after Member b = if b == byte "-" then Range else after_inside b
+after Range b = if b == byte "]" then Outside else Inside
 after Named b = if b == byte "]" then Inside else Named
 
 -- behind an escape
 abbrev pub after_escape : ClassPart → ClassPart
 after_escape Outside = Outside
-after_escape Bracket = Inside
-after_escape Caret = Inside
-after_escape Hyphens = Inside
-after_escape Inside = Inside
-after_escape Named = Inside
+after_escape Bracket = Member
+after_escape Caret = Member
+after_escape Hyphens = Member
+after_escape Inside = Member
+after_escape Member = Member
+after_escape Range = Inside
+after_escape Named = Member
 
 -- ---- operators
 -- these two bytes begin a class, but none with a name, as `[:alpha:]`
@@ -37,13 +45,19 @@ begins_class b c = (b == byte "[") && not (c == byte ":")
 abbrev pub is_front_operator : (b c : ℕ) → Bool
 is_front_operator b c = begins_class b c || ((b == c) && ((b == byte "&") || (b == byte "~")))
 
+-- further in a class: `--` too
+abbrev pub is_inner_operator : (b c : ℕ) → Bool
+is_inner_operator b c = is_front_operator b c || ((b == byte "-") && (c == byte "-"))
+
 -- these two bytes are an operator, or begin with one
 abbrev pub is_class_operator : ClassPart → (b c : ℕ) → Bool
 is_class_operator Outside b c = false
 is_class_operator Bracket b c = is_front_operator b c
 is_class_operator Caret b c = is_front_operator b c
 is_class_operator Hyphens b c = is_front_operator b c
-is_class_operator Inside b c = is_front_operator b c || ((b == byte "-") && (c == byte "-"))
+is_class_operator Inside b c = is_inner_operator b c
+is_class_operator Member b c = is_inner_operator b c
+is_class_operator Range b c = false
 is_class_operator Named b c = false
 
 -- the pattern has such an operator, from here on

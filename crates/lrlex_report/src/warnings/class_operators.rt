@@ -1,7 +1,7 @@
 //! Operators within a class of characters, in brackets: `[` begins another class, and `--`, `&&` and `~~` are operations on sets.
 ghost use Rattle.std.specs.Prelude.{◌≡◌};
 ghost use Rattle.lrlex_report.specs.declared.warnings.class_operators.ClassPart.TheVariants.{Outside};
-ghost use Rattle.lrlex_report.specs.ClassOperators.{after_front, after, after_escape, begins_class, is_front_operator, is_class_operator, has_class_operator};
+ghost use Rattle.lrlex_report.specs.ClassOperators.{after_front, after_inside, after, after_escape, begins_class, is_front_operator, is_inner_operator, is_class_operator, has_class_operator};
 
 /// Where a byte of a pattern stands.
 #[derive(Clone, Copy)]
@@ -14,8 +14,12 @@ enum ClassPart {
     Caret,
     /// Behind these and `-`, of which all are characters.
     Hyphens,
-    /// Further in a class.
+    /// Further in a class, where a member begins.
     Inside,
+    /// Behind a member that may begin a range.
+    Member,
+    /// Behind such a member and `-`: any character but `]` ends the range.
+    Range,
     /// In a class with a name within a class, as `[:alpha:]`.
     Named,
 }
@@ -27,7 +31,18 @@ fn after_front(b: u8) -> ClassPart
     match b {
         b'-' => ClassPart::Hyphens,
         b'[' => ClassPart::Named,
-        _ => ClassPart::Inside,
+        _ => ClassPart::Member,
+    }
+}
+
+/// What is behind this byte further in a class.
+fn after_inside(b: u8) -> ClassPart
+    ensures { result ≡ after_inside b }
+{
+    match b {
+        b']' => ClassPart::Outside,
+        b'[' => ClassPart::Named,
+        _ => ClassPart::Member,
     }
 }
 
@@ -45,6 +60,13 @@ fn is_front_operator(b: u8, c: u8) -> bool
     begins_class(b, c) || b == c && (b == b'&' || b == b'~')
 }
 
+/// Whether these bytes are an operator further in a class, or begin with one.
+fn is_inner_operator(b: u8, c: u8) -> bool
+    ensures { result ≡ is_inner_operator b c }
+{
+    is_front_operator(b, c) || b == b'-' && c == b'-'
+}
+
 impl ClassPart {
     /// What is behind this byte, which is no operator, nor part of an escape.
     fn after(self, b: u8) -> ClassPart
@@ -55,10 +77,11 @@ impl ClassPart {
             (ClassPart::Outside, _) => ClassPart::Outside,
             (ClassPart::Bracket, b'^') => ClassPart::Caret,
             (ClassPart::Bracket | ClassPart::Caret, _) => after_front(b),
-            (ClassPart::Hyphens | ClassPart::Inside, b']') => ClassPart::Outside,
+            (ClassPart::Hyphens | ClassPart::Range, b']') => ClassPart::Outside,
             (ClassPart::Hyphens, _) => after_front(b),
-            (ClassPart::Inside, b'[') => ClassPart::Named,
-            (ClassPart::Inside, _) => ClassPart::Inside,
+            (ClassPart::Range, _) => ClassPart::Inside,
+            (ClassPart::Member, b'-') => ClassPart::Range,
+            (ClassPart::Inside | ClassPart::Member, _) => after_inside(b),
             (ClassPart::Named, b']') => ClassPart::Inside,
             (ClassPart::Named, _) => ClassPart::Named,
         }
@@ -70,7 +93,8 @@ impl ClassPart {
     {
         match self {
             ClassPart::Outside => ClassPart::Outside,
-            _ => ClassPart::Inside,
+            ClassPart::Range => ClassPart::Inside,
+            _ => ClassPart::Member,
         }
     }
 
@@ -79,9 +103,9 @@ impl ClassPart {
         ensures { result ≡ is_class_operator self b c }
     {
         match self {
-            ClassPart::Outside | ClassPart::Named => false,
+            ClassPart::Outside | ClassPart::Range | ClassPart::Named => false,
             ClassPart::Bracket | ClassPart::Caret | ClassPart::Hyphens => is_front_operator(b, c),
-            ClassPart::Inside => is_front_operator(b, c) || b == b'-' && c == b'-',
+            ClassPart::Inside | ClassPart::Member => is_inner_operator(b, c),
         }
     }
 }

@@ -40,7 +40,7 @@ pub enum WarningKind {
     /// A rule whose pattern is `|`, `^` and `$` alone.
     BareOperator,
     /// A rule whose pattern has an operator within a class of characters: a `[` that begins another class, but none with a name, as
-    /// `[:alpha:]`, or `--`, `&&` or `~~`. It isn't told of a `-` at the front of a class, which is a character.
+    /// `[:alpha:]`, or `--`, `&&` or `~~`. A `-` at the front of a class and what ends a range are characters.
     ClassOperator,
     /// A start state other than `INITIAL` that no rule enters.
     NeverEntered,
