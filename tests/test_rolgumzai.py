@@ -271,6 +271,8 @@ WARNED = [
     ("%%\n(a|b|ab) 'X'\n(?:=|==|!=) ;\n", [(2, 1, 8, SHORTER), (3, 1, 11, SHORTER)]),
     ("%s S\n%%\na <+S>;\n<S>\\+|\\+= 'P'\nä|ä 'Ä'\n", [(4, 1, 9, SHORTER), (5, 1, 3, SHORTER)]),
     ("%%\nint|integer|in 'INT'\n", [(2, 1, 14, SHORTER)]),
+    # a group with flags, and one with a name
+    ("%%\n(?i:in|int) 'A'\n(?s-i:x|xy) 'B'\n(?P<n>c:d|de) 'C'\n", [(2, 1, 11, SHORTER), (3, 1, 11, SHORTER)]),
     # the longer one first, a letter after a backslash, a class, a repetition, more than a group
     ("%%\ninteger|int 'INT'\na|\\d 'A'\n[b]|bc 'B'\ne|ef* 'E'\n(g|gh)i 'G'\n(j)|(jk) 'J'\n", []),
     ("%%\n|a|ab 'A'\n(|b|bc) 'B'\na||ab 'C'\n", [(2, 1, 5, NEVER_WINS), (3, 1, 7, NEVER_WINS), (4, 1, 5, SHORTER)]),

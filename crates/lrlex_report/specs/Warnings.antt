@@ -1,7 +1,7 @@
 -- What a rule text says and its author hardly meant: each kind of warning is a test of a rule or of a start state.
 use Rattle.std.specs.Prelude.{◌≡◌, ◌<◌, ℕ, suc, zero, ◌+◌, ◌-◌, max, ◌==◌, Bool, true, false, not, ◌&&◌, ◌||◌, if◌then◌else◌, Option, Some, None, is_none, option_map, List, [], ◌∷◌, ◌++◌, length, take, drop, slice_get, slice_index, flat_map, codes}
 use Rattle.std.specs.Char.{is_ascii_alphabetic}
-use Rattle.std.specs.List.{list_any, slice_index_or, before_last, after_last}
+use Rattle.std.specs.List.{list_all, list_any, slice_index_or, after_first, before_first, before_last, after_last}
 use Rattle.std.specs.Str.{chars, byte, encode_utf8_all}
 use Rattle.lrlex_base.specs.Classes.{is_line_sep}
 use Rattle.lrlex_base.specs.Spans.{Span, span, as_span, Fits}
@@ -103,9 +103,22 @@ has_unmeant listed (b ∷ []) = false
 has_unmeant listed (b ∷ c ∷ rest) =
     if is_backslash b then is_unmeant listed c rest || has_unmeant listed rest else has_unmeant listed (c ∷ rest)
 
--- a pattern without the group that it is, `(..)` or `(?:..)`, if it is one
+-- a pattern without the group that it is, `(..)`, `(?:..)` or one with flags, as `(?i:..)`, if it is one
+abbrev pub is_colon : ℕ → Bool
+is_colon c = c == byte ":"
+
+abbrev pub is_flag : ℕ → Bool
+is_flag c = is_ascii_alphabetic c || (c == byte "-")
+
+abbrev pub are_flags : List ℕ → Bool
+are_flags flags = list_all is_flag flags
+
+abbrev pub after_flags : (inside : List ℕ) → (rest : List ℕ) → List ℕ
+after_flags inside rest =
+    if list_any is_colon rest && are_flags (before_first is_colon rest) then after_first is_colon rest else inside
+
 abbrev pub in_group : List ℕ → List ℕ
-in_group inside = if begins_with (codes "?:") inside then drop 2 inside else inside
+in_group inside = if begins_with (codes "?") inside then after_flags inside (drop 1 inside) else inside
 
 abbrev pub ungrouped : List ℕ → List ℕ
 ungrouped pattern =

@@ -1,7 +1,7 @@
 //! A rule's pattern as the text has it, and what in a pattern is hardly meant.
 ghost use Rattle.std.specs.Prelude.{◌≡◌, ◌+◌, ◌≤◌, false, IsCharBoundary, length, take};
 ghost use Rattle.lrlex_rules.specs.RuleLine.{target_name};
-ghost use Rattle.lrlex_report.specs.Warnings.{whole_lines_of, line_start, source_of, is_state_name_of, ends_in, goes_on, is_target_of, ends_in_target, begins_blank, is_unmeant, has_unmeant, in_group, ungrouped};
+ghost use Rattle.lrlex_report.specs.Warnings.{whole_lines_of, line_start, source_of, is_state_name_of, ends_in, goes_on, is_target_of, ends_in_target, begins_blank, is_unmeant, has_unmeant, are_flags, after_flags, in_group, ungrouped};
 
 use crate::ranges::{before_blank, first_bytes, trim_end};
 use lrlex::StartState;
@@ -136,18 +136,36 @@ pub(crate) fn has_unmeant(listed: bool, pattern: &[u8]) -> bool
     false
 }
 
-/// What is in a group, after the mark of one that captures nothing.
-fn in_group(inside: &str) -> &str
-    ensures { result.now ≡ in_group inside.now }
+/// Whether a text is flags of a group, or none.
+fn are_flags(text: &str) -> bool
+    ensures { result ≡ are_flags text.now }
 {
-    if inside.starts_with("?:") {
-        &inside[2..]
-    } else {
-        inside
+    let bytes = text.as_bytes();
+    bytes.iter().all(|b| b.is_ascii_alphabetic() || *b == b'-')
+}
+
+/// What is in a group that captures nothing, where `rest` follows its `?`.
+fn after_flags<'t>(inside: &'t str, rest: &'t str) -> &'t str
+    ensures { result.now ≡ after_flags inside.now rest.now }
+{
+    match rest.split_once(':') {
+        Some((flags, words)) if are_flags(flags) => words,
+        Some(_) => inside,
+        None => inside,
     }
 }
 
-/// A pattern without the group that it is, `(..)` or `(?:..)`, if it is one.
+/// What is in a group, after the flags of one that captures nothing.
+fn in_group(inside: &str) -> &str
+    ensures { result.now ≡ in_group inside.now }
+{
+    match inside.strip_prefix('?') {
+        Some(rest) => after_flags(inside, rest),
+        None => inside,
+    }
+}
+
+/// A pattern without the group that it is, `(..)`, `(?:..)` or one with flags, as `(?i:..)`, if it is one.
 pub(crate) fn ungrouped(pattern: &str) -> &str
     ensures { result.now ≡ ungrouped pattern.now }
 {
