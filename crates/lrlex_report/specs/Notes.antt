@@ -71,8 +71,8 @@ space_note text = or_note (comment_note text) (codes ": a rule is a pattern, a b
 abbrev pub pattern_note : (line : List ℕ) → List ℕ
 pattern_note line =
     let pattern = pattern_of line in
-    or_note (escape_note line) (or_note (number_note (source_in line))
-        (or_note (braces_note pattern) (or_note (class_note pattern) (operator_note pattern))))
+    let inside = or_note (braces_note pattern) (or_note (class_note pattern) (operator_note pattern)) in
+    or_note (escape_note line) (or_note (number_note (source_in line)) inside)
 
 -- of a fault of this kind at this place
 abbrev pub kind_note : (rules : List ℕ) (at : ℕ) → LexErrorKind → List ℕ

@@ -132,8 +132,9 @@ fn pattern_note(line: &str) -> &'static str
 {
     let pattern = pattern_of(line);
     let operator = or_note(class_note(pattern), operator_note(pattern));
-    let note = or_note(braces_note(pattern), operator);
-    or_note(escape_note(line), or_note(number_note(source_in(line)), note))
+    let inside = or_note(braces_note(pattern), operator);
+    let note = or_note(number_note(source_in(line)), inside);
+    or_note(escape_note(line), note)
 }
 
 /// What the message of a fault of this kind at this place ends with. `rules` is the text that has the fault.

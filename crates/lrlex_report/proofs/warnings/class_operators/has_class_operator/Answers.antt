@@ -8,12 +8,12 @@ pub loop-rest-preserved-then-b-eq92 : goal.loop-rest-preserved-then-b-eq92
 loop-rest-preserved-then-b-eq92 c =
     let xs = c.loop-rest.rest.now in
     ap (λ (x : ClassPart). has_class_operator x (take (length xs - 2) (drop 2 xs))) c.after_escape-part.ensures
-        ∙ passes_escape c.loop-rest.part xs c.in-len2-up.len_at_least (Prim.search rules)
-        ∙ c.loop-rest.invariant
+    ∙ passes_escape c.loop-rest.part xs c.in-len2-up.len_at_least (Prim.search rules)
+    ∙ c.loop-rest.invariant
 
 pub loop-rest-preserved : goal.loop-rest-preserved
 loop-rest-preserved c =
     let xs = c.loop-rest.rest.now in
     ap (λ (x : ClassPart). has_class_operator x (take (length xs - 1) (drop 1 xs))) c.after-part.ensures
-        ∙ passes c.loop-rest.part xs c.in-len2-up.len_at_least (Prim.search rules) (sym c.is_operator.ensures ∙ c.if-is_operator.false)
-        ∙ c.loop-rest.invariant
+    ∙ passes c.loop-rest.part xs c.in-len2-up.len_at_least (Prim.search rules) (sym c.is_operator.ensures ∙ c.if-is_operator.false)
+    ∙ c.loop-rest.invariant
