@@ -292,6 +292,9 @@ WARNED = [
     ("%s S\n%%\na <+S>;\n<S>x[^]\\]y[z]] 'X'\n", [(4, 1, 14, CLASS)]),
     # behind a range, and behind a character that is none of one
     ("%%\n[a-z--b] 'A'\n[0-9-[.]] 'B'\n", [(2, 1, 8, CLASS), (3, 1, 9, CLASS)]),
+    # an operation whose right side is a class in brackets is meant
+    ("%%\n[a-z&&[^aeiou]] 'A'\n[0-9--[5]]+ 'B'\n[A-C~~[B-D]] 'C'\n", []),
+    ("%%\n[a-c&&[a-b]&&a] 'A'\n[[d]&&[c-d]] 'B'\n", [(3, 1, 12, CLASS)]),
     # the end of a range is a character
     ("%%\n[#-[\\]-~]+ 'A'\n[ -~~]+ 'B'\n", []),
     # so are hyphens at the front of a class; classes with names, escapes and what is outside a class are no operators

@@ -1,9 +1,9 @@
 -- Operators within a class of characters, in brackets: `[` begins another class, and `--`, `&&` and `~~` are operations on sets.
-use Rattle.std.specs.Prelude.{ℕ, Bool, false, not, ◌&&◌, ◌||◌, ◌==◌, if◌then◌else◌, List, [], ◌∷◌}
+use Rattle.std.specs.Prelude.{ℕ, Bool, false, not, ◌&&◌, ◌||◌, ◌==◌, if◌then◌else◌, List, [], ◌∷◌, slice_index}
 use Rattle.std.specs.Str.{byte}
 use Rattle.lrlex_rules.specs.Escape.{is_backslash}
 use Rattle.lrlex_report.specs.declared.warnings.class_operators.ClassPart.{ClassPart}
-use Rattle.lrlex_report.specs.declared.warnings.class_operators.ClassPart.TheVariants.{Outside, Bracket, Caret, Hyphens, Inside, Member, Range, Named}
+use Rattle.lrlex_report.specs.declared.warnings.class_operators.ClassPart.TheVariants.{Outside, Bracket, Caret, Hyphens, Inside, Member, Range, Named, Operated}
 
 -- ---- where the next byte stands
 -- behind a byte at the front of a class, where `-` and `]` are characters
@@ -24,6 +24,7 @@ after Inside b = after_inside b
 after Member b = if b == byte "-" then Range else after_inside b
 after Range b = if b == byte "]" then Outside else Inside
 after Named b = if b == byte "]" then Inside else Named
+after Operated b = Bracket
 
 -- behind an escape
 abbrev pub after_escape : ClassPart → ClassPart
@@ -35,6 +36,7 @@ after_escape Inside = Member
 after_escape Member = Member
 after_escape Range = Inside
 after_escape Named = Member
+after_escape Operated = Member
 
 -- ---- operators
 -- these two bytes begin a class, but none with a name, as `[:alpha:]`
@@ -59,11 +61,17 @@ is_class_operator Inside b c = is_inner_operator b c
 is_class_operator Member b c = is_inner_operator b c
 is_class_operator Range b c = false
 is_class_operator Named b c = false
+is_class_operator Operated b c = false
 
--- the pattern has such an operator, from here on
+-- an operation whose right side is a class in brackets is meant, as `&&[^a]`
+abbrev pub is_meant : ClassPart → (b c : ℕ) → List ℕ → Bool
+is_meant x b c rest = not (b == byte "[") && is_class_operator x b c && (slice_index rest 0 == byte "[")
+
+-- the pattern has such an operator that isn't meant, from here on
 abbrev pub has_class_operator : ClassPart → List ℕ → Bool
 has_class_operator x [] = false
 has_class_operator x (b ∷ []) = false
 has_class_operator x (b ∷ c ∷ rest) =
     if is_backslash b then has_class_operator (after_escape x) rest
+    else if is_meant x b c rest then has_class_operator Operated rest
     else is_class_operator x b c || has_class_operator (after x b) (c ∷ rest)

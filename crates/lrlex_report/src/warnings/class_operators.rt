@@ -1,7 +1,7 @@
 //! Operators within a class of characters, in brackets: `[` begins another class, and `--`, `&&` and `~~` are operations on sets.
 ghost use Rattle.std.specs.Prelude.{◌≡◌};
 ghost use Rattle.lrlex_report.specs.declared.warnings.class_operators.ClassPart.TheVariants.{Outside};
-ghost use Rattle.lrlex_report.specs.ClassOperators.{after_front, after_inside, after, after_escape, begins_class, is_front_operator, is_inner_operator, is_class_operator, has_class_operator};
+ghost use Rattle.lrlex_report.specs.ClassOperators.{after_front, after_inside, after, after_escape, begins_class, is_front_operator, is_inner_operator, is_class_operator, is_meant, has_class_operator};
 
 /// Where a byte of a pattern stands.
 #[derive(Clone, Copy)]
@@ -22,6 +22,8 @@ enum ClassPart {
     Range,
     /// In a class with a name within a class, as `[:alpha:]`.
     Named,
+    /// Behind an operation, and before the `[` of the class on its right side.
+    Operated,
 }
 
 /// What is behind this byte at the front of a class, where `-` and `]` are characters.
@@ -84,6 +86,7 @@ impl ClassPart {
             (ClassPart::Inside | ClassPart::Member, _) => after_inside(b),
             (ClassPart::Named, b']') => ClassPart::Inside,
             (ClassPart::Named, _) => ClassPart::Named,
+            (ClassPart::Operated, _) => ClassPart::Bracket,
         }
     }
 
@@ -103,14 +106,25 @@ impl ClassPart {
         ensures { result ≡ is_class_operator self b c }
     {
         match self {
-            ClassPart::Outside | ClassPart::Range | ClassPart::Named => false,
+            ClassPart::Outside | ClassPart::Range => false,
+            ClassPart::Named | ClassPart::Operated => false,
             ClassPart::Bracket | ClassPart::Caret | ClassPart::Hyphens => is_front_operator(b, c),
             ClassPart::Inside | ClassPart::Member => is_inner_operator(b, c),
         }
     }
+
+    /// Whether these bytes are an operation whose right side is a class in brackets, as in `[a-z&&[^aeiou]]`: it is meant.
+    fn is_meant(self, b: u8, c: u8, rest: &[u8]) -> bool
+        ensures { result ≡ is_meant self b c rest.now }
+    {
+        match rest {
+            [b'[', ..] => b != b'[' && self.is_operator(b, c),
+            _ => false,
+        }
+    }
 }
 
-/// Whether a pattern has an operator within a class of characters.
+/// Whether a pattern has an operator within a class of characters that is hardly meant.
 pub(crate) fn has_class_operator(pattern: &[u8]) -> bool
     ensures { result ≡ has_class_operator Outside pattern.now }
 {
@@ -119,6 +133,11 @@ pub(crate) fn has_class_operator(pattern: &[u8]) -> bool
     while let [b, c, after @ ..] = rest {
         if *b == b'\\' {
             part = part.after_escape();
+            rest = after;
+            continue;
+        }
+        if part.is_meant(*b, *c, after) {
+            part = ClassPart::Operated;
             rest = after;
             continue;
         }
