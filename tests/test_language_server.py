@@ -31,6 +31,20 @@ LINES = """%%
 \\n ;
 """
 
+# What a piece is guessed to be, by its rule's name and its text.
+GUESSES = """%%
+[0-9]+x 'IN_TEXT'
+[0-9]+y 'string'
+[0-9]+z|comment 'COMMENT'
+fi 'Kfi'
+[0-9]+ 'INT'
+'[^']*' 'QUOTED'
+[+] 'PLUS'
+[a-z_]+ 'ID'
+#[^\\n]* ;
+[ \\n]+ ;
+"""
+
 FAULTS = "%s here here\n%%\n[a-z]+ 'ID'\n[A-Z] 'ID'\n 'indented'\n( 'OPEN'\n"
 
 # The severity of a warning, and its tags: 2 a warning, 4 a hint; tag 1 is that of what does nothing.
@@ -323,6 +337,14 @@ class Texts(Session):
                 wanted = [(0, at, 1, kind) for at, kind in enumerate(kinds)]
                 self.assertEqual(wanted, decoded(client.tokens(TEXT)["data"], client.types))
                 self.assertEqual(0, client.end())
+
+    def test_guesses(self):
+        client = self.client("--rules", rules_file(GUESSES))
+        client.begin()
+        self.assertEqual([], client.open(TEXT, "1x 2y 3z comment fi 4 '5' + _a # 6")["diagnostics"])
+        kinds = ["string", "string", "comment", "keyword", "keyword", "number", "string", "operator", "variable", "comment"]
+        self.assertEqual(kinds, [it[3] for it in decoded(client.tokens(TEXT)["data"], client.types)])
+        self.assertEqual(0, client.end())
 
     def test_ends_of_lines(self):
         client = self.client("--rules", rules_file(LINES))

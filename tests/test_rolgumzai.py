@@ -31,6 +31,8 @@ FILES = {
     "three.l": "%%\n( 'A'\n) 'B'\n[a-z] C\n",
     "comments.l": "// c\n%%\na 'A'\n",
     "first.l": "%%\n<= 'LE'\na\\ 'A'\n// a comment\n  b 'B'\n[a-z]+ ID\n",
+    "guesses.l": "%%\n[0-9]+x 'IN_TEXT'\n[0-9]+y 'string'\n[0-9]+z|comment 'COMMENT'\nfi 'Kfi'\n[0-9]+ 'INT'\n'[^']*' 'QUOTED'\n"
+    "[+] 'PLUS'\n[a-z_]+ 'ID'\n#[^\\n]* ;\n[ \\n]+ ;\n",
     "empty": "",
     "latin": b"ab\n\xe9t\xe9",
     "input": "if ifs\n 12 \"a❤\t\"",
@@ -152,6 +154,14 @@ ROWS = [
         "highlight --map ID=class --map INT=method --map IF=variable tokens.l -",
         "if a 1",
         Outcome("\x1b[36mif\x1b[0m \x1b[33ma\x1b[0m \x1b[35m1\x1b[0m"),
+    ),
+    (
+        "highlight guesses.l -",
+        "1x 2y 3z comment fi 4 '5' + _a # 6",
+        Outcome(
+            "\x1b[32m1x\x1b[0m \x1b[32m2y\x1b[0m \x1b[90m3z\x1b[0m \x1b[31mcomment\x1b[0m \x1b[31mfi\x1b[0m \x1b[34m4\x1b[0m "
+            "\x1b[32m'5'\x1b[0m + _a \x1b[90m# 6\x1b[0m"
+        ),
     ),
     ("highlight tokens.l empty", "", Outcome()),
     ("highlight bad.l input", "", Outcome("", BAD, 1)),

@@ -1,24 +1,40 @@
 -- What the pieces of a text are shown as, and the tokens that they have.
-use Rattle.std.specs.Prelude.{ℕ, ◌≡◌, ◌+◌, ◌^◌, ◌<◌, ⊤, List, [], ◌∷◌, ◌++◌, Option, Some, None, All, IsCharBoundary, IsUtf8, drop, length, map, slice_get}
+use Rattle.std.specs.Prelude.{ℕ, ◌≡◌, ◌+◌, ◌^◌, ◌<◌, List, [], ◌∷◌, ◌++◌, Option, Some, None, All, IsCharBoundary, IsUtf8, drop, length, map, option_map, slice_get}
 use Rattle.lrlex.specs.Pieces.{joined}
 use Rattle.lrlex.specs.declared.reading.pieces.Piece.{Piece}
 use Rattle.lrlex_base.specs.Spans.{span_start}
 use Rattle.lrlex_positions.specs.declared.encoding.PositionEncoding.{PositionEncoding}
+use Rattle.lrlex_lsp.specs.Guesses.{guess_of}
 use Rattle.lrlex_lsp.specs.Tokens.{AreReadable, Token, numbers_of, piece_tokens, tokens_read}
+use Rattle.lrlex_lsp.specs.declared.guesses.Guess.{Guess}
+use Rattle.lrlex_lsp.specs.declared.guesses.Guess.TheVariants.{Comment, Keyword, Number, Text, Name, Operator}
 use Rattle.lrlex_lsp.specs.declared.languages.Language.{Language}
 use Rattle.lrlex_lsp.specs.declared.languages.Shown.{Shown}
 use Rattle.lrlex_lsp.specs.declared.languages.Shown.TheVariants.{As, Plain, Guessed}
 
+-- the number of a guess's token type in the protocol (3.17)
+abbrev pub type_of : Guess → ℕ
+type_of Comment = 17
+type_of Keyword = 15
+type_of Number = 19
+type_of Text = 18
+type_of Name = 8
+type_of Operator = 21
+
+-- what a piece is shown as where its rule doesn't say
+abbrev pub guessed_kind : Piece → Option ℕ
+guessed_kind piece = option_map type_of (guess_of piece.name piece.text.now)
+
 -- a rule that says how its pieces are shown is heeded; other pieces are guessed at
-abbrev pub IsHeeded : Option Shown → (kind : Option ℕ) → Type 0
-IsHeeded (Some (As number)) kind = kind ≡ Some number
-IsHeeded (Some Plain) kind = kind ≡ None
-IsHeeded (Some Guessed) kind = ⊤
-IsHeeded None kind = ⊤
+abbrev pub kind_by : Option Shown → Piece → Option ℕ
+kind_by (Some (As number)) piece = Some number
+kind_by (Some Plain) piece = None
+kind_by (Some Guessed) piece = guessed_kind piece
+kind_by None piece = guessed_kind piece
 
 -- the language shows the piece as a token of this type, or plain
 abbrev pub IsShownAs : Language → Piece → (kind : Option ℕ) → Type 0
-IsShownAs language piece kind = IsHeeded (slice_get language.shown.items piece.rule) kind
+IsShownAs language piece kind = kind ≡ kind_by (slice_get language.shown.items piece.rule) piece
 
 -- where the first of these pieces begins
 abbrev pub begin_of : List Piece → ℕ

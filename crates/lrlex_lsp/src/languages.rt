@@ -1,8 +1,10 @@
 //! What a text is lexed by, and what its pieces are shown as.
-ghost use Rattle.lrlex_lsp.specs.Shown.{IsShownAs};
+ghost use Rattle.std.specs.Prelude.{◌≡◌, option_map};
+ghost use Rattle.lrlex_lsp.specs.Guesses.{guess_of};
+ghost use Rattle.lrlex_lsp.specs.Shown.{IsShownAs, type_of};
 
 use crate::guesses::guessed;
-use crate::token_types::type_named;
+use crate::token_types::{type_named, type_of};
 use lrlex::{
     DefaultLexerTypes, LRNonStreamingLexerDef, LexBuildError, LexFlags, Piece, Rule,
     UNSPECIFIED_LEX_FLAGS,
@@ -149,6 +151,16 @@ fn read(
     }
 }
 
+/// The number of the token type of what a piece is guessed to be, by its rule's name and its text; None where it is plain.
+fn guessed_kind(name: Option<&str>, text: &str) -> Option<u32>
+    ensures { result ≡ option_map type_of (guess_of name.entry text.now) }
+{
+    match guessed(name, text) {
+        Some(guess) => Some(type_of(guess)),
+        None => None,
+    }
+}
+
 impl Language {
     /// The language of a rule text. The map has for the name of a rule the token type of the protocol that its pieces are shown
     /// as, or an empty text where they are plain; other names are guessed at.
@@ -184,7 +196,7 @@ impl Language {
         match self.shown.get(piece.rule) {
             Some(Shown::As(kind)) => Some(*kind),
             Some(Shown::Plain) => None,
-            _ => guessed(piece.name, piece.text),
+            _ => guessed_kind(piece.name, piece.text),
         }
     }
 }

@@ -24,6 +24,7 @@ mod tokens;
 mod uris;
 
 pub use crate::framing::{Frame, read_frame, write_frame};
+pub use crate::guesses::{Guess, guessed};
 pub use crate::languages::{Definition, Language, LanguageFault, Types};
 pub use crate::server::{Handled, Server};
 pub use crate::session::{Options, serve};

@@ -1,4 +1,8 @@
 //! The token types of the Language Server Protocol.
+ghost use Rattle.std.specs.Prelude.{◌≡◌};
+ghost use Rattle.lrlex_lsp.specs.Shown.{type_of};
+
+use crate::guesses::Guess;
 use std::alloc::{AllocError, Global};
 
 /// The token types of version 3.17, in its order.
@@ -6,17 +10,17 @@ const TOKEN_TYPES: &str =
     "namespace type class enum interface struct typeParameter parameter variable property enumMember \
     event function method macro keyword modifier comment string number regexp operator decorator";
 
-pub(crate) const VARIABLE: u32 = 8;
+const VARIABLE: u32 = 8;
 
-pub(crate) const KEYWORD: u32 = 15;
+const KEYWORD: u32 = 15;
 
-pub(crate) const COMMENT: u32 = 17;
+const COMMENT: u32 = 17;
 
-pub(crate) const STRING: u32 = 18;
+const STRING: u32 = 18;
 
-pub(crate) const NUMBER: u32 = 19;
+const NUMBER: u32 = 19;
 
-pub(crate) const OPERATOR: u32 = 21;
+const OPERATOR: u32 = 21;
 
 /// The number of a token type: its place among the types that the server names to the client, from 0.
 pub(crate) fn type_named(name: &str) -> Option<u32> {
@@ -28,6 +32,20 @@ pub(crate) fn type_named(name: &str) -> Option<u32> {
         number = number.saturating_add(1);
     }
     None
+}
+
+/// The number of the token type that a piece has which is guessed to be this.
+pub(crate) fn type_of(guess: Guess) -> u32
+    ensures { result ≡ type_of guess }
+{
+    match guess {
+        Guess::Comment => COMMENT,
+        Guess::Keyword => KEYWORD,
+        Guess::Number => NUMBER,
+        Guess::Text => STRING,
+        Guess::Name => VARIABLE,
+        Guess::Operator => OPERATOR,
+    }
 }
 
 /// Whether this is the name of a token type of the protocol (3.17), as `keyword`.
