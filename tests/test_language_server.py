@@ -78,7 +78,7 @@ class Protocol(Session):
         client = self.client()
         capabilities = client.begin()
         self.assertEqual("utf-16", capabilities["positionEncoding"])
-        self.assertEqual({"openClose": True, "change": 2}, capabilities["textDocumentSync"])
+        self.assertEqual({"openClose": True, "change": 2, "save": {"includeText": False}}, capabilities["textDocumentSync"])
         self.assertEqual("keyword", client.types[15])
         self.assertEqual(0, client.end())
 
@@ -495,6 +495,39 @@ class Texts(Session):
         self.assertEqual(1, len(client.open(f"file://{path}", "%%\n( 'OPEN'\n", "lex")["diagnostics"]))
         client.change(f"file://{path}", RULES)
         self.assertEqual(1, len(client.told_of(TEXT, 1)["diagnostics"]))
+        # closed before these are saved
+        client.close(f"file://{path}")
+        self.assertEqual([], client.told_of(TEXT, 1)["diagnostics"])
+        self.assertEqual(shown, client.told("window/showMessage"))
+        self.assertEqual(0, client.end())
+
+    def test_rules_closed_unsaved(self):
+        path = rules_file(RULES)
+        client = self.client("--rules", path)
+        client.begin()
+        rules, more, faulty = f"file://{path}", RULES.replace("[=+;]", "[=+;!]"), "%%\n( 'OPEN'\n"
+        rows = [
+            # the texts that are typed, each with whether it is saved, and how many faults a text has once the file is closed
+            ([], 1), ([(more, False)], 1), ([(more, True)], 0), ([(more, True), (RULES, False)], 0), ([(more, False), (RULES, True)], 1),
+            ([(faulty, True)], 1), ([(faulty, True), (more, False)], 1), ([(more, False), (faulty, True)], 0), ([(more, True), (faulty, False)], 0),
+        ]
+        client.open(TEXT, "let a!")
+        for texts, wanted in rows:
+            with self.subTest(texts=texts):
+                client.open(rules, RULES, "lex")
+                for text, is_saved in texts:
+                    client.change(rules, text)
+                    if is_saved:
+                        client.save(rules)
+                client.close(rules)
+                self.assertEqual(wanted, len(client.change(TEXT)["diagnostics"]))
+        # other files are saved and closed too
+        client.save(TEXT)
+        client.open(URI, more, "lex")
+        client.save(URI)
+        client.close(URI)
+        client.save(URI)
+        self.assertEqual(0, len(client.change(TEXT)["diagnostics"]))
         self.assertEqual(0, client.end())
 
     def test_no_rules(self):

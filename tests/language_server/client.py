@@ -175,6 +175,10 @@ class Client:
         self.notify("textDocument/didChange", {"textDocument": document, "contentChanges": edits})
         return self.told_of(uri, self.version)
 
+    def save(self, uri):
+        """Tells that a document was saved."""
+        self.notify("textDocument/didSave", {"textDocument": {"uri": uri}})
+
     def close(self, uri):
         """Closes a document and gives what is told of it."""
         self.notify("textDocument/didClose", {"textDocument": {"uri": uri}})

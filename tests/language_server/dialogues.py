@@ -126,12 +126,14 @@ class Dialogue:
         self.tokens.pop(uri, None)
 
     def new_rules(self):
-        """Types new rules into the rule file, which is opened for it and closed after."""
+        """Types new rules into the rule file, which is opened for it, and saved or not, and closed after."""
         self.rules = "%%\n" + "".join(self.chance.sample(RULES, self.chance.randrange(2, 9)))
         uri = f"file://{self.path}"
         self.client.open(uri, self.good, "lex")
-        if not faults(self.client.change(uri, self.rules)):
-            self.good = self.rules
+        is_good = not faults(self.client.change(uri, self.rules))
+        if self.chance.random() < 0.5:
+            self.client.save(uri)
+            self.good = self.rules if is_good else self.good
         self.client.close(uri)
         self.tokens.clear()
 

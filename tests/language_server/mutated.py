@@ -40,6 +40,7 @@ def call(chance, last):
     return chance.choice([
         ("textDocument/didOpen", {"textDocument": {**version, "languageId": "lex", "text": TEXT}}),
         ("textDocument/didChange", {"textDocument": version, "contentChanges": [change]}),
+        ("textDocument/didSave", {"textDocument": document}),
         ("textDocument/didClose", {"textDocument": document}),
         ("textDocument/semanticTokens/full", {"textDocument": document}),
         ("textDocument/semanticTokens/range", {"textDocument": document, "range": span(chance)}),

@@ -15,10 +15,10 @@ RULES = "%s here here\n%%\n[a-z]+ 'ID'\n[a-z] 'ID'\n 'indented'\n( 'OPEN'\n"
 
 
 def session(rules):
-    """The bytes of a session: requests too early, no JSON, two documents, edits, tokens, other rules, the end."""
+    """The bytes of a session: requests too early, no JSON, documents, edits, tokens, other rules that aren't saved, the end."""
     given = f"file://{rules}"
     documents = [(URI, "lex", RULES), (OTHER, "text", "let a = \"1\r2\";\n😀 = \"x\ny\";\n"), (given, "lex", "%%\n[a-z]+ 'WORD'\n")]
-    about = {"textDocument": {"uri": OTHER}}
+    about, rule_file = {"textDocument": {"uri": OTHER}}, {"textDocument": {"uri": given}}
     bodies = [request(1, "textDocument/hover"), b"{nonsense", request(2, "initialize", {"capabilities": {}})]
     for uri, language, text in documents:
         document = {"uri": uri, "languageId": language, "version": 1, "text": text}
@@ -29,6 +29,9 @@ def session(rules):
         request("a", "textDocument/semanticTokens/full", about),
         request("b", "textDocument/semanticTokens/full/delta", {**about, "previousResultId": "1"}),
         request("c", "textDocument/semanticTokens/range", {**about, "range": ranged((0, 0), (1, 2), "")["range"]}),
+        notification("textDocument/didSave", rule_file),
+        notification("textDocument/didChange", {"textDocument": {"uri": given, "version": 3}, "contentChanges": [{"text": "%%\n[a-z]+ 'ID'\n"}]}),
+        notification("textDocument/didClose", rule_file),
         notification("textDocument/didClose", about),
         request(4, "shutdown"),
         notification("exit"),

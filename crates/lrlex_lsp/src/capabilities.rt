@@ -14,7 +14,7 @@ fn capabilities(alloc: Global, encoding: PositionEncoding) -> Result<String, All
     };
     format!(in alloc;
         "{{\"capabilities\":{{\"positionEncoding\":\"{encoding}\",\
-        \"textDocumentSync\":{{\"openClose\":true,\"change\":2}},\
+        \"textDocumentSync\":{{\"openClose\":true,\"change\":2,\"save\":{{\"includeText\":false}}}},\
         \"semanticTokensProvider\":{{\"legend\":{{\"tokenTypes\":[\"{types}\"],\"tokenModifiers\":[]}},\
         \"full\":{{\"delta\":true}},\"range\":true}}}},\"serverInfo\":{{\"name\":\"rolgumzai\"}}}}"
     )

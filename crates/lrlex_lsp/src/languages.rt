@@ -184,6 +184,11 @@ impl Language {
         &self.definition
     }
 
+    /// The rule text that it was read from.
+    pub(crate) fn rules(&self) -> &str {
+        &self.rules
+    }
+
     /// Whether it was read from this rule text with these flags.
     pub(crate) fn is_of(&self, rules: &str, flags: LexFlags) -> bool {
         self.rules.as_str() == rules && self.flags == flags

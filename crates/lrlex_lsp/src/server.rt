@@ -51,15 +51,20 @@ impl<'d> Server<'d> {
             can_refresh,
             counts,
             kept,
+            saved,
         } = state;
-        let mut texts = Texts::new(alloc, given, encoding, counts);
+        let mut texts = Texts::new(alloc, given, encoding, counts, saved);
         texts.reopen(kept, can_refresh, told)?;
-        Ok(Server {
+        let server = Server {
             alloc,
             phase,
             can_refresh,
             texts,
-        })
+        };
+        if phase == Phase::Serving {
+            server.tell_lack(told)?;
+        }
+        Ok(server)
     }
 
     /// What a server over other languages goes on from.
@@ -68,10 +73,11 @@ impl<'d> Server<'d> {
             alloc: _,
             phase,
             can_refresh,
-            texts,
+            mut texts,
         } = self;
         let encoding = texts.encoding;
         let counts = texts.counts;
+        let saved = texts.saved.take();
         let kept = texts.close()?;
         Ok(State {
             phase,
@@ -79,11 +85,12 @@ impl<'d> Server<'d> {
             can_refresh,
             counts,
             kept,
+            saved,
         })
     }
 
     /// Tells the user that the given rules have faults, if they do: then no text is lexed by them.
-    fn did_initialize(&self, told: &mut Vec<String>) -> Result<Next, AllocError> {
+    fn tell_lack(&self, told: &mut Vec<String>) -> Result<(), AllocError> {
         if self.texts.lacks_language() {
             told.push(warning(
                 self.alloc,
@@ -91,7 +98,7 @@ impl<'d> Server<'d> {
                 "The rule file has faults, so no text is lexed by it. Open it to see them",
             )?)?;
         }
-        Ok(Next::GoOn)
+        Ok(())
     }
 
     fn did_open(&mut self, message: &Value, told: &mut Vec<String>) -> Result<Next, AllocError> {
@@ -102,7 +109,21 @@ impl<'d> Server<'d> {
         let language = text_at(message, "/params/textDocument/languageId");
         let is_rules = is_rule_file(uri, language);
         self.texts.open(uri, is_rules, text, version_of(message))?;
-        self.texts.tell_changed(uri, told)
+        self.texts.tell_opened(uri, told)
+    }
+
+    fn did_save(&mut self, message: &Value) -> Result<Next, AllocError> {
+        if let Some(uri) = uri_of(message) {
+            self.texts.note_saved(uri)?;
+        }
+        Ok(Next::GoOn)
+    }
+
+    fn did_close(&mut self, message: &Value, told: &mut Vec<String>) -> Result<Next, AllocError> {
+        match uri_of(message) {
+            Some(uri) => self.texts.close_one(uri, told),
+            None => Ok(Next::GoOn),
+        }
     }
 
     fn did_change(&mut self, message: &Value, told: &mut Vec<String>) -> Result<Next, AllocError> {
@@ -129,15 +150,14 @@ impl<'d> Server<'d> {
     ) -> Result<Next, AllocError> {
         match (self.phase, method) {
             (phase, "exit") => Ok(Next::End(phase == Phase::ShutDown)),
-            (Phase::Serving, "initialized") => self.did_initialize(told),
-            (Phase::Serving, "textDocument/didOpen") => self.did_open(message, told),
-            (Phase::Serving, "textDocument/didChange") => self.did_change(message, told),
-            (Phase::Serving, "textDocument/didClose") => {
-                if let Some(uri) = uri_of(message) {
-                    self.texts.forget(uri, told)?;
-                }
+            (Phase::Serving, "initialized") => {
+                self.tell_lack(told)?;
                 Ok(Next::GoOn)
             }
+            (Phase::Serving, "textDocument/didOpen") => self.did_open(message, told),
+            (Phase::Serving, "textDocument/didChange") => self.did_change(message, told),
+            (Phase::Serving, "textDocument/didSave") => self.did_save(message),
+            (Phase::Serving, "textDocument/didClose") => self.did_close(message, told),
             _ => Ok(Next::GoOn),
         }
     }

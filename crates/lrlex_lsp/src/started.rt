@@ -9,7 +9,7 @@ pub enum Next {
     GoOn,
     /// It ends. Whether the client had shut it down.
     End(bool),
-    /// The given rules are this text now: `close`, and a new server over its language.
+    /// The given rules are this text now: `close`, and a new server over its language, or without one where it has faults.
     Rules(String),
 }
 
@@ -60,6 +60,7 @@ pub struct State {
     pub(crate) can_refresh: bool,
     pub(crate) counts: Counts,
     pub(crate) kept: Vec<Kept>,
+    pub(crate) saved: Option<String>,
 }
 
 impl State {
@@ -71,6 +72,7 @@ impl State {
             can_refresh: false,
             counts: Counts { asked: 0, told: 0 },
             kept: Vec::new(alloc),
+            saved: None,
         }
     }
 }

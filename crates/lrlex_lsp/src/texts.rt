@@ -21,6 +21,8 @@ pub(crate) struct Texts<'d> {
     pub(crate) encoding: PositionEncoding,
     pub(crate) counts: Counts,
     pub(crate) open: BTreeMap<String, Opened<'d>>,
+    /// The rules that held when the file of the given rules was opened or last saved, while it is open.
+    pub(crate) saved: Option<String>,
 }
 
 /// The next number.
@@ -39,6 +41,7 @@ impl<'d> Texts<'d> {
         given: Given<'d>,
         encoding: PositionEncoding,
         counts: Counts,
+        saved: Option<String>,
     ) -> Texts<'d> {
         Texts {
             alloc,
@@ -46,6 +49,7 @@ impl<'d> Texts<'d> {
             encoding,
             counts,
             open: BTreeMap::new(alloc),
+            saved,
         }
     }
 
@@ -138,12 +142,33 @@ impl<'d> Texts<'d> {
         counted(&mut self.counts.told)
     }
 
-    /// Closes a document, and tells that nothing is wrong with it any more.
-    pub(crate) fn forget(&mut self, uri: &str, told: &mut Vec<String>) -> Result<(), AllocError> {
-        if self.open.remove(uri).is_some() {
-            told.push(nothing_of(self.alloc, uri)?)?;
+    /// The rules that hold where they aren't those that hold now, if this is the file of the given rules, which was closed.
+    fn rules_of_closed(&mut self, uri: &str) -> Result<Next, AllocError> {
+        if !is_same_file(self.alloc, uri, self.given.uri)? {
+            return Ok(Next::GoOn);
         }
-        Ok(())
+        let (Some(rules), Some(now)) = (self.saved.take(), self.given.language) else {
+            return Ok(Next::GoOn);
+        };
+        if now.is_of(&rules, self.given.flags) {
+            Ok(Next::GoOn)
+        } else {
+            Ok(Next::Rules(rules))
+        }
+    }
+
+    /// Closes a document, and tells that nothing is wrong with it any more. If it is the file of the given rules, those hold again
+    /// that held when it was opened or last saved.
+    pub(crate) fn close_one(
+        &mut self,
+        uri: &str,
+        told: &mut Vec<String>,
+    ) -> Result<Next, AllocError> {
+        if self.open.remove(uri).is_none() {
+            return Ok(Next::GoOn);
+        }
+        told.push(nothing_of(self.alloc, uri)?)?;
+        self.rules_of_closed(uri)
     }
 
     /// Tells what is wrong with a document. Whether it is open and nothing is.
@@ -179,5 +204,35 @@ impl<'d> Texts<'d> {
             Some(text) => Ok(Next::Rules(text)),
             None => Ok(Next::GoOn),
         }
+    }
+
+    /// The rules that hold now, as a text: where none do, that of their file, which has faults.
+    fn rules_now(&self, file: String) -> Result<String, AllocError> {
+        match self.given.language {
+            Some(language) => String::from_str(self.alloc, language.rules()),
+            None => Ok(file),
+        }
+    }
+
+    /// Notes which rules hold when a document was saved, if it is their file.
+    pub(crate) fn note_saved(&mut self, uri: &str) -> Result<(), AllocError> {
+        if let Some(text) = self.given_text(uri)? {
+            self.saved = Some(self.rules_now(text)?);
+        }
+        Ok(())
+    }
+
+    /// Tells what is wrong with a document that was opened, and whether it gives the given rules anew.
+    pub(crate) fn tell_opened(
+        &mut self,
+        uri: &str,
+        told: &mut Vec<String>,
+    ) -> Result<Next, AllocError> {
+        let next = self.tell_changed(uri, told)?;
+        match &next {
+            Next::Rules(text) => self.saved = Some(text.clone()?),
+            _ => self.note_saved(uri)?,
+        }
+        Ok(next)
     }
 }
