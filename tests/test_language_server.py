@@ -501,6 +501,25 @@ class Texts(Session):
         self.assertEqual(shown, client.told("window/showMessage"))
         self.assertEqual(0, client.end())
 
+    def test_names_of_the_rule_file(self):
+        path = rules_file(RULES)
+        folder, name = os.path.split(path)
+        rows = [
+            # a URI of a file with more rules, and how many faults a text has once it is opened
+            (f"file://{path}", 0), (f"file://localhost{path}", 0), (f"file:///{path}", 0), (f"file://{folder}//{name}", 0), (f"file://{folder}/./{name}", 0),
+            (f"file://{folder}/x/../{name}", 0), (f"file://{folder}/x/%2e%2e/%72ules.l", 0), (f"file:///../..{folder}/x//../{name}", 0),
+            (f"file://other{path}", 1), (f"file://localhosts{path}", 1), (f"file://{folder}/../{name}", 1), (f"file://{folder}/{name}/x", 1),
+            (f"file://{folder}/.{name}", 1), (f"file://{folder}/...{name}", 1), (f"untitled:{path}", 1),
+        ]
+        for uri, wanted in rows:
+            with self.subTest(uri=uri):
+                client = self.client("--rules", path)
+                client.begin()
+                client.open(TEXT, "let a!")
+                client.open(uri, RULES.replace("[=+;]", "[=+;!]"), "lex")
+                self.assertEqual(wanted, len(client.change(TEXT)["diagnostics"]))
+                self.assertEqual(0, client.end())
+
     def test_rules_closed_unsaved(self):
         path = rules_file(RULES)
         client = self.client("--rules", path)

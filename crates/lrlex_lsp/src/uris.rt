@@ -19,13 +19,63 @@ fn decoded(alloc: Global, uri: &str) -> Result<Vec<u8>, AllocError> {
     Ok(bytes)
 }
 
-/// Whether two URIs name one file: they are the same bytes once their percent escapes are read (RFC 3986, section 2.4).
+/// The path that a URI names on this machine, which it calls `localhost` or nothing.
+fn path_of(uri: &[u8]) -> Option<&[u8]> {
+    let path = uri.strip_prefix(b"file://")?;
+    let path = path.strip_prefix(b"localhost").unwrap_or(path);
+    if path.starts_with(b"/") {
+        Some(path)
+    } else {
+        None
+    }
+}
+
+/// Where the name of a path's folder ends.
+fn folder_end(path: &[u8]) -> usize {
+    path.iter().rposition(|byte| *byte == b'/').unwrap_or(0)
+}
+
+/// Goes on by a part of a path: up for `..`, and nowhere for `.` and an empty one.
+fn go(path: &mut Vec<u8>, part: &[u8]) -> Result<(), AllocError> {
+    match part {
+        b"" | b"." => Ok(()),
+        b".." => {
+            path.truncate(folder_end(path));
+            Ok(())
+        }
+        _ => {
+            path.push(b'/')?;
+            path.extend_from_slice(part)
+        }
+    }
+}
+
+/// An absolute path without `.`, `..` and empty parts: `/a//b/./c/../d` is `/a/b/d`.
+fn plain(alloc: Global, path: &[u8]) -> Result<Vec<u8>, AllocError> {
+    let mut plain = Vec::new(alloc);
+    for part in path.split(|byte| *byte == b'/') {
+        go(&mut plain, part)?;
+    }
+    Ok(plain)
+}
+
+/// What a URI names: the plain path of a file of this machine, or else its bytes once their percent escapes are read.
+fn named(alloc: Global, uri: &str) -> Result<Vec<u8>, AllocError> {
+    let bytes = decoded(alloc, uri)?;
+    if let Some(path) = path_of(&bytes) {
+        return plain(alloc, path);
+    }
+    Ok(bytes)
+}
+
+/// Whether two URIs name one file: they are the same once their percent escapes are read (RFC 3986, section 2.4), and their paths
+/// made plain. `file://localhost` is `file://`.
 pub fn is_same_file(alloc: Global, one: &str, other: &str) -> Result<bool, AllocError> {
     if one == other {
         return Ok(true);
     }
-    let one = decoded(alloc, one)?;
-    let other = decoded(alloc, other)?;
+    let one = named(alloc, one)?;
+    let other = named(alloc, other)?;
     Ok(one.as_slice() == other.as_slice())
 }
 

@@ -9,27 +9,7 @@ use std::alloc::{AllocError, Global};
 use std::io::BufReader;
 use std::{env, io};
 
-/// An absolute path without `.` and `..`, as clients name files: `/a/./b/../c` is `/a/c`.
-fn plain(alloc: Global, path: &str) -> Result<String, AllocError> {
-    let mut parts = Vec::new(alloc);
-    for part in path.split('/') {
-        match part {
-            "" | "." => {}
-            ".." => {
-                let _ = parts.pop();
-            }
-            _ => parts.push(part)?,
-        }
-    }
-    let mut plain = String::new(alloc);
-    for part in &parts {
-        plain.push_str("/")?;
-        plain.push_str(part)?;
-    }
-    Ok(plain)
-}
-
-/// The absolute path of a file.
+/// The absolute path of a file. It may have `.` and `..` in it, which the server compares by what they stand for.
 fn absolute(rt: &HostRuntime, path: &str) -> io::Result<String> {
     let mut whole = String::new(rt.alloc());
     if !path.starts_with('/') {
@@ -38,7 +18,7 @@ fn absolute(rt: &HostRuntime, path: &str) -> io::Result<String> {
         whole.push_str("/")?;
     }
     whole.push_str(path)?;
-    Ok(plain(rt.alloc(), &whole)?)
+    Ok(whole)
 }
 
 /// Reports the faults of a rule file. The server goes on without it, until a client mends it.
