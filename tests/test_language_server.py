@@ -234,6 +234,23 @@ class RuleFiles(Session):
                     self.assertEqual(WEIGHTS.get(it["message"], (1, None)), (it["severity"], it.get("tags")))
         self.assertEqual(0, client.end())
 
+    def test_what_clients_take(self):
+        rows = [
+            # what the client names, and whether it is told where a name is first, and a tag
+            ({}, False, False), ({"relatedInformation": True}, True, False), ({"tagSupport": {"valueSet": [2, 1]}}, False, True),
+            ({"relatedInformation": False, "tagSupport": {"valueSet": [2]}}, False, False), ({"relatedInformation": 1, "tagSupport": True}, False, False),
+            ({"relatedInformation": True, "tagSupport": {"valueSet": [1]}}, True, True),
+        ]
+        for named, places, tags in rows:
+            with self.subTest(named=named):
+                client = self.client()
+                client.begin({"textDocument": {"publishDiagnostics": named}})
+                told = client.open(URI, "%%\na 'A'\nb 'A'\n")["diagnostics"]
+                self.assertEqual([places], ["relatedInformation" in it for it in told])
+                told = client.change(URI, "%%\n[a-z] 'A'\nb 'B'\n")["diagnostics"]
+                self.assertEqual([tags], ["tags" in it for it in told])
+                self.assertEqual(0, client.end())
+
     def test_columns_in_utf16(self):
         client = self.client()
         client.begin()

@@ -14,6 +14,8 @@ from support import programs
 PROGRAM = "rolgumzai"
 
 DIAGNOSTICS = "textDocument/publishDiagnostics"
+# The capabilities of a client that shows all that the server tells of a document.
+SHOWING = {"textDocument": {"publishDiagnostics": {"relatedInformation": True, "tagSupport": {"valueSet": [1, 2]}}}}
 REFRESH = "workspace/semanticTokens/refresh"
 
 
@@ -153,8 +155,9 @@ class Client:
         return told
 
     def begin(self, capabilities=None):
-        """Initializes the server, and gives what it can do."""
-        answer = self.ask("initialize", {"processId": None, "rootUri": None, "capabilities": capabilities or {}})
+        """Initializes the server, and gives what it can do. Without others, the client has the capabilities of `SHOWING`."""
+        capabilities = SHOWING if capabilities is None else capabilities
+        answer = self.ask("initialize", {"processId": None, "rootUri": None, "capabilities": capabilities})
         self.notify("initialized", {})
         capabilities = answer["result"]["capabilities"]
         self.types = capabilities["semanticTokensProvider"]["legend"]["tokenTypes"]

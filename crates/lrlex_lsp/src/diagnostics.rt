@@ -3,8 +3,8 @@ use crate::findings::push_findings;
 use crate::json::quoted;
 use crate::languages::Types;
 use crate::opened::Opened;
-use crate::started::Given;
-use lrlex::{Document, PositionEncoding, Span};
+use crate::started::{Client, Given};
+use lrlex::{Document, Span};
 use std::alloc::{AllocError, Global};
 use std::fmt::Write;
 
@@ -34,7 +34,7 @@ pub(crate) struct Finding<'m> {
 pub(crate) struct Report<'p, 'd> {
     alloc: Global,
     document: &'p Document<'d, Types>,
-    encoding: PositionEncoding,
+    client: Client,
     /// The document's URI as JSON has it.
     uri: &'p str,
     text: String,
@@ -58,8 +58,9 @@ impl Weight {
 impl<'p, 'd> Report<'p, 'd> {
     /// Adds the range of a span, and what stands before it.
     fn push_range(&mut self, before: &str, span: Span) -> Result<(), AllocError> {
-        let (line, column) = self.document.position_in(span.start(), self.encoding);
-        let (end_line, end_column) = self.document.position_in(span.end(), self.encoding);
+        let encoding = self.client.encoding;
+        let (line, column) = self.document.position_in(span.start(), encoding);
+        let (end_line, end_column) = self.document.position_in(span.end(), encoding);
         write!(
             self.text,
             "{before}\"range\":{{\"start\":{{\"line\":{line},\"character\":{column}}},\
@@ -70,15 +71,17 @@ impl<'p, 'd> Report<'p, 'd> {
     /// Adds how a finding is told, and its message as JSON has it.
     fn push_message(&mut self, weight: Weight, message: &str) -> Result<(), AllocError> {
         let (severity, tags) = weight.told();
+        let tags = if self.client.takes_tags { tags } else { "" };
         write!(
             self.text,
             ",\"severity\":{severity},\"source\":\"lrlex\",\"message\":{message}{tags}"
         )
     }
 
-    /// Adds where something that is declared again stands first. `INITIAL`, which no text declares, has an empty span.
+    /// Adds where something that is declared again stands first, if the client takes that. `INITIAL`, which no text declares, has
+    /// an empty span.
     fn push_first(&mut self, span: Span) -> Result<(), AllocError> {
-        if span.len() == 0 {
+        if span.len() == 0 || !self.client.takes_places {
             return Ok(());
         }
         self.text
@@ -119,14 +122,14 @@ pub(crate) fn told_of(
     alloc: Global,
     uri: &str,
     opened: &Opened<'_>,
-    encoding: PositionEncoding,
+    client: Client,
     given: Given<'_>,
 ) -> Result<(String, bool), AllocError> {
     let uri = quoted(alloc, uri)?;
     let mut report = Report {
         alloc,
         document: &opened.document,
-        encoding,
+        client,
         uri: &uri,
         text: begin_told(alloc, &uri, opened.version)?,
         before: "{",

@@ -3,6 +3,8 @@ ghost use Rattle.std.specs.Prelude.{◌≡◌, IfSome};
 ghost use Rattle.serde_json.specs.View.{view};
 ghost use Rattle.lrlex_lsp.specs.Edits.{IsPosition, IsRange, number_of};
 
+use crate::started::Client;
+use lrlex::PositionEncoding;
 use serde_json::Value;
 
 /// The text at this pointer.
@@ -53,7 +55,7 @@ pub(crate) fn is_rule_file(uri: &str, language: Option<&str>) -> bool {
 }
 
 /// Whether the client offers to count columns in bytes.
-pub(crate) fn offers_utf8(message: &Value) -> bool {
+fn offers_utf8(message: &Value) -> bool {
     let offered = message.pointer("/params/capabilities/general/positionEncodings");
     match offered.and_then(Value::as_array) {
         Some(names) => names.iter().any(|name| name.as_str() == Some("utf-8")),
@@ -61,10 +63,39 @@ pub(crate) fn offers_utf8(message: &Value) -> bool {
     }
 }
 
-/// Whether the client can ask for all tokens again.
-pub(crate) fn can_refresh(message: &Value) -> bool {
-    message
-        .pointer("/params/capabilities/workspace/semanticTokens/refreshSupport")
-        .and_then(Value::as_bool)
-        == Some(true)
+/// Whether the client takes the tag of what does nothing.
+fn takes_tags(message: &Value) -> bool {
+    let taken = message.pointer(
+        "/params/capabilities/textDocument/publishDiagnostics/tagSupport/valueSet",
+    );
+    match taken.and_then(Value::as_array) {
+        Some(tags) => tags.iter().any(|tag| tag.as_u64() == Some(1)),
+        None => false,
+    }
+}
+
+/// Whether the value at this pointer is `true`.
+fn is_true_at(message: &Value, pointer: &str) -> bool {
+    message.pointer(pointer).and_then(Value::as_bool) == Some(true)
+}
+
+/// What the client can do, as `initialize` says.
+pub(crate) fn client_of(message: &Value) -> Client {
+    let encoding = if offers_utf8(message) {
+        PositionEncoding::Utf8
+    } else {
+        PositionEncoding::Utf16
+    };
+    Client {
+        encoding,
+        can_refresh: is_true_at(
+            message,
+            "/params/capabilities/workspace/semanticTokens/refreshSupport",
+        ),
+        takes_places: is_true_at(
+            message,
+            "/params/capabilities/textDocument/publishDiagnostics/relatedInformation",
+        ),
+        takes_tags: takes_tags(message),
+    }
 }

@@ -11,12 +11,9 @@ use crate::messages::{
     refusal, warning,
 };
 use crate::opened::Asked;
-use crate::params::{
-    can_refresh, is_rule_file, offers_utf8, range_of, text_at, uri_of, version_of,
-};
+use crate::params::{client_of, is_rule_file, range_of, text_at, uri_of, version_of};
 use crate::started::{Given, Next, Phase, State};
 use crate::texts::Texts;
-use lrlex::PositionEncoding;
 use serde_json::Value;
 use std::alloc::{AllocError, Global};
 
@@ -33,7 +30,6 @@ pub struct Handled {
 pub struct Server<'d> {
     alloc: Global,
     phase: Phase,
-    can_refresh: bool,
     texts: Texts<'d>,
 }
 
@@ -47,18 +43,16 @@ impl<'d> Server<'d> {
     ) -> Result<Server<'d>, AllocError> {
         let State {
             phase,
-            encoding,
-            can_refresh,
+            client,
             counts,
             kept,
             saved,
         } = state;
-        let mut texts = Texts::new(alloc, given, encoding, counts, saved);
-        texts.reopen(kept, can_refresh, told)?;
+        let mut texts = Texts::new(alloc, given, client, counts, saved);
+        texts.reopen(kept, told)?;
         let server = Server {
             alloc,
             phase,
-            can_refresh,
             texts,
         };
         if phase == Phase::Serving {
@@ -72,17 +66,15 @@ impl<'d> Server<'d> {
         let Server {
             alloc: _,
             phase,
-            can_refresh,
             mut texts,
         } = self;
-        let encoding = texts.encoding;
+        let client = texts.client;
         let counts = texts.counts;
         let saved = texts.saved.take();
         let kept = texts.close()?;
         Ok(State {
             phase,
-            encoding,
-            can_refresh,
+            client,
             counts,
             kept,
             saved,
@@ -163,12 +155,10 @@ impl<'d> Server<'d> {
     }
 
     fn initialize(&mut self, id: &Value, message: &Value) -> Result<String, AllocError> {
-        if offers_utf8(message) {
-            self.texts.encoding = PositionEncoding::Utf8;
-        }
-        self.can_refresh = can_refresh(message);
+        let client = client_of(message);
+        self.texts.client = client;
         self.phase = Phase::Serving;
-        initialized(self.alloc, id, self.texts.encoding)
+        initialized(self.alloc, id, client.encoding)
     }
 
     /// The answer to a request for tokens.
@@ -176,7 +166,7 @@ impl<'d> Server<'d> {
         let asked = Asked {
             id,
             answer: self.texts.next_answer(),
-            encoding: self.texts.encoding,
+            encoding: self.texts.client.encoding,
         };
         let uri = uri_of(message).unwrap_or("");
         let Some(opened) = self.texts.open.get_mut(uri) else {

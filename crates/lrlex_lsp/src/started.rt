@@ -30,6 +30,18 @@ pub(crate) struct Counts {
     pub(crate) told: usize,
 }
 
+/// What the client can do.
+#[derive(Clone, Copy)]
+pub(crate) struct Client {
+    pub(crate) encoding: PositionEncoding,
+    /// Whether it can ask for all tokens again.
+    pub(crate) can_refresh: bool,
+    /// Whether it takes where else something is (`relatedInformation`).
+    pub(crate) takes_places: bool,
+    /// Whether it takes the tag of what does nothing (`tags`).
+    pub(crate) takes_tags: bool,
+}
+
 /// The languages of a server.
 #[derive(Clone, Copy)]
 pub struct Given<'d> {
@@ -56,8 +68,7 @@ pub(crate) struct Kept {
 #[derive(Drop)]
 pub struct State {
     pub(crate) phase: Phase,
-    pub(crate) encoding: PositionEncoding,
-    pub(crate) can_refresh: bool,
+    pub(crate) client: Client,
     pub(crate) counts: Counts,
     pub(crate) kept: Vec<Kept>,
     pub(crate) saved: Option<String>,
@@ -68,8 +79,12 @@ impl State {
     pub fn new(alloc: Global) -> State {
         State {
             phase: Phase::Begun,
-            encoding: PositionEncoding::Utf16,
-            can_refresh: false,
+            client: Client {
+                encoding: PositionEncoding::Utf16,
+                can_refresh: false,
+                takes_places: false,
+                takes_tags: false,
+            },
             counts: Counts { asked: 0, told: 0 },
             kept: Vec::new(alloc),
             saved: None,

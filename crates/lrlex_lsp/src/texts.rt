@@ -6,9 +6,8 @@ use crate::edits::make_change;
 use crate::languages::Language;
 use crate::messages::request;
 use crate::opened::{Opened, Role};
-use crate::started::{Counts, Given, Kept, Next};
+use crate::started::{Client, Counts, Given, Kept, Next};
 use crate::uris::is_same_file;
-use lrlex::PositionEncoding;
 use serde_json::Value;
 use std::alloc::{AllocError, Global};
 use std::collections::BTreeMap;
@@ -18,7 +17,7 @@ use std::collections::BTreeMap;
 pub(crate) struct Texts<'d> {
     alloc: Global,
     given: Given<'d>,
-    pub(crate) encoding: PositionEncoding,
+    pub(crate) client: Client,
     pub(crate) counts: Counts,
     pub(crate) open: BTreeMap<String, Opened<'d>>,
     /// The rules that held when the file of the given rules was opened or last saved, while it is open.
@@ -39,14 +38,14 @@ impl<'d> Texts<'d> {
     pub(crate) fn new(
         alloc: Global,
         given: Given<'d>,
-        encoding: PositionEncoding,
+        client: Client,
         counts: Counts,
         saved: Option<String>,
     ) -> Texts<'d> {
         Texts {
             alloc,
             given,
-            encoding,
+            client,
             counts,
             open: BTreeMap::new(alloc),
             saved,
@@ -62,14 +61,13 @@ impl<'d> Texts<'d> {
     pub(crate) fn reopen(
         &mut self,
         kept: Vec<Kept>,
-        can_refresh: bool,
         told: &mut Vec<String>,
     ) -> Result<(), AllocError> {
         for text in &kept {
             self.open(&text.uri, text.is_rules, &text.text, text.version)?;
             self.tell(&text.uri, told)?;
         }
-        if can_refresh && !kept.is_empty() {
+        if self.client.can_refresh && !kept.is_empty() {
             let number = counted(&mut self.counts.asked);
             let body = request(self.alloc, number, "workspace/semanticTokens/refresh")?;
             told.push(body)?;
@@ -124,7 +122,12 @@ impl<'d> Texts<'d> {
         };
         let mut all_fit = true;
         for change in changes {
-            if make_change(self.alloc, &mut opened.document, self.encoding, change)? {
+            if make_change(
+                self.alloc,
+                &mut opened.document,
+                self.client.encoding,
+                change,
+            )? {
                 opened.note_edit();
             } else {
                 all_fit = false;
@@ -176,7 +179,7 @@ impl<'d> Texts<'d> {
         let Some(opened) = self.open.get(uri) else {
             return Ok(false);
         };
-        let (body, has_faults) = told_of(self.alloc, uri, opened, self.encoding, self.given)?;
+        let (body, has_faults) = told_of(self.alloc, uri, opened, self.client, self.given)?;
         told.push(body)?;
         Ok(!has_faults)
     }
