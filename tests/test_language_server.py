@@ -158,15 +158,22 @@ class Protocol(Session):
 
     def test_heads(self):
         body = b'{"jsonrpc":"2.0","id":1,"method":"x"}'
-        for head in ["content-length:%d", "Content-Type: a\r\nContent-Length:   %d", "Content-Length: %d\r\nX: y", "Content-Length: 0%d"]:
+        heads = [
+            "content-length:%d", "Content-Type: a\r\nContent-Length:   %d", "Content-Length: %d\r\nX: y", "Content-Length: 0%d",
+            "Content-Type: application/vscode-jsonrpc; charset=utf-8\r\nContent-Length: %d", "Content-Length: %d\r\ncontent-type: a;Charset=\"UTF8\"; b=c",
+            "X: a; charset=utf-16\r\nContent-Length: %d",
+        ]
+        for head in heads:
             with self.subTest(head=head):
                 client = self.client()
                 client.send(head.encode() % len(body) + b"\r\n\r\n" + body)
                 self.assertEqual(-32002, self.code(client.read()))
-        client = self.client()
-        client.send(b"Content-Length: -1\r\n\r\n")
-        self.assertEqual(-32700, self.code(client.read()))
-        self.assertEqual(1, client.process.wait(10))
+        for head in ["Content-Length: -1", "Content-Type: a; charset=utf-16\r\nContent-Length: 5", "Content-Length: 5\r\nContent-Type: a; b=c; charset = latin1"]:
+            with self.subTest(head=head):
+                client = self.client()
+                client.send(head.encode() + b"\r\n\r\n")
+                self.assertEqual(-32700, self.code(client.read()))
+                self.assertEqual(1, client.process.wait(10))
 
     def test_ends_without_shutdown(self):
         client = self.client()

@@ -14,9 +14,10 @@ from support import programs
 PROGRAM = "rolgumzai"
 
 DIAGNOSTICS = "textDocument/publishDiagnostics"
+REFRESH = "workspace/semanticTokens/refresh"
+
 # The capabilities of a client that shows all that the server tells of a document.
 SHOWING = {"textDocument": {"publishDiagnostics": {"relatedInformation": True, "tagSupport": {"valueSet": [1, 2]}}}}
-REFRESH = "workspace/semanticTokens/refresh"
 
 
 def server(*words):

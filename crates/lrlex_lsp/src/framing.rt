@@ -20,7 +20,7 @@ pub enum Frame {
     Body(Vec<u8>),
     /// A body of more than 256 MB was passed over.
     TooLong,
-    /// A head has no length, so nothing after it can be read.
+    /// A head has no length or isn't of a body in UTF-8, so nothing after it can be read.
     Headless,
     /// The input ends.
     End,
@@ -36,15 +36,44 @@ fn length_in(line: &str) -> Option<usize> {
     }
 }
 
-/// The length that a head tells.
-fn length_of(head: &[u8]) -> Option<usize> {
-    let text = str::from_utf8(head).ok()?;
-    for line in text.lines() {
-        if let Some(length) = length_in(line) {
-            return Some(length);
+/// Whether a parameter of a type names a charset other than UTF-8, whose name is also taken without its hyphen.
+fn is_other_charset(parameter: &str) -> bool {
+    let Some((name, value)) = parameter.split_once('=') else {
+        return false;
+    };
+    let charset = value.trim().trim_matches('"');
+    name.trim().eq_ignore_ascii_case("charset")
+        && !charset.eq_ignore_ascii_case("utf-8")
+        && !charset.eq_ignore_ascii_case("utf8")
+}
+
+/// Whether the line is a `Content-Type:` of a body that isn't in UTF-8.
+fn has_other_charset(line: &str) -> bool {
+    let Some((name, value)) = line.split_once(':') else {
+        return false;
+    };
+    if !name.trim().eq_ignore_ascii_case("content-type") {
+        return false;
+    }
+    for parameter in value.split(';') {
+        if is_other_charset(parameter) {
+            return true;
         }
     }
-    None
+    false
+}
+
+/// The length that a head tells, of a body in UTF-8.
+fn length_of(head: &[u8]) -> Option<usize> {
+    let text = str::from_utf8(head).ok()?;
+    let mut length = None;
+    for line in text.lines() {
+        if has_other_charset(line) {
+            return None;
+        }
+        length = length.or(length_in(line));
+    }
+    length
 }
 
 /// Reads up to the empty line. None where the input ends first, or the head is too long.
