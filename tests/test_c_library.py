@@ -46,6 +46,7 @@ abc123 ?, to 1:9, 0:8
 3 pieces
 piece 3+3 of rule 0
 piece 6+1 of rule 2
+places 1:1 1:2 2:3 2:1 1:1 2:4 2:2
 0+2 of rule 1, id 1
 2+1 of rule 2
 3+1 of rule 0, id 0

@@ -182,6 +182,17 @@ static void scan(const char *text) {
     CHECK(scanner.hidden == NULL);
 }
 
+/* The places of bytes in any order, past the text's end and inside a character too, with room for one fewer. */
+static void places(void) {
+    const char *text = "\xc3\xa9\nb c";
+    const size_t asked[] = {0, 2, 5, 3, 1, SIZE_MAX, 4, 4};
+    lrlex_place found[8] = {{0, 0}};
+    CHECK(lrlex_places(bytes(text), strlen(text), asked, 8, found, 7) == LRLEX_OK);
+    for (size_t i = 0; i < 7; i++) printf("%s%zu:%zu", i ? " " : "places ", found[i].line, found[i].column);
+    puts("");
+    CHECK(found[7].line == 0 && found[7].column == 0);
+}
+
 int main(void) {
     lex("abc 123");
     lex("ab ?");
@@ -191,6 +202,7 @@ int main(void) {
     names();
     ids();
     edit();
+    places();
     scan("ab 1 c");
     scan("");
     scan("ab?");

@@ -29,17 +29,29 @@ pub(crate) fn place_at(newlines: &NewlineCache, text: &str, byte: usize) -> Plac
     Place { line, column }
 }
 
-/// The same, told by a cursor of the text.
-fn place_by_cursor(cursor: &mut LineCursor<'_>, text: &str, byte: usize) -> Place
-    requires { cursor.old ≡ text.now }
+/// The same, where bytes are asked one after the other: a cursor of the text tells the places of those that ascend, and `last` is
+/// the last of these.
+fn next_place(
+    newlines: &NewlineCache,
+    cursor: &mut LineCursor<'_>,
+    last: &mut usize,
+    text: &str,
+    byte: usize,
+) -> Place
+    requires newlines { AreBreaksOf text.now newlines.now }
+    requires cursor { cursor.old ≡ text.now }
     ensures place { result ≡ place_by (place_of text.now (nearest text.now byte)) }
-    ensures text { cursor.new ≡ text.now }
+    ensures cursor { cursor.new ≡ text.now }
 {
+    if byte < *last {
+        return place_at(newlines, text, byte);
+    }
+    *last = byte;
     let (line, column) = cursor.place(nearest(text, byte));
     Place { line, column }
 }
 
-/// Writes line and column of as many of the bytes as there is room for. A cursor tells those of bytes that ascend.
+/// Writes line and column of as many of the bytes as there is room for.
 fn copy_places(newlines: &NewlineCache, text: &str, bytes: &[usize], out: &mut [Place])
     requires { AreBreaksOf text.now newlines.now }
     ensures { out.new ≡ filled (λ b _. place_by (place_of text.now (nearest text.now b))) bytes.now
@@ -49,12 +61,7 @@ fn copy_places(newlines: &NewlineCache, text: &str, bytes: &[usize], out: &mut [
     let mut cursor = LineCursor::new(text);
     let mut last = 0usize;
     for i in 0..room {
-        if bytes[i] < last {
-            out[i] = place_at(newlines, text, bytes[i]);
-        } else {
-            last = bytes[i];
-            out[i] = place_by_cursor(&mut cursor, text, last);
-        }
+        out[i] = next_place(newlines, &mut cursor, &mut last, text, bytes[i]);
     }
 }
 

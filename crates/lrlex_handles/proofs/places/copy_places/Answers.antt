@@ -9,10 +9,12 @@ use Rattle.lrlex_handles.proofs.places.copy_places.Goals as goal
 pub loop-i-preserved : goal.loop-i-preserved
 loop-i-preserved c =
     let here : c.loop-i.i < length c.args.bytes.now = omega arith in
-    let room : c.loop-i.i < length c.args.out.now = omega arith in
-    counted (λ (b : ℕ) (t : Place). place_by (place_of c.args.text.now (nearest c.args.text.now b))) c.args.bytes.now c.args.out.now _ c.loop-i.i
-    (ap (λ us. set us c.loop-i.i c.place_at.result) c.loop-i.invariant
-    ∙ put_next (λ (b : ℕ) (t : Place). place_by (place_of c.args.text.now (nearest c.args.text.now b))) c.args.bytes.now 0 (get_or c.args.bytes.now c.loop-i.i 0) c.args.out.now c.place_at.result c.loop-i.i here room refl (λ t. sym c.place_at.ensures))
+    let room : c.loop-i.i < length c.args.out.now = omega arith in (
+      counted (λ (b : ℕ) (t : Place). place_by (place_of c.args.text.now (nearest c.args.text.now b))) c.args.bytes.now c.args.out.now _ c.loop-i.i
+          (ap (λ us. set us c.loop-i.i c.next_place.result) c.loop-i.invariant.0
+          ∙ put_next (λ (b : ℕ) (t : Place). place_by (place_of c.args.text.now (nearest c.args.text.now b))) c.args.bytes.now 0 (get_or c.args.bytes.now c.loop-i.i 0) c.args.out.now c.next_place.result c.loop-i.i here room refl (λ t. sym c.next_place.ensures.place)),
+      c.next_place.ensures.cursor,
+    )
 
 pub returns : goal.returns
-returns c = loop_end (λ (b : ℕ) (t : Place). place_by (place_of c.args.text.now (nearest c.args.text.now b))) c.args.bytes.now c.args.out.now _ c.loop-i.i _ c.min-room.ensures c.loop-i-test.false c.loop-i.invariant
+returns c = loop_end (λ (b : ℕ) (t : Place). place_by (place_of c.args.text.now (nearest c.args.text.now b))) c.args.bytes.now c.args.out.now _ c.loop-i.i _ c.min-room.ensures c.loop-i-test.false c.loop-i.invariant.0
