@@ -10,7 +10,11 @@ fn byte_at(text: &str, wanted: (usize, usize)) -> Option<usize> {
         }
     }
     let end = text.len();
-    if cursor.place(end) == wanted { Some(end) } else { None }
+    if cursor.place(end) == wanted {
+        Some(end)
+    } else {
+        None
+    }
 }
 
 /// The byte of a text that a word names: by its number from 0, up to the text's end, or by LINE:COLUMN. None where it names none.
