@@ -92,6 +92,15 @@ private:
 
 } // namespace detail
 
+/// Line and column, from 1, of the place before each of these bytes of a text, such as the starts of tokens; a column counts characters.
+/// Inside a character it is the place before that, and past the text's end the end. Each call reads the whole text, so ask for many
+/// places at once: in ascending order they take no further pass.
+inline std::vector<lrlex_place> places(std::string_view text, const std::vector<std::size_t> &at) {
+    std::vector<lrlex_place> found(at.size());
+    if (!at.empty()) detail::check(lrlex_places(detail::bytes(text), text.size(), at.data(), at.size(), found.data(), found.size()));
+    return found;
+}
+
 /// A fault of a rule text: what is wrong, and where. There is more than one span if something is declared twice: the first place, and
 /// where it is declared again. Lines and columns count from 1.
 struct Fault {

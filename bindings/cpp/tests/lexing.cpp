@@ -170,6 +170,16 @@ void pieces_are_the_whole_text() {
     EXPECT(definition.state_name(0) == "INITIAL" && definition.state_name(1).empty());
 }
 
+void places_of_a_text() {
+    const char *text = "\xc3\xa9\nb c";
+    std::string told;
+    for (const lrlex_place &it : lrlex::places(text, {0, 2, 5, 3, 1, SIZE_MAX}))
+        told += std::to_string(it.line) + ":" + std::to_string(it.column) + " ";
+    EXPECT(told == "1:1 1:2 2:3 2:1 1:1 2:4 ");
+    EXPECT(lrlex::places("", {}).empty() && lrlex::places("", {3}).at(0).column == 1 && lrlex::places("a", {}).empty());
+    EXPECT(status_of([] { lrlex::places("\xff", {0}); }) == LRLEX_NOT_UTF8);
+}
+
 lrlex::Document moved(lrlex::Document document) { return document; }
 
 void a_document_through_edits() {
@@ -342,6 +352,7 @@ int main() {
     a_text_that_is_not_utf8();
     options_change_what_matches();
     pieces_are_the_whole_text();
+    places_of_a_text();
     a_document_through_edits();
     a_document_takes_parts_of_its_own_text();
     bytes_of_positions();

@@ -149,11 +149,25 @@ class _Text:
         """The index of the character that begins at this byte."""
         return byte if self.is_ascii else len(self.data[:byte].decode())
 
-    def byte(self, index: int) -> int:
-        """The byte at which the character of this index begins. Raises IndexError if it isn't from 0 to the text's length."""
+    def need(self, index: int) -> None:
+        """Raises IndexError if the index isn't from 0 to the text's length."""
         if not 0 <= index <= len(self.text):
             raise IndexError(f"{index} isn't in a text of {len(self.text)} characters")
+
+    def byte(self, index: int) -> int:
+        """The byte at which the character of this index begins. Raises IndexError if it isn't from 0 to the text's length."""
+        self.need(index)
         return index if self.is_ascii else len(self.text[:index].encode())
+
+    def bytes_of(self, indices: Sequence[int]) -> list[int]:
+        """The bytes at which the characters of these indices begin, in one pass over the text. Raises IndexError as `byte` does."""
+        found, at, byte = {}, 0, 0
+        for index in sorted({*indices}):
+            self.need(index)
+            byte += len(self.text[at:index].encode())
+            found[index] = byte
+            at = index
+        return [found[index] for index in indices]
 
     def spans(self, rows: Iterable[_Span], at: int = 0, index: int = 0) -> list[_Span]:
         """Number, start and end of each of these rows of start, length and number, which are in order of their starts.
@@ -264,6 +278,21 @@ def _unpacked(form: struct.Struct, buffer: ctypes.Array[Any], count: int) -> Ite
     They are copied: an iterator over a view of the buffer has CPython crash if both are garbage in a cycle, as that of an exception.
     """
     return form.iter_unpack(memoryview(buffer).cast("B")[: count * form.size].tobytes())
+
+
+def places(text: str, indices: Iterable[int]) -> list[tuple[int, int]]:
+    """Line and column, both from 1, of each of these indices of a text, such as the starts of tokens; the column counts characters.
+
+    Each call reads the whole text, so ask for many places at once. Raises IndexError if an index isn't from 0 to the text's length.
+    """
+    kept = _Text(text)
+    asked = kept.bytes_of(list(indices))
+    if not asked:
+        return []
+    found = (_c.Place * len(asked))()
+    at = (ctypes.c_size_t * len(asked))(*asked)
+    check(LIB.lrlex_places(kept.data, len(kept.data), at, len(asked), found, len(asked)))
+    return [(it.line, it.column) for it in found]
 
 
 class Definition(_Closing):

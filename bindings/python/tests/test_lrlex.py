@@ -318,6 +318,20 @@ class Documents(unittest.TestCase):
         self.assertEqual(document.pieces(), definition.pieces("éb 1😀"))
         self.assertEqual((document.place(5), document.position(5)), ((1, 6), (0, 6)))
 
+    def test_places_of_a_text(self):
+        text = "é\nb 😀c\n\nd"
+        document = lrlex.Document(lrlex.Definition(WORDS), text)
+        for indices in [range(len(text) + 1), [9, 0, 3, 3, 1], iter([4]), []]:
+            indices = list(indices)
+            with self.subTest(indices=indices):
+                self.assertEqual(lrlex.places(text, iter(indices)), [document.place(it) for it in indices])
+        self.assertEqual(lrlex.places("ab\nc", [3, 0, 4]), [(2, 1), (1, 1), (2, 2)])
+        for text, index in [("é", 2), ("a", 2), ("", 1), ("ab", -1)]:
+            with self.assertRaises(IndexError):
+                lrlex.places(text, [0, index])
+        long = "é b" * 100_000
+        self.assertEqual(lrlex.places(long, range(len(long)))[-1], (1, 300_000))
+
     def test_indices_of_positions(self):
         document = lrlex.Document(lrlex.Definition(WORDS), "a😀b\né1")
         self.assertEqual((document.position(2), document.position(2, "utf-8")), ((0, 3), (0, 5)))
@@ -478,7 +492,7 @@ class Names(unittest.TestCase):
     def test_all_names_are_there(self):
         for module in [lrlex, *([importlib.import_module("lrlex.pygments")] if importlib.util.find_spec("pygments") else [])]:
             self.assertEqual([name for name in module.__all__ if not hasattr(module, name)], [])
-        shown = {name for name, it in vars(lrlex).items() if isinstance(it, type)}
+        shown = {name for name, it in vars(lrlex).items() if callable(it) and not name.startswith("_")}
         self.assertEqual(shown, {name for name in lrlex.__all__ if name != "__version__"})
 
     def test_all_is_typed(self):

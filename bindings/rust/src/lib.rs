@@ -385,6 +385,34 @@ fn place(text: &str, byte: usize) -> Result<(usize, usize), Error> {
     Ok((place.line, place.column))
 }
 
+/// Line and column, both from 1, of the place before each of these bytes of a text, such as the starts of lexemes. A column counts
+/// characters. Inside a character it is the place before that, and past the text's end the end.
+///
+/// Each call reads the whole text, so ask for many places at once: in ascending order they take no further pass.
+///
+/// ```
+/// let text = "abc\n123";
+/// let definition: lrlex::Definition = "%%\n[0-9]+ 'INT'\n[a-z]+ 'ID'\n[ \\n] ;".parse()?;
+/// let starts = definition.lexer(text)?.map(|it| it.map(|it| it.span().start)).collect::<Result<Vec<_>, _>>()?;
+/// assert_eq!(lrlex::places(text, &starts)?, [(1, 1), (2, 1)]);
+/// # Ok::<(), lrlex::Error>(())
+/// ```
+///
+/// # Errors
+///
+/// [`Error::OutOfMemory`].
+pub fn places(text: &str, bytes: &[usize]) -> Result<Vec<(usize, usize)>, Error> {
+    let (mut places, mut found) = (Vec::new(), Vec::new());
+    places.try_reserve_exact(bytes.len())?;
+    places.resize(bytes.len(), ffi::Place::default());
+    found.try_reserve_exact(bytes.len())?;
+    let count = bytes.len();
+    // SAFETY: pointers and lengths are a `&str`'s and slices'.
+    checked(unsafe { ffi::lrlex_places(text.as_ptr(), text.len(), bytes.as_ptr(), count, places.as_mut_ptr(), count) })?;
+    found.extend(places.iter().map(|it| (it.line, it.column)));
+    Ok(found)
+}
+
 /// What a call writes into a buffer of tokens or pieces. Where there are more than there is room for, the call is made twice.
 fn filled<T>(
     mut rows: Vec<T>,

@@ -239,6 +239,13 @@ fn pieces_are_the_whole_text() {
 }
 
 #[test]
+fn places_of_a_text() {
+    let told = lrlex::places("é\nb c", &[0, 2, 5, 3, 1, usize::MAX]).unwrap();
+    assert_eq!(told, [(1, 1), (1, 2), (2, 3), (2, 1), (1, 1), (2, 4)]);
+    assert_eq!((lrlex::places("", &[]).unwrap(), lrlex::places("", &[3]).unwrap()), (vec![], vec![(1, 1)]));
+}
+
+#[test]
 fn a_document_through_edits() {
     let definition = words();
     let mut document = Document::new(&definition, "abc 123").unwrap();
@@ -356,6 +363,7 @@ fn lack_of_memory_is_an_error() {
     assert_eq!(starved(|| definition.pieces(&text).map(drop)), LACK);
     assert_eq!(starved(|| definition.stop_report(&stops, &text).map(drop)), LACK);
     assert_eq!(starved(|| refused.report("").map(drop)), LACK);
+    assert_eq!(starved(|| lrlex::places("", &[0; 5_000]).map(drop)), LACK);
     assert_eq!(starved(|| Document::new(&definition, &text).map(drop)), LACK);
     assert_eq!(starved(|| document.lexer().map(drop)), LACK);
     assert_eq!(starved(|| document.pieces_in(0..text.len()).map(drop)), LACK);
