@@ -187,7 +187,7 @@ MARKS = [
     ("%%\n«[a\\[» 'A'\n", "Invalid regular expression: unclosed character class"),
     # a number in braces whose backslash is dropped, one behind two backslashes, and one in a rule with a list
     ("%%\n«\\u{1F600}» 'A'\n", f"Invalid regular expression: unclosed counted repetition: {NUMBER}"),
-    ("%%\n«a\\x{D7}» 'A'\n", f"Invalid regular expression: repetition quantifier expects a valid decimal: {NUMBER}"),
+    ("%%\n«a\\x{BF}» 'A'\n", f"Invalid regular expression: repetition quantifier expects a valid decimal: {NUMBER}"),
     ("%%\n«\\\\u{1F600}» 'A'\n", "Invalid regular expression: unclosed counted repetition"),
     ("%x S\n%%\n«<S>(\\u{1F600}» 'A'\n", "Invalid regular expression: unclosed group"),
     # a brace behind a letter or a backslash, and one without a letter
