@@ -11,6 +11,7 @@ use Rattle.std.proofs.lemmas.Str.{chars-append, chars_past_char, chars-nil, IsUt
 use Rattle.lrlex_base.specs.Places.{is_newline, newlines_from, starts_after, line_of, column_of, place_of}
 use Rattle.lrlex_base.proofs.NewlineLemmas.{begun_within, line_begin, line_front, line_begin_fits}
 use Rattle.lrlex_positions.proofs.ColumnLemmas.{longer}
+use Rattle.lrlex_positions.proofs.PositionLemmas.{count_none}
 
 abbrev begun : List ℕ → ℕ → ℕ
 begun text at = count_by is_newline (take at text)
@@ -24,11 +25,6 @@ pub record Passed (text : List ℕ) (at c : ℕ) (rest : List ℕ) : Type 0 wher
   pub left : drop (at + len_utf8 c) text ≡ rest
   pub newline : c ≡ 10 → place_of text (at + len_utf8 c) ≡ (line_of text at + 1, 1)
   pub other : (c ≡ 10 → ⊥) → place_of text (at + len_utf8 c) ≡ (line_of text at, column_of text at + 1)
-
-count_none : (xs : List ℕ) → ((k : ℕ) → k < length xs → is_newline (get_or xs k 0) ≡ false) → count_by is_newline xs ≡ 0
-count_none [] h = refl
-count_none (x ∷ xs) h =
-    omega (arith, sum_by-cons (λ c. cond (is_newline c) 1 0) x xs, ap {B = ℕ} (λ v. cond v 1 0) (h 0 (omega arith)), count_none xs (λ k l. h (suc k) (omega (arith, l))))
 
 -- the bytes of another character are no newlines
 no_newline : (c : ℕ) → (c ≡ 10 → ⊥) → (k : ℕ) → k < length (encode c) → is_newline (get_or (encode c) k 0) ≡ false

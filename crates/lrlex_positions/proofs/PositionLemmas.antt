@@ -38,7 +38,7 @@ lines_rise : (text : List ℕ) (i j : ℕ) → i ≤ j → lines text i ≤ line
 lines_rise text i j h = omega (arith, lines_on text i j h)
 
 -- no newline stands behind the last one
-count_none : (xs : List ℕ) → ((k : ℕ) → k < length xs → is_newline (get_or xs k 0) ≡ false) → count_by is_newline xs ≡ 0
+pub count_none : (xs : List ℕ) → ((k : ℕ) → k < length xs → is_newline (get_or xs k 0) ≡ false) → count_by is_newline xs ≡ 0
 count_none [] h = refl
 count_none (x ∷ xs) h =
     omega (arith, sum_by-cons (λ c. cond (is_newline c) 1 0) x xs, ap {B = ℕ} (λ v. cond v 1 0) (h 0 (omega arith)), count_none xs (λ k l. h (suc k) (omega (arith, l))))

@@ -31,7 +31,7 @@ none_case : (p : ℕ → Bool) (x : ℕ) (xs : List ℕ) (b : Bool) → p x ≡ 
 none_case p x xs true e k h = let bad = rw e at h in absurd (omega (arith, bad))
 none_case p x xs false e k h = let more = rw e at h in rw e (k (omega (arith, more)))
 
-none_before : (p : ℕ → Bool) (xs : List ℕ) → position_or_len p xs ≡ length xs → list_any p xs ≡ false
+pub none_before : (p : ℕ → Bool) (xs : List ℕ) → position_or_len p xs ≡ length xs → list_any p xs ≡ false
 none_before p [] h = refl
 none_before p (x ∷ xs) h = none_case p x xs (p x) refl (none_before p xs) h
 
