@@ -8,7 +8,7 @@ from language_server import dialogues, mutated, refused
 from language_server.client import REFRESH, Client, applied, decoded, ranged, rules_file, spot
 from support import programs
 from support.messages import (
-    DECLARE_LIST, LIST, LOOKS, LOST, MARGIN, NEVER_ENTERED, NEVER_WINS, NO_MARK, OPERATOR, QUOTES, RULE, STATE_NAME,
+    DECLARE_LIST, KINDS, LIST, LOOKS, LOST, MARGIN, NEVER_ENTERED, NEVER_WINS, NO_MARK, OPERATOR, QUOTES, RULE, STATE_NAME,
 )
 
 URI, TEXT = "file:///texts/rules.l", "file:///texts/a.txt"
@@ -239,6 +239,16 @@ class RuleFiles(Session):
                 self.assertEqual(wanted, [spot(it) for it in told])
                 for it in told:
                     self.assertEqual(WEIGHTS.get(it["message"], (1, None)), (it["severity"], it.get("tags")))
+                    self.assertEqual(KINDS.get(it["message"], "RegexError"), it["code"])
+        self.assertEqual(0, client.end())
+
+    def test_allowed_warnings(self):
+        client = self.client("--allow", "NeverWins", "--allow", "NoTable")
+        client.begin()
+        told = client.open(URI, "%x S\n%%\n[a-z]+ 'ID'\nif 'IF'\n")["diagnostics"]
+        self.assertEqual(["NeverEntered", "NoRules"], [it["code"] for it in told])
+        told = client.change(URI, FAULTS)["diagnostics"]
+        self.assertEqual(["DuplicateStartState", "DuplicateName", "VerbatimNotSupported", "RegexError"], [it["code"] for it in told])
         self.assertEqual(0, client.end())
 
     def test_what_clients_take(self):

@@ -13,8 +13,8 @@ import unittest
 
 from support import programs, replay
 from support.messages import (
-    BACKSLASH, BARE, BEFORE_RULES, BLANK, CLASS, COMMENT, IN_PATTERN, LIST, LOOKS, LOST, MARGIN, NAME_IN_PATTERN, NEVER_ENTERED, NEVER_WINS,
-    NO_MARK, NO_RULES, NO_TABLE, OPERATOR, QUOTED, QUOTES, SHORTER, WORD,
+    BACKSLASH, BARE, BEFORE_RULES, BLANK, CLASS, COMMENT, IN_PATTERN, KINDS, LIST, LOOKS, LOST, MARGIN, NAME_IN_PATTERN, NEVER_ENTERED,
+    NEVER_WINS, NO_MARK, NO_RULES, NO_TABLE, OPERATOR, QUOTED, QUOTES, SHORTER, WORD,
 )
 from support.programs import Outcome
 
@@ -40,6 +40,8 @@ FILES = {
     "open": "a /* b /* c */\nd",
     "quoted": "'x' 'y",
     "folder/input": "ab",
+    "warned.l": "%x S\n%%\n[a-z]+ 'ID'\nif 'IF'\n",
+    "initial.l": "%s INITIAL\n%%\né 'A'\nb 'A'\n",
 }
 
 LINES = (
@@ -77,6 +79,8 @@ NO_PLACES = ["19", "x", "18446744073709551616", "1:8", "2:11", "3:1", "0:1", "1:
 TWICE = "rolgumzai: - is given twice, but standard input can be one file only\n"
 
 NO_TYPE = "rolgumzai: --map {}: NAME=TOKENTYPE is wanted, with a type of the Language Server Protocol\n"
+
+NO_KIND = "rolgumzai: --allow {}: no kind of warnings has this name\n"
 
 # Words, standard input, and what comes of them.
 ROWS = [
@@ -238,6 +242,7 @@ ROWS = [
     ("lsp --rules latin", "", Outcome("", LATIN, 2)),
     ("lsp --map ID", "", Outcome("", NO_TYPE.format("ID"), 2)),
     ("lsp --map A=class --map ID=Class", "", Outcome("", NO_TYPE.format("ID=Class"), 2)),
+    *((f"{words} --allow NoTable --allow {kind}", "", Outcome("", NO_KIND.format(kind), 2)) for words in ("check tokens.l", "lsp") for kind in ("notable", "Table")),
     ("lsp", "", Outcome("", "", 1)),
     ("lsp --rules bad.l --map ID=class --octal true --stdio", "", Outcome("", BAD, 1)),
     ("explain bad.l input 0", "", Outcome("", BAD, 1)),
@@ -314,6 +319,47 @@ WARNED = [
     ("%%\n", [(1, 1, 1, NO_RULES)]),
 ]
 
+# Words, and how many warnings of `warned.l` are shown, with the status.
+ALLOWED = [
+    ("check", ["NeverEntered", "NoRules", "NeverWins"], 0),
+    ("check --deny-warnings", ["NeverEntered", "NoRules", "NeverWins"], 1),
+    ("check --allow NeverWins", ["NeverEntered", "NoRules"], 0),
+    ("check --deny-warnings --allow NoRules --allow NeverEntered --allow NoTable", ["NeverWins"], 1),
+    ("check --deny-warnings --allow NoRules --allow NeverEntered --allow NeverWins", [], 0),
+]
+
+# Words, and the findings that they give: file, severity, kind, message, place and first place, as bytes, lines and columns.
+FOUND = [
+    ("check --json tokens.l", [], 0),
+    (
+        "check --json bad.l",
+        [
+            ("bad.l", "fault", "DuplicateName", "Rule name already exists", (12, 13, 3, 4, 3, 5), (6, 7, 2, 4, 2, 5)),
+            ("bad.l", "fault", "RegexError", f"Invalid regular expression: unclosed group: {OPERATOR}", (15, 16, 4, 1, 4, 2), None),
+        ],
+        1,
+    ),
+    (
+        "check --json warned.l other.l",
+        [
+            ("warned.l", "warning", "NeverEntered", NEVER_ENTERED, (3, 4, 1, 4, 1, 5), None),
+            ("warned.l", "warning", "NoRules", NO_RULES, (3, 4, 1, 4, 1, 5), None),
+            ("warned.l", "warning", "NeverWins", NEVER_WINS, (20, 22, 4, 1, 4, 3), None),
+            ("other.l", "fault", "DuplicateStartState", "Start state already exists", (5, 6, 1, 6, 1, 7), (3, 4, 1, 4, 1, 5)),
+        ],
+        1,
+    ),
+    # no text declares INITIAL; bytes aren't characters
+    (
+        "check --json --deny-warnings initial.l",
+        [
+            ("initial.l", "fault", "DuplicateStartState", "Start state already exists", (3, 10, 1, 4, 1, 11), None),
+            ("initial.l", "fault", "DuplicateName", "Rule name already exists", (24, 25, 4, 4, 4, 5), (18, 19, 3, 4, 3, 5)),
+        ],
+        1,
+    ),
+]
+
 # How many of the replayed cases are tried: the worked ones, which come first.
 MANY = 302
 
@@ -376,7 +422,7 @@ def wanted_tokens(case):
 def shown_warning(text, line, column, length, message):
     """A warning about the text of standard input, as it is shown."""
     return (
-        f"stdin:{line}:{column}: Warning: {message}\n"
+        f"stdin:{line}:{column}: Warning: {message} [{KINDS[message]}]\n"
         f"{line} | {text.splitlines()[line - 1]}\n"
         f"{' ' * len(str(line))} | {' ' * (column - 1)}{'^' * length}\n"
     )
@@ -410,6 +456,26 @@ class Rolgumzai(unittest.TestCase):
             with self.subTest(text=text, program=program):
                 wanted = "".join(shown_warning(text, *warning) for warning in warnings)
                 self.assertEqual(self.run_in_folder(program, ["check", "-"], text), Outcome(wanted))
+
+    def test_allowed_warnings(self):
+        for program, (words, wanted, status) in self.each(ALLOWED):
+            with self.subTest(words=words, program=program):
+                came = self.run_in_folder(program, [*words.split(), "warned.l"])
+                self.assertEqual((re.findall(r" \[(\w+)\]$", came.out, re.MULTILINE), came.err, came.status), (wanted, "", status))
+
+    def test_findings_as_json(self):
+        names = ["start", "end", "line", "column", "end_line", "end_column"]
+        for program, (words, wanted, status) in self.each(FOUND):
+            with self.subTest(words=words, program=program):
+                came = self.run_in_folder(program, words.split())
+                rows = [
+                    {
+                        "file": file, "severity": severity, "kind": kind, "message": message, "place": dict(zip(names, place)),
+                        "first": dict(zip(names, first)) if first else None,
+                    }
+                    for file, severity, kind, message, place, first in wanted
+                ]
+                self.assertEqual(([json.loads(line) for line in came.out.splitlines()], came.err, came.status), (rows, "", status))
 
     def test_words_that_are_refused(self):
         for program, (words, part) in self.each(REFUSED):

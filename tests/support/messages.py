@@ -40,3 +40,10 @@ CLASS = (
 SHORTER = "an alternative never matches here: it begins with an earlier one, which is tried first; put the longer one first"
 NEVER_ENTERED = "no rule enters this start state; name it as the target of a rule"
 NO_RULES = "no rule is active in this start state, so lexing stops there; list it before a pattern"
+
+# The kind of a warning with this message.
+KINDS = {
+    NEVER_WINS: "NeverWins", LOOKS: "LooksAround", NO_TABLE: "NoTable", IN_PATTERN: "TargetInPattern", BLANK: "BlankAfterStates",
+    LOST: "LostEscape", WORD: "EscapeAfterStates", SHORTER: "LostAlternative", NAME_IN_PATTERN: "NameInPattern", QUOTED: "QuotedPattern",
+    BARE: "BareOperator", CLASS: "ClassOperator", NEVER_ENTERED: "NeverEntered", NO_RULES: "NoRules",
+}

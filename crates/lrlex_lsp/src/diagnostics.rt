@@ -25,6 +25,8 @@ pub(crate) struct Finding<'m> {
     pub(crate) weight: Weight,
     pub(crate) span: Span,
     pub(crate) message: &'m str,
+    /// The name of its kind, or an empty text.
+    pub(crate) code: &'static str,
     /// Where something that is declared again stands first.
     pub(crate) first: Option<Span>,
 }
@@ -68,6 +70,14 @@ impl<'p, 'd> Report<'p, 'd> {
         )
     }
 
+    /// Adds the name of a finding's kind, if it has one.
+    fn push_code(&mut self, code: &str) -> Result<(), AllocError> {
+        if code.is_empty() {
+            return Ok(());
+        }
+        write!(self.text, ",\"code\":\"{code}\"")
+    }
+
     /// Adds how a finding is told, and its message as JSON has it.
     fn push_message(&mut self, weight: Weight, message: &str) -> Result<(), AllocError> {
         let (severity, tags) = weight.told();
@@ -95,6 +105,7 @@ impl<'p, 'd> Report<'p, 'd> {
     pub(crate) fn push(&mut self, finding: Finding<'_>) -> Result<(), AllocError> {
         let message = quoted(self.alloc, finding.message)?;
         self.push_range(self.before, finding.span)?;
+        self.push_code(finding.code)?;
         self.push_message(finding.weight, &message)?;
         if let Some(first) = finding.first {
             self.push_first(first)?;

@@ -4,7 +4,9 @@ use crate::languages::{Definition, Types};
 use crate::opened::Role;
 use crate::started::Given;
 use lrlex::{Document, LexBuildError, LexError, LexFlags, Span, Spanned};
-use lrlex_report::{WarningKind, fault_message, fault_range, stop_message_in, warnings_of};
+use lrlex_report::{
+    Warning, WarningKind, fault_message, fault_name, fault_range, stop_message_in, warnings_of,
+};
 use std::alloc::{AllocError, Global};
 
 /// Adds a fault of a rule text: that of a duplicate at each place but the first.
@@ -22,6 +24,7 @@ fn push_fault(
         weight: Weight::Fault,
         span: fault_range(rules, fault),
         message: &message,
+        code: fault_name(fault),
         first: None,
     };
     if others.is_empty() {
@@ -44,20 +47,30 @@ fn weight_of(kind: WarningKind) -> Weight {
     }
 }
 
-/// Adds the warnings of a rule text and its definition.
+/// Adds a warning.
+fn push_warning(report: &mut Report<'_, '_>, warning: &Warning) -> Result<(), AllocError> {
+    let kind = warning.kind();
+    report.push(Finding {
+        weight: weight_of(kind),
+        span: warning.span(),
+        message: kind.message(),
+        code: kind.name(),
+        first: None,
+    })
+}
+
+/// Adds the warnings of a rule text and its definition, but those of kinds that are allowed.
 fn push_warnings(
     alloc: Global,
     report: &mut Report<'_, '_>,
     rules: &str,
     definition: &Definition,
+    allowed: &[WarningKind],
 ) -> Result<(), AllocError> {
     for warning in &warnings_of(alloc, rules, definition)? {
-        report.push(Finding {
-            weight: weight_of(warning.kind()),
-            span: warning.span(),
-            message: warning.kind().message(),
-            first: None,
-        })?;
+        if !allowed.contains(&warning.kind()) {
+            push_warning(report, warning)?;
+        }
     }
     Ok(())
 }
@@ -85,11 +98,11 @@ fn push_rules(
 ) -> Result<(), AllocError> {
     if let Some(language) = given.language {
         if language.is_of(rules, given.flags) {
-            return push_warnings(alloc, report, rules, language.definition());
+            return push_warnings(alloc, report, rules, language.definition(), given.allowed);
         }
     }
     match Definition::new_with_options(alloc, rules, given.flags)? {
-        Ok(definition) => push_warnings(alloc, report, rules, &definition),
+        Ok(definition) => push_warnings(alloc, report, rules, &definition, given.allowed),
         Err(_) => push_faults(alloc, report, rules, given.flags),
     }
 }
@@ -122,6 +135,7 @@ fn push_stop(
         weight: Weight::Fault,
         span: with_next(text, error.span()),
         message: &message,
+        code: "",
         first: None,
     })
 }

@@ -31,3 +31,4 @@ pub use crate::session::{Options, serve};
 pub use crate::started::{Given, Next, State};
 pub use crate::token_types::is_token_type;
 pub use crate::uris::{file_uri, is_same_file};
+pub use lrlex_report::WarningKind;

@@ -6,6 +6,7 @@ use crate::server::{Handled, Server, answered, unanswered};
 use crate::started::{Given, Next, State};
 use crate::uris::file_uri;
 use lrlex::LexFlags;
+use lrlex_report::WarningKind;
 use std::alloc::{AllocError, Global};
 use std::io;
 use std::io::{Read, Write};
@@ -20,6 +21,8 @@ pub struct Options {
     pub map: Vec<(String, String)>,
     /// The flags that rule files are read with.
     pub flags: LexFlags,
+    /// The kinds of warnings that aren't told.
+    pub allowed: Vec<WarningKind>,
 }
 
 /// Why a server ended.
@@ -167,6 +170,7 @@ pub fn serve<R: Read, W: Write>(
             language: language.as_ref(),
             uri: &uri,
             flags: options.flags,
+            allowed: options.allowed.as_slice(),
         };
         match serve_over(alloc, reader, writer, given, state)? {
             Ended::Done(is_clean) => return Ok(is_clean),

@@ -1,6 +1,7 @@
 //! What a server is begun with, and what outlives it where the given rules change.
 use crate::languages::Language;
 use lrlex::{LexFlags, PositionEncoding};
+use lrlex_report::WarningKind;
 use std::alloc::Global;
 
 /// What the server does after a message.
@@ -53,6 +54,8 @@ pub struct Given<'d> {
     pub uri: &'d str,
     /// The flags that rule files are read with.
     pub flags: LexFlags,
+    /// The kinds of warnings that aren't told.
+    pub allowed: &'d [WarningKind],
 }
 
 /// A text between two servers.

@@ -4,9 +4,26 @@ use Rattle.lrlex_base.specs.Spans.{as_span, span_start, span_end}
 use Rattle.lrlex_base.specs.declared.spans.Span.{Span}
 use Rattle.lrlex_rules.specs.LexBuildError.{message, kind_text, fault_kind, fault_spans}
 use Rattle.lrlex_rules.specs.declared.faults.LexErrorKind.{LexErrorKind}
+use Rattle.lrlex_rules.specs.declared.faults.LexErrorKind.TheVariants.{PrematureEnd, RoutinesNotSupported, UnknownDeclaration, MissingSpace, InvalidName, UnknownStartState, DuplicateStartState, InvalidStartState, InvalidStartStateName, DuplicateName, RegexError, VerbatimNotSupported, TooManyRules}
 use Rattle.lrlex_rules.specs.declared.faults.LexBuildError.{LexBuildError}
 use Rattle.lrlex_report.specs.Notes.{fault_note}
 use Rattle.lrlex_report.specs.PlaceTexts.{place_text}
+
+-- the name of a kind
+abbrev pub fault_name : LexErrorKind → List ℕ
+fault_name PrematureEnd = codes "PrematureEnd"
+fault_name RoutinesNotSupported = codes "RoutinesNotSupported"
+fault_name UnknownDeclaration = codes "UnknownDeclaration"
+fault_name MissingSpace = codes "MissingSpace"
+fault_name InvalidName = codes "InvalidName"
+fault_name UnknownStartState = codes "UnknownStartState"
+fault_name DuplicateStartState = codes "DuplicateStartState"
+fault_name InvalidStartState = codes "InvalidStartState"
+fault_name InvalidStartStateName = codes "InvalidStartStateName"
+fault_name DuplicateName = codes "DuplicateName"
+fault_name (RegexError e) = codes "RegexError"
+fault_name VerbatimNotSupported = codes "VerbatimNotSupported"
+fault_name TooManyRules = codes "TooManyRules"
 
 -- the text begins with `front`
 abbrev pub BeginsWith : List ℕ → List ℕ → Type 0

@@ -1,5 +1,6 @@
 -- What is shown of warnings.
-use Rattle.std.specs.Prelude.{ℕ, List, ◌++◌, codes, flat_map}
+use Rattle.std.specs.Prelude.{ℕ, Bool, List, [], ◌∷◌, ◌++◌, codes, flat_map}
+use Rattle.std.specs.Str.{bytes_eq}
 use Rattle.lrlex_report.specs.PlaceTexts.{place_text}
 use Rattle.lrlex_report.specs.Warnings.{as_told}
 use Rattle.lrlex_report.specs.declared.warnings.kinds.Warning.{Warning}
@@ -24,9 +25,38 @@ warning_message ClassOperator = codes "this class has an operator: [ begins anot
 warning_message NeverEntered = codes "no rule enters this start state; name it as the target of a rule"
 warning_message NoRules = codes "no rule is active in this start state, so lexing stops there; list it before a pattern"
 
--- `FILE:L:C: Warning: MESSAGE`, then the line and the carets
+-- ---- their names
+abbrev pub warning_name : WarningKind → List ℕ
+warning_name NeverWins = codes "NeverWins"
+warning_name NeverActive = codes "NeverActive"
+warning_name LooksAround = codes "LooksAround"
+warning_name NoTable = codes "NoTable"
+warning_name TargetInPattern = codes "TargetInPattern"
+warning_name BlankAfterStates = codes "BlankAfterStates"
+warning_name LostEscape = codes "LostEscape"
+warning_name EscapeAfterStates = codes "EscapeAfterStates"
+warning_name LostAlternative = codes "LostAlternative"
+warning_name NameInPattern = codes "NameInPattern"
+warning_name QuotedPattern = codes "QuotedPattern"
+warning_name BareOperator = codes "BareOperator"
+warning_name ClassOperator = codes "ClassOperator"
+warning_name NeverEntered = codes "NeverEntered"
+warning_name NoRules = codes "NoRules"
+
+abbrev pub warning_kinds : List WarningKind
+warning_kinds = NeverWins ∷ NeverActive ∷ LooksAround ∷ NoTable ∷ TargetInPattern ∷ BlankAfterStates ∷ LostEscape ∷ EscapeAfterStates ∷ LostAlternative ∷ NameInPattern ∷ QuotedPattern ∷ BareOperator ∷ ClassOperator ∷ NeverEntered ∷ NoRules ∷ []
+
+abbrev pub is_named : (name : List ℕ) → WarningKind → Bool
+is_named name kind = bytes_eq (warning_name kind) name
+
+-- ---- what people read
+-- `Warning: MESSAGE [NAME]`
+abbrev pub named_message : WarningKind → List ℕ
+named_message kind = codes "Warning: " ++ warning_message kind ++ codes " [" ++ warning_name kind ++ codes "]"
+
+-- `FILE:L:C: Warning: MESSAGE [NAME]`, then the line and the carets
 abbrev pub warning_text : (file rules : List ℕ) → Warning → List ℕ
-warning_text file rules w = place_text file rules (as_told w).1 (codes "Warning: " ++ warning_message (as_told w).0)
+warning_text file rules w = place_text file rules (as_told w).1 (named_message (as_told w).0)
 
 -- one after another
 abbrev pub warning_texts : (file rules : List ℕ) → List Warning → List ℕ

@@ -1,7 +1,7 @@
 //! The errors of a rule text, as people read them.
 ghost use Rattle.std.specs.Prelude.{◌≡◌, ◌++◌, IfOk, OnOk, string_bytes};
 ghost use Rattle.lrlex_rules.specs.LexBuildError.{fault_kind, fault_spans};
-ghost use Rattle.lrlex_report.specs.FaultTexts.{IsMessageOf, at_each, first_text, places_text, IsFaultMessage, IsFaultText, AreFaultTexts};
+ghost use Rattle.lrlex_report.specs.FaultTexts.{IsMessageOf, at_each, fault_name, first_text, places_text, IsFaultMessage, IsFaultText, AreFaultTexts};
 
 use crate::notes::fault_note;
 use crate::places::Source;
@@ -9,6 +9,27 @@ use lrlex_base::{Span, Spanned};
 use lrlex_rules::{LexBuildError, LexErrorKind};
 use std::alloc::{AllocError, Global};
 use std::fmt::Write;
+
+/// The name of an error's kind, as `DuplicateName`.
+pub fn fault_name(fault: &LexBuildError) -> &'static str
+    ensures { result.now ≡ fault_name (fault_kind fault.now) }
+{
+    match fault.kind() {
+        LexErrorKind::PrematureEnd => "PrematureEnd",
+        LexErrorKind::RoutinesNotSupported => "RoutinesNotSupported",
+        LexErrorKind::UnknownDeclaration => "UnknownDeclaration",
+        LexErrorKind::MissingSpace => "MissingSpace",
+        LexErrorKind::InvalidName => "InvalidName",
+        LexErrorKind::UnknownStartState => "UnknownStartState",
+        LexErrorKind::DuplicateStartState => "DuplicateStartState",
+        LexErrorKind::InvalidStartState => "InvalidStartState",
+        LexErrorKind::InvalidStartStateName => "InvalidStartStateName",
+        LexErrorKind::DuplicateName => "DuplicateName",
+        LexErrorKind::RegexError(_) => "RegexError",
+        LexErrorKind::VerbatimNotSupported => "VerbatimNotSupported",
+        LexErrorKind::TooManyRules => "TooManyRules",
+    }
+}
 
 /// Why `regex` refuses a pattern. For a syntax error the places that `regex` reports are left out: they count in the pattern as it
 /// is compiled, which is in no file.

@@ -14,7 +14,7 @@ mod stops;
 mod warnings;
 
 pub use crate::encoding::bad_byte_text;
-pub use crate::faults::{fault_message, fault_text, faults_text};
+pub use crate::faults::{fault_message, fault_name, fault_text, faults_text};
 pub use crate::places::place_text;
 pub use crate::ranges::fault_range;
 pub use crate::stops::{stop_message_in, stop_text, stop_text_in};

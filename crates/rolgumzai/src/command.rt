@@ -1,4 +1,5 @@
 //! The words of the command line.
+use crate::allowed::allow;
 use crate::flags::with_flags;
 use clap::{Arg, ArgAction, Command};
 use std::alloc::{AllocError, Global};
@@ -35,8 +36,16 @@ fn check<'a>(alloc: Global) -> Result<Command<'a>, AllocError> {
     let command = Command::new(alloc, "check")
         .about("Shows what is wrong with rule files")
         .after_help(
-            "Each fault is shown with its place, its line and carets. The status is 1 where a file has one.",
+            "Each fault is shown with its place, its line and carets. The status is 1 where a file has one. A file without faults may \
+            have warnings.",
         )
+        .arg(switch(alloc, "json", "Prints each finding as a line of JSON"))?
+        .arg(switch(
+            alloc,
+            "deny-warnings",
+            "Makes the status 1 where a file has a warning",
+        ))?
+        .arg(allow(alloc))?
         .arg(
             needed(alloc, "rules", "RULES", "The rule files")
                 .action(ArgAction::Append)
@@ -116,6 +125,7 @@ fn lsp<'a>(alloc: Global) -> Result<Command<'a>, AllocError> {
         )
         .arg(rules)?
         .arg(map(alloc))?
+        .arg(allow(alloc))?
         .arg(switch(
             alloc,
             "stdio",

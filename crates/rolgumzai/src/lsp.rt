@@ -1,4 +1,5 @@
-//! `rolgumzai lsp [--rules FILE] [--map NAME=TOKENTYPE]..`: a language server over standard input and output.
+//! `rolgumzai lsp [--rules FILE] [--map NAME=TOKENTYPE].. [--allow KIND]..`: a language server over standard input and output.
+use crate::allowed::allowed_of;
 use crate::files::{Definition, report_faults, text_at};
 use crate::flags::flags_of;
 use crate::output::{FAULTY, UNABLE};
@@ -109,8 +110,19 @@ fn serve_with(
     map: Vec<(String, String)>,
 ) -> io::Result<u8> {
     let flags = flags_of(words);
+    let Some(allowed) = allowed_of(rt, words)? else {
+        return Ok(UNABLE);
+    };
     match rules_in(rt, words, flags)? {
-        Ok(rules) => serve_client(rt, Options { rules, map, flags }),
+        Ok(rules) => serve_client(
+            rt,
+            Options {
+                rules,
+                map,
+                flags,
+                allowed,
+            },
+        ),
         Err(status) => Ok(status),
     }
 }

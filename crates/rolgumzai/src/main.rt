@@ -5,11 +5,11 @@
 //! can't be read, or memory or standard output fails.
 #![tactic(auto)]
 
+mod allowed;
 mod check;
 mod command;
 mod explain;
 mod files;
-mod findings;
 mod flags;
 mod highlight;
 mod lsp;

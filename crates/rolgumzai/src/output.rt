@@ -1,4 +1,6 @@
-//! Standard output, and what the program ends with where it or memory fails.
+//! Standard output, JSON, and what the program ends with where it or memory fails.
+use serde::Serialize;
+use std::alloc::{AllocError, Global};
 use std::io;
 use std::io::{BufWriter, ErrorKind, Printer, Write};
 
@@ -19,6 +21,11 @@ pub fn output(rt: &HostRuntime) -> io::Result<Output<'_>> {
 /// Writes the whole text to standard output.
 pub fn print(rt: &HostRuntime, text: &str) -> io::Result<()> {
     io::writer(rt).write_all(text.as_bytes())
+}
+
+/// A value as JSON. Writing the program's values fails for memory alone.
+pub fn json_of<T: Serialize>(alloc: Global, value: &T) -> Result<String, AllocError> {
+    serde_json::to_string(alloc, value).map_err(|_| AllocError)
 }
 
 /// Reports what a stream or memory failed with, and gives the status. A reader of standard output that has gone wants no more:

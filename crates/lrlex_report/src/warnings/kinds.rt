@@ -1,7 +1,7 @@
 //! The kinds of warnings, and what is said of each.
-ghost use Rattle.std.specs.Prelude.{◌≡◌, ◌++◌, ℕ, List, All, OnOk, map};
+ghost use Rattle.std.specs.Prelude.{◌≡◌, ◌++◌, ℕ, List, All, OnOk, find, map};
 ghost use Rattle.lrlex_base.specs.Spans.{Fits, as_span};
-ghost use Rattle.lrlex_report.specs.WarningTexts.{warning_message};
+ghost use Rattle.lrlex_report.specs.WarningTexts.{is_named, warning_kinds, warning_message, warning_name};
 ghost use Rattle.lrlex_report.specs.Warnings.{as_told, SpanFits, when, those_that_hold};
 
 use lrlex_base::Span;
@@ -40,13 +40,33 @@ pub enum WarningKind {
     /// A rule whose pattern is `|`, `^` and `$` alone.
     BareOperator,
     /// A rule whose pattern has an operator within a class of characters: a `[` that begins another class, but none with a name, as
-    /// `[:alpha:]`, or `--`, `&&` or `~~`. A `-` at the front of a class and what ends a range are characters.
+    /// `[:alpha:]`, or `--`, `&&` or `~~`. A `-` at the front of a class and what ends a range are characters. An operation
+    /// whose right side is a class, as `[a-z&&[^b]]`, is meant, and isn't told.
     ClassOperator,
     /// A start state other than `INITIAL` that no rule enters.
     NeverEntered,
     /// A start state that no rule is active in.
     NoRules,
 }
+
+/// All kinds.
+static KINDS: [WarningKind; 15] = [
+    WarningKind::NeverWins,
+    WarningKind::NeverActive,
+    WarningKind::LooksAround,
+    WarningKind::NoTable,
+    WarningKind::TargetInPattern,
+    WarningKind::BlankAfterStates,
+    WarningKind::LostEscape,
+    WarningKind::EscapeAfterStates,
+    WarningKind::LostAlternative,
+    WarningKind::NameInPattern,
+    WarningKind::QuotedPattern,
+    WarningKind::BareOperator,
+    WarningKind::ClassOperator,
+    WarningKind::NeverEntered,
+    WarningKind::NoRules,
+];
 
 /// A warning: its kind, and the bytes of the rule text that it is about.
 #[derive(Clone, Copy, PartialEq, Eq, Debug)]
@@ -56,6 +76,36 @@ pub struct Warning {
 }
 
 impl WarningKind {
+    /// Its name, as `NeverWins`, which `warnings_text` shows behind the message.
+    pub fn name(self) -> &'static str
+        ensures { result.now ≡ warning_name self }
+    {
+        match self {
+            WarningKind::NeverWins => "NeverWins",
+            WarningKind::NeverActive => "NeverActive",
+            WarningKind::LooksAround => "LooksAround",
+            WarningKind::NoTable => "NoTable",
+            WarningKind::TargetInPattern => "TargetInPattern",
+            WarningKind::BlankAfterStates => "BlankAfterStates",
+            WarningKind::LostEscape => "LostEscape",
+            WarningKind::EscapeAfterStates => "EscapeAfterStates",
+            WarningKind::LostAlternative => "LostAlternative",
+            WarningKind::NameInPattern => "NameInPattern",
+            WarningKind::QuotedPattern => "QuotedPattern",
+            WarningKind::BareOperator => "BareOperator",
+            WarningKind::ClassOperator => "ClassOperator",
+            WarningKind::NeverEntered => "NeverEntered",
+            WarningKind::NoRules => "NoRules",
+        }
+    }
+
+    /// The kind with this name, if there is one.
+    pub fn named(name: &str) -> Option<WarningKind>
+        ensures { result ≡ find (is_named name.now) warning_kinds }
+    {
+        KINDS.iter().copied().find(|kind| kind.name() == name)
+    }
+
     /// What is unusual, why, and what to write in its place, in English, without a full stop.
     pub fn message(self) -> &'static str
         ensures { result.now ≡ warning_message self }

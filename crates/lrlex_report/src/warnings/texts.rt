@@ -1,18 +1,17 @@
 //! Warnings, as people read them.
-ghost use Rattle.std.specs.Prelude.{◌≡◌, ◌++◌, IfOk, OnOk, codes, string_bytes};
-ghost use Rattle.lrlex_report.specs.WarningTexts.{warning_message, warning_text, warning_texts};
+ghost use Rattle.std.specs.Prelude.{◌≡◌, ◌++◌, IfOk, OnOk, string_bytes};
+ghost use Rattle.lrlex_report.specs.WarningTexts.{named_message, warning_text, warning_texts};
 
 use crate::places::Source;
-use crate::warnings::kinds::Warning;
+use crate::warnings::kinds::{Warning, WarningKind};
 use std::alloc::{AllocError, Global};
 
-/// The message, named as a warning.
-fn named(alloc: Global, message: &str) -> Result<String, AllocError>
-    ensures { IfOk result (λ s. string_bytes s ≡ codes "Warning: " ++ message.now) }
+/// The message of a kind, with its name.
+fn named_message(alloc: Global, kind: WarningKind) -> Result<String, AllocError>
+    ensures { IfOk result (λ s. string_bytes s ≡ named_message kind) }
 {
-    let mut named = String::from_str(alloc, "Warning: ")?;
-    named.push_str(message)?;
-    Ok(named)
+    let (message, name) = (kind.message(), kind.name());
+    format!(in alloc; "Warning: {message} [{name}]")
 }
 
 /// Adds a warning at its place.
@@ -25,12 +24,12 @@ fn push_warning(
     ensures { OnOk result (string_bytes out.new ≡ string_bytes out.old
         ++ warning_text source.now.file.now source.now.text.now warning.now) }
 {
-    let message = named(alloc, warning.kind.message())?;
+    let message = named_message(alloc, warning.kind)?;
     source.push_place(alloc, out, warning.span, &message)
 }
 
-/// All warnings of a rule text, one after the other: `FILE:L:C: Warning: MESSAGE`, then the line with its number, then carets
-/// under the place. Empty where there are none.
+/// All warnings of a rule text, one after the other: `FILE:L:C: Warning: MESSAGE [NAME]`, then the line with its number, then
+/// carets under the place. Empty where there are none.
 pub fn warnings_text(
     alloc: Global,
     file: &str,

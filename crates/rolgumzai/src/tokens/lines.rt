@@ -1,9 +1,9 @@
 //! A token, and its line.
 use crate::files::{Definition, Types};
-use crate::output::Output;
+use crate::output::{Output, json_of};
 use lrlex::{DefaultLexeme, LRNonStreamingLexer, Lexeme, LineCursor};
 use serde::Serialize;
-use std::alloc::{AllocError, Global};
+use std::alloc::Global;
 use std::io;
 use std::io::Write;
 
@@ -43,11 +43,6 @@ pub fn token_of<'a>(
         end_line,
         end_column,
     }
-}
-
-/// A value as JSON. Writing these values fails for memory alone.
-fn json_of<T: Serialize>(alloc: Global, value: &T) -> Result<String, AllocError> {
-    serde_json::to_string(alloc, value).map_err(|_| AllocError)
 }
 
 /// Writes the line of a token.
