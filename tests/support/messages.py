@@ -20,8 +20,8 @@ RULE = "a rule is a pattern, a blank and a name in quotes, or ; for no name"
 STATE_NAME = "a name is an ASCII letter, then ASCII letters, digits, _ or .; one blank separates two names"
 ROUTINES = "%% ends the rules, and only white space may follow; write \\%% for a pattern that begins with it"
 
-NEVER_WINS = "this rule never wins: it matches no byte, or other rules match all that it does; put it before them"
-LOOKS = "this rule has no table, and is slower: $, \\b, \\z and a ^ within it look at what is beside the match; leave them out"
+NEVER_WINS = "this rule never wins: it matches no byte, or other rules match as much or more; put it before them, or make them match less"
+LOOKS = "this rule has no table, and is slower: $, \\b, \\B, \\z, \\<, \\> and a ^ within it look at what is beside the match; leave them out"
 NO_TABLE = (
     "this rule has no table, and is slower: its table, or all tables together, would be too large; repeat fewer times, "
     "or part the pattern"

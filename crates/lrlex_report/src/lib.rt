@@ -1,5 +1,5 @@
-//! Errors as people read them: what is wrong with a rule text, where lexing an input stopped, and where bytes aren't UTF-8. Each
-//! is shown with its place, its line and carets, as compilers show it.
+//! Errors as people read them: what is wrong with a rule text, what its author hardly meant, where lexing an input stopped, and
+//! where bytes aren't UTF-8. Each is shown with its place, its line and carets, as compilers show it.
 #![tactic(auto)]
 
 mod carets;

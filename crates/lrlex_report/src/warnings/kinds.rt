@@ -112,13 +112,13 @@ impl WarningKind {
     {
         match self {
             WarningKind::NeverWins => {
-                "this rule never wins: it matches no byte, or other rules match all that it does; put it before them"
+                "this rule never wins: it matches no byte, or other rules match as much or more; put it before them, or make them match less"
             }
             WarningKind::NeverActive => {
                 "this rule is active in no start state; list one that is declared"
             }
             WarningKind::LooksAround => {
-                "this rule has no table, and is slower: $, \\b, \\z and a ^ within it look at what is beside the match; leave them out"
+                "this rule has no table, and is slower: $, \\b, \\B, \\z, \\<, \\> and a ^ within it look at what is beside the match; leave them out"
             }
             WarningKind::NoTable => {
                 "this rule has no table, and is slower: its table, or all tables together, would be too large; repeat fewer times, or part the pattern"
