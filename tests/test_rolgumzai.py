@@ -13,7 +13,7 @@ import unittest
 
 from support import programs, replay
 from support.messages import (
-    BACKSLASH, BARE, BEFORE_RULES, BLANK, CLASS, COMMENT, IN_PATTERN, KINDS, LIST, LOOKS, LOST, MARGIN, NAME_IN_PATTERN, NEVER_ENTERED,
+    BACKSLASH, BARE, BEFORE_RULES, BLANK, CARET, CLASS, COMMENT, DOT, IN_PATTERN, KINDS, LIST, LOOKS, LOST, MARGIN, NAME_IN_PATTERN, NEVER_ENTERED,
     NEVER_WINS, NO_MARK, NO_RULES, NO_TABLE, OPERATOR, QUOTED, QUOTES, SHORTER, WORD,
 )
 from support.programs import Outcome
@@ -91,6 +91,9 @@ ROWS = [
     ("tokens tokens.l empty", "", Outcome()),
     ("tokens tokens.l stop", "", Outcome('1:1 0..2 ID "ab"\n', STOP, 1)),
     ("tokens --case-insensitive true tokens.l -", "IF", Outcome('1:1 0..2 IF "IF"\n')),
+    # the dot matches no newline, and is lazy
+    ("check --dot-matches-new-line false -", "%%\n#.* ;\n", Outcome()),
+    ("check --swap-greed true -", "%%\n#.*e ;\n", Outcome()),
     # the blank after the start states does nothing
     ("check --ignore-whitespace true -", "%s S\n%%\na <+S>;\n<S> b 'B'\n", Outcome()),
     ("tokens bad.l input", "", Outcome("", BAD, 1)),
@@ -269,7 +272,12 @@ WARNED = [
     # a class within a class, and `]` as the first character of one
     ("%%\n[[:alpha:]$]{3000} 'A'\n[]$]{3000} 'B'\n[^]$]{3000} 'C'\n", [(2, 1, 18, NO_TABLE), (3, 1, 10, NO_TABLE), (4, 1, 11, NO_TABLE)]),
     ("%%\n[^^]a$ 'A'\n[[b]]b$ 'B'\n", [(2, 1, 6, LOOKS), (3, 1, 7, LOOKS), (3, 1, 7, CLASS)]),
-    ("%%\na^b 'A'\n^a 'B'\n(^c|^d)e 'C'\n", [(2, 1, 3, LOOKS)]),
+    ("%%\na^b 'A'\n^a 'B'\n(^c|^d)e 'C'\n", [(2, 1, 3, LOOKS), (3, 1, 2, CARET)]),
+    # with a list, and an operator's character
+    ("%s S\n%%\n^a <+S>;\n<S>^=$ 'B'\n\\^ 'C'\n[^d] 'D'\n", [(3, 1, 2, CARET), (4, 1, 6, LOOKS), (4, 1, 6, CARET)]),
+    # lazily, in a class, as a character, repeated otherwise, and with flags of its own
+    ("%%\n#.* ;\n//.+ ;\na(.*)b 'B'\n(?:c|d).*e 'C'\n", [(2, 1, 3, DOT), (3, 1, 4, DOT), (4, 1, 6, DOT), (5, 1, 10, DOT)]),
+    ("%%\n#.*?e 'A'\n//.+?$ 'B'\n[.*]+ 'C'\n\\.* 'D'\n.{2} 'E'\n(?-s)f.* 'F'\n(?s)g.* 'G'\n[^]].*?] 'H'\n", [(3, 1, 6, LOOKS)]),
     (
         "%x COMMENT\n%%\n/\\* <+COMMENT> ;\n<COMMENT>\\*/ <-COMMENT>;\n",
         [(1, 4, 7, NEVER_ENTERED), (3, 1, 14, IN_PATTERN)],
@@ -301,7 +309,7 @@ WARNED = [
     ("%%\n\"if\" 'A'\n\"+\" 'B'\n'a' 'C'\n\"<=\" 'D'\n", [(line, 1, len_, QUOTED) for line, len_ in [(2, 4), (3, 3), (4, 3), (5, 4)]]),
     ("%s S\n%%\na <+S>;\n<S>\"b\" 'B'\n", [(4, 1, 6, QUOTED)]),
     # a pattern for texts in quotes, one quote or two of them, and different ones
-    ("%%\n\"\\w+\" 'A'\n'[a-z]' 'B'\n\"[^\"]*\" 'C'\n\".*\" 'D'\n", []),
+    ("%%\n\"\\w+\" 'A'\n'[a-z]' 'B'\n\"[^\"]*\" 'C'\n\".*\" 'D'\n", [(5, 1, 4, DOT)]),
     ("%%\n\" 'A'\n\"\" 'B'\n'a\" 'C'\n\"b\"c 'D'\n", []),
     ("%%\n[+--/] 'A'\n[ab&&b] 'B'\n[c~~d] 'C'\n[[e]f] 'D'\n", [(2, 1, 6, CLASS), (3, 1, 7, CLASS), (4, 1, 6, CLASS), (5, 1, 6, CLASS)]),
     ("%s S\n%%\na <+S>;\n<S>x[^]\\]y[z]] 'X'\n", [(4, 1, 14, CLASS)]),

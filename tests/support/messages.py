@@ -3,28 +3,33 @@
 BEFORE_RULES = "a line before %% is %s or %x with names of start states; rules come after it"
 NO_MARK = "no line begins with %%; write one before the rules"
 COMMENT = "a line that begins with // is a comment only with the flag allow_wholeline_comments"
-QUOTES = "write it in quotes and without blanks, or ; for no name"
+QUOTES = "write it in quotes and without blanks, or ; for no name; no action or comment follows it"
 DECLARE = "declare it with %s or %x"
-DECLARE_LIST = "declare it with %s or %x; a pattern that begins with the character < begins with \\<"
+DECLARE_LIST = "declare it with %s or %x; commas part the names of a list, and a target stands before the rule's name; a pattern that begins with the character < begins with \\<"
 NO_END = "no rule matches at the end of the text; leave it out"
 LIST = "a pattern that begins with < lists start states; write \\< for the character"
 BACKSLASH = "the pattern ends in a backslash; write [ ] for a blank, \\\\ for a backslash"
 MARGIN = "white space begins the line; write the rule without it, or an empty line"
-OPERATOR = "write a backslash before an operator to match its character, as \\+ or \\("
+OPERATOR = "write a backslash before each operator to match its character, as \\+ or \\("
 BRACES = "a name in braces stands for no pattern; write the pattern in its place"
 NUMBER = "\\x{..} and \\u{..} lose their backslash in a rule without start states; write \\U0001F600, or <INITIAL>\\u{1F600}"
-IN_CLASS = (
+IN_CARET = "a ^ at the beginning does nothing, since a match may begin anywhere in a line; leave it out, or write \\^ for the character"
+DOT = (
+    "a . matches a newline too, so .* and .+ take all lines that follow; write [^\\n] in place of the dot, "
+    "or .*? before what ends it"
+)
+CLASS = (
     "in a class [ begins another, and --, && and ~~ are operations on sets; write a backslash before the character, as \\[ or \\-"
 )
-RULE = "a rule is a pattern, a blank and a name in quotes, or ; for no name"
+RULE = "a rule is a pattern, a space or a tab, and a name in quotes, or ; for no name"
 STATE_NAME = "a name is an ASCII letter, then ASCII letters, digits, _ or .; one blank separates two names"
 ROUTINES = "%% ends the rules, and only white space may follow; write \\%% for a pattern that begins with it"
 
 NEVER_WINS = "this rule never wins: it matches no byte, or other rules match as much or more; put it before them, or make them match less"
-LOOKS = "this rule has no table, and is slower: $, \\b, \\B, \\z, \\<, \\> and a ^ within it look at what is beside the match; leave them out"
+LOOKS = "this rule has no table, and is slower: $, \\b, \\B, \\z, \\<, \\> and a ^ within it look at what is beside the match; leave them out, or write a backslash before $ and ^ for the characters"
 NO_TABLE = (
     "this rule has no table, and is slower: its table, or all tables together, would be too large; repeat fewer times, "
-    "or part the pattern"
+    "part the pattern, or have fewer rules"
 )
 IN_PATTERN = "this target is part of the pattern; write no blank between the target and the name"
 BLANK = "the blank after these start states is part of the pattern; leave it out, or write [ ]"
@@ -33,6 +38,11 @@ WORD = "after start states \\< and \\> are the beginning and the end of a word; 
 NAME_IN_PATTERN = "this name is part of the pattern, since the last blank of a line is before its name; write nothing after the name"
 QUOTED = "the quotes are part of this pattern; leave them out, and write operators with a backslash, as \\+"
 BARE = "this pattern is an operator, and matches no byte; write a backslash before it to match its character"
+CARET = "a ^ at the beginning does nothing, since a match may begin anywhere in a line; leave it out, or write \\^ for the character"
+DOT = (
+    "a . matches a newline too, so .* and .+ take all lines that follow; write [^\\n] in place of the dot, "
+    "or .*? before what ends it"
+)
 CLASS = (
     "this class has an operator: [ begins another class, and --, && and ~~ are operations on sets; "
     "write a backslash before the character, as \\[ or \\-"
@@ -45,5 +55,5 @@ NO_RULES = "no rule is active in this start state, so lexing stops there; list i
 KINDS = {
     NEVER_WINS: "NeverWins", LOOKS: "LooksAround", NO_TABLE: "NoTable", IN_PATTERN: "TargetInPattern", BLANK: "BlankAfterStates",
     LOST: "LostEscape", WORD: "EscapeAfterStates", SHORTER: "LostAlternative", NAME_IN_PATTERN: "NameInPattern", QUOTED: "QuotedPattern",
-    BARE: "BareOperator", CLASS: "ClassOperator", NEVER_ENTERED: "NeverEntered", NO_RULES: "NoRules",
+    BARE: "BareOperator", CARET: "LostCaret", DOT: "GreedyDot", CLASS: "ClassOperator", NEVER_ENTERED: "NeverEntered", NO_RULES: "NoRules",
 }

@@ -1,6 +1,7 @@
 pub mod Alternatives
 pub mod Carets
 pub mod ClassOperators
+pub mod Dots
 pub mod Encoding
 pub mod FaultRanges
 pub mod FaultTexts

@@ -38,7 +38,7 @@ declaration_note rules at =
 
 -- of a name that is neither `;` nor in quotes
 abbrev pub name_note : (rules : List ℕ) (at : ℕ) → List ℕ
-name_note rules at = or_note (comment_note (source_of rules at)) (codes ": write it in quotes and without blanks, or ; for no name")
+name_note rules at = or_note (comment_note (source_of rules at)) (codes ": write it in quotes and without blanks, or ; for no name; no action or comment follows it")
 
 -- a line that begins with a list of start states; a target, which begins with `<` too, has no blank after it
 abbrev pub begins_list : (line : List ℕ) → Bool
@@ -58,14 +58,14 @@ end_note line = if begins_with (codes "<<EOF>>") line then codes ": no rule matc
 abbrev pub undeclared_note : (line : List ℕ) → List ℕ
 undeclared_note line =
     if begins_list line
-    then codes ": declare it with %s or %x; a pattern that begins with the character < begins with \\<" else codes ": declare it with %s or %x"
+    then codes ": declare it with %s or %x; commas part the names of a list, and a target stands before the rule's name; a pattern that begins with the character < begins with \\<" else codes ": declare it with %s or %x"
 
 abbrev pub state_note : (line : List ℕ) → List ℕ
 state_note line = or_note (end_note line) (undeclared_note line)
 
 -- of a rule without a blank
 abbrev pub space_note : (text : List ℕ) → List ℕ
-space_note text = or_note (comment_note text) (codes ": a rule is a pattern, a blank and a name in quotes, or ; for no name")
+space_note text = or_note (comment_note text) (codes ": a rule is a pattern, a space or a tab, and a name in quotes, or ; for no name")
 
 -- of a line whose pattern `regex` refuses
 abbrev pub pattern_note : (line : List ℕ) → List ℕ

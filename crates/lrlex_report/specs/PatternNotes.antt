@@ -72,4 +72,4 @@ repeats_nothing pattern =
 abbrev pub operator_note : (pattern : List ℕ) → List ℕ
 operator_note pattern =
     if repeats_nothing pattern || are_operators pattern
-    then codes ": write a backslash before an operator to match its character, as \\+ or \\(" else []
+    then codes ": write a backslash before each operator to match its character, as \\+ or \\(" else []

@@ -17,13 +17,14 @@ use Rattle.lrlex.specs.Views.{definition_by}
 use Rattle.lrlex.specs.declared.definition.rule_table.RuleTable.{RuleTable}
 use Rattle.lrlex_report.specs.Alternatives.{loses_word}
 use Rattle.lrlex_report.specs.ClassOperators.{has_class_operator}
+use Rattle.lrlex_report.specs.Dots.{begins_with_flags, has_greedy_dot}
 use Rattle.lrlex_report.specs.FaultRanges.{before_blank}
 use Rattle.lrlex_report.specs.Literals.{ends_in_name, is_bare, is_quoted}
 use Rattle.lrlex_report.specs.Looks.{at_beginning, looks_around}
 use Rattle.lrlex_report.specs.PlaceTexts.{nearest}
 use Rattle.lrlex_report.specs.declared.warnings.class_operators.ClassPart.TheVariants.{Outside}
 use Rattle.lrlex_report.specs.declared.warnings.kinds.WarningKind.{WarningKind}
-use Rattle.lrlex_report.specs.declared.warnings.kinds.WarningKind.TheVariants.{NeverWins, NeverActive, LooksAround, NoTable, TargetInPattern, BlankAfterStates, LostEscape, EscapeAfterStates, LostAlternative, NameInPattern, QuotedPattern, BareOperator, ClassOperator, NeverEntered, NoRules}
+use Rattle.lrlex_report.specs.declared.warnings.kinds.WarningKind.TheVariants.{NeverWins, NeverActive, LooksAround, NoTable, TargetInPattern, BlankAfterStates, LostEscape, EscapeAfterStates, LostAlternative, NameInPattern, QuotedPattern, BareOperator, LostCaret, GreedyDot, ClassOperator, NeverEntered, NoRules}
 use Rattle.lrlex_report.specs.declared.warnings.kinds.Warning.{Warning}
 use Rattle.lrlex_report.specs.declared.warnings.answers.Answers.{Answers}
 use Rattle.lrlex_report.specs.declared.warnings.answers.Facts.{Facts}
@@ -159,6 +160,16 @@ loses_alternative r = let words = ungrouped r.re_str in not (begins_empty words)
 abbrev pub has_name_in_pattern : Rule → Bool
 has_name_in_pattern r = is_none r.name && ends_in_name r.re_str
 
+-- its pattern begins with `^`, and goes on
+abbrev pub loses_caret : Rule → Bool
+loses_caret r = begins_with (codes "^") r.re_str && not (is_bare r.re_str)
+
+-- its pattern has a dot that takes all that follows, newlines too, and no flags of its own at the beginning
+abbrev pub takes_all : Rule → Bool
+takes_all r =
+    r.config.flags.dot_matches_new_line && (not r.config.flags.swap_greed
+    && (not (begins_with_flags r.re_str) && has_greedy_dot at_beginning r.re_str))
+
 -- the tests of a rule of which this is known, and what they answer
 abbrev pub rule_tests : Facts → List StartState → (source : List ℕ) → Rule → List (WarningKind × Bool)
 rule_tests known states source r =
@@ -174,6 +185,8 @@ rule_tests known states source r =
     ∷ (NameInPattern, has_name_in_pattern r)
     ∷ (QuotedPattern, is_quoted r.re_str)
     ∷ (BareOperator, is_bare r.re_str)
+    ∷ (LostCaret, loses_caret r)
+    ∷ (GreedyDot, takes_all r)
     ∷ (ClassOperator, has_class_operator Outside r.re_str)
     ∷ []
 

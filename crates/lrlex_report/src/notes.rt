@@ -57,7 +57,7 @@ fn name_note(rules: &str, at: usize) -> &'static str
     let (_, pattern) = source_of(rules, at);
     or_note(
         comment_note(pattern),
-        ": write it in quotes and without blanks, or ; for no name",
+        ": write it in quotes and without blanks, or ; for no name; no action or comment follows it",
     )
 }
 
@@ -103,7 +103,7 @@ fn undeclared_note(line: &str) -> &'static str
     ensures { result.now ≡ undeclared_note line.now }
 {
     if begins_list(line) {
-        ": declare it with %s or %x; a pattern that begins with the character < begins with \\<"
+        ": declare it with %s or %x; commas part the names of a list, and a target stands before the rule's name; a pattern that begins with the character < begins with \\<"
     } else {
         ": declare it with %s or %x"
     }
@@ -122,7 +122,7 @@ fn space_note(text: &str) -> &'static str
 {
     or_note(
         comment_note(text),
-        ": a rule is a pattern, a blank and a name in quotes, or ; for no name",
+        ": a rule is a pattern, a space or a tab, and a name in quotes, or ; for no name",
     )
 }
 

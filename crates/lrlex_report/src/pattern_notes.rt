@@ -160,7 +160,7 @@ pub(crate) fn operator_note(pattern: &str) -> &'static str
     ensures { result.now ≡ operator_note pattern.now }
 {
     if repeats_nothing(pattern) || are_operators(pattern) {
-        ": write a backslash before an operator to match its character, as \\+ or \\("
+        ": write a backslash before each operator to match its character, as \\+ or \\("
     } else {
         ""
     }

@@ -39,6 +39,11 @@ pub enum WarningKind {
     QuotedPattern,
     /// A rule whose pattern is `|`, `^` and `$` alone.
     BareOperator,
+    /// A rule whose pattern begins with `^`, which does nothing there, and goes on.
+    LostCaret,
+    /// A rule whose pattern has `.*` or `.+`, outside classes of characters and without a `?` behind it, where the dot matches a
+    /// newline too. It isn't told where `swap_greed` is set, nor where the pattern begins with `(?`, but for `(?:`.
+    GreedyDot,
     /// A rule whose pattern has an operator within a class of characters: a `[` that begins another class, but none with a name, as
     /// `[:alpha:]`, or `--`, `&&` or `~~`. A `-` at the front of a class and what ends a range are characters. An operation
     /// whose right side is a class, as `[a-z&&[^b]]`, is meant, and isn't told.
@@ -50,7 +55,7 @@ pub enum WarningKind {
 }
 
 /// All kinds.
-static KINDS: [WarningKind; 15] = [
+static KINDS: [WarningKind; 17] = [
     WarningKind::NeverWins,
     WarningKind::NeverActive,
     WarningKind::LooksAround,
@@ -63,6 +68,8 @@ static KINDS: [WarningKind; 15] = [
     WarningKind::NameInPattern,
     WarningKind::QuotedPattern,
     WarningKind::BareOperator,
+    WarningKind::LostCaret,
+    WarningKind::GreedyDot,
     WarningKind::ClassOperator,
     WarningKind::NeverEntered,
     WarningKind::NoRules,
@@ -93,6 +100,8 @@ impl WarningKind {
             WarningKind::NameInPattern => "NameInPattern",
             WarningKind::QuotedPattern => "QuotedPattern",
             WarningKind::BareOperator => "BareOperator",
+            WarningKind::LostCaret => "LostCaret",
+            WarningKind::GreedyDot => "GreedyDot",
             WarningKind::ClassOperator => "ClassOperator",
             WarningKind::NeverEntered => "NeverEntered",
             WarningKind::NoRules => "NoRules",
@@ -118,10 +127,10 @@ impl WarningKind {
                 "this rule is active in no start state; list one that is declared"
             }
             WarningKind::LooksAround => {
-                "this rule has no table, and is slower: $, \\b, \\B, \\z, \\<, \\> and a ^ within it look at what is beside the match; leave them out"
+                "this rule has no table, and is slower: $, \\b, \\B, \\z, \\<, \\> and a ^ within it look at what is beside the match; leave them out, or write a backslash before $ and ^ for the characters"
             }
             WarningKind::NoTable => {
-                "this rule has no table, and is slower: its table, or all tables together, would be too large; repeat fewer times, or part the pattern"
+                "this rule has no table, and is slower: its table, or all tables together, would be too large; repeat fewer times, part the pattern, or have fewer rules"
             }
             WarningKind::TargetInPattern => {
                 "this target is part of the pattern; write no blank between the target and the name"
@@ -146,6 +155,12 @@ impl WarningKind {
             }
             WarningKind::BareOperator => {
                 "this pattern is an operator, and matches no byte; write a backslash before it to match its character"
+            }
+            WarningKind::LostCaret => {
+                "a ^ at the beginning does nothing, since a match may begin anywhere in a line; leave it out, or write \\^ for the character"
+            }
+            WarningKind::GreedyDot => {
+                "a . matches a newline too, so .* and .+ take all lines that follow; write [^\\n] in place of the dot, or .*? before what ends it"
             }
             WarningKind::ClassOperator => {
                 "this class has an operator: [ begins another class, and --, && and ~~ are operations on sets; write a backslash before the character, as \\[ or \\-"

@@ -21,6 +21,12 @@ pub(crate) struct Context {
     pub(crate) behind: Behind,
 }
 
+/// At the beginning of a pattern.
+pub(crate) const BEGINNING: Context = Context {
+    classes: 0,
+    behind: Behind::Beginning,
+};
+
 impl Context {
     /// Whether a class of characters begins here, so that `]` is one of its characters.
     fn is_fresh(self) -> bool
@@ -44,7 +50,7 @@ impl Context {
     }
 
     /// The context behind an escape.
-    fn after_escape(self) -> Context
+    pub(crate) fn after_escape(self) -> Context
         ensures { result ≡ after_escape self }
     {
         self.behind(Behind::Other)
@@ -64,7 +70,7 @@ impl Context {
     }
 
     /// The context behind this byte, which isn't part of an escape.
-    fn after(self, b: u8) -> Context
+    pub(crate) fn after(self, b: u8) -> Context
         requires { self.classes + 1 < 2 ^ 64 }
         ensures { result ≡ after self b }
     {
@@ -116,10 +122,7 @@ impl Context {
 pub(crate) fn looks_around(pattern: &[u8]) -> bool
     ensures { result ≡ looks_around at_beginning pattern.now }
 {
-    let mut context = Context {
-        classes: 0,
-        behind: Behind::Beginning,
-    };
+    let mut context = BEGINNING;
     let mut rest = pattern;
     while let [b, c, after @ ..] = rest {
         if *b != b'\\' {

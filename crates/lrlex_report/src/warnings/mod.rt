@@ -5,6 +5,7 @@ ghost use Rattle.lrlex_report.specs.Warnings.{as_answered, as_told, SpanFits, st
 mod alternatives;
 mod answers;
 pub(crate) mod class_operators;
+mod dots;
 pub(crate) mod kinds;
 mod literals;
 pub(crate) mod looks;

@@ -2,11 +2,12 @@
 ghost use Rattle.std.specs.Prelude.{◌≡◌, ◌++◌, All, OnOk, map};
 ghost use Rattle.lrlex.specs.Active.{lists_none};
 ghost use Rattle.lrlex_rules.specs.RuleParts.{as_rule};
-ghost use Rattle.lrlex_report.specs.Warnings.{as_told, SpanFits, never_wins, has_no_table_but_looks, has_no_table, has_blank_after_states, loses_escape, has_escape_after_states, loses_alternative, has_name_in_pattern, rule_warnings};
+ghost use Rattle.lrlex_report.specs.Warnings.{as_told, SpanFits, never_wins, has_no_table_but_looks, has_no_table, has_blank_after_states, loses_escape, has_escape_after_states, loses_alternative, has_name_in_pattern, loses_caret, takes_all, rule_warnings};
 
 use crate::warnings::alternatives::loses_word;
 use crate::warnings::answers::Facts;
 use crate::warnings::class_operators::has_class_operator;
+use crate::warnings::dots::{begins_with_flags, has_greedy_dot};
 use crate::warnings::kinds::{Warning, WarningKind, push_all};
 use crate::warnings::literals::{ends_in_name, is_bare, is_quoted};
 use crate::warnings::looks::looks_around;
@@ -79,6 +80,25 @@ fn has_name_in_pattern<S: Numbered>(rule: &Rule<S>) -> bool
     rule.name().is_none() && ends_in_name(rule.re_str())
 }
 
+/// Whether the rule's pattern begins with `^`, and goes on.
+fn loses_caret<S: Numbered>(rule: &Rule<S>) -> bool
+    ensures { result ≡ loses_caret (as_rule S.number rule.now) }
+{
+    rule.re_str().starts_with("^") && !is_bare(rule.re_str().as_bytes())
+}
+
+/// Whether the rule's pattern has a dot that takes all that follows, newlines too, and no flags of its own at the beginning.
+fn takes_all<S: Numbered>(rule: &Rule<S>) -> bool
+    ensures { result ≡ takes_all (as_rule S.number rule.now) }
+{
+    let flags = &rule.config().flags;
+    let pattern = rule.re_str();
+    flags.dot_matches_new_line
+        && !flags.swap_greed
+        && !begins_with_flags(pattern)
+        && has_greedy_dot(pattern.as_bytes())
+}
+
 /// Adds the warnings of a rule of which this is known, where these are the start states of its text.
 pub(crate) fn push_rule<S: Numbered>(
     told: &mut Vec<Warning>,
@@ -116,6 +136,8 @@ pub(crate) fn push_rule<S: Numbered>(
             is_quoted(rule.re_str().as_bytes()),
         ),
         (WarningKind::BareOperator, is_bare(rule.re_str().as_bytes())),
+        (WarningKind::LostCaret, loses_caret(rule)),
+        (WarningKind::GreedyDot, takes_all(rule)),
         (
             WarningKind::ClassOperator,
             has_class_operator(rule.re_str().as_bytes()),
