@@ -1,11 +1,12 @@
 """The language server, from outside: what a client is told and answered."""
 
+import json
 import os
 import tempfile
 import unittest
 
 from language_server import dialogues, mutated, refused
-from language_server.client import REFRESH, Client, applied, decoded, ranged, rules_file, spot
+from language_server.client import REFRESH, Client, applied, decoded, notification, ranged, rules_file, spot
 from support import programs
 from support.messages import (
     DECLARE_LIST, KINDS, LIST, LOOKS, LOST, MARGIN, NEVER_ENTERED, NEVER_WINS, NO_MARK, OPERATOR, QUOTES, RULE, STATE_NAME,
@@ -241,6 +242,27 @@ class RuleFiles(Session):
                     self.assertEqual(WEIGHTS.get(it["message"], (1, None)), (it["severity"], it.get("tags")))
                     self.assertEqual(KINDS.get(it["message"], "RegexError"), it["code"])
         self.assertEqual(0, client.end())
+
+    def test_half_a_pair_of_surrogates(self):
+        # what a client writes (JSON.stringify does so), and the text that it stands for
+        rows = [
+            ("\\ud83d", "\uFFFD"), ("\\uDE00a", "\uFFFDa"), ("\\uDE00\\ud83d", "\uFFFD\uFFFD"), ("\\ud83d\\ude00", "😀"),
+            ("\\ud83d\\ud83d\\ude00", "\uFFFD😀"), ("\\\\ud83d", "\\ud83d"), ("\\ud83d\\u0041", "\uFFFDA"),
+        ]
+        for written, text in rows:
+            with self.subTest(written=written):
+                client = self.client()
+                client.begin()
+                client.open(URI, "%%\n")
+                place = {"line": 1, "character": 0}
+                change = {"range": {"start": place, "end": place}, "text": "WRITTEN"}
+                params = {"textDocument": {"uri": URI, "version": 2}, "contentChanges": [change]}
+                client.write(json.dumps(notification("textDocument/didChange", params)).encode().replace(b"WRITTEN", written.encode()))
+                told = client.told_of(URI, 2)["diagnostics"]
+                fresh = self.client()
+                fresh.begin()
+                self.assertEqual(fresh.open(URI, "%%\n" + text)["diagnostics"], told)
+                self.assertEqual((0, 0), (client.end(), fresh.end()))
 
     def test_allowed_warnings(self):
         client = self.client("--allow", "NeverWins", "--allow", "NoTable")

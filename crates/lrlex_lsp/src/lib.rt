@@ -18,6 +18,7 @@ mod renewal;
 mod server;
 mod session;
 mod started;
+mod surrogates;
 mod texts;
 mod token_types;
 mod tokens;

@@ -13,6 +13,7 @@ use crate::messages::{
 use crate::opened::Asked;
 use crate::params::{client_of, is_rule_file, range_of, text_at, uri_of, version_of};
 use crate::started::{Given, Next, Phase, State};
+use crate::surrogates::paired;
 use crate::texts::Texts;
 use serde_json::Value;
 use std::alloc::{AllocError, Global};
@@ -227,6 +228,16 @@ impl<'d> Server<'d> {
         }
     }
 
+    /// Takes the body of a message that isn't JSON, unless half a pair of surrogates is why: that is read as U+FFFD.
+    fn take_paired(&mut self, body: &[u8], told: &mut Vec<String>) -> Result<Handled, AllocError> {
+        let paired = paired(self.alloc, body)?;
+        match Value::from_slice(self.alloc, &paired) {
+            Ok(message) => self.take(&message, told),
+            Err(fault) if fault.is_memory() => Err(AllocError),
+            Err(_) => Ok(answered(refusal(self.alloc, None, NO_JSON)?)),
+        }
+    }
+
     /// Takes the body of a message, and gives the body of its answer. The bodies of notifications and of requests of the server's
     /// own are added to `told`.
     pub fn handle(&mut self, body: &[u8], told: &mut Vec<String>) -> Result<Handled, AllocError>
@@ -238,7 +249,7 @@ impl<'d> Server<'d> {
         match Value::from_slice(self.alloc, body) {
             Ok(message) => self.take(&message, told),
             Err(fault) if fault.is_memory() => Err(AllocError),
-            Err(_) => Ok(answered(refusal(self.alloc, None, NO_JSON)?)),
+            Err(_) => self.take_paired(body, told),
         }
     }
 }
