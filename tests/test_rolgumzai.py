@@ -3,6 +3,7 @@
 Expected texts are written by hand; tokens and winners are those of the replayed cases.
 """
 
+import contextlib
 import html
 import json
 import os
@@ -63,6 +64,11 @@ FIRST = (
     f"first.l:4:6: Invalid rule name: {COMMENT}\n4 | // a comment\n  |      ^\n"
     f"first.l:5:1: Verbatim code not supported: {MARGIN}\n5 |   b 'B'\n  | ^^^^^^^\n"
     f"first.l:6:8: Invalid rule name: {QUOTES}\n6 | [a-z]+ ID\n  |        ^\n"
+)
+THREE = (
+    f"three.l:2:1: Invalid regular expression: unclosed group: {OPERATOR}\n2 | ( 'A'\n  | ^\n"
+    f"three.l:3:1: Invalid regular expression: unopened group: {OPERATOR}\n3 | ) 'B'\n  | ^\n"
+    f"three.l:4:7: Invalid rule name: {QUOTES}\n4 | [a-z] C\n  |       ^\n"
 )
 OTHER = (
     "other.l:1:6: Start state already exists\n1 | %s k k\n  |      ^\n"
@@ -136,17 +142,7 @@ ROWS = [
         ),
     ),
     ("check empty", "", Outcome(f"empty:1:1: File ends prematurely: {NO_MARK}\n1 | \n  | ^\n", "", 1)),
-    (
-        "check three.l",
-        "",
-        Outcome(
-            f"three.l:2:1: Invalid regular expression: unclosed group: {OPERATOR}\n2 | ( 'A'\n  | ^\n"
-            f"three.l:3:1: Invalid regular expression: unopened group: {OPERATOR}\n3 | ) 'B'\n  | ^\n"
-            f"three.l:4:7: Invalid rule name: {QUOTES}\n4 | [a-z] C\n  |       ^\n",
-            "",
-            1,
-        ),
-    ),
+    ("check three.l", "", Outcome(THREE, "", 1)),
     ("check latin folder", "", Outcome("", LATIN + FOLDER, 2)),
     ("check comments.l", "", Outcome(f"comments.l:1:1: Unknown declaration: {COMMENT}\n1 | // c\n  | ^\n", "", 1)),
     ("check first.l", "", Outcome(FIRST, "", 1)),
@@ -248,6 +244,7 @@ ROWS = [
     *((f"{words} --allow NoTable --allow {kind}", "", Outcome("", NO_KIND.format(kind), 2)) for words in ("check tokens.l", "lsp") for kind in ("notable", "Table")),
     ("lsp", "", Outcome("", "", 1)),
     ("lsp --rules bad.l --map ID=class --octal true --stdio", "", Outcome("", BAD, 1)),
+    ("lsp --rules three.l", "", Outcome("", THREE, 1)),
     ("explain bad.l input 0", "", Outcome("", BAD, 1)),
     ("explain tokens.l none 0", "", Outcome("", MISSING, 2)),
 ]
@@ -436,6 +433,17 @@ def shown_warning(text, line, column, length, message):
     )
 
 
+@contextlib.contextmanager
+def gone():
+    """A stream to write to whose reader has gone."""
+    reader, writer = os.pipe()
+    os.close(reader)
+    try:
+        yield writer
+    finally:
+        os.close(writer)
+
+
 class Rolgumzai(unittest.TestCase):
     """What comes of each command."""
 
@@ -498,6 +506,16 @@ class Rolgumzai(unittest.TestCase):
             self.assertEqual((ended.stdout, ended.returncode), (b"", 2))
             self.assertTrue(ended.stderr.startswith(b"rolgumzai: "), ended.stderr)
 
+    def test_a_working_folder_that_is_not_utf_8(self):
+        folder = os.fsencode(self.folder) + b"/\xff"
+        os.mkdir(folder)
+        with open(folder + b"/rules.l", "w", encoding="utf-8") as file:
+            file.write(FILES["tokens.l"])
+        for program in programs.by_each_compiler(PROGRAM):
+            ended = subprocess.run([program, "lsp", "--rules", "rules.l"], input=b"", capture_output=True, cwd=folder, check=False)
+            told = b"rolgumzai: the working folder: invalid filename\n"
+            self.assertEqual((ended.stdout, ended.stderr, ended.returncode), (b"", told, 2))
+
     def test_a_place_by_its_byte_and_by_line_and_column(self):
         rows = [("0", "1:1"), ("6", "1:7"), ("7", "2:1"), ("13", "2:7"), ("16", "2:8"), ("18", "2:10")]
         for program, (byte, place) in self.each(rows):
@@ -543,6 +561,25 @@ class Rolgumzai(unittest.TestCase):
                     self.assertTrue(child.stdout.readline())
                     child.stdout.close()
                     self.assertEqual((child.stderr.read(), child.wait()), (b"", 0))
+
+    def test_a_reader_of_standard_error_that_has_gone(self):
+        rows = [(words, stdin, wanted.out, wanted.status) for words, stdin, wanted in ROWS if wanted.err]
+        rows += [(words, "", "", 2) for words, _ in REFUSED]
+        for program, (words, stdin, out, status) in self.each(rows):
+            with self.subTest(words=words, program=program), gone() as writer:
+                ended = subprocess.run(
+                    [program, *words.split()], input=programs.as_bytes(stdin), stdout=subprocess.PIPE, stderr=writer,
+                    cwd=self.folder, check=False,
+                )
+                self.assertEqual((programs.as_text(ended.stdout), ended.returncode), (out, status))
+
+    def test_a_client_that_reads_no_more(self):
+        body = json.dumps({"jsonrpc": "2.0", "method": "initialize", "id": 1, "params": {}})
+        given = f"Content-Length: {len(body)}\r\n\r\n{body}".encode()
+        for program in programs.by_each_compiler(PROGRAM):
+            with gone() as writer:
+                ended = subprocess.run([program, "lsp"], input=given, stdout=writer, stderr=subprocess.PIPE, check=False)
+                self.assertEqual((ended.stderr, ended.returncode), (b"", 1))
 
     def test_a_session_of_a_client(self):
         wanted = [{"method": "initialize", "id": 1, "params": {}}, {"method": "initialized", "params": {}}]

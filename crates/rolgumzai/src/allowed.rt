@@ -1,8 +1,8 @@
 //! `--allow KIND`: the kinds of warnings that aren't shown.
+use crate::output::say;
 use clap::{Arg, ArgAction, ArgMatches};
 use lrlex_report::WarningKind;
-use std::alloc::Global;
-use std::io;
+use std::alloc::{AllocError, Global};
 
 /// What leaves out the warnings of a kind.
 pub fn allow<'a>(alloc: Global) -> Arg<'a> {
@@ -17,11 +17,14 @@ pub fn allow<'a>(alloc: Global) -> Arg<'a> {
 pub fn allowed_of(
     rt: &HostRuntime,
     words: &ArgMatches<'_>,
-) -> io::Result<Option<Vec<WarningKind>>> {
+) -> Result<Option<Vec<WarningKind>>, AllocError> {
     let mut allowed = Vec::new(rt.alloc());
     for word in words.get_strs("allow").unwrap_or(&[]) {
         let Some(kind) = WarningKind::named(word) else {
-            eprintln!(rt; "rolgumzai: --allow {word}: no kind of warnings has this name")?;
+            say(
+                rt,
+                format_args!("rolgumzai: --allow {word}: no kind of warnings has this name\n"),
+            );
             return Ok(None);
         };
         allowed.push(kind)?;

@@ -1,6 +1,7 @@
 //! The words of the command line.
 use crate::allowed::allow;
 use crate::flags::with_flags;
+use crate::mapped::map;
 use clap::{Arg, ArgAction, Command};
 use std::alloc::{AllocError, Global};
 
@@ -65,17 +66,6 @@ fn tokens<'a>(alloc: Global) -> Result<Command<'a>, AllocError> {
         )
         .arg(switch(alloc, "json", "Prints each token as a line of JSON"))?;
     with_files(alloc, command, "The text to lex")
-}
-
-/// What the pieces of a rule are shown as.
-fn map<'a>(alloc: Global) -> Arg<'a> {
-    Arg::new(alloc, "map")
-        .long("map")
-        .value_name("NAME=TOKENTYPE")
-        .help(
-            "Shows the tokens of rule NAME as this token type of the Language Server Protocol, or as plain text where none is given",
-        )
-        .action(ArgAction::Append)
 }
 
 /// What colours a text.
@@ -148,8 +138,8 @@ pub fn command<'a>(alloc: Global) -> Result<Command<'a>, AllocError> {
         .about("Checks rule files, and shows how texts are lexed by them.")
         .version("0.1.0")
         .after_help(
-            "A file named - is standard input. The status is 0 where all is well, 1 where a rule file has a fault or lexing stops, \
-            and 2 where the words are refused or a file can't be read.",
+            "A file named - is standard input. The status is 0 where all is well, 1 where a rule file has a fault, or a warning under \
+            --deny-warnings, or lexing stops, and 2 where the words are refused or a file can't be read.",
         )
         .subcommand_required(true)
         .arg_required_else_help(true);

@@ -1,9 +1,10 @@
 //! The texts that the words name, and the definitions of rule files.
 use crate::flags::flags_of;
-use crate::output::{FAULTY, UNABLE};
+use crate::output::{FAULTY, UNABLE, say};
 use clap::ArgMatches;
 use lrlex::{DefaultLexerTypes, LRNonStreamingLexerDef, LexBuildError};
 use lrlex_report::{bad_byte_text, faults_text};
+use std::alloc::AllocError;
 use std::io::{ErrorKind, Read};
 use std::{fs, io};
 
@@ -27,13 +28,12 @@ fn bytes_at(rt: &HostRuntime, path: &str) -> io::Result<Vec<u8>> {
     Ok(bytes)
 }
 
-/// Reports that a file can't be read. Memory that ran out is no fault of the file.
-fn refuse(rt: &HostRuntime, path: &str, error: io::Error) -> io::Result<Option<String>> {
+/// Reports that what is called this can't be read. Memory that ran out is no fault of it.
+pub fn refuse(rt: &HostRuntime, name: &str, error: io::Error) -> io::Result<Option<String>> {
     if error.kind() == ErrorKind::OutOfMemory {
         return Err(error);
     }
-    let name = name_of(path);
-    eprintln!(rt; "rolgumzai: {name}: {error}")?;
+    say(rt, format_args!("rolgumzai: {name}: {error}\n"));
     Ok(None)
 }
 
@@ -41,11 +41,11 @@ fn refuse(rt: &HostRuntime, path: &str, error: io::Error) -> io::Result<Option<S
 pub fn text_at(rt: &HostRuntime, path: &str) -> io::Result<Option<String>> {
     let bytes = match bytes_at(rt, path) {
         Ok(bytes) => bytes,
-        Err(error) => return refuse(rt, path, error),
+        Err(error) => return refuse(rt, name_of(path), error),
     };
     match bad_byte_text(rt.alloc(), name_of(path), &bytes)? {
         Some(shown) => {
-            eprint!(rt; "{shown}")?;
+            say(rt, &shown);
             Ok(None)
         }
         None => Ok(Some(String::from_utf8(bytes).unwrap())),
@@ -53,20 +53,21 @@ pub fn text_at(rt: &HostRuntime, path: &str) -> io::Result<Option<String>> {
 }
 
 /// Whether two of these paths are standard input, which is reported. It can be read once.
-pub fn is_read_twice(rt: &HostRuntime, paths: &[&str]) -> io::Result<bool> {
+pub fn is_read_twice(rt: &HostRuntime, paths: &[&str]) -> bool {
     let mut found = false;
     for path in paths {
         if *path == "-" {
             if found {
-                eprintln!(rt;
-                    "rolgumzai: - is given twice, but standard input can be one file only"
-                )?;
-                return Ok(true);
+                say(
+                    rt,
+                    "rolgumzai: - is given twice, but standard input can be one file only\n",
+                );
+                return true;
             }
             found = true;
         }
     }
-    Ok(false)
+    false
 }
 
 /// The word with this id. It is there: the command takes no words without it.
@@ -80,9 +81,10 @@ pub fn report_faults(
     name: &str,
     text: &str,
     faults: &[LexBuildError],
-) -> io::Result<()> {
+) -> Result<(), AllocError> {
     let shown = faults_text(rt.alloc(), name, text, faults)?;
-    eprint!(rt; "{shown}")
+    say(rt, &shown);
+    Ok(())
 }
 
 /// The definition of a rule text, under the flags of the words. The status where the text has faults, which are reported.
@@ -90,7 +92,7 @@ fn definition_of(
     rt: &HostRuntime,
     words: &ArgMatches<'_>,
     text: &str,
-) -> io::Result<Result<Definition, u8>> {
+) -> Result<Result<Definition, u8>, AllocError> {
     let flags = flags_of(words);
     match Definition::new_with_options(rt.alloc(), text, flags)? {
         Ok(definition) => Ok(Ok(definition)),
@@ -107,7 +109,7 @@ pub fn rules_of(
     rt: &HostRuntime,
     words: &ArgMatches<'_>,
 ) -> io::Result<Result<(String, Definition), u8>> {
-    if is_read_twice(rt, &[word_of(words, "rules"), word_of(words, "input")])? {
+    if is_read_twice(rt, &[word_of(words, "rules"), word_of(words, "input")]) {
         return Ok(Err(UNABLE));
     }
     let Some(text) = text_at(rt, word_of(words, "rules"))? else {

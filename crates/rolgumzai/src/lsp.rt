@@ -1,52 +1,52 @@
 //! `rolgumzai lsp [--rules FILE] [--map NAME=TOKENTYPE].. [--allow KIND]..`: a language server over standard input and output.
 use crate::allowed::allowed_of;
-use crate::files::{Definition, report_faults, text_at};
+use crate::files::{Definition, refuse, report_faults, text_at};
 use crate::flags::flags_of;
-use crate::output::{FAULTY, UNABLE};
+use crate::mapped::parted;
+use crate::output::{FAULTY, UNABLE, say};
 use clap::ArgMatches;
 use lrlex::LexFlags;
-use lrlex_lsp::{Options, is_token_type};
+use lrlex_lsp::Options;
 use std::alloc::{AllocError, Global};
-use std::io::BufReader;
+use std::io::{BufReader, ErrorKind};
 use std::{env, io};
 
-/// The absolute path of a file. It may have `.` and `..` in it, which the server compares by what they stand for.
-fn absolute(rt: &HostRuntime, path: &str) -> io::Result<String> {
+/// The absolute path of a file. It may have `.` and `..` in it, which the server compares by what they stand for. None where the
+/// path of the working folder is wanted and can't be had, as where it isn't UTF-8, which is reported.
+fn absolute(rt: &HostRuntime, path: &str) -> io::Result<Option<String>> {
     let mut whole = String::new(rt.alloc());
     if !path.starts_with('/') {
-        let folder = env::current_dir(rt)?;
-        whole.push_str(folder.as_path().to_str().unwrap_or(""))?;
+        match env::current_dir(rt) {
+            Ok(folder) => whole.push_str(folder.as_str())?,
+            Err(error) => return refuse(rt, "the working folder", error),
+        }
         whole.push_str("/")?;
     }
     whole.push_str(path)?;
-    Ok(whole)
+    Ok(Some(whole))
 }
 
-/// Reports the faults of a rule file. The server goes on without it, until a client mends it.
-fn tell_faults(rt: &HostRuntime, path: &str, text: &str, flags: LexFlags) -> io::Result<()> {
-    match Definition::new_with_options(rt.alloc(), text, flags)? {
-        Ok(_) => Ok(()),
-        Err(faults) => report_faults(rt, path, text, &faults),
-    }
+/// Reports all faults of a rule file. The server goes on without it, until a client mends it.
+fn tell_faults(
+    rt: &HostRuntime,
+    path: &str,
+    text: &str,
+    flags: LexFlags,
+) -> Result<(), AllocError> {
+    let faults = Definition::all_faults(rt.alloc(), text, flags)?;
+    report_faults(rt, path, text, &faults)
 }
 
-/// The given rule file and its text. None where it can't be read, which is reported.
+/// The given rule file, by its absolute path, and its text. None where it can't be read, which is reported.
 fn rules_at(rt: &HostRuntime, path: &str, flags: LexFlags) -> io::Result<Option<(String, String)>> {
+    let Some(whole) = absolute(rt, path)? else {
+        return Ok(None);
+    };
     let Some(text) = text_at(rt, path)? else {
         return Ok(None);
     };
     tell_faults(rt, path, &text, flags)?;
-    Ok(Some((absolute(rt, path)?, text)))
-}
-
-/// A word `NAME=TOKENTYPE`, parted. None where it is no such word.
-fn parted(word: &str) -> Option<(&str, &str)> {
-    let (name, kind) = word.split_once('=')?;
-    if kind.is_empty() || is_token_type(kind) {
-        Some((name, kind))
-    } else {
-        None
-    }
+    Ok(Some((whole, text)))
 }
 
 /// Both texts, as texts of their own.
@@ -64,27 +64,23 @@ fn map_of<'a>(
     let mut map = Vec::new(alloc);
     for word in words {
         match parted(word) {
-            Some(texts) => map.push(owned(alloc, texts)?)?,
-            None => return Ok(Err(*word)),
+            Ok(texts) => map.push(owned(alloc, texts)?)?,
+            Err(_) => return Ok(Err(*word)),
         }
     }
     Ok(Ok(map))
 }
 
-/// Serves until the client ends it. Gives the status: 1 where the client ends it without shutting it down.
+/// Serves until the client ends it. Gives the status: 1 where the client ends it without shutting it down, or reads no more.
 fn serve_client(rt: &HostRuntime, options: Options) -> io::Result<u8> {
     let mut reader = BufReader::new(rt.alloc(), rt.reader())?;
     let mut writer = rt.stdout();
-    let is_clean = lrlex_lsp::serve(rt.alloc(), &mut reader, &mut writer, options)?;
-    Ok(if is_clean { 0 } else { FAULTY })
-}
-
-/// Reports that standard input is the client's.
-fn refuse_input(rt: &HostRuntime) -> io::Result<u8> {
-    eprintln!(rt;
-        "rolgumzai: lsp: the rules can't come from standard input, which is the client's"
-    )?;
-    Ok(UNABLE)
+    match lrlex_lsp::serve(rt.alloc(), &mut reader, &mut writer, options) {
+        Ok(true) => Ok(0),
+        Ok(false) => Ok(FAULTY),
+        Err(fault) if fault.kind() == ErrorKind::BrokenPipe => Ok(FAULTY),
+        Err(fault) => Err(fault),
+    }
 }
 
 /// The rule file that the words name and its text, if they name one. The status where it can't be had, which is reported.
@@ -94,7 +90,13 @@ fn rules_in(
     flags: LexFlags,
 ) -> io::Result<Result<Option<(String, String)>, u8>> {
     match words.get_str("rules") {
-        Some("-") => Ok(Err(refuse_input(rt)?)),
+        Some("-") => {
+            say(
+                rt,
+                "rolgumzai: lsp: the rules can't come from standard input, which is the client's\n",
+            );
+            Ok(Err(UNABLE))
+        }
         Some(path) => match rules_at(rt, path, flags)? {
             Some(rules) => Ok(Ok(Some(rules))),
             None => Ok(Err(UNABLE)),
@@ -132,9 +134,12 @@ pub fn serve(rt: &HostRuntime, words: &ArgMatches<'_>) -> io::Result<u8> {
     match map_of(rt.alloc(), words.get_strs("map").unwrap_or(&[]))? {
         Ok(map) => serve_with(rt, words, map),
         Err(word) => {
-            eprintln!(rt;
-                "rolgumzai: --map {word}: NAME=TOKENTYPE is wanted, with a type of the Language Server Protocol"
-            )?;
+            say(
+                rt,
+                format_args!(
+                    "rolgumzai: --map {word}: NAME=TOKENTYPE is wanted, with a type of the Language Server Protocol\n"
+                ),
+            );
             Ok(UNABLE)
         }
     }

@@ -1,8 +1,8 @@
 //! The program `rolgumzai`: what people ask about rule files and about texts that are lexed by them. `rolgumzai --help` names its
 //! commands, and `rolgumzai COMMAND --help` says what one does.
 //!
-//! The status is 0 where all is well, 1 where a rule file has a fault or lexing stops, and 2 where the words are refused, a file
-//! can't be read, or memory or standard output fails.
+//! The status is 0 where all is well, 1 where a rule file has a fault, or a warning under `--deny-warnings`, or lexing stops, and 2
+//! where the words are refused, a file can't be read, or memory or standard output fails.
 #![tactic(auto)]
 
 mod allowed;
@@ -13,12 +13,13 @@ mod files;
 mod flags;
 mod highlight;
 mod lsp;
+mod mapped;
 mod output;
 mod states;
 mod tokens;
 
 use crate::command::command;
-use crate::output::{UNABLE, tell};
+use crate::output::{UNABLE, say, tell};
 use clap::ArgMatches;
 use clap::error::ErrorKind;
 use std::alloc::AllocError;
@@ -44,9 +45,13 @@ fn serve_words(rt: &HostRuntime) -> io::Result<u8> {
     match command(rt.alloc())?.try_get_matches_from(words.as_slice()) {
         Ok(words) => serve(rt, &words),
         Err(told) if told.kind() == ErrorKind::OutOfMemory => Err(io::Error::from(AllocError)),
+        Err(told) if told.use_stderr() => {
+            say(rt, &told);
+            Ok(UNABLE)
+        }
         Err(told) => {
             told.print(rt)?;
-            Ok(if told.use_stderr() { UNABLE } else { 0 })
+            Ok(0)
         }
     }
 }

@@ -1,10 +1,11 @@
-//! Standard output, JSON, and what the program ends with where it or memory fails.
+//! Standard output and standard error, JSON, and what the program ends with where standard output or memory fails.
 use serde::Serialize;
 use std::alloc::{AllocError, Global};
+use std::fmt::Display;
 use std::io;
 use std::io::{BufWriter, ErrorKind, Printer, Write};
 
-/// The status where a rule file has a fault, or lexing stops.
+/// The status where a rule file has a fault, or a warning that counts as one, or lexing stops.
 pub const FAULTY: u8 = 1;
 
 /// The status where the words are refused, a file can't be read, or memory or standard output fails.
@@ -28,15 +29,18 @@ pub fn json_of<T: Serialize>(alloc: Global, value: &T) -> Result<String, AllocEr
     serde_json::to_string(alloc, value).map_err(|_| AllocError)
 }
 
+/// Says a text on standard error. There is nowhere to tell of a fault of standard error.
+pub fn say<D: Display + Drop>(rt: &HostRuntime, text: D) {
+    let _ = rt.eprint(text);
+}
+
 /// Reports what a stream or memory failed with, and gives the status. A reader of standard output that has gone wants no more:
 /// that is no fault.
 pub fn tell(rt: &HostRuntime, fault: &io::Error) -> u8 {
-    let told = match fault.kind() {
+    match fault.kind() {
         ErrorKind::BrokenPipe => return 0,
-        ErrorKind::OutOfMemory => eprintln!(rt; "rolgumzai: out of memory"),
-        _ => eprintln!(rt; "rolgumzai: {fault}"),
-    };
-    // There is nowhere to tell of a fault of standard error.
-    let _ = told;
+        ErrorKind::OutOfMemory => say(rt, "rolgumzai: out of memory\n"),
+        _ => say(rt, format_args!("rolgumzai: {fault}\n")),
+    }
     UNABLE
 }

@@ -49,7 +49,7 @@ impl Check {
 /// Shows what is wrong with the files that the words name. Gives the greatest status of all.
 pub fn serve(rt: &HostRuntime, words: &ArgMatches<'_>) -> io::Result<u8> {
     let paths = words.get_strs("rules").unwrap_or(&[]);
-    if is_read_twice(rt, paths)? {
+    if is_read_twice(rt, paths) {
         return Ok(UNABLE);
     }
     let Some(allowed) = allowed_of(rt, words)? else {

@@ -7,7 +7,7 @@ mod reasons;
 mod rule_file;
 
 use crate::files::{name_of, rules_of, text_at, word_of};
-use crate::output::{UNABLE, print};
+use crate::output::{UNABLE, print, say};
 use clap::ArgMatches;
 use lines::{Input, explained};
 use place::byte_named;
@@ -15,18 +15,21 @@ use rule_file::RuleFile;
 use std::io;
 
 /// Reports that a word names no place of the text.
-fn refuse(rt: &HostRuntime, input: Input<'_>, word: &str) -> io::Result<u8> {
+fn refuse(rt: &HostRuntime, input: Input<'_>, word: &str) {
     let (file, length) = (input.file, input.text.len());
-    eprintln!(rt;
-        "rolgumzai: {file}: there is no place {word}; write a byte from 0 to {length}, or LINE:COLUMN"
-    )?;
-    Ok(UNABLE)
+    say(
+        rt,
+        format_args!(
+            "rolgumzai: {file}: there is no place {word}; write a byte from 0 to {length}, or LINE:COLUMN\n"
+        ),
+    );
 }
 
 /// Explains the place of a text that a word names by the rules. Gives the status.
 fn explain(rt: &HostRuntime, rules: &RuleFile<'_>, input: Input<'_>, word: &str) -> io::Result<u8> {
     let Some(offset) = byte_named(input.text, word) else {
-        return refuse(rt, input, word);
+        refuse(rt, input, word);
+        return Ok(UNABLE);
     };
     let (shown, status) = explained(rt.alloc(), rules, input, offset)?;
     print(rt, &shown)?;

@@ -2,9 +2,10 @@
 use crate::files::Definition;
 use crate::highlight::classes::Class;
 use crate::highlight::types::class_of_type;
+use crate::mapped::parted;
+use crate::output::say;
 use clap::ArgMatches;
 use std::alloc::{AllocError, Global};
-use std::io;
 
 /// What the pieces of each rule are shown as, where the words say so.
 #[derive(Drop)]
@@ -32,15 +33,10 @@ fn has_rule(definition: &Definition, name: &str) -> bool {
 
 /// Why a word is refused, if it is.
 fn fault_of(definition: &Definition, word: &str) -> Option<&'static str> {
-    let Some((name, kind)) = word.split_once('=') else {
-        return Some("NAME=TOKENTYPE is wanted");
-    };
-    if class_of_type(kind).is_none() {
-        Some("the Language Server Protocol has no such token type")
-    } else if !has_rule(definition, name) {
-        Some("no rule has this name")
-    } else {
-        None
+    match parted(word) {
+        Ok((name, _)) if has_rule(definition, name) => None,
+        Ok(_) => Some("no rule has this name"),
+        Err(fault) => Some(fault),
     }
 }
 
@@ -78,11 +74,11 @@ pub fn map_of(
     rt: &HostRuntime,
     words: &ArgMatches<'_>,
     definition: &Definition,
-) -> io::Result<Option<Map>> {
+) -> Result<Option<Map>, AllocError> {
     let words = words.get_strs("map").unwrap_or(&[]);
     for word in words {
         if let Some(fault) = fault_of(definition, word) {
-            eprintln!(rt; "rolgumzai: --map {word}: {fault}")?;
+            say(rt, format_args!("rolgumzai: --map {word}: {fault}\n"));
             return Ok(None);
         }
     }

@@ -3,7 +3,7 @@ mod ending;
 mod lines;
 
 use crate::files::{Definition, name_of, rules_of, text_at, word_of};
-use crate::output::{FAULTY, UNABLE, output};
+use crate::output::{FAULTY, UNABLE, output, say};
 use clap::ArgMatches;
 use ending::{Ending, ending_of, ending_text};
 use lines::{LexerOf, token_of, write_token};
@@ -56,7 +56,7 @@ fn tell_end(
         }
         (None, None) => return Ok(0),
     };
-    eprint!(rt; "{shown}")?;
+    say(rt, &shown);
     Ok(status)
 }
 

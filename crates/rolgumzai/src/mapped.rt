@@ -1,0 +1,24 @@
+//! `--map NAME=TOKENTYPE`: what the pieces of rules are shown as.
+use clap::{Arg, ArgAction};
+use lrlex_lsp::is_token_type;
+use std::alloc::Global;
+
+/// What the pieces of a rule are shown as.
+pub fn map<'a>(alloc: Global) -> Arg<'a> {
+    Arg::new(alloc, "map")
+        .long("map")
+        .value_name("NAME=TOKENTYPE")
+        .help(
+            "Shows the tokens of rule NAME as this token type of the Language Server Protocol, or as plain text where none is given",
+        )
+        .action(ArgAction::Append)
+}
+
+/// The name and the token type of a word, which may be an empty text. Why the word is refused, if it is.
+pub fn parted(word: &str) -> Result<(&str, &str), &'static str> {
+    match word.split_once('=') {
+        Some((name, kind)) if kind.is_empty() || is_token_type(kind) => Ok((name, kind)),
+        Some(_) => Err("the Language Server Protocol has no such token type"),
+        None => Err("NAME=TOKENTYPE is wanted"),
+    }
+}
