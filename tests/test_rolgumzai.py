@@ -43,6 +43,7 @@ FILES = {
     "folder/input": "ab",
     "warned.l": "%x S\n%%\n[a-z]+ 'ID'\nif 'IF'\n",
     "initial.l": "%s INITIAL\n%%\né 'A'\nb 'A'\n",
+    "ends.l": "%%\n\\r 'CR'\n\\n 'LF'\n",
 }
 
 LINES = (
@@ -166,6 +167,10 @@ ROWS = [
             "\x1b[32m'5'\x1b[0m + _a \x1b[90m# 6\x1b[0m"
         ),
     ),
+    # control characters; ends of lines and tabs stay
+    ("highlight tokens.l -", "if\x1b[2J\r\n", Outcome("\x1b[31mif\x1b[0m\x1b[41m\ufffd[2J\r\n\x1b[0m", "", 1)),
+    ("highlight tokens.l -", '"a\r\n\tb\rc\x9b\r"', Outcome('\x1b[32m"a\r\n\tb\ufffdc\ufffd\ufffd"\x1b[0m')),
+    ("highlight ends.l -", "\r\n\r\r\n\n\r", Outcome("\r\n\ufffd\r\n\n\ufffd")),
     ("highlight tokens.l empty", "", Outcome()),
     ("highlight bad.l input", "", Outcome("", BAD, 1)),
     ("highlight tokens.l none", "", Outcome("", MISSING, 2)),
@@ -730,8 +735,8 @@ SHOWN = [
 
 
 def text_of_page(page):
-    """The text of a page's element pre, without tags and with characters read back."""
-    found = re.fullmatch(r"<!DOCTYPE html>.*?<pre>(.*)</pre>\n", page, re.S)
+    """The text of a page's element pre, without tags and with characters read back. As a browser does, it leaves out a first newline."""
+    found = re.fullmatch(r"<!DOCTYPE html>.*?<pre>\n?(.*)</pre>\n", page, re.S)
     if not found:
         raise AssertionError(f"no page: {page[:200]!r}")
     return html.unescape(re.sub(r"</?span[^>]*>", "", found.group(1)))
@@ -758,6 +763,12 @@ class Highlighted(unittest.TestCase):
     def test_as_a_page(self):
         self.check_each("<span class=", text_of_page, "--html")
 
+    def test_a_page_of_a_text_that_begins_with_a_newline(self):
+        for program in programs.by_each_compiler(PROGRAM):
+            for text in ["\n", "\n1", "\n\n1"]:
+                out, err, status = programs.run([program, "highlight", "--html", "rules/json.l", "-"], text)
+                self.assertEqual((text_of_page(out), err, status), (text, "", 0))
+
     def test_a_token_type_for_each_class(self):
         kinds = "class method variable keyword comment string number".split()
         classes = "type function name keyword comment text number".split()
@@ -766,7 +777,7 @@ class Highlighted(unittest.TestCase):
                 words = ["highlight", "--html", "--map", f"ID={kind}", "examples/tokens.l", "-"]
                 out, err, status = programs.run([program, *words], "ab")
                 self.assertEqual((err, status), ("", 0))
-                self.assertIn(f'<pre><span class="{wanted}">ab</span></pre>', out)
+                self.assertIn(f'<pre>\n<span class="{wanted}">ab</span></pre>', out)
 
     def test_names_in_either_case(self):
         for program in programs.by_each_compiler(PROGRAM):
@@ -778,7 +789,7 @@ class Highlighted(unittest.TestCase):
                 out, err, status = programs.run([program, "highlight", "--html", rules, "-"], "uvwxyz")
                 texts = "".join(f'<span class="text">{it}</span>' for it in "uvwx")
                 self.assertEqual((err, status), ("", 0))
-                self.assertIn(f'<pre>{texts}<span class="comment">y</span>z</pre>', out)
+                self.assertIn(f'<pre>\n{texts}<span class="comment">y</span>z</pre>', out)
 
 
 if __name__ == "__main__":

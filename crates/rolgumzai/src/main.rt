@@ -15,6 +15,8 @@ mod highlight;
 mod lsp;
 mod mapped;
 mod output;
+mod runs;
+mod shown;
 mod states;
 mod tokens;
 

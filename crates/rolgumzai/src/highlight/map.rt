@@ -45,7 +45,7 @@ fn class_by(words: &[&str], name: &str) -> Option<Class> {
     for word in words {
         if let Some((named, kind)) = word.split_once('=') {
             if named == name {
-                return class_of_type(kind);
+                return Some(class_of_type(kind));
             }
         }
     }

@@ -1,5 +1,7 @@
 //! How pieces are marked: for a terminal, or as a page of HTML.
 use crate::highlight::classes::Class;
+use crate::shown::shown_char;
+use lrlex::Span;
 use std::alloc::AllocError;
 
 /// The marks of a text.
@@ -11,6 +13,7 @@ pub enum Marks {
     Html,
 }
 
+/// A newline after `<pre>` is none of the text, so a first one of the text's own is shown.
 const HEAD: &str = "<!DOCTYPE html>\n<meta charset=\"utf-8\">\n<style>\n\
     pre { font: 14px/1.4 monospace; color: #24292f; }\n\
     .comment { color: #6a737d; font-style: italic; }\n\
@@ -20,62 +23,25 @@ const HEAD: &str = "<!DOCTYPE html>\n<meta charset=\"utf-8\">\n<style>\n\
     .type { color: #953800; }\n\
     .function { color: #8250df; }\n\
     .name { color: #116b7a; }\n\
-    .rest { background: #ffebe9; }\n</style>\n<pre>";
+    .rest { background: #ffebe9; }\n</style>\n<pre>\n";
 
-/// Adds the text, with the three characters that HTML reads as its own written out.
-fn push_escaped(page: &mut String, text: &str) -> Result<(), AllocError> {
-    for c in text.chars() {
-        match c {
-            '<' => page.push_str("&lt;")?,
-            '>' => page.push_str("&gt;")?,
-            '&' => page.push_str("&amp;")?,
-            _ => page.push(c)?,
-        }
-    }
-    Ok(())
-}
-
-/// Adds the text in an element of this class.
-fn push_span(page: &mut String, class: &str, text: &str) -> Result<(), AllocError> {
-    page.push_str("<span class=\"")?;
-    page.push_str(class)?;
-    page.push_str("\">")?;
-    push_escaped(page, text)?;
-    page.push_str("</span>")
-}
-
-/// Adds the text in a colour of the terminal.
-fn push_coloured(page: &mut String, colour: &str, text: &str) -> Result<(), AllocError> {
-    page.push_str("\u{1b}[")?;
-    page.push_str(colour)?;
-    page.push_str("m")?;
-    page.push_str(text)?;
-    page.push_str("\u{1b}[0m")
-}
-
-fn push_html(page: &mut String, class: Class, text: &str) -> Result<(), AllocError> {
-    match class {
-        Class::Plain => push_escaped(page, text),
-        Class::Comment => push_span(page, "comment", text),
-        Class::Keyword => push_span(page, "keyword", text),
-        Class::Number => push_span(page, "number", text),
-        Class::Text => push_span(page, "text", text),
-        Class::Type => push_span(page, "type", text),
-        Class::Function => push_span(page, "function", text),
-        Class::Name => push_span(page, "name", text),
+/// Adds a character, written out where HTML reads it as its own.
+fn push_escaped(page: &mut String, c: char) -> Result<(), AllocError> {
+    match c {
+        '<' => page.push_str("&lt;"),
+        '>' => page.push_str("&gt;"),
+        '&' => page.push_str("&amp;"),
+        _ => page.push(c),
     }
 }
 
-fn push_terminal(page: &mut String, class: Class, text: &str) -> Result<(), AllocError> {
-    match class {
-        Class::Plain => page.push_str(text),
-        Class::Comment => push_coloured(page, "90", text),
-        Class::Keyword => push_coloured(page, "31", text),
-        Class::Number => push_coloured(page, "34", text),
-        Class::Text => push_coloured(page, "32", text),
-        Class::Type => push_coloured(page, "33", text),
-        Class::Function => push_coloured(page, "35", text),
-        Class::Name => push_coloured(page, "36", text),
+/// The character that a terminal is given for this one, before this byte of the text: an end of a line stays, and U+FFFD stands for
+/// another control character than the tab.
+fn given(c: char, text: &str, next: usize) -> char {
+    match c {
+        '\n' => c,
+        '\r' if text.as_bytes().get(next) == Some(&b'\n') => c,
+        _ => shown_char(c),
     }
 }
 
@@ -96,20 +62,33 @@ impl Marks {
         }
     }
 
-    /// Adds a piece of this class.
-    pub fn push(self, page: &mut String, class: Class, text: &str) -> Result<(), AllocError> {
-        match self {
-            Marks::Terminal => push_terminal(page, class, text),
-            Marks::Html => push_html(page, class, text),
+    /// Adds the characters of a part of a text.
+    fn push_part(self, page: &mut String, text: &str, part: Span) -> Result<(), AllocError> {
+        let mut next = part.start();
+        for c in text.get(part.start()..part.end()).unwrap_or("").chars() {
+            next = next.saturating_add(c.len_utf8());
+            match self {
+                Marks::Terminal => page.push(given(c, text, next))?,
+                Marks::Html => push_escaped(page, c)?,
+            }
         }
+        Ok(())
     }
 
-    /// Adds what the rules don't cut, after the last piece.
-    pub fn push_rest(self, page: &mut String, text: &str) -> Result<(), AllocError> {
-        match self {
-            _ if text.is_empty() => Ok(()),
-            Marks::Terminal => push_coloured(page, "41", text),
-            Marks::Html => push_span(page, "rest", text),
-        }
+    /// Adds a part of a text, shown as this class.
+    pub fn push(
+        self,
+        page: &mut String,
+        class: Class,
+        text: &str,
+        part: Span,
+    ) -> Result<(), AllocError> {
+        let (begin, end) = match self {
+            Marks::Terminal => (class.terminal, "\u{1b}[0m"),
+            Marks::Html => (class.html, "</span>"),
+        };
+        page.push_str(begin)?;
+        self.push_part(page, text, part)?;
+        page.push_str(if begin.is_empty() { "" } else { end })
     }
 }

@@ -4,26 +4,28 @@ mod map;
 mod marks;
 mod types;
 
-use crate::files::{Definition, Types, rules_of, text_at, word_of};
+use crate::files::{Definition, rules_of, text_at, word_of};
 use crate::output::{FAULTY, UNABLE, print};
+use crate::runs::{Run, stop_of};
 use clap::ArgMatches;
-use classes::class_of;
-use lrlex::{LexRun, Piece};
+use classes::{REST, class_of};
+use lrlex::{Piece, Span};
 use map::{Map, map_of};
 use marks::Marks;
 use std::alloc::{AllocError, Global};
 use std::io;
 
-/// Adds these pieces, marked.
+/// Adds these pieces of a text, marked.
 fn push_pieces(
     page: &mut String,
     map: &Map,
+    text: &str,
     pieces: &[Piece<'_, '_>],
     marks: Marks,
 ) -> Result<(), AllocError> {
     for piece in pieces {
         let class = map.class_of(piece.rule).unwrap_or(class_of(piece));
-        marks.push(page, class, piece.text)?;
+        marks.push(page, class, text, piece.span)?;
     }
     Ok(())
 }
@@ -33,14 +35,17 @@ fn push_run(
     alloc: Global,
     page: &mut String,
     map: &Map,
-    run: &LexRun<'_, '_, Types>,
+    run: &Run<'_, '_>,
     marks: Marks,
 ) -> Result<(), AllocError> {
+    let text = run.text();
     let pieces = run.pieces(alloc)?;
-    push_pieces(page, map, pieces.as_slice(), marks)?;
-    match run.text().split_at_checked(run.end()) {
-        Some((_, rest)) => marks.push_rest(page, rest),
-        None => Ok(()),
+    push_pieces(page, map, text, pieces.as_slice(), marks)?;
+    let (begin, end) = (run.end(), text.len());
+    if begin < end {
+        marks.push(page, REST, text, Span::new(begin, end))
+    } else {
+        Ok(())
     }
 }
 
@@ -48,21 +53,13 @@ fn push_run(
 fn page_of(
     alloc: Global,
     map: &Map,
-    run: &LexRun<'_, '_, Types>,
+    run: &Run<'_, '_>,
     marks: Marks,
 ) -> Result<String, AllocError> {
     let mut page = String::from_str(alloc, marks.head())?;
     push_run(alloc, &mut page, map, run, marks)?;
     page.push_str(marks.tail())?;
     Ok(page)
-}
-
-/// Whether an error stopped the run.
-fn is_stopped(run: &LexRun<'_, '_, Types>) -> bool {
-    match run.items().last() {
-        Some(item) => item.is_err(),
-        None => false,
-    }
 }
 
 /// The input with its pieces marked, and after the last one the rest of it. Whether an error stopped lexing there.
@@ -74,7 +71,7 @@ fn marked(
     marks: Marks,
 ) -> Result<(String, bool), AllocError> {
     let run = definition.run(alloc, input)?;
-    Ok((page_of(alloc, map, &run, marks)?, is_stopped(&run)))
+    Ok((page_of(alloc, map, &run, marks)?, stop_of(&run).is_some()))
 }
 
 /// How the words want pieces to be marked.

@@ -1,5 +1,7 @@
-//! The token types of the Language Server Protocol 3.17, and what each is shown as.
-use crate::highlight::classes::Class;
+//! What the token types of the Language Server Protocol 3.17 are shown as.
+use crate::highlight::classes::{
+    COMMENT, Class, FUNCTION, KEYWORD, NAME, NUMBER, PLAIN, TEXT, TYPE,
+};
 
 /// Token types, with a blank between two, and what they are shown as.
 struct Row {
@@ -7,52 +9,45 @@ struct Row {
     class: Class,
 }
 
-static ROWS: [Row; 8] = [
+static ROWS: [Row; 7] = [
     Row {
         types: "namespace type class enum interface struct typeParameter",
-        class: Class::Type,
+        class: TYPE,
     },
     Row {
         types: "parameter variable property enumMember",
-        class: Class::Name,
+        class: NAME,
     },
     Row {
         types: "event function method macro decorator",
-        class: Class::Function,
+        class: FUNCTION,
     },
     Row {
         types: "keyword modifier",
-        class: Class::Keyword,
+        class: KEYWORD,
     },
     Row {
         types: "comment",
-        class: Class::Comment,
+        class: COMMENT,
     },
     Row {
         types: "string regexp",
-        class: Class::Text,
+        class: TEXT,
     },
     Row {
         types: "number",
-        class: Class::Number,
-    },
-    Row {
-        types: "operator",
-        class: Class::Plain,
+        class: NUMBER,
     },
 ];
 
-/// What a token type is shown as; plain where none is named, as by an empty text. None where there is no such type.
-pub fn class_of_type(name: &str) -> Option<Class> {
-    if name.is_empty() {
-        return Some(Class::Plain);
-    }
+/// What a token type is shown as. An operator is plain, and so is what has no type, by an empty text.
+pub fn class_of_type(kind: &str) -> Class {
     for row in &ROWS {
         for known in row.types.split(' ') {
-            if known == name {
-                return Some(row.class);
+            if known == kind {
+                return row.class;
             }
         }
     }
-    None
+    PLAIN
 }
