@@ -43,6 +43,7 @@ FILES = {
     "folder/input": "ab",
     "warned.l": "%x S\n%%\n[a-z]+ 'ID'\nif 'IF'\n",
     "initial.l": "%s INITIAL\n%%\né 'A'\nb 'A'\n",
+    "long.l": f"%x S\n%%\n{'é' * 80} 'A'\n{'é' * 79}[b]\t<+S>'B'\na|\x1b  ;\n",
     "ends.l": "%%\n\\r 'CR'\n\\n 'LF'\n",
 }
 
@@ -238,6 +239,20 @@ ROWS = [
             "    0  tokens.l:6: [ \\n]+ ;\n",
             "",
             1,
+        ),
+    ),
+    # 80 characters of a pattern, and no control characters
+    (
+        "explain long.l - 0",
+        "a",
+        Outcome(
+            "stdin:1:1: ; of long.l:5 wins with 1 byte: no other rule matches\n"
+            "1 | a\n  | ^\n"
+            "stack, from the bottom: INITIAL\n"
+            "bytes  active rules\n"
+            f"    0  long.l:3: {'é' * 80} 'A'\n"
+            f"    0  long.l:4: {'é' * 79}[...\t<+S>'B'\n"
+            "    1* long.l:5: a|\ufffd  ;\n"
         ),
     ),
     *((f"explain tokens.l input {word}", "", Outcome("", NO_PLACE.format(word), 2)) for word in NO_PLACES),

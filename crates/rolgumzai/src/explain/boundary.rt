@@ -1,12 +1,9 @@
 //! The boundary of a run at a byte, with its stack.
-use crate::files::{Definition, Types};
+use crate::files::Definition;
+use crate::runs::Run;
 use crate::states::state_name;
-use lrlex::LexRun;
 use std::alloc::AllocError;
 use std::fmt::Write;
-
-/// A run with the program's types.
-pub type Run<'d, 't> = LexRun<'d, 't, Types>;
 
 /// A boundary between pieces: its byte, and its stack from bottom to top, as entries of a count and a start state.
 #[derive(Clone, Copy)]

@@ -1,10 +1,11 @@
 //! What is explained, in lines.
 use crate::explain::active::{Active, active_in};
-use crate::explain::boundary::{Run, boundary_before, push_stack};
+use crate::explain::boundary::{boundary_before, push_stack};
 use crate::explain::reasons::reason;
 use crate::explain::rule_file::RuleFile;
 use crate::output::FAULTY;
-use lrlex::{LRLexError, Piece, Span};
+use crate::runs::{Run, stop_of};
+use lrlex::{LRLexError, LineCursor, Piece, Span};
 use lrlex_report::{place_text, stop_text_in};
 use std::alloc::{AllocError, Global};
 use std::fmt::Write;
@@ -36,24 +37,24 @@ fn found_at<'d, 't>(
     if let Some(piece) = pieces.first() {
         return Ok(Found::Piece(*piece));
     }
-    match run.items().last() {
-        Some(Err(error)) => Ok(Found::Stop(*error)),
-        _ => Ok(Found::End),
-    }
+    Ok(match stop_of(run) {
+        Some(error) => Found::Stop(error),
+        None => Found::End,
+    })
 }
 
 /// Which rule wins the piece, and why, with the piece's line.
 fn winner_text(
     alloc: Global,
-    rules: &RuleFile<'_>,
+    rules: RuleFile<'_>,
     input: Input<'_>,
     piece: &Piece<'_, '_>,
     active: &[Active],
 ) -> Result<String, AllocError> {
     let len = piece.text.len();
     let reason = reason(alloc, active, len)?;
-    let line = rules.line_of(piece.rule);
-    let (file, number) = (line.file, line.line);
+    let file = rules.file;
+    let number = rules.number_of(&mut LineCursor::new(rules.text), piece.rule);
     let name = piece.name.unwrap_or(";");
     let unit = if len == 1 { "byte" } else { "bytes" };
     let message = format!(in alloc; "{name} of {file}:{number} wins with {len} {unit}: {reason}")?;
@@ -63,7 +64,7 @@ fn winner_text(
 /// What is found, with its line.
 fn found_text(
     alloc: Global,
-    rules: &RuleFile<'_>,
+    rules: RuleFile<'_>,
     input: Input<'_>,
     found: &Found<'_, '_>,
     active: &[Active],
@@ -83,17 +84,19 @@ fn found_text(
 /// Adds the line of each active rule. That of the winner has an asterisk.
 fn push_active(
     shown: &mut String,
-    rules: &RuleFile<'_>,
+    rules: RuleFile<'_>,
     active: &[Active],
     winner: Option<usize>,
 ) -> Result<(), AllocError> {
     shown.push_str("bytes  active rules\n")?;
+    let mut cursor = LineCursor::new(rules.text);
     for one in active {
-        let line = rules.line_of(one.rule);
         let mark = if winner == Some(one.rule) { '*' } else { ' ' };
-        let (len, file, number) = (one.len, line.file, line.line);
-        let (front, back) = (line.front, line.back);
-        write!(shown, "{len:>5}{mark} {file}:{number}: {front}{back}\n")?;
+        let (len, file) = (one.len, rules.file);
+        let number = rules.number_of(&mut cursor, one.rule);
+        write!(shown, "{len:>5}{mark} {file}:{number}: ")?;
+        rules.push_line(shown, one.rule)?;
+        shown.push_str("\n")?;
     }
     Ok(())
 }
@@ -117,7 +120,7 @@ fn status_of(found: &Found<'_, '_>) -> u8 {
 /// What is found, the start states on the stack, and the active rules, in lines.
 fn lines_of(
     alloc: Global,
-    rules: &RuleFile<'_>,
+    rules: RuleFile<'_>,
     input: Input<'_>,
     found: &Found<'_, '_>,
     stack: &[(usize, usize)],
@@ -132,7 +135,7 @@ fn lines_of(
 /// What is to be said of a byte of a run's text, and the status.
 fn explained_in(
     alloc: Global,
-    rules: &RuleFile<'_>,
+    rules: RuleFile<'_>,
     input: Input<'_>,
     run: &Run<'_, '_>,
     offset: usize,
@@ -148,7 +151,7 @@ fn explained_in(
 /// What is to be said of a byte of a text, and the status.
 pub fn explained(
     alloc: Global,
-    rules: &RuleFile<'_>,
+    rules: RuleFile<'_>,
     input: Input<'_>,
     offset: usize,
 ) -> Result<(String, u8), AllocError> {

@@ -26,7 +26,7 @@ fn refuse(rt: &HostRuntime, input: Input<'_>, word: &str) {
 }
 
 /// Explains the place of a text that a word names by the rules. Gives the status.
-fn explain(rt: &HostRuntime, rules: &RuleFile<'_>, input: Input<'_>, word: &str) -> io::Result<u8> {
+fn explain(rt: &HostRuntime, rules: RuleFile<'_>, input: Input<'_>, word: &str) -> io::Result<u8> {
     let Some(offset) = byte_named(input.text, word) else {
         refuse(rt, input, word);
         return Ok(UNABLE);
@@ -46,11 +46,14 @@ pub fn serve(rt: &HostRuntime, words: &ArgMatches<'_>) -> io::Result<u8> {
     let Some(text) = text_at(rt, path)? else {
         return Ok(UNABLE);
     };
-    let file = name_of(word_of(words, "rules"));
-    let rules = RuleFile::new(rt.alloc(), file, &rules, &definition)?;
+    let rules = RuleFile {
+        file: name_of(word_of(words, "rules")),
+        text: &rules,
+        definition: &definition,
+    };
     let input = Input {
         file: name_of(path),
         text: &text,
     };
-    explain(rt, &rules, input, word_of(words, "place"))
+    explain(rt, rules, input, word_of(words, "place"))
 }

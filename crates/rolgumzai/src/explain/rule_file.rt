@@ -1,27 +1,18 @@
-//! The rule file, for naming the line of a rule.
-use crate::files::{Definition, Types};
-use lrlex::{LRNonStreamingLexer, NewlineCache};
-use std::alloc::{AllocError, Global};
+//! The rule file, for showing the lines of rules.
+use crate::files::Definition;
+use crate::shown::{push_first, push_shown};
+use lrlex::LineCursor;
+use std::alloc::AllocError;
 
-/// A rule file: its name, its text, the places in it, and its definition.
-#[derive(Drop)]
-pub struct RuleFile<'a> {
-    file: &'a str,
-    text: &'a str,
-    places: LRNonStreamingLexer<'a, 'a, Types>,
-    pub definition: &'a Definition,
-}
+/// How many characters of a pattern are shown.
+const MOST: usize = 80;
 
-/// The line of a rule, as its file has it.
+/// A rule file: its name, its text, and its definition.
 #[derive(Clone, Copy)]
-pub struct RuleLine<'a> {
+pub struct RuleFile<'a> {
     pub file: &'a str,
-    /// The line's number, from 1.
-    pub line: usize,
-    /// The line up to where the rule is named.
-    pub front: &'a str,
-    /// The rest of it.
-    pub back: &'a str,
+    pub text: &'a str,
+    pub definition: &'a Definition,
 }
 
 /// What follows the last end of a line.
@@ -40,35 +31,35 @@ fn first_line(text: &str) -> &str {
     }
 }
 
-impl<'a> RuleFile<'a> {
-    /// The rule file of this name and text, with its definition.
-    pub fn new(
-        alloc: Global,
-        file: &'a str,
-        text: &'a str,
-        definition: &'a Definition,
-    ) -> Result<RuleFile<'a>, AllocError> {
-        let newlines = NewlineCache::from_str(alloc, text)?;
-        Ok(RuleFile {
-            file,
-            text,
-            places: LRNonStreamingLexer::new(text, Vec::new(alloc), newlines),
-            definition,
-        })
-    }
+/// The line of a rule up to its name, parted behind the pattern, which is before the last blank.
+fn parted(front: &str) -> (&str, &str) {
+    let pattern = front.trim_end_matches(|c: char| c != ' ' && c != '\t');
+    front
+        .split_at_checked(pattern.trim_end().len())
+        .unwrap_or(("", front))
+}
 
-    /// The line of the rule at this place among the rules.
-    pub fn line_of(&self, rule: usize) -> RuleLine<'a> {
-        let at = match self.definition.rules().get(rule) {
+impl RuleFile<'_> {
+    /// The byte at which the rule at this place among the rules is named.
+    fn name_at(self, rule: usize) -> usize {
+        match self.definition.rules().get(rule) {
             Some(rule) => rule.name_span().start(),
             None => 0,
-        };
-        let (front, back) = self.text.split_at_checked(at).unwrap_or(("", ""));
-        RuleLine {
-            file: self.file,
-            line: self.places.place(at).0,
-            front: last_line(front),
-            back: first_line(back).trim_end(),
         }
+    }
+
+    /// The number of a rule's line, from 1. The cursor, one of the rule text, moves there.
+    pub fn number_of(self, cursor: &mut LineCursor<'_>, rule: usize) -> usize {
+        cursor.place(self.name_at(rule)).0
+    }
+
+    /// Adds the line of a rule. Of a long pattern, with its list of start states, only the first characters are shown.
+    pub fn push_line(self, shown: &mut String, rule: usize) -> Result<(), AllocError> {
+        let at = self.name_at(rule);
+        let (front, back) = self.text.split_at_checked(at).unwrap_or(("", ""));
+        let (pattern, target) = parted(last_line(front));
+        push_first(shown, pattern, MOST)?;
+        push_shown(shown, target)?;
+        push_shown(shown, first_line(back).trim_end())
     }
 }

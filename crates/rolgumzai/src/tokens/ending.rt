@@ -1,12 +1,10 @@
 //! A text that ends within a start state.
-use crate::files::{Definition, Types};
+use crate::files::Definition;
+use crate::runs::Run;
 use crate::states::state_name;
-use lrlex::{LexRun, Span};
+use lrlex::Span;
 use lrlex_report::place_text;
 use std::alloc::{AllocError, Global};
-
-/// A run with the program's types.
-type Run<'d, 't> = LexRun<'d, 't, Types>;
 
 /// The start state in which a text ends, and the piece that entered it.
 #[derive(Clone, Copy)]

@@ -1,14 +1,11 @@
 //! A token, and its line.
-use crate::files::{Definition, Types};
 use crate::output::{Output, json_of};
-use lrlex::{DefaultLexeme, LRNonStreamingLexer, Lexeme, LineCursor};
+use crate::runs::Run;
+use lrlex::{DefaultLexeme, Lexeme, LineCursor};
 use serde::Serialize;
 use std::alloc::Global;
 use std::io;
 use std::io::Write;
-
-/// A lexer with the program's types.
-pub type LexerOf<'d, 't> = LRNonStreamingLexer<'d, 't, Types>;
 
 /// A token, as a line of JSON has it. Bytes count from 0, lines and columns from 1, columns in characters.
 #[derive(Drop, Serialize)]
@@ -23,10 +20,9 @@ pub struct Token<'a> {
     end_column: usize,
 }
 
-/// The token of a lexeme. The cursor moves to its end.
+/// The token of a run's lexeme. The cursor moves to its end.
 pub fn token_of<'a>(
-    definition: &'a Definition,
-    lexer: &LexerOf<'a, 'a>,
+    run: &Run<'a, 'a>,
     cursor: &mut LineCursor<'_>,
     lexeme: &DefaultLexeme<u32>,
 ) -> Token<'a> {
@@ -34,8 +30,8 @@ pub fn token_of<'a>(
     let (line, column) = cursor.place(span.start());
     let (end_line, end_column) = cursor.place(span.end());
     Token {
-        name: definition.name_of(lexeme.tok_id()).unwrap_or(""),
-        text: lexer.text_of(span),
+        name: run.definition().name_of(lexeme.tok_id()).unwrap_or(""),
+        text: run.text().get(span.start()..span.end()).unwrap_or(""),
         start: span.start(),
         end: span.end(),
         line,

@@ -4,58 +4,47 @@ mod lines;
 
 use crate::files::{Definition, name_of, rules_of, text_at, word_of};
 use crate::output::{FAULTY, UNABLE, output, say};
+use crate::runs::{Run, stop_of};
 use clap::ArgMatches;
-use ending::{Ending, ending_of, ending_text};
-use lines::{LexerOf, token_of, write_token};
-use lrlex::{LRLexError, Lexer, LineCursor};
+use ending::{ending_of, ending_text};
+use lines::{token_of, write_token};
+use lrlex::LineCursor;
 use lrlex_report::stop_text_in;
+use std::alloc::{AllocError, Global};
 use std::io;
 use std::io::Write;
 
-/// Writes a line for each token of a text. Gives the error that stopped lexing, if one did.
-fn write_tokens<'a>(
-    rt: &HostRuntime,
-    definition: &'a Definition,
-    lexer: &LexerOf<'a, 'a>,
-    input: &str,
-    is_json: bool,
-) -> io::Result<Option<LRLexError>> {
+/// Writes a line for each token of a run.
+fn write_tokens(rt: &HostRuntime, run: &Run<'_, '_>, is_json: bool) -> io::Result<()> {
     let mut out = output(rt)?;
-    let mut cursor = LineCursor::new(input);
-    let mut stop = None;
-    for item in lexer.iter() {
-        match item {
-            Ok(lexeme) => {
-                let token = token_of(definition, lexer, &mut cursor, &lexeme);
-                write_token(rt.alloc(), &mut out, &token, is_json)?;
-            }
-            Err(error) => stop = Some(error),
+    let mut cursor = LineCursor::new(run.text());
+    for item in run.items() {
+        if let Ok(lexeme) = item {
+            let token = token_of(run, &mut cursor, lexeme);
+            write_token(rt.alloc(), &mut out, &token, is_json)?;
         }
     }
-    out.flush()?;
-    Ok(stop)
+    out.flush()
 }
 
-/// Reports where lexing stopped, or in which start state the text ends. Gives the status.
-fn tell_end(
-    rt: &HostRuntime,
-    definition: &Definition,
-    file: &str,
-    input: &str,
-    stop: Option<LRLexError>,
-    ending: Option<Ending>,
-) -> io::Result<u8> {
-    let (shown, status) = match (stop, ending) {
-        (Some(error), _) => {
-            let shown = stop_text_in(rt.alloc(), definition, file, input, &error)?;
-            (shown, FAULTY)
-        }
-        (None, Some(ending)) => {
-            let shown = ending_text(rt.alloc(), definition, file, input, ending)?;
-            (shown, 0)
-        }
-        (None, None) => return Ok(0),
+/// Where lexing a text of this file stopped, or in which start state the text ends, as people read it, and the status.
+fn end_text(alloc: Global, run: &Run<'_, '_>, file: &str) -> Result<(String, u8), AllocError> {
+    let (definition, input) = (run.definition(), run.text());
+    if let Some(error) = stop_of(run) {
+        let shown = stop_text_in(alloc, definition, file, input, &error)?;
+        return Ok((shown, FAULTY));
+    }
+    let shown = match ending_of(run) {
+        Some(ending) => ending_text(alloc, definition, file, input, ending)?,
+        None => String::new(alloc),
     };
+    Ok((shown, 0))
+}
+
+/// Prints the tokens of a run of this file's text, and then what is to be said of its end. Gives the status.
+fn show_run(rt: &HostRuntime, run: &Run<'_, '_>, file: &str, is_json: bool) -> io::Result<u8> {
+    write_tokens(rt, run, is_json)?;
+    let (shown, status) = end_text(rt.alloc(), run, file)?;
     say(rt, &shown);
     Ok(status)
 }
@@ -69,10 +58,7 @@ fn show(
     is_json: bool,
 ) -> io::Result<u8> {
     let run = definition.run(rt.alloc(), input)?;
-    let ending = ending_of(&run);
-    let lexer = run.into_lexer(rt.alloc())?;
-    let stop = write_tokens(rt, definition, &lexer, input, is_json)?;
-    tell_end(rt, definition, file, input, stop, ending)
+    show_run(rt, &run, file, is_json)
 }
 
 /// Prints the tokens of the input that the words name, by these rules. Gives the status.
