@@ -8,6 +8,7 @@ import html
 import json
 import os
 import re
+import shlex
 import subprocess
 import tempfile
 import unittest
@@ -730,12 +731,12 @@ class Page(unittest.TestCase):
 
     def test_each_output_is_real(self):
         page = programs.read("docs/rolgumzai.md")
-        blocks = re.findall(r"^```\n\$ ((?:printf '[^']*' \| )?)\./rolgumzai (.*)\n((?:(?!```).*\n)*)```", page, re.M)
-        self.assertGreaterEqual(len(blocks), 6)
+        blocks = re.findall(r"^```\n\$ (.*\./rolgumzai .*)\n((?:(?!```).*\n)*)```", page, re.M)
+        self.assertGreaterEqual(len(blocks), 8)
         for program in programs.by_each_compiler(PROGRAM):
-            for given, words, shown in blocks:
-                with self.subTest(words=words, program=program):
-                    came = programs.run([program, *words.split()], given[len("printf '"):-len("' | ")])
+            for line, shown in blocks:
+                with self.subTest(line=line, program=program):
+                    came = programs.run(["sh", "-c", line.replace("./rolgumzai", shlex.quote(program))])
                     self.assertEqual(came.out + came.err, shown)
 
 
