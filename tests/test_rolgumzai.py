@@ -45,6 +45,7 @@ FILES = {
     "warned.l": "%x S\n%%\n[a-z]+ 'ID'\nif 'IF'\n",
     "initial.l": "%s INITIAL\n%%\né 'A'\nb 'A'\n",
     "long.l": f"%x S\n%%\n{'é' * 80} 'A'\n{'é' * 79}[b]\t<+S>'B'\na|\x1b  ;\n",
+    "returns.l": "%%\r[a-z]+ 'ID'\x0b[0-9]+ 'INT'\u2028= '='\u2029== '=='\r\n",
     "ends.l": "%%\n\\r 'CR'\n\\n 'LF'\n",
 }
 
@@ -240,6 +241,21 @@ ROWS = [
             "    0  tokens.l:6: [ \\n]+ ;\n",
             "",
             1,
+        ),
+    ),
+    # each end of a line of a rule file; lines count by newlines alone
+    (
+        "explain returns.l - 0",
+        "==",
+        Outcome(
+            "stdin:1:1: == of returns.l:1 wins with 2 bytes: no other rule matches as many\n"
+            "1 | ==\n  | ^^\n"
+            "stack, from the bottom: INITIAL\n"
+            "bytes  active rules\n"
+            "    0  returns.l:1: [a-z]+ 'ID'\n"
+            "    0  returns.l:1: [0-9]+ 'INT'\n"
+            "    1  returns.l:1: = '='\n"
+            "    2* returns.l:1: == '=='\n"
         ),
     ),
     # 80 characters of a pattern, and no control characters

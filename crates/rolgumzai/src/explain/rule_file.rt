@@ -15,9 +15,14 @@ pub struct RuleFile<'a> {
     pub definition: &'a Definition,
 }
 
+/// Whether this ends a line of a rule file.
+fn is_line_end(c: char) -> bool {
+    matches!(c, '\n' | '\u{b}' | '\r' | '\u{2028}' | '\u{2029}')
+}
+
 /// What follows the last end of a line.
 fn last_line(text: &str) -> &str {
-    match text.rsplit_once('\n') {
+    match text.rsplit_once(|c: char| is_line_end(c)) {
         Some((_, line)) => line,
         None => text,
     }
@@ -25,7 +30,7 @@ fn last_line(text: &str) -> &str {
 
 /// What precedes the first end of a line.
 fn first_line(text: &str) -> &str {
-    match text.split_once('\n') {
+    match text.split_once(|c: char| is_line_end(c)) {
         Some((line, _)) => line,
         None => text,
     }
