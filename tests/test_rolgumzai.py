@@ -174,6 +174,8 @@ ROWS = [
     ("highlight tokens.l -", "if\x1b[2J\r\n", Outcome("\x1b[31mif\x1b[0m\x1b[41m\ufffd[2J\r\n\x1b[0m", "", 1)),
     ("highlight tokens.l -", '"a\r\n\tb\rc\x9b\r"', Outcome('\x1b[32m"a\r\n\tb\ufffdc\ufffd\ufffd"\x1b[0m')),
     ("highlight ends.l -", "\r\n\r\r\n\n\r", Outcome("\r\n\ufffd\r\n\n\ufffd")),
+    # a name that has the sign
+    ("highlight --map ===keyword --map ==string returns.l -", "===", Outcome("\x1b[31m==\x1b[0m\x1b[32m=\x1b[0m")),
     ("highlight tokens.l empty", "", Outcome()),
     ("highlight bad.l input", "", Outcome("", BAD, 1)),
     ("highlight tokens.l none", "", Outcome("", MISSING, 2)),

@@ -14,9 +14,10 @@ pub fn map<'a>(alloc: Global) -> Arg<'a> {
         .action(ArgAction::Append)
 }
 
-/// The name and the token type of a word, which may be an empty text. Why the word is refused, if it is.
+/// The name and the token type of a word: what is before its last `=`, since a name may have one, and what is after it, perhaps
+/// nothing. Why the word is refused, if it is.
 pub fn parted(word: &str) -> Result<(&str, &str), &'static str> {
-    match word.split_once('=') {
+    match word.rsplit_once('=') {
         Some((name, kind)) if kind.is_empty() || is_token_type(kind) => Ok((name, kind)),
         Some(_) => Err("the Language Server Protocol has no such token type"),
         None => Err("NAME=TOKENTYPE is wanted"),

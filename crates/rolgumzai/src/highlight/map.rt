@@ -43,7 +43,7 @@ fn fault_of(definition: &Definition, word: &str) -> Option<&'static str> {
 /// What the words say of a name: the first that names it decides.
 fn class_by(words: &[&str], name: &str) -> Option<Class> {
     for word in words {
-        if let Some((named, kind)) = word.split_once('=') {
+        if let Some((named, kind)) = word.rsplit_once('=') {
             if named == name {
                 return Some(class_of_type(kind));
             }
