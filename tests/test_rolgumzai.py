@@ -803,6 +803,11 @@ class Highlighted(unittest.TestCase):
                 out, err, status = programs.run([program, "highlight", "--html", "rules/json.l", "-"], text)
                 self.assertEqual((text_of_page(out), err, status), (text, "", 0))
 
+    def test_control_characters_of_a_page(self):
+        for program in programs.by_each_compiler(PROGRAM):
+            out, err, status = programs.run([program, "highlight", "--html", "rules/json.l", "-"], '"a\t\0\x7f\r\n\r"')
+            self.assertEqual((text_of_page(out), err, status), ('"a\t\ufffd\ufffd\r\n\ufffd"', "", 0))
+
     def test_a_token_type_for_each_class(self):
         kinds = "class method variable keyword comment string number".split()
         classes = "type function name keyword comment text number".split()

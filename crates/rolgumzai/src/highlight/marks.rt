@@ -13,8 +13,9 @@ pub enum Marks {
     Html,
 }
 
-/// A newline after `<pre>` is none of the text, so a first one of the text's own is shown.
-const HEAD: &str = "<!DOCTYPE html>\n<meta charset=\"utf-8\">\n<style>\n\
+/// What precedes the text in a page. A newline after `<pre>` is none of the text, so a first one of the text's own is shown.
+const HEAD: &str =
+    "<!DOCTYPE html>\n<meta charset=\"utf-8\">\n<title>Highlighted</title>\n<style>\n\
     pre { font: 14px/1.4 monospace; color: #24292f; }\n\
     .comment { color: #6a737d; font-style: italic; }\n\
     .keyword { color: #cf222e; }\n\
@@ -35,8 +36,8 @@ fn push_escaped(page: &mut String, c: char) -> Result<(), AllocError> {
     }
 }
 
-/// The character that a terminal is given for this one, before this byte of the text: an end of a line stays, and U+FFFD stands for
-/// another control character than the tab.
+/// The character that is shown for this one, before this byte of the text: an end of a line stays, and U+FFFD stands for another
+/// control character than the tab.
 fn given(c: char, text: &str, next: usize) -> char {
     match c {
         '\n' => c,
@@ -67,8 +68,9 @@ impl Marks {
         let mut next = part.start();
         for c in text.get(part.start()..part.end()).unwrap_or("").chars() {
             next = next.saturating_add(c.len_utf8());
+            let c = given(c, text, next);
             match self {
-                Marks::Terminal => page.push(given(c, text, next))?,
+                Marks::Terminal => page.push(c)?,
                 Marks::Html => push_escaped(page, c)?,
             }
         }
