@@ -1,19 +1,10 @@
 -- Ids by names, entry by entry.
-use Rattle.std.proofs.Common.{◌≡◌, ℕ, ◌+◌, ◌<◌, Bool, true, false, cond, not, ◌||◌, List, [], ◌∷◌, ◌++◌, length, map, take, get_or, refl, sym, ap, ◌∙◌, Option, Some, option_map, reverse}
+use Rattle.std.proofs.Common.{◌≡◌, ℕ, ◌+◌, ◌<◌, Bool, true, false, cond, List, [], ◌∷◌, ◌++◌, length, map, take, get_or, refl, sym, ap, ◌∙◌, Option, Some, option_map, reverse}
 use Rattle.std.proofs.lemmas.List.{map_more, reverse-append}
 use Rattle.std.specs.List.{find}
 use Rattle.std.specs.Str.{bytes_eq}
 use Rattle.lrlex_handles.specs.NamedIds.{id_by}
 use Rattle.lrlex_handles.specs.declared.structs.NamedId.{NamedId}
-
--- none of the others, and this one or not
-pub now_there : (b p : Bool) → p ≡ true → false ≡ not (b || p)
-now_there true p e = refl
-now_there false p e = ap not (sym e)
-
-pub as_before : (b p : Bool) → p ≡ false → not b ≡ not (b || p)
-as_before true p e = refl
-as_before false p e = ap not (sym e)
 
 -- a list as it is
 same_list : {X : Type 0} (xs : List X) → map (λ x. x) xs ≡ xs

@@ -1,5 +1,6 @@
 //! Ids of rules by their names.
 ghost use Rattle.std.specs.Prelude.{◌≡◌, ◌≢◌, ◌↔◌, ℕ, List, length, map, pos, None, Some, IfOk, IfSome};
+ghost use Rattle.std.specs.List.{list_any};
 ghost use Rattle.lrlex.specs.Ids.{ids_of, is_named, with_ids};
 ghost use Rattle.lrlex.specs.Views.{definition_of};
 ghost use Rattle.lrlex_rules.specs.RuleParts.{as_rule};
@@ -26,17 +27,18 @@ fn has_name(rule: &Rule<u32>, name: &[u8]) -> bool
     }
 }
 
+/// Whether one of the rules has the name.
+fn is_there(rules: &[Rule<u32>], name: &[u8]) -> bool
+    ensures { result ≡ list_any (λ r. is_named name.now (as_rule (λ n. n) r)) rules.now }
+{
+    rules.iter().any(|rule| has_name(rule, name))
+}
+
 /// Whether no rule has the name.
 fn is_missing(rules: &[Rule<u32>], name: &[u8]) -> bool
     ensures { result ≡ is_missing (map (as_rule (λ n. n)) rules.now) name.now }
 {
-    let mut missing = true;
-    for rule in rules {
-        if has_name(rule, name) {
-            missing = false;
-        }
-    }
-    missing
+    !is_there(rules, name)
 }
 
 /// Writes of as many of the names as there is room for whether no rule has it.
