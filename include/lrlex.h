@@ -30,8 +30,9 @@
  *
  * Pointers. No pointer may be NULL, even with a length of 0. Pointers that a call writes to must not overlap with others of the call.
  *
- * Failures. A call that returns an int returns a lrlex_status. LRLEX_NOMEM can come from each call that says so; after it the handle is
- * as it was, and the call can be made again. No call prints, exits, raises a signal, calls back or keeps a pointer of the caller.
+ * Failures. A call that returns an int returns a lrlex_status. LRLEX_NOMEM can come from each call that says so; after it a handle that
+ * the call is to fill is empty, any other is as it was, and the call can be made again. No call prints, exits, raises a signal, calls
+ * back or keeps a pointer of the caller.
  *
  * Threads. A handle is used by one call at a time, on any thread. Handles of one definition (shared ones, its documents and its scanners)
  * may be used by several threads at the same time: what they share is only read, and counted atomically. There is no global state.
