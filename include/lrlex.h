@@ -71,7 +71,7 @@ uint32_t lrlex_version(void);
 
 typedef enum lrlex_status {
     LRLEX_OK = 0,
-    LRLEX_REFUSED = 1,      /* the rule text has errors; the handle has them */
+    LRLEX_REFUSED = 1,      /* the rule text has faults; the handle has them */
     LRLEX_NOMEM = 2,        /* out of memory */
     LRLEX_NOT_UTF8 = 3,     /* a text is not UTF-8 */
     LRLEX_MISUSE = 4,       /* the handle is empty, or of another kind */
@@ -82,7 +82,7 @@ typedef enum lrlex_status {
 
 /* ---- Handles ---- */
 
-/* A definition, or the errors of the rule text that it was to be read from. */
+/* A definition, or the faults of the rule text that it was to be read from. */
 typedef struct lrlex_definition { void *hidden; } lrlex_definition;
 
 /* A text that is edited and kept lexed. */
@@ -128,7 +128,7 @@ typedef struct lrlex_options {
 #define LRLEX_OPTIONS { 0, 0, 0, 0, 0, 0, false }
 
 /* Reads a rule text. What `out` has is freed first.
- * LRLEX_OK: `out` has the definition. LRLEX_REFUSED: `out` has the errors of the text, for the calls lrlex_fault_*; free it too.
+ * LRLEX_OK: `out` has the definition. LRLEX_REFUSED: `out` has the faults of the text, for the calls lrlex_fault_*; free it too.
  * LRLEX_NOT_UTF8, LRLEX_NOMEM: `out` is empty. */
 int lrlex_definition_new(lrlex_definition *out, const uint8_t *rules, size_t rules_len, const lrlex_options *options);
 
@@ -136,9 +136,9 @@ int lrlex_definition_new(lrlex_definition *out, const uint8_t *rules, size_t rul
  * LRLEX_OK; LRLEX_MISUSE, LRLEX_NOMEM: `out` is empty. */
 int lrlex_definition_share(lrlex_definition *d, lrlex_definition *out);
 
-/* ---- Errors of a rule text ---- */
+/* ---- Faults of a rule text ---- */
 
-/* The kinds of errors. */
+/* The kinds of faults. */
 enum {
     LRLEX_PREMATURE_END = 0, LRLEX_ROUTINES_NOT_SUPPORTED = 1, LRLEX_UNKNOWN_DECLARATION = 2, LRLEX_MISSING_SPACE = 3,
     LRLEX_INVALID_NAME = 4, LRLEX_UNKNOWN_START_STATE = 5, LRLEX_DUPLICATE_START_STATE = 6, LRLEX_INVALID_START_STATE = 7,
@@ -146,7 +146,7 @@ enum {
     LRLEX_TOO_MANY_RULES = 12
 };
 
-/* An error: its kind, its first span in the rule text, in bytes, with line and column, and how many spans it has. */
+/* A fault: its kind, its first span in the rule text, in bytes, with line and column, and how many spans it has. */
 typedef struct lrlex_fault {
     size_t start, end;
     size_t line, column; /* of start, from 1; the column counts characters */
@@ -160,22 +160,22 @@ typedef struct lrlex_fault_span {
     size_t line, column; /* of start, from 1; the column counts characters */
 } lrlex_fault_span;
 
-/* How many errors the handle has: at least one after LRLEX_REFUSED, and else 0. Cannot fail. */
+/* How many faults the handle has: at least one after LRLEX_REFUSED, and else 0. Cannot fail. */
 size_t lrlex_fault_count(lrlex_definition *d);
 
-/* The error at this index. LRLEX_OK; LRLEX_NONE: there are fewer; LRLEX_MISUSE: the handle has no errors. */
+/* The fault at this index. LRLEX_OK; LRLEX_NONE: there are fewer; LRLEX_MISUSE: the handle has no faults. */
 int lrlex_fault_at(lrlex_definition *d, size_t index, lrlex_fault *out);
 
-/* A span of the error at this index. Span 0 is that of lrlex_fault_at. Of a duplicate it is the first place, and the others are
+/* A span of the fault at this index. Span 0 is that of lrlex_fault_at. Of a duplicate it is the first place, and the others are
  * where it is declared again.
- * LRLEX_OK; LRLEX_NONE: there are fewer errors or fewer spans; LRLEX_MISUSE. */
+ * LRLEX_OK; LRLEX_NONE: there are fewer faults or fewer spans; LRLEX_MISUSE. */
 int lrlex_fault_span_at(lrlex_definition *d, size_t index, size_t span, lrlex_fault_span *out);
 
-/* What the error at this index is, in English, without a full stop. `len` is how many bytes that takes.
+/* What the fault at this index is, in English, without a full stop. `len` is how many bytes that takes.
  * LRLEX_OK; LRLEX_NONE; LRLEX_MISUSE; LRLEX_NOMEM. */
 int lrlex_fault_text(lrlex_definition *d, size_t index, uint8_t *out, size_t cap, size_t *len);
 
-/* A report of all errors for people: of each FILE:LINE:COLUMN, the message, the line, and carets under the place. `file` is the
+/* A report of all faults for people: of each FILE:LINE:COLUMN, the message, the line, and carets under the place. `file` is the
  * name to show. `len` is how many bytes that takes.
  * LRLEX_OK; LRLEX_NOT_UTF8; LRLEX_MISUSE; LRLEX_NOMEM. */
 int lrlex_fault_report(lrlex_definition *d, const uint8_t *file, size_t file_len, uint8_t *out, size_t cap, size_t *len);

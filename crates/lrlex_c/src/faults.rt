@@ -1,4 +1,4 @@
-//! The errors of a refused rule text.
+//! The faults of a refused rule text.
 ghost use Rattle.std.specs.Option.{option_map_or};
 ghost use Rattle.std.specs.Prelude.{◌≡◌, ◌↔◌, length, pos, None, Some, IfSome};
 ghost use Rattle.lrlex_rules.specs.LexBuildError.{fault_kind, kind_text};
@@ -12,7 +12,7 @@ use lrlex_handles::structs::{Fault, FaultSpan};
 use lrlex_handles::{error_texts, errors};
 use std::alloc::Global;
 
-/// How many errors the handle has.
+/// How many faults the handle has.
 #[unsafe(no_mangle)]
 pub extern "C" fn lrlex_fault_count(alloc: Global, handle: &mut Handle) -> usize
     ensures kept { handle.new.value ≡ handle.old.value }
@@ -21,7 +21,7 @@ pub extern "C" fn lrlex_fault_count(alloc: Global, handle: &mut Handle) -> usize
     errors::fault_count(alloc, handle)
 }
 
-/// The error at this index, from 0.
+/// The fault at this index, from 0.
 #[unsafe(no_mangle)]
 pub extern "C" fn lrlex_fault_at(
     alloc: Global,
@@ -37,7 +37,7 @@ pub extern "C" fn lrlex_fault_at(
     errors::fault_at(alloc, handle, index, out)
 }
 
-/// A span of the error at this index, both from 0.
+/// A span of the fault at this index, both from 0.
 #[unsafe(no_mangle)]
 pub extern "C" fn lrlex_fault_span_at(
     alloc: Global,
@@ -56,7 +56,7 @@ pub extern "C" fn lrlex_fault_span_at(
     errors::fault_span_at(alloc, handle, index, span, out)
 }
 
-/// What the error at this index is, in English, without a full stop. As many bytes are written as there is room for.
+/// What the fault at this index is, in English, without a full stop. As many bytes are written as there is room for.
 #[unsafe(no_mangle)]
 pub extern "C" fn lrlex_fault_text(
     alloc: Global,
@@ -74,7 +74,7 @@ pub extern "C" fn lrlex_fault_text(
     error_texts::fault_text(alloc, handle, index, out, len)
 }
 
-/// The report of all errors, each with its line and carets. `file` is the file name that it shows. As many bytes are written as there
+/// The report of all faults, each with its line and carets. `file` is the file name that it shows. As many bytes are written as there
 /// is room for.
 #[unsafe(no_mangle)]
 pub extern "C" fn lrlex_fault_report(

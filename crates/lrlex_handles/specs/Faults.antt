@@ -1,4 +1,4 @@
--- The errors of a rule text, as C reads them.
+-- The faults of a rule text, as C reads them.
 use Rattle.std.specs.Prelude.{ℕ, List, length, option_map, slice_get}
 use Rattle.std.specs.Option.{option_and_then}
 use Rattle.std.specs.declared.option.Option.{Option}
@@ -33,7 +33,7 @@ abbrev pub span_by : (rules : List ℕ) → Span → FaultSpan
 span_by rules s = let at = nearest rules (span_start s) in
     record { start = span_start s; end = span_end s; line = line_of rules at; column = column_of rules at }
 
--- an error with its first span
+-- a fault with its first span
 abbrev pub fault_with : (rules : List ℕ) → LexBuildError → Span → Fault
 fault_with rules e s = let first = span_by rules s in record {
   start = first.start;
@@ -47,7 +47,7 @@ fault_with rules e s = let first = span_by rules s in record {
 abbrev pub fault_by : (rules : List ℕ) → LexBuildError → Option Fault
 fault_by rules e = option_map (fault_with rules e) (slice_get (fault_spans e) 0)
 
--- the error at an index of a refused rule text
+-- the fault at an index of a refused rule text
 abbrev pub fault_at : Option (List ℕ × List LexBuildError) → ℕ → Option Fault
 fault_at r index = option_and_then (λ r. option_and_then (fault_by r.0) (slice_get r.1 index)) r
 

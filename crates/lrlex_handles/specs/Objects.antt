@@ -33,7 +33,7 @@ states_in (Some (Refusal r)) = None
 states_in (Some (Document e)) = None
 states_in (Some (Scanner s)) = None
 
--- a refused rule text and its errors, if there is one
+-- a refused rule text and its faults, if there is one
 abbrev pub refusal_in : Option Object → Option (List ℕ × List LexBuildError)
 refusal_in None = None
 refusal_in (Some Nothing) = None
@@ -42,11 +42,11 @@ refusal_in (Some (Refusal r)) = Some (string_bytes r.rules, r.faults.items)
 refusal_in (Some (Document e)) = None
 refusal_in (Some (Scanner s)) = None
 
--- the error at an index
+-- the fault at an index
 abbrev pub fault_in : Option Object → ℕ → Option LexBuildError
 fault_in o index = option_and_then (λ r. slice_get r.1 index) (refusal_in o)
 
--- what reading a rule text gave: a definition or errors
+-- what reading a rule text gave: a definition or faults
 abbrev pub answer_in : Option Object → Option (Result Definition (Vec LexBuildError Global))
 answer_in None = None
 answer_in (Some Nothing) = None

@@ -43,7 +43,7 @@ fn text_in(alloc: Global, object: &Object, index: usize, out: &mut [u8], len: &m
     }
 }
 
-/// What the error at this index is, in English, without a full stop. As many bytes are written as there is room for.
+/// What the fault at this index is, in English, without a full stop. As many bytes are written as there is room for.
 pub fn fault_text(
     alloc: Global,
     handle: &mut Handle,
@@ -85,7 +85,7 @@ fn report_in(alloc: Global, object: &Object, file: &[u8], out: &mut [u8], len: &
     }
 }
 
-/// The report of all errors, each with its line and carets. `file` is the file name that it shows. As many bytes are written as there
+/// The report of all faults, each with its line and carets. `file` is the file name that it shows. As many bytes are written as there
 /// is room for.
 pub fn fault_report(
     alloc: Global,

@@ -1,4 +1,4 @@
-//! The errors of a refused rule text, and where they are.
+//! The faults of a refused rule text, and where they are.
 ghost use Rattle.std.specs.Prelude.{◌≡◌, ◌↔◌, length, pos, None, Some};
 ghost use Rattle.std.specs.Option.{option_map_or};
 ghost use Rattle.lrlex_base.specs.Places.{AreBreaksOf};
@@ -73,7 +73,7 @@ fn count_in(object: &Object) -> usize
     }
 }
 
-/// How many errors the handle has.
+/// How many faults the handle has.
 pub fn fault_count(alloc: Global, handle: &mut Handle) -> usize
     ensures kept { handle.new.value ≡ handle.old.value }
     ensures count { result ≡ option_map_or (λ r. length r.1) (refusal_in handle.old.value) 0 }
@@ -105,7 +105,7 @@ fn fault_in(object: &Object, index: usize, out: &mut Fault) -> i32
     }
 }
 
-/// The error at this index, from 0.
+/// The fault at this index, from 0.
 pub fn fault_at(alloc: Global, handle: &mut Handle, index: usize, out: &mut Fault) -> i32
     ensures kept { handle.new.value ≡ handle.old.value }
     ensures misused { result ≡ pos 4 ↔ refusal_in handle.old.value ≡ None }
@@ -147,7 +147,7 @@ fn span_in(object: &Object, index: usize, span: usize, out: &mut FaultSpan) -> i
     }
 }
 
-/// A span of the error at this index, both from 0.
+/// A span of the fault at this index, both from 0.
 pub fn fault_span_at(
     alloc: Global,
     handle: &mut Handle,

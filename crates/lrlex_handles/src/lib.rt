@@ -1,4 +1,4 @@
-//! What the C library does, for handles that a caller holds: definitions, the errors of rule texts, lexing, documents, and scanners.
+//! What the C library does, for handles that a caller holds: definitions, the faults of rule texts, lexing, documents, and scanners.
 #![tactic(auto)]
 
 pub mod definitions;

@@ -16,7 +16,7 @@ use std::sync::Arc;
 /// A definition with ids of 32 bits.
 pub(crate) type Definition = LRNonStreamingLexerDef<DefaultLexerTypes<u32>>;
 
-/// The errors of a rule text, the text, and where its lines begin.
+/// The faults of a rule text, the text, and where its lines begin.
 #[derive(Drop)]
 pub(crate) struct Refusal {
     pub(crate) faults: Vec<LexBuildError>,

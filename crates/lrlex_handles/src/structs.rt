@@ -62,7 +62,7 @@ pub struct Lexed {
     pub unmatched: bool,
 }
 
-/// An error of a rule text: its kind, its first span, in bytes, and line and column of that, both from 1.
+/// A fault of a rule text: its kind, its first span, in bytes, and line and column of that, both from 1.
 #[repr(C)]
 #[derive(Clone, Copy)]
 pub struct Fault {
