@@ -77,7 +77,8 @@ pub extern "C" fn lrlex_document_edit(
     editing::edit(alloc, handle, from, to, put)
 }
 
-/// The lexemes of the document from this index on, as many as there is room for, and how lexing went.
+/// The lexemes of the document from this index on, as many as there is room for, and how lexing went: `count` of `out` counts all
+/// lexemes, those before `first` too.
 #[unsafe(no_mangle)]
 pub extern "C" fn lrlex_document_tokens(
     alloc: Global,

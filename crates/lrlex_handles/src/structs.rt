@@ -85,7 +85,8 @@ pub struct FaultSpan {
     pub column: usize,
 }
 
-/// Line and column. A column counts characters from 1, or code units of UTF-16 from 0.
+/// Line and column. Of a place both count from 1, the column in characters; of a position both count from 0, the column in bytes or in
+/// code units of UTF-16.
 #[repr(C)]
 #[derive(Clone, Copy)]
 pub struct Place {

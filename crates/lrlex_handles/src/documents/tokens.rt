@@ -58,7 +58,8 @@ fn tokens_in(object: &mut Object, first: usize, tokens: &mut [Token], out: &mut 
     with_document!(object, |it| (tokens_of(it, first, tokens, out), OK))
 }
 
-/// The lexemes of the document from this index on, as many as there is room for, and how lexing went.
+/// The lexemes of the document from this index on, as many as there is room for, and how lexing went: `count` of `out` counts all
+/// lexemes, those before `first` too.
 pub fn tokens_from(
     alloc: Global,
     handle: &mut Handle,
