@@ -1,9 +1,9 @@
 //! The faults of a refused rule text.
 ghost use Rattle.std.specs.Option.{option_map_or};
-ghost use Rattle.std.specs.Prelude.{◌≡◌, ◌↔◌, length, pos, None, Some, IfSome};
-ghost use Rattle.lrlex_rules.specs.LexBuildError.{fault_kind, kind_text};
-ghost use Rattle.lrlex_report.specs.FaultTexts.{AreFaultTexts};
-ghost use Rattle.lrlex_handles.specs.Buffers.{IsReport, IsWritten};
+ghost use Rattle.std.specs.Prelude.{◌≡◌, ◌↔◌, length, pos, None, Some, IfSome, IsUtf8, MatchOption};
+ghost use Rattle.lrlex_rules.specs.LexBuildError.{fault_kind};
+ghost use Rattle.lrlex_report.specs.FaultTexts.{AreFaultTexts, IsMessageOf};
+ghost use Rattle.lrlex_handles.specs.Buffers.{IsReport};
 ghost use Rattle.lrlex_handles.specs.Faults.{fault_at, fault_span_at};
 ghost use Rattle.lrlex_handles.specs.Objects.{fault_in, refusal_in};
 
@@ -67,8 +67,8 @@ pub extern "C" fn lrlex_fault_text(
 ) -> i32
     ensures kept { handle.new.value ≡ handle.old.value }
     ensures misused { result ≡ pos 4 ↔ refusal_in handle.old.value ≡ None }
-    ensures done { result ≡ pos 0 → IfSome (fault_in handle.old.value index)
-        (λ e. IfSome (kind_text (fault_kind e)) (λ t. IsWritten t out.old out.new len.new)) }
+    ensures done { result ≡ pos 0 → MatchOption (fault_in handle.old.value index) ⊥
+        (λ e. IsReport (IsMessageOf (fault_kind e)) out.old out.new len.new) }
     ensures none { result ≡ pos 5 → fault_in handle.old.value index ≡ None }
 {
     error_texts::fault_text(alloc, handle, index, out, len)

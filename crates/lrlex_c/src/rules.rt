@@ -32,7 +32,7 @@ pub extern "C" fn lrlex_name(
     ensures kept { handle.new.value ≡ handle.old.value }
     ensures misused { result ≡ pos 4 ↔ definition_in handle.old.value ≡ None }
     ensures done { result ≡ pos 0 → IfSome (definition_in handle.old.value)
-        (λ d. IfSome (name_of d.rules id) (λ t. IsWritten t out.old out.new len.new)) }
+        (λ d. MatchOption (name_of d.rules id) ⊥ (λ t. IsWritten t out.old out.new len.new)) }
     ensures none { result ≡ pos 5 → IfSome (definition_in handle.old.value)
         (λ d. name_of d.rules id ≡ None) }
 {
@@ -69,7 +69,7 @@ pub extern "C" fn lrlex_rule_name(
     ensures kept { handle.new.value ≡ handle.old.value }
     ensures misused { result ≡ pos 4 ↔ definition_in handle.old.value ≡ None }
     ensures done { result ≡ pos 0 → IfSome (definition_in handle.old.value)
-        (λ d. IfSome (slice_get d.rules index) (λ r. MatchOption r.name ⊥
+        (λ d. MatchOption (slice_get d.rules index) ⊥ (λ r. MatchOption r.name ⊥
         (λ t. IsWritten t out.old out.new len.new))) }
     ensures none { result ≡ pos 5 → IfSome (definition_in handle.old.value)
         (λ d. IfSome (slice_get d.rules index) (λ r. r.name ≡ None)) }
@@ -117,7 +117,7 @@ pub extern "C" fn lrlex_state_name(
     ensures kept { handle.new.value ≡ handle.old.value }
     ensures misused { result ≡ pos 4 ↔ definition_in handle.old.value ≡ None }
     ensures done { result ≡ pos 0 → IfSome (definition_in handle.old.value)
-        (λ d. IfSome (slice_get d.states index)
+        (λ d. MatchOption (slice_get d.states index) ⊥
         (λ s. IsWritten s.name out.old out.new len.new)) }
     ensures none { result ≡ pos 5 → IfSome (definition_in handle.old.value)
         (λ d. slice_get d.states index ≡ None) }

@@ -1,31 +1,38 @@
-//! What the errors of a refused rule text are, for people.
-ghost use Rattle.std.specs.Prelude.{◌≡◌, ◌↔◌, string_bytes, pos, None, Some, IfOk, IfSome};
-ghost use Rattle.lrlex_rules.specs.LexBuildError.{fault_kind, kind_text};
-ghost use Rattle.lrlex_report.specs.FaultTexts.{AreFaultTexts};
-ghost use Rattle.lrlex_handles.specs.Buffers.{IsReport, IsWritten};
+//! What the faults of a refused rule text are, for people.
+ghost use Rattle.std.specs.Prelude.{◌≡◌, ◌↔◌, string_bytes, pos, None, Some, IfOk, IfSome, IsUtf8, MatchOption};
+ghost use Rattle.lrlex_rules.specs.LexBuildError.{fault_kind};
+ghost use Rattle.lrlex_report.specs.FaultTexts.{AreFaultTexts, IsMessageOf};
+ghost use Rattle.lrlex_handles.specs.Buffers.{IsReport};
 ghost use Rattle.lrlex_handles.specs.Objects.{fault_in, refusal_in};
 
 use crate::handle::{Handle, with_object};
 use crate::object::{Object, Refusal};
 use crate::status::{MISUSE, NO_MEMORY, NONE, NOT_UTF8, OK};
 use crate::texts::write_text;
-use lrlex::{LexBuildError, Spanned};
+use lrlex::{LexBuildError, LexErrorKind, Spanned};
 use lrlex_report::faults_text;
 use std::alloc::{AllocError, Global};
 use std::str;
 
-/// What the error is. Its words are those of `regex` where that refuses a pattern.
+/// What the fault is. The words of `regex` follow where that refuses a pattern.
 fn message_of(alloc: Global, fault: &LexBuildError) -> Result<String, AllocError>
-    ensures { IfOk result (λ s. IfSome (kind_text (fault_kind fault.now))
-        (λ t. string_bytes s ≡ t)) }
+    ensures { IfOk result (λ s. IsMessageOf (fault_kind fault.now) (string_bytes s)) }
 {
-    format!(in alloc; "{fault}")
+    match fault.kind() {
+        LexErrorKind::RegexError(error) => {
+            let mut message = String::from_str(alloc, fault.kind().message())?;
+            message.push_str(": ")?;
+            message.push_str(&format!(in alloc; "{error}")?)?;
+            Ok(message)
+        }
+        kind => String::from_str(alloc, kind.message()),
+    }
 }
 
 fn text_in(alloc: Global, object: &Object, index: usize, out: &mut [u8], len: &mut usize) -> i32
     ensures misused { result ≡ pos 4 ↔ refusal_in (Some object.now) ≡ None }
-    ensures done { result ≡ pos 0 → IfSome (fault_in (Some object.now) index)
-        (λ e. IfSome (kind_text (fault_kind e)) (λ t. IsWritten t out.old out.new len.new)) }
+    ensures done { result ≡ pos 0 → MatchOption (fault_in (Some object.now) index) ⊥
+        (λ e. IsReport (IsMessageOf (fault_kind e)) out.old out.new len.new) }
     ensures none { result ≡ pos 5 → fault_in (Some object.now) index ≡ None }
 {
     match object {
@@ -53,8 +60,8 @@ pub fn fault_text(
 ) -> i32
     ensures kept { handle.new.value ≡ handle.old.value }
     ensures misused { result ≡ pos 4 ↔ refusal_in handle.old.value ≡ None }
-    ensures done { result ≡ pos 0 → IfSome (fault_in handle.old.value index)
-        (λ e. IfSome (kind_text (fault_kind e)) (λ t. IsWritten t out.old out.new len.new)) }
+    ensures done { result ≡ pos 0 → MatchOption (fault_in handle.old.value index) ⊥
+        (λ e. IsReport (IsMessageOf (fault_kind e)) out.old out.new len.new) }
     ensures none { result ≡ pos 5 → fault_in handle.old.value index ≡ None }
 {
     with_object!(

@@ -35,7 +35,7 @@ pub fn rule_count(alloc: Global, handle: &mut Handle) -> usize
 fn name_in(object: &Object, id: u32, out: &mut [u8], len: &mut usize) -> i32
     ensures misused { result ≡ pos 4 ↔ definition_in (Some object.now) ≡ None }
     ensures done { result ≡ pos 0 → IfSome (definition_in (Some object.now))
-        (λ d. IfSome (name_of d.rules id) (λ t. IsWritten t out.old out.new len.new)) }
+        (λ d. MatchOption (name_of d.rules id) ⊥ (λ t. IsWritten t out.old out.new len.new)) }
     ensures none { result ≡ pos 5 → IfSome (definition_in (Some object.now))
         (λ d. name_of d.rules id ≡ None) }
 {
@@ -50,7 +50,7 @@ pub fn name(alloc: Global, handle: &mut Handle, id: u32, out: &mut [u8], len: &m
     ensures kept { handle.new.value ≡ handle.old.value }
     ensures misused { result ≡ pos 4 ↔ definition_in handle.old.value ≡ None }
     ensures done { result ≡ pos 0 → IfSome (definition_in handle.old.value)
-        (λ d. IfSome (name_of d.rules id) (λ t. IsWritten t out.old out.new len.new)) }
+        (λ d. MatchOption (name_of d.rules id) ⊥ (λ t. IsWritten t out.old out.new len.new)) }
     ensures none { result ≡ pos 5 → IfSome (definition_in handle.old.value)
         (λ d. name_of d.rules id ≡ None) }
 {
@@ -113,7 +113,7 @@ pub fn rule_at(alloc: Global, handle: &mut Handle, index: usize, out: &mut RuleI
 fn rule_name_in(object: &Object, index: usize, out: &mut [u8], len: &mut usize) -> i32
     ensures misused { result ≡ pos 4 ↔ definition_in (Some object.now) ≡ None }
     ensures done { result ≡ pos 0 → IfSome (definition_in (Some object.now))
-        (λ d. IfSome (slice_get d.rules index) (λ r. MatchOption r.name ⊥
+        (λ d. MatchOption (slice_get d.rules index) ⊥ (λ r. MatchOption r.name ⊥
         (λ t. IsWritten t out.old out.new len.new))) }
     ensures none { result ≡ pos 5 → IfSome (definition_in (Some object.now))
         (λ d. IfSome (slice_get d.rules index) (λ r. r.name ≡ None)) }
@@ -138,7 +138,7 @@ pub fn rule_name(
     ensures kept { handle.new.value ≡ handle.old.value }
     ensures misused { result ≡ pos 4 ↔ definition_in handle.old.value ≡ None }
     ensures done { result ≡ pos 0 → IfSome (definition_in handle.old.value)
-        (λ d. IfSome (slice_get d.rules index) (λ r. MatchOption r.name ⊥
+        (λ d. MatchOption (slice_get d.rules index) ⊥ (λ r. MatchOption r.name ⊥
         (λ t. IsWritten t out.old out.new len.new))) }
     ensures none { result ≡ pos 5 → IfSome (definition_in handle.old.value)
         (λ d. IfSome (slice_get d.rules index) (λ r. r.name ≡ None)) }

@@ -1,5 +1,5 @@
 //! The start states of a definition, and their names.
-ghost use Rattle.std.specs.Prelude.{◌≡◌, ◌↔◌, length, map, option_map, slice_get, pos, None, Some, IfSome};
+ghost use Rattle.std.specs.Prelude.{◌≡◌, ◌↔◌, length, map, option_map, slice_get, pos, None, Some, IfSome, MatchOption};
 ghost use Rattle.std.specs.Option.{option_map_or};
 ghost use Rattle.lrlex.specs.Views.{definition_of};
 ghost use Rattle.lrlex_handles.specs.Buffers.{IsWritten};
@@ -92,7 +92,7 @@ pub fn state_at(alloc: Global, handle: &mut Handle, index: usize, out: &mut Stat
 fn state_name_in(object: &Object, index: usize, out: &mut [u8], len: &mut usize) -> i32
     ensures misused { result ≡ pos 4 ↔ definition_in (Some object.now) ≡ None }
     ensures done { result ≡ pos 0 → IfSome (definition_in (Some object.now))
-        (λ d. IfSome (slice_get d.states index)
+        (λ d. MatchOption (slice_get d.states index) ⊥
         (λ s. IsWritten s.name out.old out.new len.new)) }
     ensures none { result ≡ pos 5 → IfSome (definition_in (Some object.now))
         (λ d. slice_get d.states index ≡ None) }
@@ -120,7 +120,7 @@ pub fn state_name(
     ensures kept { handle.new.value ≡ handle.old.value }
     ensures misused { result ≡ pos 4 ↔ definition_in handle.old.value ≡ None }
     ensures done { result ≡ pos 0 → IfSome (definition_in handle.old.value)
-        (λ d. IfSome (slice_get d.states index)
+        (λ d. MatchOption (slice_get d.states index) ⊥
         (λ s. IsWritten s.name out.old out.new len.new)) }
     ensures none { result ≡ pos 5 → IfSome (definition_in handle.old.value)
         (λ d. slice_get d.states index ≡ None) }
