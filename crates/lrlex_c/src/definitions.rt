@@ -1,9 +1,9 @@
 //! Definitions.
-ghost use Rattle.std.specs.Prelude.{◌≡◌, ◌≢◌, ◌↔◌, ◌^◌, ◌-◌, pos, None, Some, IfSome, IsSome};
+ghost use Rattle.std.specs.Prelude.{◌≡◌, ◌≢◌, ◌↔◌, ◌^◌, ◌-◌, pos, None, Some, IfSome, IsSome, IsUtf8};
 ghost use Rattle.lrlex_rules.specs.LexBuildResult.{IsAnswer};
 ghost use Rattle.lrlex.specs.Ids.{with_ids};
 ghost use Rattle.lrlex_handles.specs.Buffers.{filled};
-ghost use Rattle.lrlex_handles.specs.NamedIds.{id_by, is_missing};
+ghost use Rattle.lrlex_handles.specs.NamedIds.{AreNamesUtf8, id_by, is_missing};
 ghost use Rattle.lrlex_handles.specs.Objects.{answer_in, definition_in, refusal_in};
 ghost use Rattle.lrlex_handles.specs.Settings.{flags_by};
 
@@ -62,6 +62,7 @@ pub extern "C" fn lrlex_definition_set_rule_ids(
     ids::set_rule_ids(alloc, handle, ids, missing)
 }
 
+    ensures unread { result ≡ pos 3 → ¬ (AreNamesUtf8 ids.now) }
 /// Lets go of what the handle holds. It is empty then.
 #[unsafe(no_mangle)]
 pub extern "C" fn lrlex_free(alloc: Global, handle: &mut Handle)

@@ -1,5 +1,5 @@
 //! Documents: texts that are edited.
-ghost use Rattle.std.specs.Prelude.{◌≡◌, ◌≢◌, pos, None, Some, MatchOption, ◌↔◌, ◌≤◌, length, slice_range, IfSome};
+ghost use Rattle.std.specs.Prelude.{◌≡◌, ◌≢◌, pos, None, Some, MatchOption, ◌↔◌, ◌≤◌, length, slice_range, IfSome, IsUtf8};
 ghost use Rattle.lrlex.specs.Nearest.{FitsAt};
 ghost use Rattle.lrlex_handles.specs.Answers.{WasEdited, AreTokensOf, ArePiecesOf, ArePartOf};
 ghost use Rattle.lrlex_handles.specs.Buffers.{IsWritten};
@@ -22,6 +22,7 @@ pub extern "C" fn lrlex_document_new(
     ensures done { result ≡ pos 0 → MatchOption (definition_in definition.old.value) ⊥
         (λ d. document_in out.new.value ≡ Some (d, text.now)) }
     ensures failed { result ≢ pos 0 → out.new.value ≡ None }
+    ensures unread { result ≡ pos 3 → ¬ (IsUtf8 text.now) }
 {
     making::begin(alloc, definition, out, text)
 }
@@ -73,6 +74,7 @@ pub extern "C" fn lrlex_document_edit(
     ensures misused { result ≡ pos 4 ↔ document_in handle.old.value ≡ None }
     ensures unfit { result ≡ pos 6 → IfSome (document_in handle.old.value)
         (λ d. ¬ (FitsAt d.1 from to)) }
+    ensures unread { result ≡ pos 3 → ¬ (IsUtf8 put.now) }
 {
     editing::edit(alloc, handle, from, to, put)
 }

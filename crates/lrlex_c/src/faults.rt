@@ -88,6 +88,7 @@ pub extern "C" fn lrlex_fault_report(
     ensures misused { result ≡ pos 4 ↔ refusal_in handle.old.value ≡ None }
     ensures done { result ≡ pos 0 → IfSome (refusal_in handle.old.value)
         (λ r. IsReport (λ t. AreFaultTexts file.now r.0 r.1 t) out.old out.new len.new) }
+    ensures unread { result ≡ pos 3 → ¬ (IsUtf8 file.now) }
 {
     error_texts::fault_report(alloc, handle, file, out, len)
 }

@@ -1,5 +1,5 @@
 //! Scanners: texts whose tiles are pulled.
-ghost use Rattle.std.specs.Prelude.{◌≡◌, ◌≢◌, pos, None, MatchOption, ◌↔◌};
+ghost use Rattle.std.specs.Prelude.{◌≡◌, ◌≢◌, pos, None, IsUtf8, MatchOption, ◌↔◌};
 ghost use Rattle.lrlex.specs.Scanner.{IsAtFront};
 ghost use Rattle.lrlex_handles.specs.Objects.{definition_in, scanner_in};
 ghost use Rattle.lrlex_handles.specs.Scans.{WasScanned};
@@ -21,6 +21,7 @@ pub extern "C" fn lrlex_scanner_new(
     ensures done { result ≡ pos 0 → MatchOption (definition_in definition.old.value) ⊥
         (λ d. MatchOption (scanner_in out.new.value) ⊥ (IsAtFront d text.now)) }
     ensures failed { result ≢ pos 0 → out.new.value ≡ None }
+    ensures unread { result ≡ pos 3 → ¬ (IsUtf8 text.now) }
 {
     making::begin(alloc, definition, out, text)
 }

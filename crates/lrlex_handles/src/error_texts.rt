@@ -76,6 +76,7 @@ fn report_in(alloc: Global, object: &Object, file: &[u8], out: &mut [u8], len: &
     ensures misused { result ≡ pos 4 ↔ refusal_in (Some object.now) ≡ None }
     ensures done { result ≡ pos 0 → IfSome (refusal_in (Some object.now))
         (λ r. IsReport (λ t. AreFaultTexts file.now r.0 r.1 t) out.old out.new len.new) }
+    ensures unread { result ≡ pos 3 → ¬ (IsUtf8 file.now) }
 {
     match object {
         Object::Refusal(refusal) => match str::from_utf8(file) {
@@ -105,6 +106,7 @@ pub fn fault_report(
     ensures misused { result ≡ pos 4 ↔ refusal_in handle.old.value ≡ None }
     ensures done { result ≡ pos 0 → IfSome (refusal_in handle.old.value)
         (λ r. IsReport (λ t. AreFaultTexts file.now r.0 r.1 t) out.old out.new len.new) }
+    ensures unread { result ≡ pos 3 → ¬ (IsUtf8 file.now) }
 {
     with_object!(
         alloc,

@@ -5,7 +5,7 @@ ghost use Rattle.lrlex.specs.Ids.{ids_of, is_named, with_ids};
 ghost use Rattle.lrlex.specs.Views.{definition_of};
 ghost use Rattle.lrlex_rules.specs.RuleParts.{as_rule};
 ghost use Rattle.lrlex_handles.specs.Buffers.{filled};
-ghost use Rattle.lrlex_handles.specs.NamedIds.{id_by, is_missing};
+ghost use Rattle.lrlex_handles.specs.NamedIds.{AreNamesUtf8, id_by, is_missing};
 ghost use Rattle.lrlex_handles.specs.Objects.{definition_in};
 
 use crate::handle::{Handle, with_object};
@@ -57,8 +57,9 @@ fn map_of<'a>(
     alloc: Global,
     ids: &[NamedId<'a>],
 ) -> Result<Option<HashMap<&'a str, u32>>, AllocError>
-    ensures { IfOk result (λ made. IfSome made
+    ensures ids { IfOk result (λ made. IfSome made
         (λ known. (name : List ℕ) → ids_of (λ n. n) known name ≡ id_by ids.now name)) }
+    ensures unread { IfOk result (λ made. made ≡ None → ¬ (AreNamesUtf8 ids.now)) }
 {
     let mut known = HashMap::new(alloc);
     for entry in ids {
@@ -86,6 +87,7 @@ fn take_ids(
         missing.old }
     ensures kept { result ≢ pos 0 → definition.new ≡ definition.old }
     ensures misused { result ≢ pos 4 }
+    ensures unread { result ≡ pos 3 → ¬ (AreNamesUtf8 ids.now) }
 {
     match map_of(alloc, ids) {
         Err(_) => NO_MEMORY,
@@ -107,6 +109,7 @@ fn ids_in(alloc: Global, object: &mut Object, ids: &[NamedId<'_>], missing: &mut
         (λ d. missing.new ≡ filled (λ e _. is_missing d.rules e.name.now) ids.now missing.old) }
     ensures kept { result ≢ pos 0 → object.new ≡ object.old }
     ensures misused { result ≡ pos 4 ↔ definition_in (Some object.old) ≡ None }
+    ensures unread { result ≡ pos 3 → ¬ (AreNamesUtf8 ids.now) }
 {
     match object {
         Object::Definition(definition) => match Arc::get_mut(definition) {
@@ -131,6 +134,7 @@ pub fn set_rule_ids(
         (λ d. missing.new ≡ filled (λ e _. is_missing d.rules e.name.now) ids.now missing.old) }
     ensures kept { result ≢ pos 0 → handle.new.value ≡ handle.old.value }
     ensures misused { result ≡ pos 4 ↔ definition_in handle.old.value ≡ None }
+    ensures unread { result ≡ pos 3 → ¬ (AreNamesUtf8 ids.now) }
 {
     with_object!(
         alloc,

@@ -1,5 +1,5 @@
 //! Lexing.
-ghost use Rattle.std.specs.Prelude.{◌≡◌, ◌↔◌, ◌-◌, false, length, slice_get, option_map, unwrap_or, pos, None, Some, Err, IfOk, IfSome};
+ghost use Rattle.std.specs.Prelude.{◌≡◌, ◌↔◌, ◌-◌, false, length, slice_get, option_map, unwrap_or, pos, None, Some, Err, IfOk, IfSome, IsUtf8};
 ghost use Rattle.lrlex_base.specs.Lexemes.{lexeme_seen};
 ghost use Rattle.lrlex_rules.specs.RuleParts.{state_number};
 ghost use Rattle.lrlex.specs.Views.{definition_of, item_of};
@@ -68,6 +68,7 @@ fn lex_in(alloc: Global, object: &Object, text: &[u8], tokens: &mut [Token], out
     ensures misused { result ≡ pos 4 ↔ definition_in (Some object.now) ≡ None }
     ensures done { result ≡ pos 0 → IfSome (definition_in (Some object.now))
         (λ d. AreTokensOf d text.now 0 tokens.old tokens.new out.new) }
+    ensures unread { result ≡ pos 3 → ¬ (IsUtf8 text.now) }
 {
     match object {
         Object::Definition(definition) => match str::from_utf8(text) {
@@ -96,6 +97,7 @@ pub fn lex(
     ensures misused { result ≡ pos 4 ↔ definition_in handle.old.value ≡ None }
     ensures done { result ≡ pos 0 → IfSome (definition_in handle.old.value)
         (λ d. AreTokensOf d text.now 0 tokens.old tokens.new out.new) }
+    ensures unread { result ≡ pos 3 → ¬ (IsUtf8 text.now) }
 {
     with_object!(
         alloc,
@@ -133,6 +135,7 @@ fn pieces_in(
     ensures misused { result ≡ pos 4 ↔ definition_in (Some object.now) ≡ None }
     ensures done { result ≡ pos 0 → IfSome (definition_in (Some object.now))
         (λ d. ArePiecesOf d text.now pieces.old pieces.new out.new) }
+    ensures unread { result ≡ pos 3 → ¬ (IsUtf8 text.now) }
 {
     match object {
         Object::Definition(definition) => match str::from_utf8(text) {
@@ -162,6 +165,7 @@ pub fn pieces(
     ensures misused { result ≡ pos 4 ↔ definition_in handle.old.value ≡ None }
     ensures done { result ≡ pos 0 → IfSome (definition_in handle.old.value)
         (λ d. ArePiecesOf d text.now pieces.old pieces.new out.new) }
+    ensures unread { result ≡ pos 3 → ¬ (IsUtf8 text.now) }
 {
     with_object!(
         alloc,

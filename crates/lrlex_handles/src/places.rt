@@ -1,5 +1,5 @@
 //! Lines and columns.
-ghost use Rattle.std.specs.Prelude.{◌≡◌, ◌≢◌, IsCharBoundary, pos};
+ghost use Rattle.std.specs.Prelude.{◌≡◌, ◌≢◌, IsCharBoundary, IsUtf8, pos};
 ghost use Rattle.lrlex_base.specs.Places.{AreBreaksOf, place_of};
 ghost use Rattle.lrlex_report.specs.PlaceTexts.{nearest};
 ghost use Rattle.lrlex_handles.specs.Buffers.{filled, place_by};
@@ -71,6 +71,7 @@ pub fn write_places(alloc: Global, text: &[u8], bytes: &[usize], out: &mut [Plac
     ensures done { result ≡ pos 0 → out.new
         ≡ filled (λ b _. place_by (place_of text.now (nearest text.now b))) bytes.now out.old }
     ensures kept { result ≢ pos 0 → out.new ≡ out.old }
+    ensures unread { result ≡ pos 3 → ¬ (IsUtf8 text.now) }
 {
     match str::from_utf8(text) {
         Err(_) => NOT_UTF8,

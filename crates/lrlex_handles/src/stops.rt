@@ -1,5 +1,5 @@
 //! Where lexing stops, for people.
-ghost use Rattle.std.specs.Prelude.{◌≡◌, ◌↔◌, ℕ, ◌-◌, false, length, slice_get, option_map, string_bytes, pos, None, Some, Err, IfOk, IfSome, MatchOption};
+ghost use Rattle.std.specs.Prelude.{◌≡◌, ◌↔◌, ℕ, ◌-◌, false, length, slice_get, option_map, string_bytes, pos, None, Some, Err, IfOk, IfSome, IsUtf8, MatchOption};
 ghost use Rattle.lrlex_base.specs.Lexemes.{lexeme_seen};
 ghost use Rattle.lrlex.specs.Views.{definition_of, definition_states, item_of};
 ghost use Rattle.lrlex_handles.specs.Answers.{outcome, IsStopReport, IsUnstopped};
@@ -62,6 +62,7 @@ fn report_in(
         (IsStopReport states d file.now text.now) out.old out.new len.new)) }
     ensures none { result ≡ pos 5 → IfSome (definition_in (Some object.now))
         (λ d. IsUnstopped d text.now) }
+    ensures unread { result ≡ pos 3 → ¬ (IsUtf8 file.now × IsUtf8 text.now) }
 {
     match object {
         Object::Definition(definition) => match (str::from_utf8(file), str::from_utf8(text)) {
@@ -96,6 +97,7 @@ pub fn stop_report(
         (IsStopReport states d file.now text.now) out.old out.new len.new)) }
     ensures none { result ≡ pos 5 → IfSome (definition_in handle.old.value)
         (λ d. IsUnstopped d text.now) }
+    ensures unread { result ≡ pos 3 → ¬ (IsUtf8 file.now × IsUtf8 text.now) }
 {
     with_object!(
         alloc,

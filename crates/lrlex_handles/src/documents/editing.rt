@@ -1,5 +1,5 @@
 //! Edits of a document.
-ghost use Rattle.std.specs.Prelude.{◌≡◌, ◌≢◌, ◌↔◌, pos, None, Some, IfOk, IfErr, IfSome, IsOk, IsErr};
+ghost use Rattle.std.specs.Prelude.{◌≡◌, ◌≢◌, ◌↔◌, pos, None, Some, IfOk, IfErr, IfSome, IsOk, IsErr, IsUtf8};
 ghost use Rattle.std.specs.Arc.{arc_value};
 ghost use Rattle.lrlex_base.specs.Edits.{edited as edited_text};
 ghost use Rattle.lrlex_base.specs.Spans.{span};
@@ -45,6 +45,7 @@ fn status_of(answer: Result<(), EditError>) -> i32
     ensures refused { result ≢ pos 0 → IsErr answer }
     ensures unfit { result ≡ pos 6 → IfErr answer (λ e. e ≡ DoesNotFit) }
     ensures misused { result ≢ pos 4 }
+    ensures unread { result ≢ pos 3 }
 {
     match answer {
         Ok(()) => OK,
@@ -61,6 +62,7 @@ fn edited_in(alloc: Global, object: &mut Object, from: usize, to: usize, put: &[
     ensures misused { result ≡ pos 4 ↔ document_in (Some object.old) ≡ None }
     ensures unfit { result ≡ pos 6 → IfSome (document_in (Some object.old))
         (λ d. ¬ (FitsAt d.1 from to)) }
+    ensures unread { result ≡ pos 3 → ¬ (IsUtf8 put.now) }
 {
     match take_document(object) {
         None => MISUSE,
@@ -87,6 +89,7 @@ pub fn edit(alloc: Global, handle: &mut Handle, from: usize, to: usize, put: &[u
     ensures misused { result ≡ pos 4 ↔ document_in handle.old.value ≡ None }
     ensures unfit { result ≡ pos 6 → IfSome (document_in handle.old.value)
         (λ d. ¬ (FitsAt d.1 from to)) }
+    ensures unread { result ≡ pos 3 → ¬ (IsUtf8 put.now) }
 {
     with_object!(
         alloc,

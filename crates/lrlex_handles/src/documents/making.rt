@@ -1,5 +1,5 @@
 //! Documents of a text.
-ghost use Rattle.std.specs.Prelude.{◌≡◌, ◌≢◌, pos, None, Some, IfOk, MatchOption};
+ghost use Rattle.std.specs.Prelude.{◌≡◌, ◌≢◌, pos, None, Some, IfOk, IsUtf8, MatchOption};
 ghost use Rattle.std.specs.Arc.{arc_value};
 ghost use Rattle.lrlex.specs.Views.{definition_of};
 ghost use Rattle.lrlex_handles.specs.Objects.{definition_in, document_in};
@@ -46,6 +46,7 @@ fn new_in(alloc: Global, object: &Object, out: &mut Handle, text: &[u8]) -> i32
     ensures done { result ≡ pos 0 → MatchOption (definition_in (Some object.now)) ⊥
         (λ d. document_in out.new.value ≡ Some (d, text.now)) }
     ensures kept { result ≢ pos 0 → out.new.value ≡ out.old.value }
+    ensures unread { result ≡ pos 3 → ¬ (IsUtf8 text.now) }
 {
     match str::from_utf8(text) {
         Err(_) => NOT_UTF8,
@@ -66,6 +67,7 @@ pub fn begin(alloc: Global, definition: &mut Handle, out: &mut Handle, text: &[u
     ensures done { result ≡ pos 0 → MatchOption (definition_in definition.old.value) ⊥
         (λ d. document_in out.new.value ≡ Some (d, text.now)) }
     ensures failed { result ≢ pos 0 → out.new.value ≡ None }
+    ensures unread { result ≡ pos 3 → ¬ (IsUtf8 text.now) }
 {
     let _before = out.take(alloc);
     with_object!(

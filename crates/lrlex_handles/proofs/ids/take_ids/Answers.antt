@@ -10,7 +10,7 @@ use Rattle.lrlex_handles.proofs.ids.take_ids.Goals as goal
 pub returns-clause-done : goal.returns-clause-done
 returns-clause-done c = λ _.
     let known : (name : List ℕ) → ids_of (λ n. n) c.in-Ok-Some.known name ≡ id_by c.args.ids.now name =
-    subst (λ o. IfSome o (λ known. (name : List ℕ) → ids_of (λ n. n) known name ≡ id_by c.args.ids.now name)) c.in-Ok-Some.field-0-is c.in-Ok-Some.ensures in
+    subst (λ o. IfSome o (λ known. (name : List ℕ) → ids_of (λ n. n) known name ≡ id_by c.args.ids.now name)) c.in-Ok-Some.field-0-is c.in-Ok-Some.ensures.ids in
     c.in-Ok.ensures.says ∙ ap (λ ids. with_ids ids (definition_of (λ n. n) c.args.definition.now)) (λ i. λ name. known name i)
 
 pub returns-clause-missing : goal.returns-clause-missing
