@@ -12,7 +12,8 @@ use lrlex_handles::structs::{NamedId, Options};
 use lrlex_handles::{definitions, handle, ids};
 use std::alloc::Global;
 
-/// Reads a rule text. The handle has the definition, or, where the call returns 1, the text's errors. What it had before is freed.
+/// Reads a rule text. The handle has the definition, or, where the call returns 1, the text's faults. Else it is empty. What it had
+/// before is freed.
 #[unsafe(no_mangle)]
 pub extern "C" fn lrlex_definition_new(
     alloc: Global,
@@ -24,6 +25,9 @@ pub extern "C" fn lrlex_definition_new(
         (IsAnswer (λ d. d) (flags_by options.now) (2 ^ 32 - 1) rules.now) }
     ensures defined { result ≡ pos 0 ↔ IsSome (definition_in out.new.value) }
     ensures refused { result ≡ pos 1 ↔ IsSome (refusal_in out.new.value) }
+    ensures failed { result ≢ pos 0 → result ≢ pos 1 → out.new.value ≡ None }
+    ensures misused { result ≢ pos 4 }
+    ensures unread { result ≡ pos 3 → ¬ (IsUtf8 rules.now) }
 {
     definitions::define(alloc, out, rules, options)
 }
@@ -58,11 +62,11 @@ pub extern "C" fn lrlex_definition_set_rule_ids(
         (λ d. missing.new ≡ filled (λ e _. is_missing d.rules e.name.now) ids.now missing.old) }
     ensures kept { result ≢ pos 0 → handle.new.value ≡ handle.old.value }
     ensures misused { result ≡ pos 4 ↔ definition_in handle.old.value ≡ None }
+    ensures unread { result ≡ pos 3 → ¬ (AreNamesUtf8 ids.now) }
 {
     ids::set_rule_ids(alloc, handle, ids, missing)
 }
 
-    ensures unread { result ≡ pos 3 → ¬ (AreNamesUtf8 ids.now) }
 /// Lets go of what the handle holds. It is empty then.
 #[unsafe(no_mangle)]
 pub extern "C" fn lrlex_free(alloc: Global, handle: &mut Handle)

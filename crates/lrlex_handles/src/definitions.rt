@@ -1,5 +1,5 @@
 //! Definitions: read from a rule text, and shared.
-ghost use Rattle.std.specs.Prelude.{◌≡◌, ◌≢◌, ◌↔◌, ◌^◌, ◌-◌, pos, None, Some, IfOk, IfSome, IsSome, MatchOption};
+ghost use Rattle.std.specs.Prelude.{◌≡◌, ◌≢◌, ◌↔◌, ◌^◌, ◌-◌, ◌⊎◌, pos, None, Some, IfOk, IfSome, IsSome, IsUtf8, MatchOption};
 ghost use Rattle.std.specs.Arc.{arc_value};
 ghost use Rattle.lrlex_rules.specs.LexBuildResult.{IsAnswer};
 ghost use Rattle.lrlex.specs.Views.{definition_of};
@@ -86,44 +86,41 @@ fn read(
     }
 }
 
-/// Reads the rule text: a definition or a refusal.
-fn built(alloc: Global, rules: &str, options: &Options) -> Result<Object, AllocError>
-    ensures { IfOk result (λ object. IfSome (answer_in (Some object))
+/// Reads the rule text: a definition or a refusal, and the status that says which.
+fn built(alloc: Global, rules: &str, options: &Options) -> Result<(Object, i32), AllocError>
+    ensures answer { IfOk result (λ made. IfSome (answer_in (Some made.0))
         (IsAnswer (λ d. d) (flags_by options.now) (2 ^ 32 - 1) rules.now)) }
+    ensures defined { IfOk result (λ made. made.1 ≡ pos 0
+        ↔ IsSome (definition_in (Some made.0))) }
+    ensures refused { IfOk result (λ made. made.1 ≡ pos 1
+        ↔ IsSome (refusal_in (Some made.0))) }
+    ensures either { IfOk result (λ made. (made.1 ≡ pos 0) ⊎ (made.1 ≡ pos 1)) }
 {
     match read(alloc, rules, options)? {
-        Ok(definition) => Ok(Object::Definition(Arc::new(alloc, definition)?)),
-        Err(faults) => Ok(Object::Refusal(refusal(alloc, rules, faults)?)),
+        Ok(definition) => Ok((Object::Definition(Arc::new(alloc, definition)?), OK)),
+        Err(faults) => Ok((Object::Refusal(refusal(alloc, rules, faults)?), REFUSED)),
     }
 }
 
-fn status_of(object: &Object) -> i32
-    ensures defined { result ≡ pos 0 ↔ IsSome (definition_in (Some object.now)) }
-    ensures refused { result ≡ pos 1 ↔ IsSome (refusal_in (Some object.now)) }
-{
-    match object {
-        Object::Definition(_) => OK,
-        Object::Refusal(_) => REFUSED,
-        _ => MISUSE,
-    }
-}
-
-/// Reads a rule text. The handle has the definition, or, where the call returns 1, the text's errors. What it had before is freed.
+/// Reads a rule text. The handle has the definition, or, where the call returns 1, the text's faults. Else it is empty. What it had
+/// before is freed.
 pub fn define(alloc: Global, out: &mut Handle, rules: &[u8], options: &Options) -> i32
     ensures answer { IfSome (answer_in out.new.value)
         (IsAnswer (λ d. d) (flags_by options.now) (2 ^ 32 - 1) rules.now) }
     ensures defined { result ≡ pos 0 ↔ IsSome (definition_in out.new.value) }
     ensures refused { result ≡ pos 1 ↔ IsSome (refusal_in out.new.value) }
+    ensures failed { result ≢ pos 0 → result ≢ pos 1 → out.new.value ≡ None }
+    ensures misused { result ≢ pos 4 }
+    ensures unread { result ≡ pos 3 → ¬ (IsUtf8 rules.now) }
 {
     let _before = out.take(alloc);
     match str::from_utf8(rules) {
         Err(_) => NOT_UTF8,
         Ok(rules) => match built(alloc, rules, options) {
             Err(_) => NO_MEMORY,
-            Ok(object) => match Box::new(alloc, object) {
+            Ok((object, status)) => match Box::new(alloc, object) {
                 Err(_) => NO_MEMORY,
                 Ok(object) => {
-                    let status = status_of(&object);
                     out.put(object);
                     status
                 }
