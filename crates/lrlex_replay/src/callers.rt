@@ -1,15 +1,13 @@
-//! Steps that make what the callers of `lrlex_examples` make of a definition.
+//! The step that makes what a caller of `lrlex_examples` makes of a run and edits.
 use crate::building::Definition;
 use crate::lexers::tell_lexed;
-use lrlex::{Edit, LexerDef};
-use lrlex_examples::callers::lending::lexed_and_replaced;
+use lrlex::Edit;
 use lrlex_examples::callers::lexing::lexer_after;
 use lrlex_replay_cases::edits::edits_of;
 use lrlex_replay_cases::facts::tell_no_items;
-use lrlex_replay_cases::reading::Trouble;
 use lrlex_replay_cases::told::Told;
 use serde_json::Value;
-use std::alloc::Global;
+use std::alloc::AllocError;
 
 /// Takes a run through edits, and tells the items of its lexer; null where an edit doesn't make its text.
 fn tell_after(
@@ -17,14 +15,12 @@ fn tell_after(
     definition: &Definition<u32>,
     text: &str,
     edits: &[(Edit<'_>, &str)],
-) -> Result<(), Trouble> {
+) -> Result<(), AllocError> {
     match lexer_after(told.alloc(), definition, text, edits)? {
         Some(lexer) => tell_lexed(told, &lexer),
-        None => {
-            tell_no_items(told);
-            Ok(())
-        }
+        None => tell_no_items(told),
     }
+    Ok(())
 }
 
 /// The same, where each edit of the list has the text that it makes.
@@ -33,29 +29,7 @@ pub fn keep_run(
     definition: &Definition<u32>,
     text: &str,
     list: &[Value],
-) -> Result<(), Trouble> {
+) -> Result<(), AllocError> {
     let edits = edits_of(told.alloc(), list)?;
     tell_after(told, definition, text, edits.as_slice())
-}
-
-/// The definition of a rule text without faults.
-fn defined(alloc: Global, rules: &str) -> Result<Definition<u32>, Trouble> {
-    match Definition::<u32>::from_str(alloc, rules)? {
-        Ok(definition) => Ok(definition),
-        Err(_) => Err(Trouble::Malformed),
-    }
-}
-
-/// Lexes a text, and puts the definition of another rule text in the place of this one. Tells how many tiles the text had.
-pub fn replace(
-    told: &mut Told,
-    definition: &mut Definition<u32>,
-    text: &str,
-    rules: &str,
-) -> Result<(), Trouble> {
-    let other = defined(told.alloc(), rules)?;
-    let tiles = lexed_and_replaced(told.alloc(), definition, other, text)?;
-    told.key("tiles");
-    told.number(tiles);
-    Ok(())
 }

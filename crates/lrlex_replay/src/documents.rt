@@ -12,7 +12,7 @@ use lrlex_replay_cases::told::Told;
 use serde_json::Value;
 
 /// A document of a definition with ids of type `u32`.
-type Edited<'d> = Document<'d, DefaultLexerTypes<u32>>;
+pub type Edited<'d> = Document<'d, DefaultLexerTypes<u32>>;
 
 /// Tells a change: `[first, removed, inserted]`.
 fn tell_change(told: &mut Told, change: lrlex::Change) {
@@ -47,7 +47,11 @@ fn tell_refused(told: &mut Told, document: &Edited<'_>) -> Result<(), Trouble> {
 }
 
 /// Makes an edit; where memory is refused, tells what the document shows then, and makes it once more. Whether it fits.
-fn make(told: &mut Told, document: &mut Edited<'_>, change: Change<'_>) -> Result<bool, Trouble> {
+pub fn make(
+    told: &mut Told,
+    document: &mut Edited<'_>,
+    change: Change<'_>,
+) -> Result<bool, Trouble> {
     let (from, to, put) = change;
     let mut made = document.edit(told.alloc(), from, to, put);
     if let Err(EditError::OutOfMemory) = made {

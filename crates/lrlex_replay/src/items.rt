@@ -1,6 +1,6 @@
 //! Lexemes and errors of `lrlex`, as facts.
 use lrlex::{DefaultLexeme, LRLexError};
-use lrlex_base::{Id, LexError, Lexeme};
+use lrlex_base::{LexError, Lexeme};
 use lrlex_replay_cases::facts::{Item, tell_item};
 use lrlex_replay_cases::told::Told;
 
@@ -13,12 +13,29 @@ pub fn error_seen(error: &LRLexError) -> Item {
     Item::Error(error.span(), state)
 }
 
+/// A lexeme or an error, as plain numbers, whatever the type of its id.
+macro_rules! seen {
+    ($item:expr) => {
+        match $item {
+            Ok(lexeme) => Item::Lexeme(u64::from(lexeme.tok_id()), lexeme.span()),
+            Err(error) => error_seen(error),
+        }
+    };
+}
+
 /// A lexeme or an error, as plain numbers.
-pub fn item_seen<T: Id>(item: &Result<DefaultLexeme<T>, LRLexError>) -> Item {
-    match item {
-        Ok(lexeme) => Item::Lexeme(lexeme.tok_id().to_u64().unwrap_or(u64::MAX), lexeme.span()),
-        Err(error) => error_seen(error),
-    }
+pub fn item_seen(item: &Result<DefaultLexeme<u32>, LRLexError>) -> Item {
+    seen!(item)
+}
+
+/// The same with an id of type `u8`.
+pub fn item_seen_u8(item: &Result<DefaultLexeme<u8>, LRLexError>) -> Item {
+    seen!(item)
+}
+
+/// The same with an id of type `u16`.
+pub fn item_seen_u16(item: &Result<DefaultLexeme<u16>, LRLexError>) -> Item {
+    seen!(item)
 }
 
 /// Tells lexemes and errors.

@@ -3,20 +3,17 @@ ghost use Rattle.std.specs.Prelude.{◌≡◌};
 ghost use Rattle.lrlex.specs.Lexer.{lexer_text};
 
 use crate::building::Definition;
-use crate::items::{item_seen, tell_items};
-use lrlex::{DefaultLexeme, DefaultLexerTypes, LRLexError, LRNonStreamingLexer, LineCursor};
+use crate::items::item_seen;
+use lrlex::{DefaultLexerTypes, LRNonStreamingLexer, LineCursor};
 use lrlex_base::{Lexer, NonStreamingLexer, Span};
-use lrlex_replay_cases::facts::{Fitting, tell_fitting};
-use lrlex_replay_cases::reading::{Trouble, count_of, list_of, span_of};
+use lrlex_replay_cases::facts::{Fitting, tell_fitting, tell_item};
+use lrlex_replay_cases::reading::{count_of, list_of, span_of};
 use lrlex_replay_cases::told::Told;
 use serde_json::Value;
-use std::alloc::{AllocError, Global};
+use std::alloc::AllocError;
 
 /// A lexer with ids of type `u32`.
 pub type LexerOf<'lexer, 'input> = LRNonStreamingLexer<'lexer, 'input, DefaultLexerTypes<u32>>;
-
-/// A lexeme or an error.
-type Item = Result<DefaultLexeme<u32>, LRLexError>;
 
 /// Spans and bytes that a lexer is asked about.
 type Asked<'v> = (&'v [Value], &'v [Value]);
@@ -56,16 +53,13 @@ fn tell_span(told: &mut Told, lexer: &LexerOf<'_, '_>, input: &str, span: Span)
     told.close();
 }
 
-/// The items of a lexer.
-fn items_of(alloc: Global, lexer: &LexerOf<'_, '_>) -> Result<Vec<Item>, AllocError> {
-    lexer.iter().collect(alloc)
-}
-
 /// Tells the items of a lexer.
-pub fn tell_lexed(told: &mut Told, lexer: &LexerOf<'_, '_>) -> Result<(), Trouble> {
-    let items = items_of(told.alloc(), lexer)?;
-    tell_items(told, items.as_slice());
-    Ok(())
+pub fn tell_lexed(told: &mut Told, lexer: &LexerOf<'_, '_>) {
+    told.list("items");
+    for item in lexer.iter() {
+        tell_item(told, item_seen(&item));
+    }
+    told.close();
 }
 
 /// Tells what the lexer of this input says of each of its items.
@@ -98,19 +92,13 @@ fn tell_bytes(told: &mut Told, lexer: &LexerOf<'_, '_>, input: &str, bytes: &[Va
 }
 
 /// Tells what the lexer of this input says of its items, and of these spans and bytes.
-fn tell_lexer(
-    told: &mut Told,
-    lexer: &LexerOf<'_, '_>,
-    input: &str,
-    asked: Asked<'_>,
-) -> Result<(), Trouble>
+fn tell_lexer(told: &mut Told, lexer: &LexerOf<'_, '_>, input: &str, asked: Asked<'_>)
     requires { lexer_text lexer.now ≡ input.now }
 {
-    tell_lexed(told, lexer)?;
+    tell_lexed(told, lexer);
     tell_each(told, lexer, input);
     tell_spans(told, lexer, input, asked.0);
     tell_bytes(told, lexer, input, asked.1);
-    Ok(())
 }
 
 /// Asks the lexer of a text, or that of its run.
@@ -120,12 +108,13 @@ pub fn ask_lexer(
     input: &str,
     of_run: bool,
     asked: Asked<'_>,
-) -> Result<(), Trouble> {
+) -> Result<(), AllocError> {
     let alloc = told.alloc();
     let lexer = if of_run {
         definition.run(alloc, input)?.into_lexer(alloc)?
     } else {
         definition.lexer(alloc, input)?
     };
-    tell_lexer(told, &lexer, input, asked)
+    tell_lexer(told, &lexer, input, asked);
+    Ok(())
 }

@@ -1,15 +1,12 @@
-//! The positions of bytes and the bytes of positions, by a document after its edits and by lexers of its text.
+//! The positions of bytes and the bytes of positions, by a document after its edits and by the lexer of its text.
 use crate::building::Definition;
+use crate::documents::{Edited, make};
 use crate::lexers::LexerOf;
-use lrlex::{DefaultLexerTypes, Document, EditError, LexerDef, PositionEncoding};
-use lrlex_base::NewlineCache;
-use lrlex_replay_cases::reading::{Change, Trouble, change_of, count_of, list_of};
+use lrlex::{Document, PositionEncoding};
+use lrlex_replay_cases::reading::{Trouble, change_of, count_of, list_of};
 use lrlex_replay_cases::told::Told;
 use serde_json::Value;
 use std::alloc::AllocError;
-
-/// A document of a definition with ids of type `u32`.
-type Edited<'d> = Document<'d, DefaultLexerTypes<u32>>;
 
 /// What is asked for.
 enum Question {
@@ -73,20 +70,12 @@ fn tell_lexer(told: &mut Told, lexer: &LexerOf<'_, '_>, asked: &[Value]) {
     told.close();
 }
 
-/// Makes an edit, which fits.
-fn edit_once(told: &Told, document: &mut Edited<'_>, change: Change<'_>) -> Result<(), Trouble> {
-    let (from, to, put) = change;
-    match document.edit(told.alloc(), from, to, put) {
-        Ok(()) => Ok(()),
-        Err(EditError::OutOfMemory) => Err(Trouble::Memory),
-        Err(EditError::DoesNotFit) => Err(Trouble::Malformed),
-    }
-}
-
 /// Makes the edits, each of which fits.
-fn edit_all(told: &Told, document: &mut Edited<'_>, edits: &[Value]) -> Result<(), Trouble> {
+fn edit_all(told: &mut Told, document: &mut Edited<'_>, edits: &[Value]) -> Result<(), Trouble> {
     for edit in edits {
-        edit_once(told, document, change_of(list_of(edit)))?;
+        if !make(told, document, change_of(list_of(edit)))? {
+            return Err(Trouble::Malformed);
+        }
     }
     Ok(())
 }
@@ -103,15 +92,7 @@ fn ask_lexer(
     Ok(())
 }
 
-/// Asks a lexer made of a text without items.
-fn ask_bare_lexer(told: &mut Told, text: &str, asked: &[Value]) -> Result<(), AllocError> {
-    let newlines = NewlineCache::from_str(told.alloc(), text)?;
-    let lexer = LexerOf::new(text, Vec::new(told.alloc()), newlines);
-    tell_lexer(told, &lexer, asked);
-    Ok(())
-}
-
-/// Asks a document after edits, and then both lexers of its text.
+/// Asks a document after edits, and then the lexer of its text.
 fn ask_edited(
     told: &mut Told,
     definition: &Definition<u32>,
@@ -121,11 +102,10 @@ fn ask_edited(
 ) -> Result<(), Trouble> {
     edit_all(told, document, edits)?;
     tell_document(told, document, asked);
-    ask_lexer(told, definition, document.text(), asked)?;
-    Ok(ask_bare_lexer(told, document.text(), asked)?)
+    Ok(ask_lexer(told, definition, document.text(), asked)?)
 }
 
-/// Asks a document after edits, then the lexer of its text, and a lexer made of the text without items.
+/// Asks a document after edits, and then the lexer of its text.
 pub fn ask_positions(
     told: &mut Told,
     definition: &Definition<u32>,

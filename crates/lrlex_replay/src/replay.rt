@@ -3,11 +3,11 @@ ghost use Rattle.std.specs.Prelude.{◌≡◌};
 ghost use Rattle.lrlex.specs.Lexer.{lexer_text};
 
 use crate::building::{Definition, build};
-use crate::items::item_seen;
+use crate::items::{item_seen, item_seen_u8, item_seen_u16};
 use crate::lexers::LexerOf;
 use crate::runs::most_of;
-use lrlex::{Budget, DefaultLexerTypes, LexRun, LexerDef};
-use lrlex_base::{Id, NewlineCache, NonStreamingLexer, Span};
+use lrlex::{Budget, LexerDef};
+use lrlex_base::{NewlineCache, NonStreamingLexer, Span};
 use lrlex_replay_cases::facts::{
     Item, tell_counts, tell_faults, tell_items, tell_refusal, tell_rules, tell_sets, tell_states,
 };
@@ -66,51 +66,101 @@ fn tell_lexed(
     Ok(())
 }
 
-/// What a run gives.
-fn lexed_by<T: Id>(
-    alloc: Global,
-    run: &LexRun<'_, '_, DefaultLexerTypes<T>>,
-) -> Result<Lexed, AllocError> {
-    let counts = [run.tiles(), run.entries_peak(), most_of(run.asked())];
-    let items = run.items().iter().map(item_seen::<T>).collect(alloc)?;
-    Ok((items, counts))
+/// What lexing the input by this definition gives, each item as this function tells it.
+macro_rules! lexed {
+    ($alloc:expr, $definition:expr, $input:expr, $seen:expr) => {{
+        let run = $definition.run($alloc, $input)?;
+        let counts = [run.tiles(), run.entries_peak(), most_of(run.asked())];
+        let items = run.items().iter().map($seen).collect($alloc)?;
+        Ok((items, counts))
+    }};
+}
+
+/// Tells the definition, and what lexing the input gives, as this function does it: by the definition's tables, and without any,
+/// so that each rule is asked.
+macro_rules! tell_both {
+    ($told:expr, $definition:expr, $input:expr, $lexed:expr) => {{
+        let alloc = $told.alloc();
+        tell_states($told, $definition.iter_start_states().as_slice());
+        tell_rules($told, $definition.rules());
+        tell_lexed($told, $input, $lexed(alloc, &$definition, $input))?;
+        let asking = $definition.with_budget(alloc, Budget::new(0, 0))?;
+        tell_lexed($told, $input, $lexed(alloc, &asking, $input))
+    }};
+}
+
+/// Tells all that comes of a case that has a rule text and sets no token ids: its faults, or its definition, as this function tells
+/// it.
+macro_rules! tell_text {
+    ($told:expr, $case:expr, $id:ty, $tell:expr) => {
+        match Definition::<$id>::new_with_options(
+            $told.alloc(),
+            text_in($case, "rules"),
+            flags_in($case),
+        )? {
+            Ok(definition) => $tell($told, definition, text_in($case, "input")),
+            Err(faults) => {
+                tell_faults($told, faults.as_slice());
+                Ok(())
+            }
+        }
+    };
 }
 
 /// What lexing the input by this definition gives.
-fn lexed<T: Id>(
+fn lexed(alloc: Global, definition: &Definition<u32>, input: &str) -> Result<Lexed, AllocError> {
+    lexed!(alloc, definition, input, item_seen)
+}
+
+/// The same with ids of type `u8`.
+fn lexed_u8(alloc: Global, definition: &Definition<u8>, input: &str) -> Result<Lexed, AllocError> {
+    lexed!(alloc, definition, input, item_seen_u8)
+}
+
+/// The same with ids of type `u16`.
+fn lexed_u16(
     alloc: Global,
-    definition: &Definition<T>,
+    definition: &Definition<u16>,
     input: &str,
 ) -> Result<Lexed, AllocError> {
-    let run = definition.run(alloc, input)?;
-    lexed_by(alloc, &run)
+    lexed!(alloc, definition, input, item_seen_u16)
 }
 
-/// Tells the definition, and what lexing the input gives: by the definition's tables, and without any, so that each rule is
-/// asked.
-fn tell_definition<T: Id + Into<u64>>(
+/// Tells the definition, and what lexing the input gives: by the definition's tables, and without any.
+fn tell_definition(
     told: &mut Told,
-    definition: Definition<T>,
+    definition: Definition<u32>,
     input: &str,
 ) -> Result<(), Trouble> {
-    let alloc = told.alloc();
-    tell_states(told, definition.iter_start_states().as_slice());
-    tell_rules(told, definition.rules());
-    tell_lexed(told, input, lexed(alloc, &definition, input))?;
-    let asking = definition.with_budget(alloc, Budget::new(0, 0))?;
-    tell_lexed(told, input, lexed(alloc, &asking, input))
+    tell_both!(told, definition, input, lexed)
 }
 
-/// Tells all that comes of a case that has a rule text and sets no token ids, with ids of this type.
-fn tell_text<T: Id + Into<u64>>(told: &mut Told, case: &Value) -> Result<(), Trouble> {
-    let rules = text_in(case, "rules");
-    match Definition::<T>::new_with_options(told.alloc(), rules, flags_in(case))? {
-        Ok(definition) => tell_definition(told, definition, text_in(case, "input")),
-        Err(faults) => {
-            tell_faults(told, faults.as_slice());
-            Ok(())
-        }
-    }
+/// The same with ids of type `u8`.
+fn tell_definition_u8(
+    told: &mut Told,
+    definition: Definition<u8>,
+    input: &str,
+) -> Result<(), Trouble> {
+    tell_both!(told, definition, input, lexed_u8)
+}
+
+/// The same with ids of type `u16`.
+fn tell_definition_u16(
+    told: &mut Told,
+    definition: Definition<u16>,
+    input: &str,
+) -> Result<(), Trouble> {
+    tell_both!(told, definition, input, lexed_u16)
+}
+
+/// Tells all that comes of a case with ids of type `u8`.
+fn tell_text_u8(told: &mut Told, case: &Value) -> Result<(), Trouble> {
+    tell_text!(told, case, u8, tell_definition_u8)
+}
+
+/// Tells all that comes of a case with ids of type `u16`.
+fn tell_text_u16(told: &mut Told, case: &Value) -> Result<(), Trouble> {
+    tell_text!(told, case, u16, tell_definition_u16)
 }
 
 /// Sets the token ids of a case, and tells what that gives.
@@ -143,8 +193,8 @@ fn tell_case(told: &mut Told, case: &Value) -> Result<(), Trouble> {
 /// Tells all that comes of a case, with ids of the type that it names.
 fn tell(told: &mut Told, case: &Value) -> Result<(), Trouble> {
     match text_in(case, "storage") {
-        "u8" => tell_text::<u8>(told, case),
-        "u16" => tell_text::<u16>(told, case),
+        "u8" => tell_text_u8(told, case),
+        "u16" => tell_text_u16(told, case),
         _ => tell_case(told, case),
     }
 }

@@ -1,6 +1,6 @@
 //! Steps: what is done with the definition of a case, one thing after the other, and told.
 use crate::building::{Definition, build_within};
-use crate::callers::{keep_run, replace};
+use crate::callers::keep_run;
 use crate::documents::{cut_document, show};
 use crate::engines::{display_faults, drive, serve};
 use crate::faults::tell_all_faults;
@@ -11,7 +11,6 @@ use crate::reports::report;
 use crate::runs::{cut_run, lex, tell_end};
 use crate::scanners::scan;
 use lrlex::{DEFAULT_LEX_FLAGS, LexerDef};
-use lrlex_examples::callers::editing::highlighted;
 use lrlex_examples::callers::lexing::words;
 use lrlex_replay_cases::edits::{edit_of, tell_edit};
 use lrlex_replay_cases::facts::{tell_rules, tell_states, tell_words};
@@ -95,7 +94,7 @@ fn ask_about_text(
         "run" => lex(told, definition, text, list_at(step, 2)),
         "lexer" => {
             let asked = (list_at(step, 3), list_at(step, 4));
-            ask_lexer(told, definition, text, is_true_at(step, 2), asked)
+            Ok(ask_lexer(told, definition, text, is_true_at(step, 2), asked)?)
         }
         "part" => cut_part(
             told,
@@ -107,13 +106,9 @@ fn ask_about_text(
             let words = words(told.alloc(), definition, text);
             tell_words(told, words)
         }
-        "highlighted" => {
-            let words = highlighted(told.alloc(), definition, text);
-            tell_words(told, words)
-        }
         "end" => tell_end(told, definition, text),
         "scan" => scan(told, definition, text),
-        "after" => keep_run(told, definition, text, list_at(step, 2)),
+        "after" => Ok(keep_run(told, definition, text, list_at(step, 2))?),
         "positions" => ask_positions(told, definition, text, list_at(step, 2), list_at(step, 3)),
         "document" | "visible" | "typed" | "retyped" | "texts" => show(
             told, definition, name, step,
@@ -134,7 +129,6 @@ fn make(
         "may_win" => tell_may_win(told, definition)?,
         "find" => find(told, definition, list_at(step, 1), list_at(step, 2)),
         "ids" => set_ids(told, definition, step.get(1), is_true_at(step, 2))?,
-        "replaced" => replace(told, definition, text_at(step, 1), text_at(step, 2))?,
         "served" => serve(rt, told, step),
         name => ask_about_text(told, definition, name, step)?,
     }
