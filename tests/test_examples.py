@@ -25,6 +25,8 @@ ROWS = [
     ("calc", " \n8 / 2 / 2", "8 / 2 / 2 = 2\n", 0),
     ("conf", "a = 1", "a = 1\n", 0),
     ("conf", "a b = 1", "stdin:1:3: expected = or {\n", 1),
+    ("conf", 'a = b  # c\r\n\r\ns {\r\n  b = "x"\r\n}\r\n', "a = b\ns.b = x\n", 0),
+    ("conf", "a = b\rc", "stdin:1:6: no token begins here\n", 1),
     ("conf", "s {\n  a = 1\n", "s.a = 1\nstdin:2:8: expected }\n", 1),
     ("conf", "a = 1\n}", "a = 1\nstdin:2:1: no token begins here\n", 1),
     ("edit_loop", "", "0 of 0 tiles cut anew\n", 0),

@@ -167,10 +167,12 @@ fn take_item<'t>(
         }
         Err(error) => (error.span(), Err(Refusal::Wrong("no token begins here"))),
     };
-    let place = lexer.place(span.start());
     match taken {
         Ok(()) => Ok(None),
-        Err(Refusal::Wrong(why)) => Ok(Some(Fault { place, why })),
+        Err(Refusal::Wrong(why)) => {
+            let place = lexer.place(span.start());
+            Ok(Some(Fault { place, why }))
+        }
         Err(Refusal::Memory) => Err(AllocError),
     }
 }

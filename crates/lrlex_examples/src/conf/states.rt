@@ -9,13 +9,13 @@ pub const RULES: &str = r##"%s section
 = <+value>'='
 \{ <+section>'{'
 <section>\} <-section>'}'
-<value>[^ \t\n"#]+([ \t]+[^ \t\n"#]+)* 'BARE'
+<value>[^ \t\r\n"#]+([ \t]+[^ \t\r\n"#]+)* 'BARE'
 <value>" <+text>'QUOTE'
-<value>\n <-value>'END'
+<value>\r?\n <-value>'END'
 <text>[^"\\\n]+ 'PART'
 <text>\\[nt"\\] 'ESCAPE'
 <text>" <-text>;
 <INITIAL,section,value>[ \t]+ ;
 <INITIAL,section,value>#[^\n]* ;
-\n ;
+\r?\n ;
 "##;
