@@ -7,7 +7,7 @@ use crate::measure::{Definition, Run, time_runs};
 use lrlex_base::{Edit, Span};
 use lrlex_bench_lib::{Fault, Relexed, Watch, boundary_from, tell_anew};
 
-/// What each edit inserts: one byte, of which any of the rule files in `bench` makes a tile or part of one.
+/// What each edit inserts: one byte, of which any of the rule files in `rules` makes a tile or part of one.
 const PUT: &str = " ";
 
 /// Lexes once again after the edit. What that counts.

@@ -6,7 +6,7 @@ use std::alloc::Global;
 
 type Document<'d> = lrlex::Document<'d, DefaultLexerTypes<u32>>;
 
-/// What each key puts: one byte, which any of the rule files in `bench` makes a tile of or part of one.
+/// What each key puts: one byte, which any of the rule files in `rules` makes a tile of or part of one.
 const KEY: &str = "a";
 
 /// Puts a key at a place.
