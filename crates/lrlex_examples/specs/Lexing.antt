@@ -8,6 +8,7 @@ use Rattle.lrlex.specs.Tiling.{Item, Lexeme, Error}
 use Rattle.lrlex.specs.Boundaries.{Boundary, boundary_at}
 use Rattle.lrlex.specs.Pieces.{HasByteIn}
 use Rattle.lrlex.specs.Reach.{IsRun}
+use Rattle.lrlex.specs.declared.reading.pieces.Piece.{Piece}
 
 -- a lexeme's name and its text; an error has none
 abbrev pub word_of : List Rule → List ℕ → Item → Option (List ℕ × List ℕ)
@@ -39,6 +40,10 @@ text_after text (e ∷ es) = text_after (edited text (as_span e.removed) e.put.n
 -- the texts of these parts, one behind the other
 abbrev pub joined_parts : List (List ℕ × List ℕ) → List ℕ
 joined_parts parts = concat (map (λ (part : List ℕ × List ℕ). part.1) parts)
+
+-- these parts have the texts of these pieces
+abbrev pub ShowPieces : List Piece → List (List ℕ × List ℕ) → Type 0
+ShowPieces pieces parts = map (λ (part : List ℕ × List ℕ). part.1) parts ≡ map (λ (p : Piece). p.text.now) pieces
 
 -- Joined, these parts are the text between two boundaries of a run: those before and behind the tiles that have a byte in from..to.
 pub record ShowPart (text : List ℕ) (bounds : List Boundary) (from to : ℕ) (parts : List (List ℕ × List ℕ)) : Type 0 where

@@ -1,13 +1,27 @@
 //! For a highlighter and an editor, at the usual types.
 ghost use Rattle.std.specs.Prelude.{◌≡◌, IfOk, map, take};
 ghost use Rattle.lrlex.specs.LexRun.{end_of};
-ghost use Rattle.lrlex_examples.specs.Lexing.{ShowPart, shown, joined_parts};
+ghost use Rattle.lrlex_examples.specs.Lexing.{ShowPart, ShowPieces, shown, joined_parts};
 
 use lrlex::{
-    Change, DefaultLexerTypes, Document, EditError, LRNonStreamingLexerDef, LexRun, Lexeme,
+    Change, DefaultLexerTypes, Document, EditError, LRNonStreamingLexerDef, LexRun, Lexeme, Piece,
     piece_laws,
 };
 use std::alloc::{AllocError, Global};
+
+/// The text of each piece with the name of its rule, or "" where that has none.
+fn parts_of<'d, 't>(
+    alloc: Global,
+    pieces: &[Piece<'d, 't>],
+) -> Result<Vec<(&'d str, &'t str)>, AllocError>
+    ensures { IfOk result (λ parts. ShowPieces pieces.now (map shown parts.items)) }
+{
+    let mut parts = Vec::new(alloc);
+    for piece in pieces {
+        parts.push((piece.name.unwrap_or(""), piece.text))?;
+    }
+    Ok(parts)
+}
 
 /// The whole text of a run as it was cut, up to the run's end: each piece with the name of its rule, or "" where that has none.
 /// Joined, they are the text up to there.
@@ -21,11 +35,7 @@ pub fn cut_up<'d, 't>(
     run.laws();
     piece_laws();
     let pieces = run.pieces(alloc)?;
-    let mut parts = Vec::new(alloc);
-    for piece in &pieces {
-        parts.push((piece.name.unwrap_or(""), piece.text))?;
-    }
-    Ok(parts)
+    parts_of(alloc, &pieces)
 }
 
 /// The whole text as it was cut: each piece with the name of its rule, or "" where that has none.
@@ -93,9 +103,5 @@ pub fn visible<'d, 't>(
     document.laws();
     piece_laws();
     let pieces = document.pieces_in(alloc, from, to)?;
-    let mut parts = Vec::new(alloc);
-    for piece in &pieces {
-        parts.push((piece.name.unwrap_or(""), piece.text))?;
-    }
-    Ok(parts)
+    parts_of(alloc, &pieces)
 }
