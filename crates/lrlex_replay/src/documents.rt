@@ -10,6 +10,7 @@ use lrlex_replay_cases::reading::{
 };
 use lrlex_replay_cases::told::Told;
 use serde_json::Value;
+use std::alloc::AllocError;
 
 /// A document of a definition with ids of type `u32`.
 pub type Edited<'d> = Document<'d, DefaultLexerTypes<u32>>;
@@ -21,7 +22,7 @@ fn tell_change(told: &mut Told, change: lrlex::Change) {
 
 /// Tells what a document shows: its counts, what the last edit changed in its items and in its pieces, its text, its items and its
 /// pieces.
-fn tell_shown(told: &mut Told, document: &Edited<'_>) -> Result<(), Trouble> {
+fn tell_shown(told: &mut Told, document: &Edited<'_>) {
     told.key("document");
     told.numbers(&[
         document.tiles(),
@@ -36,14 +37,14 @@ fn tell_shown(told: &mut Told, document: &Edited<'_>) -> Result<(), Trouble> {
     told.text(document.text());
     tell_items(told, document.items());
     let pieces = document.pieces(told.alloc());
-    tell_pieces(told, document.text(), pieces)
+    tell_pieces(told, document.text(), pieces);
 }
 
 /// Tells that an edit was out of memory, and what the document shows then.
-fn tell_refused(told: &mut Told, document: &Edited<'_>) -> Result<(), Trouble> {
+fn tell_refused(told: &mut Told, document: &Edited<'_>) {
     told.key("out_of_memory");
     told.null();
-    tell_shown(told, document)
+    tell_shown(told, document);
 }
 
 /// Makes an edit; where memory is refused, tells what the document shows then, and makes it once more. Whether it fits.
@@ -55,7 +56,7 @@ pub fn make(
     let (from, to, put) = change;
     let mut made = document.edit(told.alloc(), from, to, put);
     if let Err(EditError::OutOfMemory) = made {
-        tell_refused(told, document)?;
+        tell_refused(told, document);
         made = document.edit(told.alloc(), from, to, put);
     }
     match made {
@@ -85,7 +86,7 @@ fn tell_edit(told: &mut Told, document: &mut Edited<'_>, value: &Value) -> Resul
     let made = make(told, document, change_of(parts))?;
     told.key("edit");
     told.truth(made);
-    tell_shown(told, document)?;
+    tell_shown(told, document);
     let bytes = list_at(parts, 3);
     if !bytes.is_empty() {
         tell_places(told, document, bytes);
@@ -95,7 +96,7 @@ fn tell_edit(told: &mut Told, document: &mut Edited<'_>, value: &Value) -> Resul
 
 /// Tells a document, and again after each edit.
 fn tell_edits(told: &mut Told, document: &mut Edited<'_>, edits: &[Value]) -> Result<(), Trouble> {
-    tell_shown(told, document)?;
+    tell_shown(told, document);
     for edit in edits {
         tell_edit(told, document, edit)?;
     }
@@ -126,7 +127,8 @@ fn retype(told: &mut Told, document: &mut Edited<'_>, change: Change<'_>) -> Res
         Ok((changed, came)) => {
             told.key("retyped");
             tell_change(told, changed);
-            tell_words(told, Ok(came))
+            tell_words(told, Ok(came));
+            Ok(())
         }
         Err(EditError::DoesNotFit) => {
             told.key("retyped");
@@ -147,9 +149,9 @@ fn tell_texts(told: &mut Told, document: &Edited<'_>, spans: &[Value]) {
 }
 
 /// Tells the part of a document that a window shows.
-fn tell_visible(told: &mut Told, document: &Edited<'_>, span: Span) -> Result<(), Trouble> {
+fn tell_visible(told: &mut Told, document: &Edited<'_>, span: Span) {
     let words = visible(told.alloc(), document, span.start(), span.end());
-    tell_words(told, words)
+    tell_words(told, words);
 }
 
 /// Tells what the step of this name asks a document; the last of them is `texts`.
@@ -160,15 +162,13 @@ fn tell_document(
     asked: &[Value],
 ) -> Result<(), Trouble> {
     match name {
-        "document" => tell_edits(told, document, asked),
+        "document" => tell_edits(told, document, asked)?,
         "visible" => tell_visible(told, document, span_of(asked)),
-        "typed" => type_keys(told, document, change_of(asked)),
-        "retyped" => retype(told, document, change_of(asked)),
-        _ => {
-            tell_texts(told, document, asked);
-            Ok(())
-        }
+        "typed" => type_keys(told, document, change_of(asked))?,
+        "retyped" => retype(told, document, change_of(asked))?,
+        _ => tell_texts(told, document, asked),
     }
+    Ok(())
 }
 
 /// Asks a document of a step's text.
@@ -188,7 +188,8 @@ pub fn cut_document(
     definition: &Definition<u32>,
     text: &str,
     ends: (usize, usize),
-) -> Result<(), Trouble> {
+) -> Result<(), AllocError> {
     let document = Document::new(told.alloc(), definition, text)?;
-    tell_pieces(told, text, document.pieces_in(told.alloc(), ends.0, ends.1))
+    tell_pieces(told, text, document.pieces_in(told.alloc(), ends.0, ends.1));
+    Ok(())
 }

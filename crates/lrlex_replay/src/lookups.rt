@@ -36,31 +36,23 @@ fn tell_refused(told: &mut Told, definition: &Definition<u32>) {
 }
 
 /// Sets token ids, once more where memory is refused, and tells what that gives, with the places of names.
-fn set_spanned(
-    told: &mut Told,
-    definition: &mut Definition<u32>,
-    ids: &HashMap<&str, u32>,
-) -> Result<(), Trouble> {
+fn set_spanned(told: &mut Told, definition: &mut Definition<u32>, ids: &HashMap<&str, u32>) {
     let mut sets = definition.set_rule_ids_spanned(told.alloc(), ids);
     if sets.is_err() {
         tell_refused(told, definition);
         sets = definition.set_rule_ids_spanned(told.alloc(), ids);
     }
-    tell_sets(told, "ids", sets)
+    tell_sets(told, "ids", sets);
 }
 
 /// The same without places.
-fn set_named(
-    told: &mut Told,
-    definition: &mut Definition<u32>,
-    ids: &HashMap<&str, u32>,
-) -> Result<(), Trouble> {
+fn set_named(told: &mut Told, definition: &mut Definition<u32>, ids: &HashMap<&str, u32>) {
     let mut sets = definition.set_rule_ids(told.alloc(), ids);
     if sets.is_err() {
         tell_refused(told, definition);
         sets = definition.set_rule_ids(told.alloc(), ids);
     }
-    tell_name_sets(told, "ids", sets)
+    tell_name_sets(told, "ids", sets);
 }
 
 /// Sets the token ids of an object, and tells what that gives.
@@ -72,8 +64,9 @@ pub fn set_ids(
 ) -> Result<(), Trouble> {
     let ids = ids_of(told.alloc(), members)?;
     if spanned {
-        set_spanned(told, definition, &ids)
+        set_spanned(told, definition, &ids);
     } else {
-        set_named(told, definition, &ids)
+        set_named(told, definition, &ids);
     }
+    Ok(())
 }

@@ -167,7 +167,8 @@ fn tell_text_u16(told: &mut Told, case: &Value) -> Result<(), Trouble> {
 fn set_ids(told: &mut Told, definition: &mut Definition<u32>, case: &Value) -> Result<(), Trouble> {
     let ids = ids_of(told.alloc(), case.get("ids"))?;
     let sets = definition.set_rule_ids_spanned(told.alloc(), &ids);
-    tell_sets(told, "set_ids", sets)
+    tell_sets(told, "set_ids", sets);
+    Ok(())
 }
 
 /// Tells what comes of the definition of a case, after setting its token ids where it has some.

@@ -98,5 +98,6 @@ pub fn report(told: &mut Told, name: &str, step: &[Value]) -> Result<(), Trouble
         "stop_text" => shown_of_stop(alloc, text, count_at(step, 2), count_at(step, 3)),
         _ => return Err(Trouble::Malformed),
     };
-    tell_report(told, shown)
+    tell_report(told, shown);
+    Ok(())
 }

@@ -40,20 +40,19 @@ fn tell_ahead(told: &mut Told, run: &Run<'_, '_>) {
 }
 
 /// Tells pieces of the text, if memory was there for them.
-pub fn tell_pieces(
-    told: &mut Told,
-    text: &str,
-    pieces: Result<Vec<Piece<'_, '_>>, AllocError>,
-) -> Result<(), Trouble> {
-    let pieces = pieces?;
-    told.list("pieces");
-    for piece in pieces.as_slice() {
-        let span = piece.span;
-        let is_own = text.get(span.start()..span.end()) == Some(piece.text);
-        tell_piece(told, piece.rule, span, piece.name, is_own);
+pub fn tell_pieces(told: &mut Told, text: &str, pieces: Result<Vec<Piece<'_, '_>>, AllocError>) {
+    match pieces {
+        Ok(pieces) => {
+            told.list("pieces");
+            for piece in pieces.as_slice() {
+                let span = piece.span;
+                let is_own = text.get(span.start()..span.end()) == Some(piece.text);
+                tell_piece(told, piece.rule, span, piece.name, is_own);
+            }
+            told.close();
+        }
+        Err(_) => told.refuse(),
     }
-    told.close();
-    Ok(())
 }
 
 /// How many entries the stack of a run's last boundary has.
@@ -80,16 +79,15 @@ fn tell_counts(told: &mut Told, run: &Run<'_, '_>) {
 }
 
 /// Tells what a run answers: its counts, and its lists where they aren't long.
-fn tell_run(told: &mut Told, run: &Run<'_, '_>) -> Result<(), Trouble> {
+fn tell_run(told: &mut Told, run: &Run<'_, '_>) {
     tell_counts(told, run);
-    if run.tiles() >= MANY_TILES {
-        return Ok(());
+    if run.tiles() < MANY_TILES {
+        tell_items(told, run.items());
+        tell_boundaries(told, run);
+        tell_ahead(told, run);
+        let pieces = run.pieces(told.alloc());
+        tell_pieces(told, run.text(), pieces);
     }
-    tell_items(told, run.items());
-    tell_boundaries(told, run);
-    tell_ahead(told, run);
-    let pieces = run.pieces(told.alloc());
-    tell_pieces(told, run.text(), pieces)
 }
 
 /// Lexes again after the edit, which makes the text.
@@ -112,7 +110,7 @@ fn tell_again<'d, 't>(
     next: &'t Made<'_>,
 ) -> Result<Run<'d, 't>, Trouble> {
     let run = lex_again(told, &run, &next.edit, next.text.as_str())?;
-    tell_run(told, &run)?;
+    tell_run(told, &run);
     Ok(run)
 }
 
@@ -121,9 +119,9 @@ fn tell_first<'d, 't>(
     told: &mut Told,
     definition: &'d Definition<u32>,
     text: &'t str,
-) -> Result<Run<'d, 't>, Trouble> {
+) -> Result<Run<'d, 't>, AllocError> {
     let run = definition.run(told.alloc(), text)?;
-    tell_run(told, &run)?;
+    tell_run(told, &run);
     Ok(run)
 }
 
@@ -160,9 +158,10 @@ pub fn cut_run(
     definition: &Definition<u32>,
     text: &str,
     ends: (usize, usize),
-) -> Result<(), Trouble> {
+) -> Result<(), AllocError> {
     let run = definition.run(told.alloc(), text)?;
-    tell_pieces(told, text, run.pieces_in(told.alloc(), ends.0, ends.1))
+    tell_pieces(told, text, run.pieces_in(told.alloc(), ends.0, ends.1));
+    Ok(())
 }
 
 /// Tells a place and the start state there, null where there is none.
@@ -177,14 +176,22 @@ fn tell_state_at(told: &mut Told, place: usize, state: Option<StartStateId>) {
 }
 
 /// Tells where a run of the text ends and the start state there.
-fn tell_run_end(told: &mut Told, definition: &Definition<u32>, text: &str) -> Result<(), Trouble> {
+fn tell_run_end(
+    told: &mut Told,
+    definition: &Definition<u32>,
+    text: &str,
+) -> Result<(), AllocError> {
     let run = definition.run(told.alloc(), text)?;
     tell_state_at(told, run.end(), run.end_state());
     Ok(())
 }
 
 /// Tells where lexing the text ends and the start state there, by a run and by a document that was taken apart and put together.
-pub fn tell_end(told: &mut Told, definition: &Definition<u32>, text: &str) -> Result<(), Trouble> {
+pub fn tell_end(
+    told: &mut Told,
+    definition: &Definition<u32>,
+    text: &str,
+) -> Result<(), AllocError> {
     tell_run_end(told, definition, text)?;
     let document = Document::new(told.alloc(), definition, text)?;
     let document = Document::of_text(definition, document.into_text());

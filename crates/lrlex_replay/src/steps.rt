@@ -60,7 +60,7 @@ fn cut_part(
     definition: &Definition<u32>,
     text: &str,
     ends: (usize, usize),
-) -> Result<(), Trouble> {
+) -> Result<(), AllocError> {
     cut_run(told, definition, text, ends)?;
     cut_document(told, definition, text, ends)
 }
@@ -91,30 +91,31 @@ fn ask_about_text(
 ) -> Result<(), Trouble> {
     let text = text_at(step, 1);
     match name {
-        "run" => lex(told, definition, text, list_at(step, 2)),
+        "run" => lex(told, definition, text, list_at(step, 2))?,
         "lexer" => {
             let asked = (list_at(step, 3), list_at(step, 4));
-            Ok(ask_lexer(told, definition, text, is_true_at(step, 2), asked)?)
+            ask_lexer(told, definition, text, is_true_at(step, 2), asked)?;
         }
         "part" => cut_part(
             told,
             definition,
             text,
             (count_at(step, 2), count_at(step, 3)),
-        ),
+        )?,
         "words" => {
             let words = words(told.alloc(), definition, text);
-            tell_words(told, words)
+            tell_words(told, words);
         }
-        "end" => tell_end(told, definition, text),
-        "scan" => scan(told, definition, text),
-        "after" => Ok(keep_run(told, definition, text, list_at(step, 2))?),
-        "positions" => ask_positions(told, definition, text, list_at(step, 2), list_at(step, 3)),
-        "document" | "visible" | "typed" | "retyped" | "texts" => show(
-            told, definition, name, step,
-        ),
-        _ => make_alone(told, name, step),
+        "end" => tell_end(told, definition, text)?,
+        "scan" => scan(told, definition, text)?,
+        "after" => keep_run(told, definition, text, list_at(step, 2))?,
+        "positions" => ask_positions(told, definition, text, list_at(step, 2), list_at(step, 3))?,
+        "document" | "visible" | "typed" | "retyped" | "texts" => {
+            show(told, definition, name, step)?;
+        }
+        _ => make_alone(told, name, step)?,
     }
+    Ok(())
 }
 
 /// Makes a step, and tells what comes of it.

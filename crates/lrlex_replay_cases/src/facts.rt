@@ -1,5 +1,4 @@
 //! What definitions say, lexemes and errors, and what setting token ids gives.
-use crate::reading::Trouble;
 use crate::told::Told;
 use lrlex_base::{Span, Spanned};
 use lrlex_rules::{LexBuildError, LexErrorKind, Rule, StartState, StartStateOperation};
@@ -263,25 +262,23 @@ fn tell_word(told: &mut Told, name: &str, text: &str) {
 }
 
 /// Tells pairs of a name and a text, if memory was there for them.
-pub fn tell_words(
-    told: &mut Told,
-    words: Result<Vec<(&str, &str)>, AllocError>,
-) -> Result<(), Trouble> {
-    let words = words?;
-    told.list("words");
-    for (name, text) in words.as_slice() {
-        tell_word(told, name, text);
+pub fn tell_words(told: &mut Told, words: Result<Vec<(&str, &str)>, AllocError>) {
+    match words {
+        Ok(words) => {
+            told.list("words");
+            for (name, text) in words.as_slice() {
+                tell_word(told, name, text);
+            }
+            told.close();
+        }
+        Err(_) => told.refuse(),
     }
-    told.close();
-    Ok(())
 }
 
 /// Tells what is shown to people, if memory was there for it.
-pub fn tell_report(told: &mut Told, shown: Result<String, AllocError>) -> Result<(), Trouble> {
-    let shown = shown?;
+pub fn tell_report(told: &mut Told, shown: Result<String, AllocError>) {
     told.key("shown");
-    told.text(&shown);
-    Ok(())
+    told.made(shown);
 }
 
 /// Tells a span's text, its lines and the places of its ends, or as many nulls.
@@ -365,29 +362,27 @@ fn tell_placed_names(told: &mut Told, names: &Option<HashSet<(String, Span)>>) {
 }
 
 /// Tells what setting token ids gave, in any order, if memory was there for it.
-pub fn tell_sets(
-    told: &mut Told,
-    key: &str,
-    sets: Result<Sets<'_>, AllocError>,
-) -> Result<(), Trouble> {
-    let sets = sets?;
-    told.list(key);
-    tell_names(told, &sets.0);
-    tell_placed_names(told, &sets.1);
-    told.close();
-    Ok(())
+pub fn tell_sets(told: &mut Told, key: &str, sets: Result<Sets<'_>, AllocError>) {
+    match sets {
+        Ok(sets) => {
+            told.list(key);
+            tell_names(told, &sets.0);
+            tell_placed_names(told, &sets.1);
+            told.close();
+        }
+        Err(_) => told.refuse(),
+    }
 }
 
 /// The same without places.
-pub fn tell_name_sets(
-    told: &mut Told,
-    key: &str,
-    sets: Result<NameSets<'_>, AllocError>,
-) -> Result<(), Trouble> {
-    let sets = sets?;
-    told.list(key);
-    tell_names(told, &sets.0);
-    tell_own_names(told, &sets.1);
-    told.close();
-    Ok(())
+pub fn tell_name_sets(told: &mut Told, key: &str, sets: Result<NameSets<'_>, AllocError>) {
+    match sets {
+        Ok(sets) => {
+            told.list(key);
+            tell_names(told, &sets.0);
+            tell_own_names(told, &sets.1);
+            told.close();
+        }
+        Err(_) => told.refuse(),
+    }
 }

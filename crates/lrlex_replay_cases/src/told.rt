@@ -40,10 +40,15 @@ impl Told {
         }
     }
 
+    /// Notes that memory was refused for something that would have been added.
+    pub fn refuse(&mut self) {
+        self.is_refused = true;
+    }
+
     /// Notes whether something was added.
     fn note(&mut self, added: Result<(), AllocError>) {
         if added.is_err() {
-            self.is_refused = true;
+            self.refuse();
         }
     }
 
@@ -166,7 +171,7 @@ impl Told {
     pub fn made(&mut self, text: Result<String, AllocError>) {
         match text {
             Ok(text) => self.value(&Value::String(text)),
-            Err(_) => self.is_refused = true,
+            Err(_) => self.refuse(),
         }
     }
 
