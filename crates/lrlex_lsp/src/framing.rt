@@ -1,7 +1,7 @@
 //! Messages as bytes: a head of lines, one of them `Content-Length: N`, an empty line, and N bytes.
-ghost use Rattle.std.specs.Prelude.{◌≡◌, IfOk, IfSome, length, string_bytes};
+ghost use Rattle.std.specs.Prelude.{◌≡◌, ℕ, List, IfOk, IfSome, IsTrue, length, string_bytes};
 ghost use Rattle.std.specs.Io.KnownBytes.{Appends, Consumes};
-ghost use Rattle.lrlex_lsp.specs.Framing.{framed};
+ghost use Rattle.lrlex_lsp.specs.Framing.{IsFrameOf, IsHead, framed};
 
 use std::alloc::{AllocError, Global};
 use std::io::{Read, Write};
@@ -20,17 +20,18 @@ pub enum Frame {
     Body(Vec<u8>),
     /// A body of more than 256 MB was passed over.
     TooLong,
-    /// A head has no length or isn't of a body in UTF-8, so nothing after it can be read.
+    /// A head has no length, isn't of a body in UTF-8 or has more than 8,192 bytes, so nothing after it can be read.
     Headless,
-    /// The input ends.
+    /// The input ends, before a message or within one.
     End,
 }
 
-/// The number after `Content-Length:`, if the line has one.
+/// The number after `Content-Length:`, if the line has one. It has no sign.
 fn length_in(line: &str) -> Option<usize> {
     let (name, value) = line.split_once(':')?;
-    if name.trim().eq_ignore_ascii_case("content-length") {
-        value.trim().parse::<usize>().ok()
+    let value = value.trim();
+    if name.trim().eq_ignore_ascii_case("content-length") && !value.starts_with('+') {
+        value.parse::<usize>().ok()
     } else {
         None
     }
@@ -63,8 +64,13 @@ fn has_other_charset(line: &str) -> bool {
     false
 }
 
-/// The length that a head tells, of a body in UTF-8.
-fn length_of(head: &[u8]) -> Option<usize> {
+/// The length that a head tells, of a body in UTF-8. None where no empty line ends the head.
+fn length_of(head: &[u8]) -> Option<usize>
+    ensures { IfSome result (λ _. IsHead head.now) }
+{
+    if !head.ends_with(b"\r\n\r\n") {
+        return None;
+    }
     let text = str::from_utf8(head).ok()?;
     let mut length = None;
     for line in text.lines() {
@@ -76,7 +82,7 @@ fn length_of(head: &[u8]) -> Option<usize> {
     length
 }
 
-/// Reads up to the empty line. None where the input ends first, or the head is too long.
+/// Reads up to the empty line, or as much as the longest head has. None where the input ends first.
 fn read_head<R: Read>(alloc: Global, reader: &mut R) -> io::Result<Option<Vec<u8>>>
     ensures { IfOk result (λ read. IfSome read (λ head.
         Consumes (R.remaining reader.old) (R.remaining reader.new) head.items)) }
@@ -92,7 +98,7 @@ fn read_head<R: Read>(alloc: Global, reader: &mut R) -> io::Result<Option<Vec<u8
             return Ok(Some(head));
         }
     }
-    Ok(None)
+    Ok(Some(head))
 }
 
 /// Reads a body of this length. None where the input ends first.
@@ -114,7 +120,10 @@ fn read_body<R: Read>(alloc: Global, reader: &mut R, size: usize) -> io::Result<
 }
 
 /// Passes over a body of this length. Whether the input has it.
-fn skip_body<R: Read>(reader: &mut R, size: usize) -> io::Result<bool> {
+fn skip_body<R: Read>(reader: &mut R, size: usize) -> io::Result<bool>
+    ensures { IfOk result (λ all. IsTrue all → (body : List ℕ) × (length body ≡ size)
+        × Consumes (R.remaining reader.old) (R.remaining reader.new) body) }
+{
     let mut part = [0u8; 16384];
     let mut left = size;
     while left > 0 {
@@ -129,7 +138,9 @@ fn skip_body<R: Read>(reader: &mut R, size: usize) -> io::Result<bool> {
 }
 
 /// Reads a message.
-pub fn read_frame<R: Read>(alloc: Global, reader: &mut R) -> io::Result<Frame> {
+pub fn read_frame<R: Read>(alloc: Global, reader: &mut R) -> io::Result<Frame>
+    ensures { IfOk result (IsFrameOf (R.remaining reader.old) (R.remaining reader.new)) }
+{
     let Some(head) = read_head(alloc, reader)? else {
         return Ok(Frame::End);
     };
