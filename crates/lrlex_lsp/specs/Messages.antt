@@ -17,9 +17,13 @@ IsRequest d = IsSome (get (codes "id") d) × IsSome (method_of d)
 abbrev pub IsNotification : Data → Type 0
 IsNotification d = IsNone (get (codes "id") d) × IsSome (method_of d)
 
+-- it has an id, and no member `method`: it answers what the server asked, and isn't to be answered
+abbrev pub IsAnswer : Data → Type 0
+IsAnswer d = IsSome (get (codes "id") d) × IsNone (get (codes "method") d)
+
 -- this is what the message asks
 abbrev pub IsCallOf : Call → Data → Type 0
 IsCallOf (Request id method) d = IsRequest d
 IsCallOf (Notification method) d = IsNotification d
-IsCallOf Answer d = IsNone (method_of d)
-IsCallOf Malformed d = IsNone (method_of d)
+IsCallOf Answer d = IsAnswer d
+IsCallOf Malformed d = IsNone (method_of d) × (IsAnswer d → ⊥)

@@ -54,8 +54,9 @@ pub(crate) enum Call<'v> {
     /// The answer names this id.
     Request(&'v Value, &'v str),
     Notification(&'v str),
-    /// An answer to what the server asked.
+    /// An answer to what the server asked. It may lack what it should have.
     Answer,
+    /// The refusal names the message's id, if it has one.
     Malformed,
 }
 
@@ -67,9 +68,7 @@ pub(crate) fn call_of(message: &Value) -> Call<'_>
     match (message.get("id"), method) {
         (Some(id), Some(method)) => Call::Request(id, method),
         (None, Some(method)) => Call::Notification(method),
-        (Some(_), None) if message.get("result").is_some() || message.get("error").is_some() => {
-            Call::Answer
-        }
+        (Some(_), None) if message.get("method").is_none() => Call::Answer,
         _ => Call::Malformed,
     }
 }

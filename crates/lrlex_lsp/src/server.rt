@@ -3,7 +3,7 @@ ghost use Rattle.std.specs.Prelude.{◌≡◌, IfOk, IsSome, IsNone, IsUtf8, Som
 ghost use Rattle.serde_json.specs.Data.{Data};
 ghost use Rattle.serde_json.specs.Read.{read};
 ghost use Rattle.serde_json.specs.View.{view};
-ghost use Rattle.lrlex_lsp.specs.Messages.{IsNotification, IsRequest};
+ghost use Rattle.lrlex_lsp.specs.Messages.{IsAnswer, IsNotification, IsRequest};
 
 use crate::capabilities::initialized;
 use crate::messages::{
@@ -21,7 +21,7 @@ use std::alloc::{AllocError, Global};
 /// What comes of a message.
 #[derive(Drop)]
 pub struct Handled {
-    /// The body of the answer to a request. A notification has none.
+    /// The body of the answer to a request. Notifications and the client's own answers have none.
     pub answer: Option<String>,
     pub next: Next,
 }
@@ -219,6 +219,7 @@ impl<'d> Server<'d> {
     fn take(&mut self, message: &Value, told: &mut Vec<String>) -> Result<Handled, AllocError>
         ensures request { IfOk result (λ handled. IsRequest (view message.now) → IsSome handled.answer) }
         ensures notification { IfOk result (λ handled. IsNotification (view message.now) → IsNone handled.answer) }
+        ensures answer { IfOk result (λ handled. IsAnswer (view message.now) → IsNone handled.answer) }
     {
         match call_of(message) {
             Call::Request(id, method) => Ok(answered(self.requested(id, method, message)?)),
@@ -245,6 +246,8 @@ impl<'d> Server<'d> {
             → IsRequest message → IsSome handled.answer) }
         ensures notification { IfOk result (λ handled. (message : Data) → IsUtf8 body.now
             → read body.now ≡ Some message → IsNotification message → IsNone handled.answer) }
+        ensures answer { IfOk result (λ handled. (message : Data) → IsUtf8 body.now
+            → read body.now ≡ Some message → IsAnswer message → IsNone handled.answer) }
     {
         match Value::from_slice(self.alloc, body) {
             Ok(message) => self.take(&message, told),
