@@ -1,5 +1,6 @@
 pub mod Changes
 pub mod Edits
+pub mod Faults
 pub mod Framing
 pub mod Guesses
 pub mod Messages

@@ -3,12 +3,12 @@ ghost use Rattle.std.specs.Prelude.{◌≡◌, chars};
 ghost use Rattle.std.specs.Str.{str_eq_ignore_ascii_case};
 ghost use Rattle.lrlex_lsp.specs.Guesses.{ends_in, guess_of, guess_by_first, guess_by_name, is_keyword, is_named_as_text, is_quoted};
 
-/// What a piece is guessed to be.
+/// What a piece is guessed to be. Names of rules count in capital and in small letters.
 #[derive(Clone, Copy, PartialEq, Eq, Debug)]
 pub enum Guess {
     /// The rule is named `COMMENT`, or has no name and the piece isn't white space alone.
     Comment,
-    /// The rule is named after its text, as `if` by `'IF'` or `'Kif'`.
+    /// The rule is named after its text, as `if` by `'IF'` or `'Kif'`. After `K` the text stands as it is.
     Keyword,
     /// The piece begins with a digit.
     Number,
@@ -28,7 +28,7 @@ fn is_alike(one: &[u8], other: &str) -> bool
     one.eq_ignore_ascii_case(other.as_bytes())
 }
 
-/// Whether a rule is named after its text, as `if` by `'IF'` or `'Kif'`.
+/// Whether a rule is named after its text: as `if` in either case by `'IF'`, or as it is by `'Kif'`.
 fn is_keyword(name: &str, text: &str) -> bool
     ensures { result ≡ is_keyword name.now text.now }
 {

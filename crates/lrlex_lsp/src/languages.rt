@@ -10,6 +10,8 @@ use lrlex::{
     UNSPECIFIED_LEX_FLAGS,
 };
 use std::alloc::{AllocError, Global};
+use std::error::Error;
+use std::fmt;
 
 /// The types of the server's lexers.
 pub type Types = DefaultLexerTypes<u32>;
@@ -18,7 +20,7 @@ pub type Types = DefaultLexerTypes<u32>;
 pub type Definition = LRNonStreamingLexerDef<Types>;
 
 /// The rules of rule files.
-const RULES_OF_RULES: &str = r#"%x RULES NAME
+const RULES_OF_RULES: &str = r#"%x RULES RULE NAME
 %%
 [%][%][^\n]* <RULES>'MARK'
 [%][sxSX] 'DECLARE'
@@ -27,20 +29,21 @@ const RULES_OF_RULES: &str = r#"%x RULES NAME
 [^\n] 'OTHER'
 <RULES>\n+ 'LINES'
 <RULES>[%][%][^\n]* 'END'
-<RULES><[^>\n]*> 'STATES'
+<RULES><[^>\n]*> <RULE>'STATES'
 <RULES>[^<\n][^\n]*[ \t] <NAME>'PATTERN'
-<RULES>[^\n] 'REST'
+<RULE>[^\n]*[ \t] <NAME>'LISTED'
+<RULES,RULE>[^\n] 'REST'
 <NAME><[^>\n]*> 'TARGET'
 <NAME>'[^'\n]*'|"[^"\n]*" 'NAMED'
 <NAME>; 'UNNAMED'
-<NAME>\n+ <RULES>'NEXT'
+<RULE,NAME>\n+ <RULES>'NEXT'
 <NAME>[^\n] 'TAIL'
 "#;
 
 /// What the pieces of rule files are shown as.
 const TYPES_OF_RULES: &str =
     "MARK=keyword END=keyword DECLARE=keyword STATE=enumMember STATES=enumMember TARGET=enumMember \
-    PATTERN=regexp NAMED=type UNNAMED=operator SPACE= LINES= NEXT= OTHER= REST= TAIL=";
+    PATTERN=regexp LISTED=regexp NAMED=type UNNAMED=operator SPACE= LINES= NEXT= OTHER= REST= TAIL=";
 
 /// What the rule of a piece says about how it is shown.
 #[derive(Clone, Copy)]
@@ -61,12 +64,28 @@ pub struct Language {
 }
 
 /// Why there is no language.
-#[derive(Drop)]
+#[derive(Debug, Drop)]
 pub enum LanguageFault {
     OutOfMemory,
     /// The faults of the rule text.
     Rules(Vec<LexBuildError>),
 }
+
+impl fmt::Display for LanguageFault {
+    ghost use Rattle.std.specs.Prelude.{Some};
+    ghost use Rattle.lrlex_lsp.specs.Faults.{language_fault_text};
+
+    ghost output = { λ e. Some (language_fault_text e) };
+
+    fn fmt<W: fmt::Write>(&self, f: &mut fmt::Formatter<W>) -> fmt::Result {
+        f.write_str(match self {
+            LanguageFault::OutOfMemory => "Out of memory",
+            LanguageFault::Rules(_) => "The rule text has faults",
+        })
+    }
+}
+
+impl Error for LanguageFault {}
 
 impl From<AllocError> for LanguageFault {
     fn from(_: AllocError) -> LanguageFault {
@@ -179,8 +198,15 @@ impl Language {
         read(alloc, RULES_OF_RULES, UNSPECIFIED_LEX_FLAGS, map)
     }
 
+    /// A language without rules, by which lexing stops at once.
+    pub fn without_rules(alloc: Global) -> Result<Language, LanguageFault> {
+        read(alloc, "%%\n", UNSPECIFIED_LEX_FLAGS, Map::Pairs(&[]))
+    }
+
     /// The definition that texts of the language are lexed by.
-    pub fn definition(&self) -> &Definition {
+    pub fn definition(&self) -> &Definition
+        ensures { result.now ≡ self.now.definition }
+    {
         &self.definition
     }
 
