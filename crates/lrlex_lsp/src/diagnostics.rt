@@ -4,7 +4,8 @@ use crate::json::quoted;
 use crate::languages::Types;
 use crate::opened::Opened;
 use crate::started::{Client, Given};
-use lrlex::{Document, Span};
+use crate::tokens::{ends_line, width};
+use lrlex::{Document, PositionEncoding, Span};
 use std::alloc::{AllocError, Global};
 use std::fmt::Write;
 
@@ -31,6 +32,16 @@ pub(crate) struct Finding<'m> {
     pub(crate) first: Option<Span>,
 }
 
+/// The positions of a span's ends.
+type Ends = ((usize, usize), (usize, usize));
+
+/// A byte of a document whose position is known.
+#[derive(Clone, Copy)]
+struct Known {
+    byte: usize,
+    position: (usize, usize),
+}
+
 /// The notification of what is found of a document, to which one finding after the other is added.
 #[derive(Drop)]
 pub(crate) struct Report<'p, 'd> {
@@ -42,7 +53,58 @@ pub(crate) struct Report<'p, 'd> {
     text: String,
     /// What stands before the next finding.
     before: &'static str,
-    is_faulty: bool,
+    /// Where the last finding begins, and what stands first that was told last.
+    last: Known,
+    last_first: Known,
+}
+
+/// The text's beginning.
+const BEGIN: Known = Known {
+    byte: 0,
+    position: (0, 0),
+};
+
+impl Known {
+    /// Goes to a byte, and gives its position. In the line of the byte before, what is between is counted, so that many findings
+    /// in one long line take one walk.
+    fn go(
+        &mut self,
+        document: &Document<'_, Types>,
+        encoding: PositionEncoding,
+        byte: usize,
+    ) -> (usize, usize) {
+        let (line, column) = self.position;
+        self.position = match document.text().get(self.byte..byte) {
+            Some(part) if !part.bytes().any(ends_line) => {
+                (line, column.saturating_add(width(encoding, part)))
+            }
+            _ => document.position_in(byte, encoding),
+        };
+        self.byte = byte;
+        self.position
+    }
+
+    /// Goes to the beginning of a span, and gives the positions of both ends.
+    fn ends(
+        &mut self,
+        document: &Document<'_, Types>,
+        encoding: PositionEncoding,
+        span: Span,
+    ) -> Ends {
+        let start = self.go(document, encoding, span.start());
+        let mut behind = *self;
+        (start, behind.go(document, encoding, span.end()))
+    }
+}
+
+/// Adds a range, and what stands before it.
+fn push_range(text: &mut String, before: &str, ends: Ends) -> Result<(), AllocError> {
+    let ((line, column), (end_line, end_column)) = ends;
+    write!(
+        text,
+        "{before}\"range\":{{\"start\":{{\"line\":{line},\"character\":{column}}},\
+        \"end\":{{\"line\":{end_line},\"character\":{end_column}}}}}"
+    )
 }
 
 impl Weight {
@@ -58,16 +120,10 @@ impl Weight {
 }
 
 impl<'p, 'd> Report<'p, 'd> {
-    /// Adds the range of a span, and what stands before it.
-    fn push_range(&mut self, before: &str, span: Span) -> Result<(), AllocError> {
-        let encoding = self.client.encoding;
-        let (line, column) = self.document.position_in(span.start(), encoding);
-        let (end_line, end_column) = self.document.position_in(span.end(), encoding);
-        write!(
-            self.text,
-            "{before}\"range\":{{\"start\":{{\"line\":{line},\"character\":{column}}},\
-            \"end\":{{\"line\":{end_line},\"character\":{end_column}}}}}"
-        )
+    /// Adds the range of a finding, and what stands before it.
+    fn push_span(&mut self, span: Span) -> Result<(), AllocError> {
+        let ends = self.last.ends(self.document, self.client.encoding, span);
+        push_range(&mut self.text, self.before, ends)
     }
 
     /// Adds the name of a finding's kind, if it has one.
@@ -97,21 +153,23 @@ impl<'p, 'd> Report<'p, 'd> {
         self.text
             .push_str(",\"relatedInformation\":[{\"location\":{\"uri\":")?;
         self.text.push_str(self.uri)?;
-        self.push_range(",", span)?;
+        let ends = self
+            .last_first
+            .ends(self.document, self.client.encoding, span);
+        push_range(&mut self.text, ",", ends)?;
         self.text.push_str("},\"message\":\"first here\"}]")
     }
 
     /// Adds a finding.
     pub(crate) fn push(&mut self, finding: Finding<'_>) -> Result<(), AllocError> {
         let message = quoted(self.alloc, finding.message)?;
-        self.push_range(self.before, finding.span)?;
+        self.push_span(finding.span)?;
         self.push_code(finding.code)?;
         self.push_message(finding.weight, &message)?;
         if let Some(first) = finding.first {
             self.push_first(first)?;
         }
         self.before = ",{";
-        self.is_faulty = self.is_faulty || matches!(finding.weight, Weight::Fault);
         self.text.push_str("}")
     }
 }
@@ -128,14 +186,14 @@ fn begin_told(alloc: Global, uri: &str, version: Option<usize>) -> Result<String
     Ok(text)
 }
 
-/// The notification of all that was found of a document, and whether it has a fault.
+/// The notification of all that was found of a document.
 pub(crate) fn told_of(
     alloc: Global,
     uri: &str,
     opened: &Opened<'_>,
     client: Client,
     given: Given<'_>,
-) -> Result<(String, bool), AllocError> {
+) -> Result<String, AllocError> {
     let uri = quoted(alloc, uri)?;
     let mut report = Report {
         alloc,
@@ -144,11 +202,12 @@ pub(crate) fn told_of(
         uri: &uri,
         text: begin_told(alloc, &uri, opened.version)?,
         before: "{",
-        is_faulty: false,
+        last: BEGIN,
+        last_first: BEGIN,
     };
     push_findings(alloc, &mut report, &opened.document, opened.role, given)?;
     report.text.push_str("]}}")?;
-    Ok((report.text, report.is_faulty))
+    Ok(report.text)
 }
 
 /// The notification that nothing is told of a document any more.

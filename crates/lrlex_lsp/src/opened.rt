@@ -20,7 +20,7 @@ pub(crate) enum Role {
     Rules,
     /// A text of the language that the given rules describe.
     Text,
-    /// A text while no rules are there.
+    /// A text while no rules are there. No piece of it is cut.
     Unlexed,
 }
 

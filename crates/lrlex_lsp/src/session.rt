@@ -126,10 +126,10 @@ fn language_of(
     }
 }
 
-/// The language of rule files. Its rules have no faults.
-fn own_language(alloc: Global) -> Result<Language, AllocError> {
-    match Language::of_rules(alloc) {
-        Ok(own) => Ok(own),
+/// A language whose rules have no faults.
+fn faultless(language: Result<Language, LanguageFault>) -> Result<Language, AllocError> {
+    match language {
+        Ok(language) => Ok(language),
         Err(_) => Err(AllocError),
     }
 }
@@ -159,7 +159,8 @@ pub fn serve<R: Read, W: Write>(
     writer: &mut W,
     options: Options,
 ) -> io::Result<bool> {
-    let own = own_language(alloc)?;
+    let own = faultless(Language::of_rules(alloc))?;
+    let bare = faultless(Language::without_rules(alloc))?;
     let uri = rules_uri(alloc, &options)?;
     let mut rules = first_rules(&options)?;
     let mut state = State::new(alloc);
@@ -167,6 +168,7 @@ pub fn serve<R: Read, W: Write>(
         let language = language_of(alloc, rules.as_ref().map(|text| text.as_str()), &options)?;
         let given = Given {
             own: &own,
+            bare: &bare,
             language: language.as_ref(),
             uri: &uri,
             flags: options.flags,

@@ -10,7 +10,8 @@ pub enum Next {
     GoOn,
     /// It ends. Whether the client had shut it down.
     End(bool),
-    /// The given rules are this text now: `close`, and a new server over its language, or without one where it has faults.
+    /// The given rules are this text now: `close`, and a new server over its language, or without one where it has faults. What is
+    /// wrong with the text is told by that one.
     Rules(String),
 }
 
@@ -48,6 +49,8 @@ pub(crate) struct Client {
 pub struct Given<'d> {
     /// The language of rule files.
     pub own: &'d Language,
+    /// A language without rules, for texts while no other is there.
+    pub bare: &'d Language,
     /// The language of all other texts, if there is one.
     pub language: Option<&'d Language>,
     /// The URI of that language's rule file, or an empty text.

@@ -3,7 +3,7 @@ ghost use Rattle.std.specs.Prelude.{◌≡◌, ◌<◌, ◌+◌, ◌^◌};
 
 use crate::diagnostics::{nothing_of, told_of};
 use crate::edits::make_change;
-use crate::languages::Language;
+use crate::languages::{Definition, Language};
 use crate::messages::request;
 use crate::opened::{Opened, Role};
 use crate::started::{Client, Counts, Given, Kept, Next};
@@ -84,14 +84,22 @@ impl<'d> Texts<'d> {
         Ok(all)
     }
 
+    /// Whether this is the file of the given rules. None is where there are none.
+    fn is_given(&self, uri: &str) -> Result<bool, AllocError> {
+        if self.given.uri.is_empty() {
+            return Ok(false);
+        }
+        is_same_file(self.alloc, uri, self.given.uri)
+    }
+
     /// What a document is, and what it is lexed by.
     fn role_of(&self, uri: &str, is_rules: bool) -> Result<(Role, &'d Language), AllocError> {
-        if is_rules || is_same_file(self.alloc, uri, self.given.uri)? {
+        if is_rules || self.is_given(uri)? {
             return Ok((Role::Rules, self.given.own));
         }
         match self.given.language {
             Some(given) => Ok((Role::Text, given)),
-            None => Ok((Role::Unlexed, self.given.own)),
+            None => Ok((Role::Unlexed, self.given.bare)),
         }
     }
 
@@ -147,7 +155,7 @@ impl<'d> Texts<'d> {
 
     /// The rules that hold where they aren't those that hold now, if this is the file of the given rules, which was closed.
     fn rules_of_closed(&mut self, uri: &str) -> Result<Next, AllocError> {
-        if !is_same_file(self.alloc, uri, self.given.uri)? {
+        if !self.is_given(uri)? {
             return Ok(Next::GoOn);
         }
         let (Some(rules), Some(now)) = (self.saved.take(), self.given.language) else {
@@ -174,39 +182,47 @@ impl<'d> Texts<'d> {
         self.rules_of_closed(uri)
     }
 
-    /// Tells what is wrong with a document. Whether it is open and nothing is.
-    fn tell(&self, uri: &str, told: &mut Vec<String>) -> Result<bool, AllocError> {
-        let Some(opened) = self.open.get(uri) else {
-            return Ok(false);
-        };
-        let (body, has_faults) = told_of(self.alloc, uri, opened, self.client, self.given)?;
-        told.push(body)?;
-        Ok(!has_faults)
+    /// Tells what is wrong with a document, if it is open.
+    fn tell(&self, uri: &str, told: &mut Vec<String>) -> Result<(), AllocError> {
+        if let Some(opened) = self.open.get(uri) {
+            let body = told_of(self.alloc, uri, opened, self.client, self.given)?;
+            told.push(body)?;
+        }
+        Ok(())
     }
 
     /// The text of a document, if it is the file of the given rules.
     fn given_text(&self, uri: &str) -> Result<Option<String>, AllocError> {
         match self.open.get(uri) {
-            Some(opened) if is_same_file(self.alloc, uri, self.given.uri)? => {
+            Some(opened) if self.is_given(uri)? => {
                 Ok(Some(String::from_str(self.alloc, opened.document.text())?))
             }
             _ => Ok(None),
         }
     }
 
-    /// Tells what is wrong with a document, and whether it gives the given rules anew.
+    /// Whether a text has no faults, and the given rules weren't read from it.
+    fn gives_anew(&self, rules: &str) -> Result<bool, AllocError> {
+        let flags = self.given.flags;
+        match self.given.language {
+            Some(now) if now.is_of(rules, flags) => Ok(false),
+            _ => Ok(Definition::all_faults(self.alloc, rules, flags)?.is_empty()),
+        }
+    }
+
+    /// Tells what is wrong with a document, unless it gives the given rules anew. Then it is told by them.
     pub(crate) fn tell_changed(
         &self,
         uri: &str,
         told: &mut Vec<String>,
     ) -> Result<Next, AllocError> {
-        if !self.tell(uri, told)? {
-            return Ok(Next::GoOn);
+        if let Some(text) = self.given_text(uri)? {
+            if self.gives_anew(&text)? {
+                return Ok(Next::Rules(text));
+            }
         }
-        match self.given_text(uri)? {
-            Some(text) => Ok(Next::Rules(text)),
-            None => Ok(Next::GoOn),
-        }
+        self.tell(uri, told)?;
+        Ok(Next::GoOn)
     }
 
     /// The rules that hold now, as a text: where none do, that of their file, which has faults.
@@ -225,7 +241,7 @@ impl<'d> Texts<'d> {
         Ok(())
     }
 
-    /// Tells what is wrong with a document that was opened, and whether it gives the given rules anew.
+    /// Tells what is wrong with a document that was opened, unless it gives the given rules anew.
     pub(crate) fn tell_opened(
         &mut self,
         uri: &str,

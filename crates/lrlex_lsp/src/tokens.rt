@@ -13,7 +13,7 @@ use lrlex::{Document, Piece, PositionEncoding, piece_laws};
 use std::alloc::{AllocError, Global};
 
 /// How many columns a text takes.
-fn width(encoding: PositionEncoding, text: &str) -> usize
+pub(crate) fn width(encoding: PositionEncoding, text: &str) -> usize
     ensures { result ≡ width encoding text.now }
 {
     match encoding {
@@ -84,7 +84,7 @@ struct Row {
 }
 
 /// Whether the byte is U+000A or U+000D, which end lines, alone or together.
-fn ends_line(byte: u8) -> bool
+pub(crate) fn ends_line(byte: u8) -> bool
     ensures { result ≡ ends_line byte }
 {
     byte == b'\n' || byte == b'\r'
