@@ -6,7 +6,7 @@ import tempfile
 import unittest
 
 from language_server import dialogues, mutated, refused
-from language_server.client import REFRESH, Client, applied, decoded, notification, ranged, rules_file, spot
+from language_server.client import REFRESH, SHOWING, Client, applied, decoded, notification, ranged, rules_file, spot
 from support import programs
 from support.messages import (
     DECLARE_LIST, KINDS, LIST, LOOKS, LOST, MARGIN, NEVER_ENTERED, NEVER_WINS, NO_MARK, OPERATOR, QUOTES, RULE, STATE_NAME,
@@ -51,11 +51,17 @@ FAULTS = "%s here here\n%%\n[a-z]+ 'ID'\n[A-Z] 'ID'\n 'indented'\n( 'OPEN'\n"
 # The severity of a warning, and its tags: 2 a warning, 4 a hint; tag 1 is that of what does nothing.
 WEIGHTS = {NEVER_WINS: (2, [1]), LOOKS: (4, None), LOST: (2, None)}
 
+# How many bytes a header of a head can have before the 20 of a length of two figures and the last four: 8,192 in all.
+LONGEST = 8_192 - len("X: \r\nContent-Length: 37\r\n\r\n")
+
 # How much the gate tries. The long runs are `python3 -m language_server.dialogues` and LRLEX_LONG=1.
 IS_LONG = bool(os.environ.get("LRLEX_LONG"))
 MESSAGES = 20_000
 EDITS = 10_000 if IS_LONG else 1_000
 EVERY = 1 if IS_LONG else 16
+
+# How many findings a line has.
+MANY = 10_000
 
 
 class Session(unittest.TestCase):
@@ -121,7 +127,7 @@ class Protocol(Session):
                 client.write(body)
                 answer = client.read()
                 self.assertEqual((code, None), (self.code(answer), answer["id"]))
-        client.write({"jsonrpc": "2.0", "id": 7})
+        client.write({"jsonrpc": "2.0", "id": 7, "method": 5})
         answer = client.read()
         self.assertEqual((-32600, 7), (self.code(answer), answer["id"]))
         client.begin()
@@ -139,6 +145,8 @@ class Protocol(Session):
         client.notify("textDocument/didChange", 5)
         client.write({"jsonrpc": "2.0", "id": 1, "result": None})
         client.write({"jsonrpc": "2.0", "id": 2, "error": {"code": 1, "message": ""}})
+        client.write({"jsonrpc": "2.0", "id": 1})
+        client.write({"id": None, "params": {}})
         self.assertEqual(-32601, self.code(client.ask("x")))
         self.assertEqual([], client.notes)
         self.assertEqual(0, client.end())
@@ -162,14 +170,18 @@ class Protocol(Session):
         heads = [
             "content-length:%d", "Content-Type: a\r\nContent-Length:   %d", "Content-Length: %d\r\nX: y", "Content-Length: 0%d",
             "Content-Type: application/vscode-jsonrpc; charset=utf-8\r\nContent-Length: %d", "Content-Length: %d\r\ncontent-type: a;Charset=\"UTF8\"; b=c",
-            "X: a; charset=utf-16\r\nContent-Length: %d",
+            "X: a; charset=utf-16\r\nContent-Length: %d", f"X: {'a' * LONGEST}\r\nContent-Length: %d", "Content-Length: +1\r\nContent-Length: %d",
         ]
         for head in heads:
             with self.subTest(head=head):
                 client = self.client()
                 client.send(head.encode() % len(body) + b"\r\n\r\n" + body)
                 self.assertEqual(-32002, self.code(client.read()))
-        for head in ["Content-Length: -1", "Content-Type: a; charset=utf-16\r\nContent-Length: 5", "Content-Length: 5\r\nContent-Type: a; b=c; charset = latin1"]:
+        heads = [
+            "Content-Length: -1", "Content-Length: +5", "Content-Length: 5.0", "Content-Length:", f"X: {'a' * LONGEST}a\r\nContent-Length: {len(body)}",
+            "Content-Type: a; charset=utf-16\r\nContent-Length: 5", "Content-Length: 5\r\nContent-Type: a; b=c; charset = latin1",
+        ]
+        for head in heads:
             with self.subTest(head=head):
                 client = self.client()
                 client.send(head.encode() + b"\r\n\r\n")
@@ -346,6 +358,59 @@ class RuleFiles(Session):
             (2, 12, 6, "enumMember"), (2, 18, 4, "type"), (3, 0, 4, "regexp"), (3, 4, 1, "operator"),
         ]
         self.assertEqual(wanted, decoded(client.tokens(URI)["data"], client.types))
+        self.assertEqual(0, client.end())
+
+    def test_tokens_behind_a_list(self):
+        client = self.client()
+        client.begin()
+        rows = [
+            # what follows `<one>`, and how many columns of it are shown as what
+            ("< 'LT'", [(2, "regexp"), (4, "type")]), ("<= 'LE'", [(3, "regexp"), (4, "type")]), ("<<>>\t;", [(5, "regexp"), (1, "operator")]),
+            ("<two> x <-one>'X'", [(8, "regexp"), (6, "enumMember"), (3, "type")]), ("%% ;", [(3, "regexp"), (1, "operator")]),
+            (" 'X'", [(1, "regexp"), (3, "type")]), ("a 'A' ", [(6, "regexp")]), ("<", []), ("", []),
+        ]
+        for rule, parts in rows:
+            with self.subTest(rule=rule):
+                client.open(URI, f"%x one\n%%\n<one>{rule}\n[ ] 'B'\n")
+                wanted, column = [(2, 0, 5, "enumMember")], 5
+                for length, kind in parts:
+                    wanted.append((2, column, length, kind))
+                    column += length
+                wanted += [(3, 0, 4, "regexp"), (3, 4, 3, "type")]
+                self.assertEqual(wanted, decoded(client.tokens(URI)["data"], client.types)[3:])
+        self.assertEqual(0, client.end())
+
+    def test_several_findings_in_a_line(self):
+        rows = [
+            # a rule text, and what is found in UTF-8 and in UTF-16
+            ("%s a b b a a\n%%\n", [(0, 7, 0, 8), (0, 9, 0, 10), (0, 11, 0, 12)], None),
+            ("%%\n😀\\q$ 'A'\na\\q$ 'B'\n", [(1, 0, 1, 7)] * 2 + [(2, 0, 2, 4)] * 2, [(1, 0, 1, 5)] * 2 + [(2, 0, 2, 4)] * 2),
+            ("%%\r😀\\q$ 'A'\r\na\\q$ 'B'\r", [(1, 0, 1, 7)] * 2 + [(2, 0, 2, 4)] * 2, [(1, 0, 1, 5)] * 2 + [(2, 0, 2, 4)] * 2),
+            ("%s " + " ".join(["a"] * MANY) + "\n%%\n", [(0, at, 0, at + 1) for at in range(5, 2 * MANY + 3, 2)], None),
+            ("%s " + " ".join(f"s{number:05}" for number in range(MANY)) + "\n%%\na ;\n", [(0, at, 0, at + 6) for at in range(3, 7 * MANY + 3, 7)], None),
+        ]
+        for encoding in ("utf-8", "utf-16"):
+            client = self.client()
+            client.begin({**SHOWING, "general": {"positionEncodings": [encoding]}})
+            for rules, in_bytes, in_units in rows:
+                with self.subTest(rules=rules[:20], encoding=encoding):
+                    told = client.open(URI, rules)["diagnostics"]
+                    self.assertEqual(in_bytes if encoding == "utf-8" or not in_units else in_units, sorted(spot(it)[:4] for it in told))
+            self.assertEqual(0, client.end())
+
+    def test_where_a_name_is_first(self):
+        client = self.client()
+        client.begin()
+        for name in ("a", "b" * 20):
+            with self.subTest(name=name):
+                told = client.open(URI, f"%s {name} c c {name} {name} c\n%%\n")["diagnostics"]
+                found = {}
+                for it in told:
+                    first = it["relatedInformation"][0]["location"]["range"]
+                    found[spot(it)[1]] = (first["start"]["character"], first["end"]["character"])
+                long = len(name)
+                ours, other = (3, 3 + long), (4 + long, 5 + long)
+                self.assertEqual({6 + long: other, 8 + long: ours, 9 + 2 * long: ours, 10 + 3 * long: other}, found)
         self.assertEqual(0, client.end())
 
     def test_flags(self):
@@ -528,12 +593,17 @@ class Texts(Session):
         client.begin({"workspace": {"semanticTokens": {"refreshSupport": True}}})
         self.assertEqual(1, len(client.open(TEXT, "let a!")["diagnostics"]))
         rules = f"file://{folder}/a%20b%23%c3%A9%2El"
-        self.assertEqual(rules, client.open(rules, RULES, "lex")["uri"])
-        told = {it["uri"]: len(it["diagnostics"]) for it in (client.told(), client.told())}
-        self.assertEqual({rules: 0, TEXT: 1}, told)
-        client.change(rules, ranged((5, 1), (5, 1), "!"))
-        told = {it["uri"]: len(it["diagnostics"]) for it in (client.told(), client.told())}
-        self.assertEqual({rules: 0, TEXT: 0}, told)
+        before = client.tokens(TEXT)
+        # with the text of the rules, and by changes that leave it, nothing is told of other texts, nor made anew
+        self.assertEqual([], client.open(rules, RULES, "lex")["diagnostics"])
+        client.put(rules)
+        client.put(rules, ranged((1, 0), (1, 0), "x"), ranged((1, 0), (1, 1), ""))
+        self.assertEqual([(rules, 0)] * 2, client.told_until())
+        self.assertEqual([], client.tokens_since(TEXT, before)["edits"])
+        # other rules tell each text once
+        client.put(rules, ranged((5, 1), (5, 1), "!"))
+        self.assertEqual({(rules, 0), (TEXT, 0)}, set(told := client.told_until()))
+        self.assertEqual(2, len(told))
         # with a fault the rules before stay
         self.assertEqual(1, len(client.change(rules, ranged((5, 0), (5, 1), "("))["diagnostics"]))
         kinds = [it[3] for it in decoded(client.tokens(TEXT)["data"], client.types)]
@@ -549,7 +619,7 @@ class Texts(Session):
         self.assertEqual((2, "The rule file has faults, so no text is lexed by it. Open it to see them"), (shown["type"], shown["message"]))
         self.assertEqual([], client.open(TEXT, "let a?")["diagnostics"])
         self.assertEqual(1, len(client.open(f"file://{path}", "%%\n( 'OPEN'\n", "lex")["diagnostics"]))
-        client.change(f"file://{path}", RULES)
+        client.put(f"file://{path}", RULES)
         self.assertEqual(1, len(client.told_of(TEXT, 1)["diagnostics"]))
         # closed before these are saved
         client.close(f"file://{path}")
@@ -610,6 +680,27 @@ class Texts(Session):
         client.begin()
         self.assertEqual([], client.open(TEXT, "let a?")["diagnostics"])
         self.assertEqual([], client.tokens(TEXT)["data"])
+        self.assertEqual([], client.change(TEXT, ranged((0, 5), (0, 6), ""))["diagnostics"])
+        # a document whose name is empty gives no rules
+        for language in ("text", "lex"):
+            with self.subTest(language=language):
+                client.put("", "%%\na 'A'\n")
+                self.assertEqual([], client.open("", "%%\nlet 'A'\n", language)["diagnostics"])
+                self.assertEqual([], client.change(TEXT)["diagnostics"])
+                self.assertEqual([], client.tokens(TEXT)["data"])
+                self.assertEqual(language == "lex", bool(client.tokens("")["data"]))
+                client.save("")
+                client.close("")
+        self.assertEqual(0, client.end())
+
+    def test_no_rules_cut_nothing(self):
+        client = self.client()
+        client.begin()
+        client.open(TEXT, "a;" * 2_000_000)
+        client.change(TEXT, ranged((0, 1), (0, 1), "b"))
+        with open(f"/proc/{client.process.pid}/status", encoding="utf-8") as status:
+            peak = next(int(line.split()[1]) for line in status if line.startswith("VmHWM:"))
+        self.assertLess(peak, 100_000)
         self.assertEqual(0, client.end())
 
 

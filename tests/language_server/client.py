@@ -148,6 +148,13 @@ class Client:
                 return note and note.get("params")
             others.append(note)
 
+    def told_until(self, method="mark"):
+        """How many diagnostics are told of each document up to the answer to a request of this method, in order."""
+        self.ask(method)
+        told = [it["params"] for it in self.notes if it.get("method") == DIAGNOSTICS]
+        self.notes = [it for it in self.notes if it.get("method") != DIAGNOSTICS]
+        return [(it["uri"], len(it["diagnostics"])) for it in told]
+
     def told_of(self, uri, version=None):
         """What is told of this version of a document. What was told before is passed over."""
         told = self.told()
@@ -171,12 +178,16 @@ class Client:
         self.notify("textDocument/didOpen", {"textDocument": document})
         return self.told_of(uri, self.version)
 
-    def change(self, uri, *changes):
-        """Changes a document and gives what is told of it. A change is a whole text, or what `ranged` makes."""
+    def put(self, uri, *changes):
+        """Changes a document. A change is a whole text, or what `ranged` makes."""
         self.version += 1
         edits = [{"text": change} if isinstance(change, str) else change for change in changes]
         document = {"uri": uri, "version": self.version}
         self.notify("textDocument/didChange", {"textDocument": document, "contentChanges": edits})
+
+    def change(self, uri, *changes):
+        """Changes a document as `put` does, and gives what is told of it."""
+        self.put(uri, *changes)
         return self.told_of(uri, self.version)
 
     def save(self, uri):
