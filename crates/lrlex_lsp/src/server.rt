@@ -233,7 +233,7 @@ impl<'d> Server<'d> {
     fn take_paired(&mut self, body: &[u8], told: &mut Vec<String>) -> Result<Handled, AllocError> {
         let paired = paired(self.alloc, body)?;
         match Value::from_slice(self.alloc, &paired) {
-            Ok(message) => self.take(&message, told),
+            Ok(mended) => self.take(&mended, told),
             Err(fault) if fault.is_memory() => Err(AllocError),
             Err(_) => Ok(answered(refusal(self.alloc, None, NO_JSON)?)),
         }
