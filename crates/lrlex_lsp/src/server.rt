@@ -229,13 +229,20 @@ impl<'d> Server<'d> {
         }
     }
 
-    /// Takes the body of a message that isn't JSON, unless half a pair of surrogates is why: that is read as U+FFFD.
-    fn take_paired(&mut self, body: &[u8], told: &mut Vec<String>) -> Result<Handled, AllocError> {
-        let paired = paired(self.alloc, body)?;
+    /// What comes of a body that isn't JSON.
+    fn refused_body(&self) -> Result<Handled, AllocError>
+        ensures { IfOk result (λ handled. IsSome handled.answer) }
+    {
+        Ok(answered(refusal(self.alloc, None, NO_JSON)?))
+    }
+
+    /// Takes a body that isn't JSON as it is. It may be where half a pair of surrogates is read as U+FFFD.
+    fn take_paired(&mut self, body: &str, told: &mut Vec<String>) -> Result<Handled, AllocError> {
+        let paired = paired(self.alloc, body.as_bytes())?;
         match Value::from_slice(self.alloc, &paired) {
             Ok(mended) => self.take(&mended, told),
             Err(fault) if fault.is_memory() => Err(AllocError),
-            Err(_) => Ok(answered(refusal(self.alloc, None, NO_JSON)?)),
+            Err(_) => self.refused_body(),
         }
     }
 
@@ -252,7 +259,10 @@ impl<'d> Server<'d> {
         match Value::from_slice(self.alloc, body) {
             Ok(message) => self.take(&message, told),
             Err(fault) if fault.is_memory() => Err(AllocError),
-            Err(_) => self.take_paired(body, told),
+            Err(_) => match str::from_utf8(body) {
+                Ok(body) => self.take_paired(body, told),
+                Err(_) => self.refused_body(),
+            },
         }
     }
 }
