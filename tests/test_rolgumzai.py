@@ -313,7 +313,7 @@ WARNED = [
     ("%s S\n%%\n^a <+S>;\n<S>^=$ 'B'\n\\^ 'C'\n[^d] 'D'\n", [(3, 1, 2, CARET), (4, 1, 6, LOOKS), (4, 1, 6, CARET)]),
     # lazily, in a class, as a character, repeated otherwise, and with flags of its own
     ("%%\n#.* ;\n//.+ ;\na(.*)b 'B'\n(?:c|d).*e 'C'\n", [(2, 1, 3, DOT), (3, 1, 4, DOT), (4, 1, 6, DOT), (5, 1, 10, DOT)]),
-    ("%%\n#.*?e 'A'\n//.+?$ 'B'\n[.*]+ 'C'\n\\.* 'D'\n.{2} 'E'\n(?-s)f.* 'F'\n(?s)g.* 'G'\n[^]].*?] 'H'\n", [(3, 1, 6, LOOKS)]),
+    ("%%\n#.*?e 'A'\n//.+?$ 'B'\n[.*]+ 'C'\n\\.*d 'D'\n.{2} 'E'\n(?-s)f.* 'F'\n(?s)g.* 'G'\n[^]].*?] 'H'\n", [(3, 1, 6, LOOKS)]),
     (
         "%x COMMENT\n%%\n/\\* <+COMMENT> ;\n<COMMENT>\\*/ <-COMMENT>;\n",
         [(1, 4, 7, NEVER_ENTERED), (3, 1, 14, IN_PATTERN)],
