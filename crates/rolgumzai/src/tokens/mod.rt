@@ -15,7 +15,7 @@ use std::io;
 use std::io::Write;
 
 /// Writes a line for each token of a run.
-fn write_tokens(rt: &HostRuntime, run: &Run<'_, '_>, is_json: bool) -> io::Result<()> {
+fn write_tokens<'a>(rt: &HostRuntime, run: &Run<'a, 'a>, is_json: bool) -> io::Result<()> {
     let mut out = output(rt)?;
     let mut cursor = LineCursor::new(run.text());
     for item in run.items() {
@@ -42,7 +42,7 @@ fn end_text(alloc: Global, run: &Run<'_, '_>, file: &str) -> Result<(String, u8)
 }
 
 /// Prints the tokens of a run of this file's text, and then what is to be said of its end. Gives the status.
-fn show_run(rt: &HostRuntime, run: &Run<'_, '_>, file: &str, is_json: bool) -> io::Result<u8> {
+fn show_run<'a>(rt: &HostRuntime, run: &Run<'a, 'a>, file: &str, is_json: bool) -> io::Result<u8> {
     write_tokens(rt, run, is_json)?;
     let (shown, status) = end_text(rt.alloc(), run, file)?;
     say(rt, &shown);
