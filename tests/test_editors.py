@@ -26,6 +26,9 @@ FAULTS = [
     f"6:1-6:2 Invalid regular expression: unclosed group: {OPERATOR}",
 ]
 
+# The kinds of these faults, which eglot shows.
+CODES = ["DuplicateStartState", "DuplicateName", "VerbatimNotSupported", "RegexError"]
+
 # Edits as one types them, and what is wrong after each: the places in bytes, as neovim counts them.
 STEPS = [
     ("1s/here here/here there/", ["4:8-4:10 Rule name already exists", f"5:1-5:12 Verbatim code not supported: {MARGIN}",
@@ -213,7 +216,10 @@ class Editors(unittest.TestCase):
         settings = write(f"{home}/settings.el", settings_below("A mode for rule files:") + settings_below("With eglot:"))
         words = ["emacs", "-Q", "--batch", "-l", f"{SCRIPTS}/eglot.el"]
         found = sections(run_editor(words, home, FILE=f"{home}/faults.l", SETTINGS=settings))
-        wanted = [f"{place.split(':')[0]}: lrlex: {message}" for place, message in (it.split(" ", 1) for it in FAULTS)]
+        wanted = []
+        for fault, code in zip(FAULTS, CODES):
+            place, message = fault.split(" ", 1)
+            wanted.append(f"{place.split(':')[0]}: lrlex [{code}]: {message}")
         self.assertEqual(wanted, found["opened"])
         self.assertEqual(wanted[1:], found["after an edit"])
 

@@ -712,7 +712,7 @@ class Long(Session):
         client.begin()
         came, wrong = mutated.run(client, MESSAGES, 1)
         self.assertEqual([], wrong[:5])
-        self.assertLess(500, min(came[it] for it in (-32600, -32601, -32602, -32700, "result")), came)
+        self.assertLess(400, min(came[it] for it in (-32600, -32601, -32602, -32700, "result")), came)
         self.assertEqual(0, client.end())
 
     def test_random_dialogues(self):

@@ -13,12 +13,7 @@ MARGIN = "white space begins the line; write the rule without it, or an empty li
 OPERATOR = "write a backslash before each operator to match its character, as \\+ or \\("
 BRACES = "a name in braces stands for no pattern; write the pattern in its place"
 NUMBER = "\\x{..} and \\u{..} lose their backslash in a rule without start states; write \\U0001F600, or <INITIAL>\\u{1F600}"
-IN_CARET = "a ^ at the beginning does nothing, since a match may begin anywhere in a line; leave it out, or write \\^ for the character"
-DOT = (
-    "a . matches a newline too, so .* and .+ take all lines that follow; write [^\\n] in place of the dot, "
-    "or .*? before what ends it"
-)
-CLASS = (
+IN_CLASS = (
     "in a class [ begins another, and --, && and ~~ are operations on sets; write a backslash before the character, as \\[ or \\-"
 )
 RULE = "a rule is a pattern, a space or a tab, and a name in quotes, or ; for no name"
@@ -26,7 +21,10 @@ STATE_NAME = "a name is an ASCII letter, then ASCII letters, digits, _ or .; one
 ROUTINES = "%% ends the rules, and only white space may follow; write \\%% for a pattern that begins with it"
 
 NEVER_WINS = "this rule never wins: it matches no byte, or other rules match as much or more; put it before them, or make them match less"
-LOOKS = "this rule has no table, and is slower: $, \\b, \\B, \\z, \\<, \\> and a ^ within it look at what is beside the match; leave them out, or write a backslash before $ and ^ for the characters"
+LOOKS = (
+    "this rule has no table, and is slower: $, \\b, \\B, \\z, \\<, \\> and a ^ within it look at what is beside the match; "
+    "leave them out, or write a backslash before $ and ^ for the characters"
+)
 NO_TABLE = (
     "this rule has no table, and is slower: its table, or all tables together, would be too large; repeat fewer times, "
     "part the pattern, or have fewer rules"
