@@ -48,6 +48,19 @@ fi 'Kfi'
 
 FAULTS = "%s here here\n%%\n[a-z]+ 'ID'\n[A-Z] 'ID'\n 'indented'\n( 'OPEN'\n"
 
+# Rules with start states.
+STATES = """%x COMMENT STRING
+%%
+[a-z]+ 'ID'
+[ \\n]+ ;
+/\\* <+COMMENT>;
+" <STRING>'OPEN'
+<COMMENT>/\\* <+COMMENT>;
+<COMMENT>\\*/ <-COMMENT>;
+<COMMENT>.|\\n ;
+<STRING>" <INITIAL>'CLOSE'
+<STRING>[^"\\n]+ 'TEXT'
+"""
 # The severity of a warning, and its tags: 2 a warning, 4 a hint; tag 1 is that of what does nothing.
 WEIGHTS = {NEVER_WINS: (2, [1]), LOOKS: (4, None), LOST: (2, None)}
 
@@ -301,6 +314,25 @@ class RuleFiles(Session):
                 told = client.change(URI, "%%\n[a-z] 'A'\nb 'B'\n")["diagnostics"]
                 self.assertEqual([tags], ["tags" in it for it in told])
                 self.assertEqual(0, client.end())
+
+    def test_a_text_that_ends_in_a_start_state(self):
+        # what the text is, and where a note tells in which state it ends
+        rows = [
+            ("a /* b", [(0, 6, 0, 6, "the text ends in start state COMMENT")]), ("a /* b */", []), ("", []), ("a\n\"b", [(1, 2, 1, 2, "the text ends in start state STRING")]),
+            ("/* /* */\n", [(1, 0, 1, 0, "the text ends in start state COMMENT")]), ("/* /* */ */", []), ("/* \"", [(0, 4, 0, 4, "the text ends in start state COMMENT")]),
+            # lexing stops before
+            ("\"b\n\"", [(0, 2, 0, 2, "unexpected character '\\n' in start state STRING")]), ("/* */ 1 /*", [(0, 6, 0, 7, "unexpected character '1'")]),
+        ]
+        client = self.client("--rules", rules_file(STATES))
+        client.begin()
+        for text, wanted in rows:
+            with self.subTest(text=text):
+                found = client.open(TEXT, text)["diagnostics"]
+                self.assertEqual(wanted, [spot(it) for it in found])
+                self.assertEqual([1 if "unexpected" in it["message"] else 3 for it in found], [it["severity"] for it in found])
+        self.assertEqual([], client.change(TEXT, "a /* b */")["diagnostics"])
+        self.assertEqual([(0, 5, 0, 5, "the text ends in start state COMMENT")], [spot(it) for it in client.change(TEXT, ranged((0, 5), (0, 9), ""))["diagnostics"]])
+        self.assertEqual(0, client.end())
 
     def test_columns_in_utf16(self):
         client = self.client()

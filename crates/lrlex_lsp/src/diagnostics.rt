@@ -16,6 +16,8 @@ pub(crate) enum Weight {
     Warning,
     /// A warning of what does nothing, which editors fade.
     Unnecessary,
+    /// What may be meant.
+    Note,
     /// What could be better.
     Hint,
 }
@@ -114,6 +116,7 @@ impl Weight {
             Weight::Fault => ("1", ""),
             Weight::Warning => ("2", ""),
             Weight::Unnecessary => ("2", ",\"tags\":[1]"),
+            Weight::Note => ("3", ""),
             Weight::Hint => ("4", ""),
         }
     }

@@ -1,9 +1,10 @@
-//! What is found of a document: the faults of a rule text or what its author hardly meant, or where lexing stops.
+//! What is found of a document: the faults of a rule text or what its author hardly meant, or where lexing of another text stops, or
+//! in which start state it ends.
 use crate::diagnostics::{Finding, Report, Weight};
 use crate::languages::{Definition, Types};
 use crate::opened::Role;
 use crate::started::Given;
-use lrlex::{Document, LexBuildError, LexError, LexFlags, Span, Spanned};
+use lrlex::{Document, LexBuildError, LexError, LexFlags, LexerDef, Span, Spanned, StartState};
 use lrlex_report::{
     Warning, WarningKind, fault_message, fault_name, fault_range, stop_message_in, warnings_of,
 };
@@ -140,6 +141,52 @@ fn push_stop(
     })
 }
 
+/// The start state in which a document ends, if that isn't `INITIAL` and lexing didn't stop before.
+fn open_state<'d>(document: &Document<'d, Types>) -> Option<&'d StartState> {
+    if let Some(Err(_)) = document.items().last() {
+        return None;
+    }
+    let id = document.end_state()?.id();
+    if id == 0 {
+        return None;
+    }
+    document
+        .definition()
+        .iter_start_states()
+        .find(|state| state.id() == id)
+}
+
+/// Adds in which start state a document ends, as in an open comment or string.
+fn push_end(
+    alloc: Global,
+    report: &mut Report<'_, '_>,
+    document: &Document<'_, Types>,
+) -> Result<(), AllocError> {
+    let Some(state) = open_state(document) else {
+        return Ok(());
+    };
+    let name = state.name();
+    let message = format!(in alloc; "the text ends in start state {name}")?;
+    let end = document.end();
+    report.push(Finding {
+        weight: Weight::Note,
+        span: Span::new(end, end),
+        message: &message,
+        code: "",
+        first: None,
+    })
+}
+
+/// Adds what is found of a text that isn't a rule text: where lexing stops, or in which start state the text ends.
+fn push_text(
+    alloc: Global,
+    report: &mut Report<'_, '_>,
+    document: &Document<'_, Types>,
+) -> Result<(), AllocError> {
+    push_stop(alloc, report, document)?;
+    push_end(alloc, report, document)
+}
+
 /// Adds what is found of a document.
 pub(crate) fn push_findings(
     alloc: Global,
@@ -150,7 +197,7 @@ pub(crate) fn push_findings(
 ) -> Result<(), AllocError> {
     match role {
         Role::Rules => push_rules(alloc, report, document.text(), given),
-        Role::Text => push_stop(alloc, report, document),
+        Role::Text => push_text(alloc, report, document),
         Role::Unlexed => Ok(()),
     }
 }

@@ -1,4 +1,6 @@
 //! A text that ends within a start state.
+ghost use Rattle.std.specs.Prelude.{◌<◌, length};
+
 use crate::files::Definition;
 use crate::runs::Run;
 use crate::states::state_name;
@@ -21,8 +23,22 @@ fn holds(stack: &[(usize, usize)], at: usize, top: (usize, usize)) -> bool {
     }
 }
 
-/// Where a run ends within a start state other than `INITIAL`, which state, and the piece that entered it: the last one before
-/// which the stack lacked the entry that is on top at the end.
+/// The piece that entered the state on top at the end of a run: the last one before which the stack lacked this entry.
+fn entering(run: &Run<'_, '_>, last: usize, at: usize, top: (usize, usize)) -> Span
+    requires { last < length run.now.boundaries }
+{
+    let mut index = last;
+    'back: while index > 0 {
+        index -= 1;
+        if !holds(run.stack(index), at, top) {
+            let begin = run.place(index);
+            return Span::new(begin, begin.max(run.place(index + 1)));
+        }
+    }
+    Span::new(0, 0)
+}
+
+/// Where a run ends within a start state other than `INITIAL`, which state, and the piece that entered it.
 pub fn ending_of(run: &Run<'_, '_>) -> Option<Ending> {
     let last = run.boundaries().checked_sub(1)?;
     let stack = run.stack(last);
@@ -31,16 +47,9 @@ pub fn ending_of(run: &Run<'_, '_>) -> Option<Ending> {
     if top.1 == 0 {
         return None;
     }
-    let mut entered = Span::new(0, 0);
-    for index in 0..last {
-        if !holds(run.stack(index), at, top) {
-            let begin = run.place(index);
-            entered = Span::new(begin, begin.max(run.place(index + 1)));
-        }
-    }
     Some(Ending {
         state: top.1,
-        entered,
+        entered: entering(run, last, at, top),
     })
 }
 
