@@ -4,7 +4,8 @@ use lrlex_base::{Span, Spanned, SpansKind};
 use std::error::Error;
 use std::fmt;
 
-/// What parsing a rule text returns: the definition, or all that is wrong with the text.
+/// What parsing a rule text returns: the definition, or the faults of the text, up to the first that is neither a duplicate nor
+/// verbatim code.
 pub type LexBuildResult<T> = Result<T, Vec<LexBuildError>>;
 
 /// What is wrong with a rule text.

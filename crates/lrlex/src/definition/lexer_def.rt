@@ -47,7 +47,8 @@ pub trait LexerDef<L: LexerTypes>: Sized {
         ensures made_of { IfOk result (λ d. IsMadeOf L.StorageT.number (rules_of d) (states_of d)
             (said d)) };
 
-    /// Reads a rule text with unset flags. The inner `Err` has each fault of the text, and there is at least one.
+    /// Reads a rule text with unset flags. The inner `Err` has the faults of the text up to the first that is neither a duplicate nor
+    /// verbatim code, and there is at least one.
     fn from_str(alloc: Global, text: &str) -> Result<LexBuildResult<Self>, AllocError>
         ensures answer { IfOk result (IsAnswer said UNSPECIFIED_LEX_FLAGS L.StorageT.greatest
             text.now) }
@@ -240,8 +241,9 @@ impl<L: LexerTypes> LRNonStreamingLexerDef<L> {
     ghost use Rattle.lrlex.specs.Active.{is_state};
     ghost use Rattle.lrlex.specs.Views.{definition_of, definition_rows, definition_rules};
 
-    /// Reads a rule text with these flags. The inner `Err` has each fault of the text, and there is at least one. The tables of the
-    /// definition and their chain hold at most 7,000 rows, as under a budget of so many.
+    /// Reads a rule text with these flags. The inner `Err` has the faults of the text up to the first that is neither a duplicate nor
+    /// verbatim code, and there is at least one; `all_faults` goes on behind that one. The tables of the definition and their chain
+    /// hold at most 7,000 rows, as under a budget of so many.
     pub fn new_with_options(
         alloc: Global,
         text: &str,

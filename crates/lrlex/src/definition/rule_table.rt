@@ -128,7 +128,8 @@ impl<S: Numbered> RuleTable<S> {
         RuleTable::of_parts(alloc, start_states, rules, flags, own_ids, budget)
     }
 
-    /// That of a rule text, with tables that cost no more than this. The inner `Err` has each fault of the text.
+    /// That of a rule text, with tables that cost no more than this. The inner `Err` has its faults, up to the
+    /// first that is neither a duplicate nor verbatim code.
     pub(crate) fn read(
         alloc: Global,
         text: &str,

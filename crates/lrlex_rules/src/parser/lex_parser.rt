@@ -39,7 +39,8 @@ pub struct RuleFile<StorageT> {
     pub flags: LexFlags,
 }
 
-/// Parses a rule text, and compiles the patterns under these flags. The inner `Err` has all faults of the text.
+/// Parses a rule text, and compiles the patterns under these flags. The inner `Err` has its faults, up to
+/// the first that is neither a duplicate nor verbatim code.
 pub fn parse_rule_file<StorageT: Numbered>(
     alloc: Global,
     text: &str,
