@@ -1,7 +1,8 @@
 /* lrlex.h - lexers from rule files (.l), for C and C++.
  *
  * A definition is read from a rule text. It cuts texts into lexemes: at each place the rule with the longest match wins, and on a tie
- * the earliest rule. A document is a text that is edited and kept lexed. A scanner cuts a text a few lexemes at a time.
+ * the earliest rule. A document is a text that is edited and kept lexed. A scanner cuts a text a
+ * few tiles at a time: the matches of all rules, also of those without a name.
  *
  *     lrlex_definition d = LRLEX_EMPTY;
  *     lrlex_options options = LRLEX_OPTIONS;
@@ -18,15 +19,17 @@
  * realloc), and then the old bytes must not be used. It must not be copied: use lrlex_definition_share. Calls that fill a handle first
  * free what it has.
  *
- * Misuse. A call on an empty handle, or on a handle of another kind, returns LRLEX_MISUSE (a count is then 0) and changes nothing else.
- * A handle that is freed is empty, so it can be freed again.
+ * Misuse. A call on an empty handle, or on a handle of another kind, returns LRLEX_MISUSE (a count is then 0). It changes nothing, but a
+ * handle that the call is to fill is empty then. A handle that is freed is empty, so it can be freed again.
  *
  * Texts. A text is a pointer and a length in bytes, in UTF-8, without a 0 at its end. It is read during the call and may be freed after
  * it: a document and a scanner have a copy. Offsets count bytes from 0. `char` and `uint8_t` have the same bytes: cast the pointer.
  *
  * Buffers. A call that writes into a buffer of `cap` elements writes as many as there is room for and reports how many there are. So call
- * it with room that is likely enough, or with `cap` 0, and once more with the number that it reports. If a call does not return LRLEX_OK,
- * what its other pointers point to is unspecified, and is never uninitialized by the call.
+ * it with room that is likely enough, or with `cap` 0, and once more with the number that it reports. Three calls report no such number.
+ * lrlex_places and lrlex_definition_set_rule_ids write an element for each that they are given. lrlex_scanner_next writes the tiles that
+ * come next: give it room for one at least, since with `cap` 0 it never comes to an end. If a call does not return LRLEX_OK, what its
+ * other pointers point to is unspecified, and is never uninitialized by the call.
  *
  * Pointers. No pointer may be NULL, even with a length of 0. Pointers that a call writes to must not overlap with others of the call.
  *
@@ -74,7 +77,7 @@ typedef enum lrlex_status {
     LRLEX_REFUSED = 1,      /* the rule text has faults; the handle has them */
     LRLEX_NOMEM = 2,        /* out of memory */
     LRLEX_NOT_UTF8 = 3,     /* a text is not UTF-8 */
-    LRLEX_MISUSE = 4,       /* the handle is empty, or of another kind */
+    LRLEX_MISUSE = 4,       /* the handle is empty, of another kind, or has faults where a definition is wanted */
     LRLEX_NONE = 5,         /* there is nothing at this index or of this number, or nothing to report */
     LRLEX_DOES_NOT_FIT = 6, /* offsets past the text's end, inside a character, or in the wrong order */
     LRLEX_SHARED = 7        /* the definition has other owners, so it cannot be changed */
@@ -88,7 +91,7 @@ typedef struct lrlex_definition { void *hidden; } lrlex_definition;
 /* A text that is edited and kept lexed. */
 typedef struct lrlex_document { void *hidden; } lrlex_document;
 
-/* A text that is lexed a few lexemes at a time, as a parser asks for them. */
+/* A text that is cut a few tiles at a time, as a parser asks for them. */
 typedef struct lrlex_scanner { void *hidden; } lrlex_scanner;
 
 #define LRLEX_EMPTY { NULL }
@@ -128,7 +131,8 @@ typedef struct lrlex_options {
 #define LRLEX_OPTIONS { 0, 0, 0, 0, 0, 0, false }
 
 /* Reads a rule text. What `out` has is freed first.
- * LRLEX_OK: `out` has the definition. LRLEX_REFUSED: `out` has the faults of the text, for the calls lrlex_fault_*; free it too.
+ * LRLEX_OK: `out` has the definition. LRLEX_REFUSED: `out` has the faults of the text, up to the first that is neither a duplicate nor
+ * verbatim code, for the calls lrlex_fault_*; free it too.
  * LRLEX_NOT_UTF8, LRLEX_NOMEM: `out` is empty. */
 int lrlex_definition_new(lrlex_definition *out, const uint8_t *rules, size_t rules_len, const lrlex_options *options);
 
@@ -175,7 +179,7 @@ int lrlex_fault_span_at(lrlex_definition *d, size_t index, size_t span, lrlex_fa
  * LRLEX_OK; LRLEX_NONE; LRLEX_MISUSE; LRLEX_NOMEM. */
 int lrlex_fault_text(lrlex_definition *d, size_t index, uint8_t *out, size_t cap, size_t *len);
 
-/* A report of all faults for people: of each FILE:LINE:COLUMN, the message, the line, and carets under the place. `file` is the
+/* A report for people of the faults that the handle has: of each FILE:LINE:COLUMN, the message, the line, and carets under the place. `file` is the
  * name to show. `len` is how many bytes that takes.
  * LRLEX_OK; LRLEX_NOT_UTF8; LRLEX_MISUSE; LRLEX_NOMEM. */
 int lrlex_fault_report(lrlex_definition *d, const uint8_t *file, size_t file_len, uint8_t *out, size_t cap, size_t *len);

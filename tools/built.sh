@@ -42,7 +42,7 @@ if [ -n "$stale" ]; then
         fi
     done
     if [ ! -x "$program" ]; then
-        echo "$name: building; the first build proves every function, which takes about 15 minutes on four processors" >&2
+        echo "$name: building; the first build proves every function, which takes 15 minutes or more on four processors" >&2
     else
         echo "$name: building; what changed is proved again" >&2
     fi

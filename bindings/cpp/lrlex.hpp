@@ -137,8 +137,8 @@ struct Refusal {
 
 } // namespace detail
 
-/// The rule text is refused. `faults()` has all that is wrong with it, and `report(file)` shows it. It is copied and not moved, so that it
-/// is never empty.
+/// The rule text is refused. `faults()` has what is wrong with it, up to the first fault that is neither a duplicate nor verbatim code, and
+/// `report(file)` shows it. It is copied and not moved, so that it is never empty.
 class RulesError : public Error {
 public:
     explicit RulesError(std::shared_ptr<const detail::Refusal> refusal)
@@ -147,7 +147,7 @@ public:
     RulesError &operator=(const RulesError &) noexcept = default;
     const std::vector<Fault> &faults() const noexcept { return refusal_->faults; }
 
-    /// A report of all faults for people: of each FILE:LINE:COLUMN, the message, the line, and carets under the place. `file` is the name
+    /// A report of its faults for people: of each FILE:LINE:COLUMN, the message, the line, and carets under the place. `file` is the name
     /// to show. Throws Error if that isn't UTF-8.
     std::string report(std::string_view file) const {
         const auto call = [&](std::uint8_t *out, std::size_t room, std::size_t *length) {
@@ -309,8 +309,8 @@ struct Unmatched {
     std::vector<std::string> missing, unused;
 };
 
-/// The flags and limits of a rule file, as of lrlex_options. Options().on(LRLEX_CASE_INSENSITIVE).off(LRLEX_UNICODE)
-/// Those of a variable are changed, and those of an expression given changed.
+/// The flags and limits that a rule file is read with: Options().on(LRLEX_CASE_INSENSITIVE).off(LRLEX_UNICODE). A call on a variable
+/// changes it; a call on a temporary returns the changed options.
 class Options {
 public:
     Options &on(std::uint32_t flags) & {
@@ -408,7 +408,7 @@ inline std::optional<Stop> stop(std::string_view text, const lrlex_lexed &lexed)
 /// The rules of a rule file, ready to lex texts.
 class Definition {
 public:
-    /// Reads a rule text. Throws RulesError with all faults if it has any.
+    /// Reads a rule text. Throws RulesError if it has faults.
     explicit Definition(std::string_view rules, const Options &options = {}) {
         const int status = lrlex_definition_new(owner_.get(), detail::bytes(rules), rules.size(), options.get());
         if (status == LRLEX_REFUSED) throw RulesError(std::make_shared<detail::Refusal>(std::move(owner_)));

@@ -139,7 +139,11 @@ class State(Structure):
 
 
 class Error(Exception):
-    """What this package raises, beside MemoryError for memory that has run out."""
+    """The base of RulesError, LexError and SharedError.
+
+    Calls also raise MemoryError, IndexError, OverflowError, TypeError, ValueError for what is closed or has no meaning, and
+    UnicodeEncodeError for half a surrogate pair.
+    """
 
 
 class SharedError(Error):

@@ -55,7 +55,7 @@ class Fault(NamedTuple):
 
 
 class RulesError(Error, ValueError):
-    """The rule text is refused. `faults` has all that is wrong with it.
+    """The rule text is refused. `faults` has what is wrong with it, up to the first fault that is neither a duplicate nor verbatim code.
 
     It can be copied and pickled, and loses nothing by that: it has the rule text and its settings, not what the C library made of them.
     """
@@ -71,7 +71,7 @@ class RulesError(Error, ValueError):
         return f"{type(self).__name__}({self.faults!r})"
 
     def report(self, file: str) -> str:
-        """All faults for people: the file's name with line and column, the message, the line itself, and carets below the place.
+        """The faults for people: the file's name with line and column, the message, the line itself, and carets below the place.
 
         This reads the rule text again. Without a rule text it is as `str`.
         """
@@ -307,7 +307,7 @@ class Definition(_Closing):
         `size_limit` is about how many bytes a compiled pattern may take, and `nest_limit` how deep it may nest. None of a flag or a limit
         is the default, and so is 0 of a limit. `budget` is how many rows and how much work may be spent on tables: it changes how fast
         texts are lexed, and no answer.
-        Raises RulesError with all faults if the rule text has any, and OverflowError if a number is below 0 or too large.
+        Raises RulesError if the rule text has faults, TypeError for an unknown flag, and OverflowError if a number is below 0 or too large.
         """
         settings, text = {"size_limit": size_limit, "nest_limit": nest_limit, "budget": budget, **flags}, _Text(rules)
         self._held, status = _read(text, settings)

@@ -198,7 +198,8 @@ impl fmt::Display for Fault {
     }
 }
 
-/// The faults of a rule text that is refused. It keeps a copy of the text, for reports.
+/// The faults of a rule text that is refused, up to the first that is neither a duplicate nor verbatim code. It keeps a copy of the
+/// text, for reports.
 ///
 /// ```
 /// use lrlex::{Definition, Error, FaultKind};
@@ -227,7 +228,7 @@ impl RulesError {
         &self.faults
     }
 
-    /// A report of all faults for people. Of each it has `FILE:LINE:COLUMN`, the message, the line, and carets under the place. `file`
+    /// A report of its faults for people. Of each it has `FILE:LINE:COLUMN`, the message, the line, and carets under the place. `file`
     /// is the name to show.
     ///
     /// # Errors

@@ -1,10 +1,11 @@
 -- A scanner, and what its steps say.
 use Rattle.std.specs.Prelude.{◌≡◌, ℕ, ◌+◌, ◌^◌, ◌<◌, ◌≤◌, ◌==◌, max, true, false, List, All, [], ◌∷◌, ◌++◌, length, drop, vec_len, Option, Some, None, IfSome, MatchOption, Result, IfOk, OnErr, option_map, if◌then◌else◌, IsCharBoundary}
 use Rattle.std.specs.declared.alloc.AllocError.{AllocError}
-use Rattle.lrlex_base.specs.Spans.{as_span, span, span_end}
+use Rattle.lrlex_base.specs.Spans.{Span, as_span, span, span_end}
 use Rattle.lrlex_boundaries.specs.Entries.{plain, AreEntries}
 use Rattle.lrlex_rules.specs.Definition.{Definition}
 use Rattle.lrlex_rules.specs.RuleParts.{state_number}
+use Rattle.lrlex_rules.specs.declared.states.StartStateId.{StartStateId}
 use Rattle.lrlex.specs.Active.{is_state, lexeme_id, lacks_id, rule_at}
 use Rattle.lrlex.specs.Searcher.{AreOf, IsSearcherOf}
 use Rattle.lrlex.specs.Tiling.{Tile, End, Done, NoMatch, NoTarget, IsEnd, IsStuck, IsTaken, IsTiling, IsWinner, Wins, stack_after, top}
@@ -61,6 +62,14 @@ EndsBy number s (HasNoMatch q) = IsEnd s.definition (left s) s.stack (NoMatch (s
 EndsBy number s (NoId k) = (t : Tile) × (t.rule ≡ k) × IsWinner s.definition (left s) s.stack t × (lacks_id (rule_at s.definition k) ≡ true)
 EndsBy number s (HasNoTarget x) = (t : Tile) × IsTileAt number s.definition s.place x t × IsEnd s.definition (left s) s.stack (NoTarget t)
 EndsBy number s NoState = is_state s.definition 0 ≡ false
+
+-- the error of a run that ends so where a scanner stands at this place: where it is, and the start state in which no rule matches
+abbrev pub end_error : {S : Type 0} → ScanEnd S → (place : ℕ) → Option (Span × Option StartStateId)
+end_error IsDone place = None
+end_error (HasNoMatch q) place = Some (span place place, Some q)
+end_error (NoId k) place = Some (span place place, None)
+end_error (HasNoTarget x) place = Some (span place place, None)
+end_error NoState place = Some (span place place, None)
 
 -- A step says what comes at the scanner's place: the tile that is taken there, or why there is none.
 abbrev pub IsStep : {S : Type 0} → (S → ℕ) → Scanned → Step S → Type 0

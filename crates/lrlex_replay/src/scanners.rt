@@ -2,7 +2,6 @@
 use crate::building::Definition;
 use crate::items::error_seen;
 use lrlex::{LRLexError, ScanEnd, ScannedTile, Step};
-use lrlex_examples::callers::scanning::error_of;
 use lrlex_replay_cases::facts::tell_item;
 use lrlex_replay_cases::told::Told;
 use std::alloc::AllocError;
@@ -54,7 +53,7 @@ pub fn scan(told: &mut Told, definition: &Definition<u32>, text: &str) -> Result
             }
             Step::End(end) => {
                 tell_end(told, end);
-                stop = error_of(end, place);
+                stop = end.error(place);
             }
         }
     }

@@ -1,7 +1,8 @@
 //! A lexer that is pulled: one tile at a time, and no list is kept.
 ghost use Rattle.std.specs.Prelude.{◌≡◌, ◌≤◌, OnErr, IfOk, IfSome, option_map};
 ghost use Rattle.lrlex_rules.specs.RuleParts.{state_number};
-ghost use Rattle.lrlex.specs.Scanner.{HasGivenStep, IsCursorOf, IsPlaceOf, IsStep, after_step, at_front, standing, top_state};
+ghost use Rattle.lrlex.specs.Errors.{error_parts};
+ghost use Rattle.lrlex.specs.Scanner.{HasGivenStep, IsCursorOf, IsPlaceOf, IsStep, after_step, at_front, end_error, standing, top_state};
 ghost use Rattle.lrlex.specs.Views.{definition_by, definition_of};
 ghost use Rattle.lrlex.specs.Work.{most_cells_by, most_cells_of};
 
@@ -40,6 +41,21 @@ pub enum ScanEnd<S> {
     NoTarget(ScannedTile<S>),
     /// The definition has no start state 0, so that lexing can't begin.
     NoState,
+}
+
+impl<S> ScanEnd<S> {
+    /// The error that a run of the text ends with, where the scanner stands at this place: with the start state in which no rule
+    /// matches, if that is why. None where the text ends.
+    pub fn error(&self, place: usize) -> Option<LRLexError>
+        ensures { option_map error_parts result ≡ end_error self.now place }
+    {
+        let span = Span::new(place, place);
+        match self {
+            ScanEnd::Done => None,
+            ScanEnd::NoMatch(state) => Some(LRLexError::new_with_lexing_state(span, *state)),
+            _ => Some(LRLexError::new(span)),
+        }
+    }
 }
 
 /// What a scanner finds at its place.

@@ -1,5 +1,5 @@
 //! Tokens that are pulled, one after the other. Nothing of them is kept.
-use lrlex::{DefaultLexerTypes, LRLexError, LRNonStreamingLexerDef, ScanEnd, Span, Step};
+use lrlex::{DefaultLexerTypes, LRNonStreamingLexerDef, Step};
 use std::alloc::{AllocError, Global};
 
 /// How many tokens the text has up to its end, or to where lexing stops.
@@ -15,14 +15,4 @@ pub fn count(
         }
     }
     Ok(count)
-}
-
-/// The error that a run has where a scanner ends at this place. None where the text was lexed to its end.
-pub fn error_of(end: ScanEnd<u32>, place: usize) -> Option<LRLexError> {
-    let span = Span::new(place, place);
-    match end {
-        ScanEnd::Done => None,
-        ScanEnd::NoMatch(state) => Some(LRLexError::new_with_lexing_state(span, state)),
-        _ => Some(LRLexError::new(span)),
-    }
 }
