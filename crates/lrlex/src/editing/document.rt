@@ -1,9 +1,10 @@
 //! A text that is edited, with what lexing it gives.
-ghost use Rattle.std.specs.Prelude.{◌≡◌, ◌↔◌, ℕ, ◌+◌, ◌-◌, ◌≤◌, false, [], length, IfOk, IfErr, IfSome, IsNone, OnOk, OnErr, IsCharBoundary, IsUtf8, option_map, slice_range};
+ghost use Rattle.std.specs.Prelude.{◌≡◌, ◌↔◌, ℕ, ◌+◌, ◌-◌, ◌<◌, ◌≤◌, false, [], length, IfOk, IfErr, IfSome, IsNone, OnOk, OnErr, IsCharBoundary, IsUtf8, option_map, slice_range};
 ghost use Rattle.std.specs.String.{string_bytes, string_len, string_capacity};
 ghost use Rattle.lrlex_base.specs.Edits.{edited};
 ghost use Rattle.lrlex_base.specs.Places.{AreBreaksOf, place_of};
 ghost use Rattle.lrlex_base.specs.Spans.{Fits, as_span, span, span_start, span_end};
+ghost use Rattle.lrlex_boundaries.specs.Boundaries.{boundary_at};
 ghost use Rattle.lrlex.specs.Active.{is_state};
 ghost use Rattle.lrlex.specs.Document.{HasChangedText, IsLexedBy, WasEdited, WasLeft, lexed_boundaries, lexed_bytes, lexed_items, shown_by};
 ghost use Rattle.lrlex.specs.Lookahead.{LooksAhead};
@@ -427,6 +428,29 @@ impl<'lexer, L: LexerTypes<LexErrorT = LRLexError>> Document<'lexer, L> {
         ensures { result ≡ length self.now.boundaries - 1 }
     {
         self.held.lexed.boundaries.len().saturating_sub(1)
+    }
+
+    /// One more than the tiles, or 0 without a state 0.
+    pub fn boundaries(&self) -> usize
+        ensures { result ≡ length self.now.boundaries }
+    {
+        self.held.lexed.boundaries.len()
+    }
+
+    /// The offset of the boundary in the text, in bytes. Boundary `index` comes after so many tiles.
+    pub fn boundary(&self, index: usize) -> usize
+        requires { index < length self.now.boundaries }
+        ensures { result ≡ (boundary_at self.now.boundaries index).place }
+    {
+        self.held.lexed.boundaries.place(index)
+    }
+
+    /// The boundary's stack from bottom to top, as entries: each a count of equal neighbours and their state.
+    pub fn stack(&self, index: usize) -> &[(usize, usize)]
+        requires { index < length self.now.boundaries }
+        ensures { result.now ≡ (boundary_at self.now.boundaries index).entries }
+    {
+        self.held.lexed.boundaries.stack(index)
     }
 
     /// How many searches the last edit needed, or, where there was none yet, the text as a whole.
