@@ -51,3 +51,4 @@ pub mod LinearLemmas
 pub mod ListLemmas
 pub mod NotedLemmas
 pub mod MergedLemmas
+pub mod EnteringLemmas

@@ -1,5 +1,5 @@
 //! A text that is edited, with what lexing it gives.
-ghost use Rattle.std.specs.Prelude.{◌≡◌, ◌↔◌, ℕ, ◌+◌, ◌-◌, ◌<◌, ◌≤◌, false, [], length, IfOk, IfErr, IfSome, IsNone, OnOk, OnErr, IsCharBoundary, IsUtf8, option_map, slice_range};
+ghost use Rattle.std.specs.Prelude.{◌≡◌, ◌↔◌, ℕ, ◌+◌, ◌-◌, ◌<◌, ◌≤◌, false, [], length, IfOk, IfErr, IfSome, IsNone, MatchOption, OnOk, OnErr, IsCharBoundary, IsUtf8, option_map, slice_range};
 ghost use Rattle.std.specs.String.{string_bytes, string_len, string_capacity};
 ghost use Rattle.lrlex_base.specs.Edits.{edited};
 ghost use Rattle.lrlex_base.specs.Places.{AreBreaksOf, place_of};
@@ -10,6 +10,7 @@ ghost use Rattle.lrlex.specs.Document.{HasChangedText, IsLexedBy, WasEdited, Was
 ghost use Rattle.lrlex.specs.Lookahead.{LooksAhead};
 ghost use Rattle.lrlex.specs.Nearest.{IsNearest, FitsAt};
 ghost use Rattle.lrlex.specs.Pieces.{ArePieces, ArePiecesIn};
+ghost use Rattle.lrlex.specs.Entering.{AllKeepEnd, IsEntering};
 ghost use Rattle.lrlex.specs.LexRun.{IsRunOf, HasItemLaws, end_of, end_state_of};
 ghost use Rattle.lrlex_rules.specs.RuleParts.{state_number};
 ghost use Rattle.lrlex.specs.Reach.{IsRun};
@@ -28,6 +29,7 @@ use crate::definition::rule_table::RuleTable;
 use crate::editing::changes::Changed;
 use crate::editing::relex::relex_in_place;
 use crate::errors::LRLexError;
+use crate::lexing::entering::entered_by;
 use crate::lexing::run::{Lexed, end_of, end_state_of, lex};
 use crate::reading::pieces::{Piece, pieces_in, pieces_of};
 use crate::reading::positions::{place_of, text_of};
@@ -497,6 +499,15 @@ impl<'lexer, L: LexerTypes<LexErrorT = LRLexError>> Document<'lexer, L> {
         ensures { option_map state_number result ≡ end_state_of self.now.boundaries }
     {
         end_state_of(&self.held.lexed.boundaries)
+    }
+
+    /// The tile that entered the start state at `end()`, counted from 0: the last one before which the stack lacked the entry on top
+    /// there. None where the text began in that state and no tile left it, as is usual for `INITIAL`.
+    pub fn entered_by(&self) -> Option<usize>
+        ensures { MatchOption result (AllKeepEnd self.now.boundaries)
+            (IsEntering self.now.boundaries) }
+    {
+        entered_by(&self.held.lexed.boundaries)
     }
 
     /// The text of the span, or the empty text where the span doesn't fit.

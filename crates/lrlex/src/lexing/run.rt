@@ -1,4 +1,4 @@
-ghost use Rattle.std.specs.Prelude.{◌≡◌, ℕ, ◌-◌, ◌*◌, ◌<◌, ◌≤◌, false, List, [], length, vec_len, IfOk, Some, option_map, slice_index};
+ghost use Rattle.std.specs.Prelude.{◌≡◌, ℕ, ◌-◌, ◌*◌, ◌<◌, ◌≤◌, false, List, [], length, vec_len, IfOk, MatchOption, Some, option_map, slice_index};
 ghost use Rattle.lrlex_rules.specs.Definition.{Definition};
 ghost use Rattle.lrlex.specs.Active.{is_state};
 ghost use Rattle.lrlex_boundaries.specs.Boundaries.{boundary_at, last_entries, most_entries};
@@ -8,6 +8,7 @@ ghost use Rattle.lrlex.specs.Searches.{asks, asks_by};
 ghost use Rattle.lrlex.specs.Lookahead.{LooksAhead};
 ghost use Rattle.lrlex.specs.Views.{definition_by, definition_of, items_by};
 ghost use Rattle.lrlex.specs.Work.{HasLinearWork, IsLinearIn};
+ghost use Rattle.lrlex.specs.Entering.{AllKeepEnd, IsEntering};
 ghost use Rattle.lrlex.specs.LexRun.{IsRunOf, HasItemLaws, end_of, end_state_of};
 ghost use Rattle.lrlex_rules.specs.RuleParts.{state_number};
 ghost use Rattle.lrlex.specs.Changes.{all_new};
@@ -17,6 +18,7 @@ use crate::definition::non_streaming::LRNonStreamingLexerDef;
 use crate::definition::rule_table::RuleTable;
 use crate::editing::changes::Changed;
 use crate::errors::LRLexError;
+use crate::lexing::entering::entered_by;
 use crate::lexing::plain::{Pace, take_ahead};
 use crate::lexing::stack::top_of;
 use crate::lexing::step::{Progress, advance, begin, push_error};
@@ -152,6 +154,15 @@ impl<'lexer, 'input, L: LexerTypes<LexErrorT = LRLexError>> LexRun<'lexer, 'inpu
         ensures { option_map state_number result ≡ end_state_of self.now.boundaries }
     {
         end_state_of(&self.lexed.boundaries)
+    }
+
+    /// The tile that entered the start state at `end()`, counted from 0: the last one before which the stack lacked the entry on top
+    /// there. None where the text began in that state and no tile left it, as is usual for `INITIAL`.
+    pub fn entered_by(&self) -> Option<usize>
+        ensures { MatchOption result (AllKeepEnd self.now.boundaries)
+            (IsEntering self.now.boundaries) }
+    {
+        entered_by(&self.lexed.boundaries)
     }
 
     /// One more than the tiles, or 0 without a state 0.
