@@ -317,9 +317,11 @@ class RuleFiles(Session):
 
     def test_a_text_that_ends_in_a_start_state(self):
         # what the text is, and where a note tells in which state it ends
+        comment, string = (f"the text ends in start state {name}, which is entered here" for name in ("COMMENT", "STRING"))
         rows = [
-            ("a /* b", [(0, 6, 0, 6, "the text ends in start state COMMENT")]), ("a /* b */", []), ("", []), ("a\n\"b", [(1, 2, 1, 2, "the text ends in start state STRING")]),
-            ("/* /* */\n", [(1, 0, 1, 0, "the text ends in start state COMMENT")]), ("/* /* */ */", []), ("/* \"", [(0, 4, 0, 4, "the text ends in start state COMMENT")]),
+            ("a /* b", [(0, 2, 0, 4, comment)]), ("a /* b */", []), ("", []), ("a\n\"b", [(1, 0, 1, 1, string)]),
+            ("/* /* */\n", [(0, 0, 0, 2, comment)]), ("/* /* */ */", []), ("/* \"", [(0, 0, 0, 2, comment)]), ("/* */ /* */ /* /* /* */ */", [(0, 12, 0, 14, comment)]),
+            ("/* /* a", [(0, 3, 0, 5, comment)]), ("\"a\" \"", [(0, 4, 0, 5, string)]),
             # lexing stops before
             ("\"b\n\"", [(0, 2, 0, 2, "unexpected character '\\n' in start state STRING")]), ("/* */ 1 /*", [(0, 6, 0, 7, "unexpected character '1'")]),
         ]
@@ -331,7 +333,7 @@ class RuleFiles(Session):
                 self.assertEqual(wanted, [spot(it) for it in found])
                 self.assertEqual([1 if "unexpected" in it["message"] else 3 for it in found], [it["severity"] for it in found])
         self.assertEqual([], client.change(TEXT, "a /* b */")["diagnostics"])
-        self.assertEqual([(0, 5, 0, 5, "the text ends in start state COMMENT")], [spot(it) for it in client.change(TEXT, ranged((0, 5), (0, 9), ""))["diagnostics"]])
+        self.assertEqual([(0, 2, 0, 4, comment)], [spot(it) for it in client.change(TEXT, ranged((0, 5), (0, 9), ""))["diagnostics"]])
         self.assertEqual(0, client.end())
 
     def test_columns_in_utf16(self):

@@ -4,7 +4,7 @@ use crate::diagnostics::{Finding, Report, Weight};
 use crate::languages::{Definition, Types};
 use crate::opened::Role;
 use crate::started::Given;
-use lrlex::{Document, LexBuildError, LexError, LexFlags, LexerDef, Span, Spanned, StartState};
+use lrlex::{Document, LRLexError, LexBuildError, LexError, LexFlags, LexerDef, Span, Spanned};
 use lrlex_report::{
     Warning, WarningKind, fault_message, fault_name, fault_range, stop_message_in, warnings_of,
 };
@@ -121,15 +121,13 @@ fn with_next(text: &str, span: Span) -> Span {
     }
 }
 
-/// Adds where lexing stops, if it does before the text's end.
+/// Adds where lexing stops, and why.
 fn push_stop(
     alloc: Global,
     report: &mut Report<'_, '_>,
     document: &Document<'_, Types>,
+    error: &LRLexError,
 ) -> Result<(), AllocError> {
-    let Some(Err(error)) = document.items().last() else {
-        return Ok(());
-    };
     let text = document.text();
     let message = stop_message_in(alloc, document.definition(), text, error)?;
     report.push(Finding {
@@ -141,36 +139,37 @@ fn push_stop(
     })
 }
 
-/// The start state in which a document ends, if that isn't `INITIAL` and lexing didn't stop before.
-fn open_state<'d>(document: &Document<'d, Types>) -> Option<&'d StartState> {
-    if let Some(Err(_)) = document.items().last() {
-        return None;
+/// The name of the start state with this number.
+fn state_name(definition: &Definition, state: usize) -> &str {
+    match definition.iter_start_states().find(|it| it.id() == state) {
+        Some(found) => found.name(),
+        None => "",
     }
-    let id = document.end_state()?.id();
-    if id == 0 {
-        return None;
-    }
-    document
-        .definition()
-        .iter_start_states()
-        .find(|state| state.id() == id)
 }
 
-/// Adds in which start state a document ends, as in an open comment or string.
+/// The bytes of the tile that entered the start state at the end of a document.
+fn entering(document: &Document<'_, Types>) -> Option<Span> {
+    let tile = document.entered_by()?;
+    let begin = document.boundary(tile);
+    let end = document.boundary(tile + 1);
+    Some(Span::new(begin, begin.max(end)))
+}
+
+/// Adds that a document ends in this start state, as in an open comment or string, where it was entered.
 fn push_end(
     alloc: Global,
     report: &mut Report<'_, '_>,
     document: &Document<'_, Types>,
+    state: usize,
 ) -> Result<(), AllocError> {
-    let Some(state) = open_state(document) else {
+    let Some(span) = entering(document) else {
         return Ok(());
     };
-    let name = state.name();
-    let message = format!(in alloc; "the text ends in start state {name}")?;
-    let end = document.end();
+    let name = state_name(document.definition(), state);
+    let message = format!(in alloc; "the text ends in start state {name}, which is entered here")?;
     report.push(Finding {
         weight: Weight::Note,
-        span: Span::new(end, end),
+        span,
         message: &message,
         code: "",
         first: None,
@@ -183,8 +182,13 @@ fn push_text(
     report: &mut Report<'_, '_>,
     document: &Document<'_, Types>,
 ) -> Result<(), AllocError> {
-    push_stop(alloc, report, document)?;
-    push_end(alloc, report, document)
+    if let Some(Err(error)) = document.items().last() {
+        return push_stop(alloc, report, document, error);
+    }
+    match document.end_state() {
+        Some(state) if state.id() != 0 => push_end(alloc, report, document, state.id()),
+        _ => Ok(()),
+    }
 }
 
 /// Adds what is found of a document.

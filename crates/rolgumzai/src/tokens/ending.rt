@@ -1,6 +1,4 @@
 //! A text that ends within a start state.
-ghost use Rattle.std.specs.Prelude.{◌<◌, length};
-
 use crate::files::Definition;
 use crate::runs::Run;
 use crate::states::state_name;
@@ -15,41 +13,23 @@ pub struct Ending {
     entered: Span,
 }
 
-/// Whether the stack still has this entry at this place, or had it with more above.
-fn holds(stack: &[(usize, usize)], at: usize, top: (usize, usize)) -> bool {
-    match stack.get(at) {
-        Some(entry) => entry.1 == top.1 && entry.0 >= top.0,
-        None => false,
-    }
-}
-
-/// The piece that entered the state on top at the end of a run: the last one before which the stack lacked this entry.
-fn entering(run: &Run<'_, '_>, last: usize, at: usize, top: (usize, usize)) -> Span
-    requires { last < length run.now.boundaries }
-{
-    let mut index = last;
-    'back: while index > 0 {
-        index -= 1;
-        if !holds(run.stack(index), at, top) {
-            let begin = run.place(index);
-            return Span::new(begin, begin.max(run.place(index + 1)));
-        }
-    }
-    Span::new(0, 0)
+/// The bytes of the tile that entered the start state at the end of a run.
+fn entering(run: &Run<'_, '_>) -> Option<Span> {
+    let tile = run.entered_by()?;
+    let begin = run.place(tile);
+    let end = run.place(tile + 1);
+    Some(Span::new(begin, begin.max(end)))
 }
 
 /// Where a run ends within a start state other than `INITIAL`, which state, and the piece that entered it.
 pub fn ending_of(run: &Run<'_, '_>) -> Option<Ending> {
-    let last = run.boundaries().checked_sub(1)?;
-    let stack = run.stack(last);
-    let top = *stack.last()?;
-    let at = stack.len().checked_sub(1)?;
-    if top.1 == 0 {
+    let state = run.end_state()?.id();
+    if state == 0 {
         return None;
     }
     Some(Ending {
-        state: top.1,
-        entered: entering(run, last, at, top),
+        state,
+        entered: entering(run)?,
     })
 }
 
