@@ -62,8 +62,14 @@ class DocCallers(replay.TestCase):
             with self.subTest(edits=edits):
                 self.assertEqual(last(["after", "ab cd ef", edits], "items"), wanted)
 
-    def test_a_caller_that_shows_a_part(self):
+    def test_a_definition_is_free_again_after_its_run(self):
+        answers = replay.answer(from_text(WORDS).case(["replaced", "ab cd", "%%\nx 'X'"], ["find", [], ["X"]]))
+        self.assertEqual(answers.last("tiles"), 3)
+        self.assertEqual(answers.last("by_name")[1]["re_str"], "x")
+
+    def test_callers_that_highlight_and_show_a_part(self):
         whole = [["ID", "ab"], ["", " "], ["", "#c"], ["", "\n"], ["ID", "d"]]
+        self.assertEqual(last(["highlighted", "ab #c\nd"], "words", LINES), whole)
         self.assertEqual(last(["visible", "ab #c\nd", [0, 7]], "words", LINES), whole)
         self.assertEqual(last(["visible", "ab #c\nd", [4, 7]], "words", LINES), whole[2:])
 

@@ -106,11 +106,11 @@ def random_case(number):
 
 
 class Positions(replay.TestCase):
-    """Each is answered by a document after its edits, and by the lexer of its text."""
+    """Each is answered by a document after its edits, by the lexer of its text, and by a lexer made of the text alone."""
 
     def check_answers(self, answers, wanted):
-        """Both answer so."""
-        self.assertEqual(answers.values("positions"), [wanted] * 2)
+        """All three answer so."""
+        self.assertEqual(answers.values("positions"), [wanted] * 3)
 
     def test_worked_positions(self):
         found = replay.answers([case(text, [], asked) for _, text, asked, _ in ROWS])

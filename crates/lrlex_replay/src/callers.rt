@@ -1,13 +1,15 @@
-//! The step that makes what a caller of `lrlex_examples` makes of a run and edits.
+//! Steps that make what the callers of `lrlex_examples` make of a definition.
 use crate::building::Definition;
 use crate::lexers::tell_lexed;
-use lrlex::Edit;
+use lrlex::{Edit, LexerDef};
+use lrlex_examples::callers::lending::lexed_and_replaced;
 use lrlex_examples::callers::lexing::lexer_after;
 use lrlex_replay_cases::edits::edits_of;
 use lrlex_replay_cases::facts::tell_no_items;
+use lrlex_replay_cases::reading::Trouble;
 use lrlex_replay_cases::told::Told;
 use serde_json::Value;
-use std::alloc::AllocError;
+use std::alloc::Global;
 
 /// Takes a run through edits, and tells the items of its lexer; null where an edit doesn't make its text.
 fn tell_after(
@@ -15,7 +17,7 @@ fn tell_after(
     definition: &Definition<u32>,
     text: &str,
     edits: &[(Edit<'_>, &str)],
-) -> Result<(), AllocError> {
+) -> Result<(), Trouble> {
     match lexer_after(told.alloc(), definition, text, edits)? {
         Some(lexer) => tell_lexed(told, &lexer),
         None => tell_no_items(told),
@@ -29,7 +31,29 @@ pub fn keep_run(
     definition: &Definition<u32>,
     text: &str,
     list: &[Value],
-) -> Result<(), AllocError> {
+) -> Result<(), Trouble> {
     let edits = edits_of(told.alloc(), list)?;
     tell_after(told, definition, text, edits.as_slice())
+}
+
+/// The definition of a rule text without faults.
+fn defined(alloc: Global, rules: &str) -> Result<Definition<u32>, Trouble> {
+    match Definition::<u32>::from_str(alloc, rules)? {
+        Ok(definition) => Ok(definition),
+        Err(_) => Err(Trouble::Malformed),
+    }
+}
+
+/// Lexes a text, and puts the definition of another rule text in the place of this one. Tells how many tiles the text had.
+pub fn replace(
+    told: &mut Told,
+    definition: &mut Definition<u32>,
+    text: &str,
+    rules: &str,
+) -> Result<(), Trouble> {
+    let other = defined(told.alloc(), rules)?;
+    let tiles = lexed_and_replaced(told.alloc(), definition, other, text)?;
+    told.key("tiles");
+    told.number(tiles);
+    Ok(())
 }

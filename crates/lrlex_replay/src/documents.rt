@@ -10,7 +10,6 @@ use lrlex_replay_cases::reading::{
 };
 use lrlex_replay_cases::told::Told;
 use serde_json::Value;
-use std::alloc::AllocError;
 
 /// A document of a definition with ids of type `u32`.
 pub type Edited<'d> = Document<'d, DefaultLexerTypes<u32>>;
@@ -162,13 +161,18 @@ fn tell_document(
     asked: &[Value],
 ) -> Result<(), Trouble> {
     match name {
-        "document" => tell_edits(told, document, asked)?,
-        "visible" => tell_visible(told, document, span_of(asked)),
-        "typed" => type_keys(told, document, change_of(asked))?,
-        "retyped" => retype(told, document, change_of(asked))?,
-        _ => tell_texts(told, document, asked),
+        "document" => tell_edits(told, document, asked),
+        "visible" => {
+            tell_visible(told, document, span_of(asked));
+            Ok(())
+        }
+        "typed" => type_keys(told, document, change_of(asked)),
+        "retyped" => retype(told, document, change_of(asked)),
+        _ => {
+            tell_texts(told, document, asked);
+            Ok(())
+        }
     }
-    Ok(())
 }
 
 /// Asks a document of a step's text.
@@ -188,7 +192,7 @@ pub fn cut_document(
     definition: &Definition<u32>,
     text: &str,
     ends: (usize, usize),
-) -> Result<(), AllocError> {
+) -> Result<(), Trouble> {
     let document = Document::new(told.alloc(), definition, text)?;
     tell_pieces(told, text, document.pieces_in(told.alloc(), ends.0, ends.1));
     Ok(())

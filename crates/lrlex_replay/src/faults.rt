@@ -2,7 +2,7 @@
 use crate::building::Definition;
 use lrlex::LexBuildError;
 use lrlex_replay_cases::facts::tell_faults;
-use lrlex_replay_cases::reading::{flags_in, text_in};
+use lrlex_replay_cases::reading::{Trouble, flags_in, text_in};
 use lrlex_replay_cases::told::Told;
 use serde_json::Value;
 use std::alloc::{AllocError, Global};
@@ -18,7 +18,7 @@ fn all_faults(alloc: Global, case: &Value) -> Result<Vec<LexBuildError>, AllocEr
 }
 
 /// Tells them, if there is a case.
-pub fn tell_all_faults(told: &mut Told, case: Option<&Value>) -> Result<(), AllocError> {
+pub fn tell_all_faults(told: &mut Told, case: Option<&Value>) -> Result<(), Trouble> {
     if let Some(case) = case {
         let faults = all_faults(told.alloc(), case)?;
         tell_faults(told, faults.as_slice());

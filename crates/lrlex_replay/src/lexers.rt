@@ -7,10 +7,9 @@ use crate::items::item_seen;
 use lrlex::{DefaultLexerTypes, LRNonStreamingLexer, LineCursor};
 use lrlex_base::{Lexer, NonStreamingLexer, Span};
 use lrlex_replay_cases::facts::{Fitting, tell_fitting, tell_item};
-use lrlex_replay_cases::reading::{count_of, list_of, span_of};
+use lrlex_replay_cases::reading::{Trouble, count_of, list_of, span_of};
 use lrlex_replay_cases::told::Told;
 use serde_json::Value;
-use std::alloc::AllocError;
 
 /// A lexer with ids of type `u32`.
 pub type LexerOf<'lexer, 'input> = LRNonStreamingLexer<'lexer, 'input, DefaultLexerTypes<u32>>;
@@ -108,7 +107,7 @@ pub fn ask_lexer(
     input: &str,
     of_run: bool,
     asked: Asked<'_>,
-) -> Result<(), AllocError> {
+) -> Result<(), Trouble> {
     let alloc = told.alloc();
     let lexer = if of_run {
         definition.run(alloc, input)?.into_lexer(alloc)?

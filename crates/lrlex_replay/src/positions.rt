@@ -1,12 +1,12 @@
-//! The positions of bytes and the bytes of positions, by a document after its edits and by the lexer of its text.
+//! The positions of bytes and the bytes of positions, by a document after its edits and by lexers of its text.
 use crate::building::Definition;
 use crate::documents::{Edited, make};
 use crate::lexers::LexerOf;
 use lrlex::{Document, PositionEncoding};
+use lrlex_base::NewlineCache;
 use lrlex_replay_cases::reading::{Trouble, change_of, count_of, list_of};
 use lrlex_replay_cases::told::Told;
 use serde_json::Value;
-use std::alloc::AllocError;
 
 /// What is asked for.
 enum Question {
@@ -86,13 +86,21 @@ fn ask_lexer(
     definition: &Definition<u32>,
     text: &str,
     asked: &[Value],
-) -> Result<(), AllocError> {
+) -> Result<(), Trouble> {
     let lexer = definition.lexer(told.alloc(), text)?;
     tell_lexer(told, &lexer, asked);
     Ok(())
 }
 
-/// Asks a document after edits, and then the lexer of its text.
+/// Asks a lexer made of a text without items.
+fn ask_bare_lexer(told: &mut Told, text: &str, asked: &[Value]) -> Result<(), Trouble> {
+    let newlines = NewlineCache::from_str(told.alloc(), text)?;
+    let lexer = LexerOf::new(text, Vec::new(told.alloc()), newlines);
+    tell_lexer(told, &lexer, asked);
+    Ok(())
+}
+
+/// Asks a document after edits, and then both lexers of its text.
 fn ask_edited(
     told: &mut Told,
     definition: &Definition<u32>,
@@ -102,10 +110,11 @@ fn ask_edited(
 ) -> Result<(), Trouble> {
     edit_all(told, document, edits)?;
     tell_document(told, document, asked);
-    Ok(ask_lexer(told, definition, document.text(), asked)?)
+    ask_lexer(told, definition, document.text(), asked)?;
+    ask_bare_lexer(told, document.text(), asked)
 }
 
-/// Asks a document after edits, and then the lexer of its text.
+/// Asks a document after edits, then the lexer of its text, and a lexer made of the text without items.
 pub fn ask_positions(
     told: &mut Told,
     definition: &Definition<u32>,

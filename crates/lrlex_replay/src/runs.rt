@@ -158,7 +158,7 @@ pub fn cut_run(
     definition: &Definition<u32>,
     text: &str,
     ends: (usize, usize),
-) -> Result<(), AllocError> {
+) -> Result<(), Trouble> {
     let run = definition.run(told.alloc(), text)?;
     tell_pieces(told, text, run.pieces_in(told.alloc(), ends.0, ends.1));
     Ok(())
@@ -187,11 +187,7 @@ fn tell_run_end(
 }
 
 /// Tells where lexing the text ends and the start state there, by a run and by a document that was taken apart and put together.
-pub fn tell_end(
-    told: &mut Told,
-    definition: &Definition<u32>,
-    text: &str,
-) -> Result<(), AllocError> {
+pub fn tell_end(told: &mut Told, definition: &Definition<u32>, text: &str) -> Result<(), Trouble> {
     tell_run_end(told, definition, text)?;
     let document = Document::new(told.alloc(), definition, text)?;
     let document = Document::of_text(definition, document.into_text());

@@ -3,8 +3,8 @@ use crate::building::Definition;
 use crate::items::error_seen;
 use lrlex::{LRLexError, ScanEnd, ScannedTile, Step};
 use lrlex_replay_cases::facts::tell_item;
+use lrlex_replay_cases::reading::Trouble;
 use lrlex_replay_cases::told::Told;
-use std::alloc::AllocError;
 
 /// Tells a tile: its rule, its first byte, how many bytes it has, and its id or null.
 fn tell_tile(told: &mut Told, tile: ScannedTile<u32>) {
@@ -40,7 +40,7 @@ fn tell_stop(told: &mut Told, stop: Option<LRLexError>) {
 }
 
 /// Tells the tiles of a text as a scanner gives them, as the last of them why there are no more, and the error that this comes to.
-pub fn scan(told: &mut Told, definition: &Definition<u32>, text: &str) -> Result<(), AllocError> {
+pub fn scan(told: &mut Told, definition: &Definition<u32>, text: &str) -> Result<(), Trouble> {
     let scanner = definition.scanner(told.alloc(), text)?;
     let mut place: usize = 0;
     let mut stop = None;

@@ -1,6 +1,6 @@
 //! Steps: what is done with the definition of a case, one thing after the other, and told.
 use crate::building::{Definition, build_within};
-use crate::callers::keep_run;
+use crate::callers::{keep_run, replace};
 use crate::documents::{cut_document, show};
 use crate::engines::{display_faults, drive, serve};
 use crate::faults::tell_all_faults;
@@ -11,6 +11,7 @@ use crate::reports::report;
 use crate::runs::{cut_run, lex, tell_end};
 use crate::scanners::scan;
 use lrlex::{DEFAULT_LEX_FLAGS, LexerDef};
+use lrlex_examples::callers::editing::highlighted;
 use lrlex_examples::callers::lexing::words;
 use lrlex_replay_cases::edits::{edit_of, tell_edit};
 use lrlex_replay_cases::facts::{tell_rules, tell_states, tell_words};
@@ -18,7 +19,6 @@ use lrlex_replay_cases::printing::{introduce, print_refused, print_told, told_of
 use lrlex_replay_cases::reading::{Trouble, count_at, is_true_at, list_at, list_of, text_at};
 use lrlex_replay_cases::told::Told;
 use serde_json::Value;
-use std::alloc::AllocError;
 use std::io;
 
 /// Tells whether the definition's flags are the default ones; null where it has none.
@@ -44,7 +44,7 @@ fn tell_definition(told: &mut Told, definition: &Definition<u32>) {
 }
 
 /// Tells of each rule whether it may win.
-fn tell_may_win(told: &mut Told, definition: &Definition<u32>) -> Result<(), AllocError> {
+fn tell_may_win(told: &mut Told, definition: &Definition<u32>) -> Result<(), Trouble> {
     let may_win = definition.may_win(told.alloc())?;
     told.list("may_win");
     for may_win in &may_win {
@@ -60,7 +60,7 @@ fn cut_part(
     definition: &Definition<u32>,
     text: &str,
     ends: (usize, usize),
-) -> Result<(), AllocError> {
+) -> Result<(), Trouble> {
     cut_run(told, definition, text, ends)?;
     cut_document(told, definition, text, ends)
 }
@@ -68,18 +68,19 @@ fn cut_part(
 /// Makes a step that needs no definition.
 fn make_alone(told: &mut Told, name: &str, step: &[Value]) -> Result<(), Trouble> {
     match name {
-        "edit" => tell_edit(
-            told,
-            text_at(step, 1),
-            edit_of(list_at(step, 2)),
-            text_at(step, 3),
-        ),
-        "engine" | "engine_edited" | "engine_report" => drive(told, name, step)?,
-        "all_faults" => tell_all_faults(told, step.get(1))?,
-        "faults" => display_faults(told),
-        _ => report(told, name, step)?,
+        "edit" => {
+            let edit = edit_of(list_at(step, 2));
+            tell_edit(told, text_at(step, 1), edit, text_at(step, 3));
+            Ok(())
+        }
+        "engine" | "engine_edited" | "engine_report" => drive(told, name, step),
+        "all_faults" => tell_all_faults(told, step.get(1)),
+        "faults" => {
+            display_faults(told);
+            Ok(())
+        }
+        _ => report(told, name, step),
     }
-    Ok(())
 }
 
 /// Makes a step that asks the definition about a text.
@@ -91,31 +92,36 @@ fn ask_about_text(
 ) -> Result<(), Trouble> {
     let text = text_at(step, 1);
     match name {
-        "run" => lex(told, definition, text, list_at(step, 2))?,
+        "run" => lex(told, definition, text, list_at(step, 2)),
         "lexer" => {
             let asked = (list_at(step, 3), list_at(step, 4));
-            ask_lexer(told, definition, text, is_true_at(step, 2), asked)?;
+            ask_lexer(told, definition, text, is_true_at(step, 2), asked)
         }
         "part" => cut_part(
             told,
             definition,
             text,
             (count_at(step, 2), count_at(step, 3)),
-        )?,
+        ),
         "words" => {
             let words = words(told.alloc(), definition, text);
             tell_words(told, words);
+            Ok(())
         }
-        "end" => tell_end(told, definition, text)?,
-        "scan" => scan(told, definition, text)?,
-        "after" => keep_run(told, definition, text, list_at(step, 2))?,
-        "positions" => ask_positions(told, definition, text, list_at(step, 2), list_at(step, 3))?,
-        "document" | "visible" | "typed" | "retyped" | "texts" => {
-            show(told, definition, name, step)?;
+        "highlighted" => {
+            let words = highlighted(told.alloc(), definition, text);
+            tell_words(told, words);
+            Ok(())
         }
-        _ => make_alone(told, name, step)?,
+        "end" => tell_end(told, definition, text),
+        "scan" => scan(told, definition, text),
+        "after" => keep_run(told, definition, text, list_at(step, 2)),
+        "positions" => ask_positions(told, definition, text, list_at(step, 2), list_at(step, 3)),
+        "document" | "visible" | "typed" | "retyped" | "texts" => show(
+            told, definition, name, step,
+        ),
+        _ => make_alone(told, name, step),
     }
-    Ok(())
 }
 
 /// Makes a step, and tells what comes of it.
@@ -126,14 +132,23 @@ fn make(
     step: &[Value],
 ) -> Result<(), Trouble> {
     match text_at(step, 0) {
-        "definition" => tell_definition(told, definition),
-        "may_win" => tell_may_win(told, definition)?,
-        "find" => find(told, definition, list_at(step, 1), list_at(step, 2)),
-        "ids" => set_ids(told, definition, step.get(1), is_true_at(step, 2))?,
-        "served" => serve(rt, told, step),
-        name => ask_about_text(told, definition, name, step)?,
+        "definition" => {
+            tell_definition(told, definition);
+            Ok(())
+        }
+        "may_win" => tell_may_win(told, definition),
+        "find" => {
+            find(told, definition, list_at(step, 1), list_at(step, 2));
+            Ok(())
+        }
+        "ids" => set_ids(told, definition, step.get(1), is_true_at(step, 2)),
+        "replaced" => replace(told, definition, text_at(step, 1), text_at(step, 2)),
+        "served" => {
+            serve(rt, told, step);
+            Ok(())
+        }
+        name => ask_about_text(told, definition, name, step),
     }
-    Ok(())
 }
 
 /// What is told of a step: its name, and then what comes of it.
