@@ -1,34 +1,32 @@
--- Operators within a class of characters: what is left of a pattern behind its first bytes.
-use Rattle.std.proofs.Common.{◌≡◌, ℕ, ◌-◌, ◌≤◌, true, false, List, [], ◌∷◌, length, take, drop, slice_index_or, refl, sym, ap, ◌∙◌, arith}
+-- Classes of characters: a step on in a pattern, and how many classes it may open.
+use Rattle.std.proofs.Common.{◌≡◌, ℕ, ◌+◌, ◌-◌, ◌≤◌, true, false, Bool, List, [], ◌∷◌, length, take, drop, slice_index_or, refl, sym, ap, arith}
 use Rattle.std.proofs.lemmas.List.{take_all}
-use Rattle.lrlex_rules.specs.Escape.{is_backslash}
-use Rattle.lrlex_report.specs.declared.warnings.class_operators.ClassPart.{ClassPart}
-use Rattle.lrlex_report.specs.declared.warnings.class_operators.ClassPart.TheVariants.{Operated}
-use Rattle.lrlex_report.specs.ClassOperators.{after, after_escape, is_class_operator, is_meant, has_class_operator}
+use Rattle.lrlex_report.specs.declared.warnings.pattern_classes.Context.{Context}
+use Rattle.lrlex_report.specs.PatternClasses.{after, after_pair, is_pair, from_first}
 
--- a byte that is no backslash
-pub passes : (x : ClassPart) (xs : List ℕ) → 2 ≤ length xs → is_backslash (slice_index_or xs 0 0) ≡ false → is_meant x (slice_index_or xs 0 0) (slice_index_or xs 1 0) (take (length xs - 2) (drop 2 xs)) ≡ false
-    → is_class_operator x (slice_index_or xs 0 0) (slice_index_or xs 1 0) ≡ false
-    → has_class_operator (after x (slice_index_or xs 0 0)) (take (length xs - 1) (drop 1 xs)) ≡ has_class_operator x xs
-passes x [] long plain chance none = absurd (omega (arith, long))
-passes x (b ∷ []) long plain chance none = absurd (omega (arith, long))
-passes x (b ∷ c ∷ rest) long plain chance none =
-    let other : is_meant x b c rest ≡ false = ap (is_meant x b c) (sym (take_all (length (b ∷ c ∷ rest) - 2) rest (omega arith))) ∙ chance in
-    ap (has_class_operator (after x b)) (take_all (length (b ∷ c ∷ rest) - 1) (c ∷ rest) (omega arith)) ∙ sym (rw plain (rw other (rw none refl)))
+-- past an escape or an operation
+pub passes_pair : (x : Context) (xs : List ℕ) (test : Context → List ℕ → Bool) → 2 ≤ length xs → is_pair x (slice_index_or xs 0 0) (slice_index_or xs 1 0) ≡ true → test x xs ≡ false
+    → from_first test x xs ≡ from_first test (after_pair x (slice_index_or xs 0 0)) (take (length xs - 2) (drop 2 xs))
+passes_pair x [] test long pair none = absurd (omega (arith, long))
+passes_pair x (b ∷ []) test long pair none = absurd (omega (arith, long))
+passes_pair x (b ∷ c ∷ rest) test long pair none =
+    rw none (rw pair (ap (from_first test (after_pair x b)) (sym (take_all (length (b ∷ c ∷ rest) - 2) rest (omega arith)))))
 
--- an operation that is meant
-pub passes_meant : (x : ClassPart) (xs : List ℕ) → 2 ≤ length xs → is_backslash (slice_index_or xs 0 0) ≡ false → is_meant x (slice_index_or xs 0 0) (slice_index_or xs 1 0) (take (length xs - 2) (drop 2 xs)) ≡ true
-    → has_class_operator Operated (take (length xs - 2) (drop 2 xs)) ≡ has_class_operator x xs
-passes_meant x [] long plain meant = absurd (omega (arith, long))
-passes_meant x (b ∷ []) long plain meant = absurd (omega (arith, long))
-passes_meant x (b ∷ c ∷ rest) long plain meant =
-    let all : take (length (b ∷ c ∷ rest) - 2) rest ≡ rest = take_all (length (b ∷ c ∷ rest) - 2) rest (omega arith) in
-    ap (has_class_operator Operated) all ∙ sym (rw plain (rw (ap (is_meant x b c) (sym all) ∙ meant) refl))
+-- past another byte
+pub passes : (x : Context) (xs : List ℕ) (test : Context → List ℕ → Bool) → 2 ≤ length xs → is_pair x (slice_index_or xs 0 0) (slice_index_or xs 1 0) ≡ false → test x xs ≡ false
+    → from_first test x xs ≡ from_first test (after x (slice_index_or xs 0 0)) (take (length xs - 1) (drop 1 xs))
+passes x [] test long single none = absurd (omega (arith, long))
+passes x (b ∷ []) test long single none = absurd (omega (arith, long))
+passes x (b ∷ c ∷ rest) test long single none =
+    rw none (rw single (ap (from_first test (after x b)) (sym (take_all (length (b ∷ c ∷ rest) - 1) (c ∷ rest) (omega arith)))))
 
--- an escape
-pub passes_escape : (x : ClassPart) (xs : List ℕ) → 2 ≤ length xs → is_backslash (slice_index_or xs 0 0) ≡ true
-    → has_class_operator (after_escape x) (take (length xs - 2) (drop 2 xs)) ≡ has_class_operator x xs
-passes_escape x [] long mark = absurd (omega (arith, long))
-passes_escape x (b ∷ []) long mark = absurd (omega (arith, long))
-passes_escape x (b ∷ c ∷ rest) long mark =
-    ap (has_class_operator (after_escape x)) (take_all (length (b ∷ c ∷ rest) - 2) rest (omega arith)) ∙ sym (rw mark refl)
+-- a byte opens one class at most
+grows : (x : Context) (b : ℕ) → (after x b).classes ≤ x.classes + 1
+grows x b = grind arith
+
+-- so no more classes are open than bytes are passed
+pub fits : (x : Context) (xs : List ℕ) → 1 ≤ length xs → (after x (slice_index_or xs 0 0)).classes + length (take (length xs - 1) (drop 1 xs)) ≤ x.classes + length xs
+fits x [] long = absurd (omega (arith, long))
+fits x (b ∷ xs) long =
+    let e : take (length (b ∷ xs) - 1) xs ≡ xs = take_all (length (b ∷ xs) - 1) xs (omega arith) in
+    rw e (omega (arith, grows x b))

@@ -8,6 +8,7 @@ pub mod FaultTexts
 pub mod Literals
 pub mod Looks
 pub mod Notes
+pub mod PatternClasses
 pub mod PatternNotes
 pub mod PlaceTexts
 pub mod Reasons

@@ -1,9 +1,12 @@
--- Patterns that are meant literally: a text in quotes, and operators alone.
-use Rattle.std.specs.Prelude.{ℕ, Bool, false, not, ◌&&◌, ◌+◌, ◌-◌, ◌==◌, nat_lt, List, [], ◌∷◌, length, slice_index, take, drop, codes}
-use Rattle.std.specs.List.{list_all, list_any}
+-- Patterns that are meant literally: a text in quotes, also as a part, and operators alone.
+use Rattle.std.specs.Prelude.{ℕ, Bool, false, not, ◌&&◌, ◌||◌, ◌+◌, ◌-◌, ◌==◌, nat_lt, Option, Some, None, List, [], ◌∷◌, length, slice_index, take, drop, codes}
+use Rattle.std.specs.List.{list_all, list_any, position}
+use Rattle.std.specs.Str.{byte}
 use Rattle.lrlex_rules.specs.Escape.{is_one_of}
 use Rattle.lrlex_rules.specs.Text.{is_empty}
 use Rattle.lrlex_report.specs.FaultRanges.{before_blank}
+use Rattle.lrlex_report.specs.PatternClasses.{at_beginning, from_first}
+use Rattle.lrlex_report.specs.declared.warnings.pattern_classes.Context.{Context}
 
 abbrev pub is_quote : ℕ → Bool
 is_quote c = is_one_of (codes "\"'") c
@@ -24,6 +27,31 @@ abbrev pub is_quoted : (pattern : List ℕ) → Bool
 is_quoted [] = false
 is_quoted (q ∷ rest) =
     is_quote q && (slice_index rest (length rest - 1) == q) && is_literal (take (length rest - 1) rest)
+
+-- a double quote outside classes of characters, which no backslash precedes
+abbrev pub is_double : ℕ → Bool
+is_double c = c == byte "\""
+
+abbrev pub is_mark : Context → List ℕ → Bool
+is_mark x text = (x.classes == 0) && is_double (slice_index text 0)
+
+-- up to the next quote, which is here, there is a text, and behind it there is no quote: two in a row are how a pattern for texts in
+-- quotes has a quote in them
+abbrev pub ends_text_at : (rest : List ℕ) → Option ℕ → Bool
+ends_text_at rest None = false
+ends_text_at rest (Some end) = is_literal (take end rest) && not (is_double (slice_index (drop (end + 1) rest) 0))
+
+-- behind such a quote there is a text, and then one quote alone
+abbrev pub ends_text : (rest : List ℕ) → Bool
+ends_text rest = ends_text_at rest (position is_double rest)
+
+-- a pattern with a part in quotes, as `"0x"[0-9a-f]+`; its first quote decides, since a pattern for texts in quotes has others
+abbrev pub has_quoted_part : (pattern : List ℕ) → Bool
+has_quoted_part pattern = ends_text (drop 1 (from_first is_mark at_beginning pattern))
+
+-- a pattern with quotes that are hardly meant
+abbrev pub has_quotes : (pattern : List ℕ) → Bool
+has_quotes pattern = is_quoted pattern || has_quoted_part pattern
 
 -- a pattern whose last word is a text in quotes, as a name is
 abbrev pub ends_in_name : (pattern : List ℕ) → Bool

@@ -8,7 +8,6 @@ use Rattle.lrlex_rules.specs.RuleLine.{after_angles}
 use Rattle.lrlex_rules.specs.Text.{begins_with, trim_end}
 use Rattle.lrlex_report.specs.ClassOperators.{has_class_operator}
 use Rattle.lrlex_report.specs.FaultRanges.{before_blank, source_in}
-use Rattle.lrlex_report.specs.declared.warnings.class_operators.ClassPart.TheVariants.{Outside}
 
 -- the pattern of a rule's line, without its list of start states
 abbrev pub pattern_of : (line : List ℕ) → List ℕ
@@ -40,7 +39,7 @@ number_note source =
 -- of a pattern with an operator within a class of characters
 abbrev pub class_note : (pattern : List ℕ) → List ℕ
 class_note pattern =
-    if has_class_operator Outside pattern
+    if has_class_operator pattern
     then codes ": in a class [ begins another, and --, && and ~~ are operations on sets; write a backslash before the character, as \\[ or \\-" else []
 
 -- a brace and a letter begin a name, at the front or behind neither a letter nor a backslash

@@ -19,10 +19,9 @@ use Rattle.lrlex_report.specs.Alternatives.{loses_word}
 use Rattle.lrlex_report.specs.ClassOperators.{has_class_operator}
 use Rattle.lrlex_report.specs.Dots.{begins_with_flags, has_greedy_dot}
 use Rattle.lrlex_report.specs.FaultRanges.{before_blank}
-use Rattle.lrlex_report.specs.Literals.{ends_in_name, is_bare, is_quoted}
-use Rattle.lrlex_report.specs.Looks.{at_beginning, looks_around}
+use Rattle.lrlex_report.specs.Literals.{ends_in_name, has_quotes, is_bare}
+use Rattle.lrlex_report.specs.Looks.{looks_around}
 use Rattle.lrlex_report.specs.PlaceTexts.{nearest}
-use Rattle.lrlex_report.specs.declared.warnings.class_operators.ClassPart.TheVariants.{Outside}
 use Rattle.lrlex_report.specs.declared.warnings.kinds.WarningKind.{WarningKind}
 use Rattle.lrlex_report.specs.declared.warnings.kinds.WarningKind.TheVariants.{NeverWins, NeverActive, LooksAround, NoTable, TargetInPattern, BlankAfterStates, LostEscape, EscapeAfterStates, LostAlternative, NameInPattern, QuotedPattern, BareOperator, LostCaret, GreedyDot, ClassOperator, NeverEntered, NoRules}
 use Rattle.lrlex_report.specs.declared.warnings.kinds.Warning.{Warning}
@@ -132,11 +131,11 @@ never_wins known = known.is_active && not known.may_win
 
 -- it has no table, since its pattern looks at what is beside the match
 abbrev pub has_no_table_but_looks : Facts → Rule → Bool
-has_no_table_but_looks known r = known.is_asked && looks_around at_beginning r.re_str
+has_no_table_but_looks known r = known.is_asked && looks_around r.re_str
 
 -- it has no table, and not for that
 abbrev pub has_no_table : Facts → Rule → Bool
-has_no_table known r = known.is_asked && not (looks_around at_beginning r.re_str)
+has_no_table known r = known.is_asked && not (looks_around r.re_str)
 
 -- it lists start states, and its pattern begins with a blank that counts
 abbrev pub has_blank_after_states : Rule → Bool
@@ -168,7 +167,7 @@ loses_caret r = begins_with (codes "^") r.re_str && not (is_bare r.re_str)
 abbrev pub takes_all : Rule → Bool
 takes_all r =
     r.config.flags.dot_matches_new_line && (not r.config.flags.swap_greed
-    && (not (begins_with_flags r.re_str) && has_greedy_dot at_beginning r.re_str))
+    && (not (begins_with_flags r.re_str) && has_greedy_dot r.re_str))
 
 -- the tests of a rule of which this is known, and what they answer
 abbrev pub rule_tests : Facts → List StartState → (source : List ℕ) → Rule → List (WarningKind × Bool)
@@ -183,11 +182,11 @@ rule_tests known states source r =
     ∷ (EscapeAfterStates, has_escape_after_states r)
     ∷ (LostAlternative, loses_alternative r)
     ∷ (NameInPattern, has_name_in_pattern r)
-    ∷ (QuotedPattern, is_quoted r.re_str)
+    ∷ (QuotedPattern, has_quotes r.re_str)
     ∷ (BareOperator, is_bare r.re_str)
     ∷ (LostCaret, loses_caret r)
     ∷ (GreedyDot, takes_all r)
-    ∷ (ClassOperator, has_class_operator Outside r.re_str)
+    ∷ (ClassOperator, has_class_operator r.re_str)
     ∷ []
 
 -- the warnings of the rule, at its pattern

@@ -1,41 +1,34 @@
 //! A dot that takes all that follows.
 ghost use Rattle.std.specs.Prelude.{◌≡◌};
 ghost use Rattle.lrlex_report.specs.Dots.{begins_with_flags, has_greedy_dot, is_greedy_dot};
-ghost use Rattle.lrlex_report.specs.Looks.{at_beginning};
 
-use crate::warnings::looks::{BEGINNING, Context};
+use crate::warnings::pattern_classes::{BEGINNING, Context};
 
-/// Whether these bytes, before `rest`, are a dot with `*` or `+`, outside classes of characters and without the `?` that makes it
-/// lazy.
-fn is_greedy_dot(context: Context, b: u8, c: u8, rest: &[u8]) -> bool
-    ensures { result ≡ is_greedy_dot context b c rest.now }
+/// Whether a dot with `*` or `+` stands here, outside classes of characters and without the `?` that makes it lazy.
+fn is_greedy_dot(context: Context, rest: &[u8]) -> bool
+    ensures { result ≡ is_greedy_dot context rest.now }
 {
-    if context.classes > 0 || b != b'.' {
+    if context.classes > 0 {
         return false;
     }
     match rest {
-        [b'?', ..] => false,
-        _ => c == b'*' || c == b'+',
+        [b'.', _, b'?', ..] => false,
+        [b'.', c, ..] => *c == b'*' || *c == b'+',
+        _ => false,
     }
 }
 
 /// Whether a pattern has a dot with `*` or `+`, outside classes of characters and without the `?` that makes it lazy.
 pub(crate) fn has_greedy_dot(pattern: &[u8]) -> bool
-    ensures { result ≡ has_greedy_dot at_beginning pattern.now }
+    ensures { result ≡ has_greedy_dot pattern.now }
 {
     let mut context = BEGINNING;
     let mut rest = pattern;
-    while let [b, c, after @ ..] = rest {
-        if *b == b'\\' {
-            context = context.after_escape();
-            rest = after;
-            continue;
-        }
-        if is_greedy_dot(context, *b, *c, after) {
+    while !rest.is_empty() {
+        if is_greedy_dot(context, rest) {
             return true;
         }
-        context = context.after(*b);
-        rest = &rest[1..];
+        (context, rest) = context.step(rest);
     }
     false
 }

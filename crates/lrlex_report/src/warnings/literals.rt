@@ -1,8 +1,10 @@
-//! Patterns that are meant literally: a text in quotes, and operators alone.
-ghost use Rattle.std.specs.Prelude.{◌≡◌};
-ghost use Rattle.lrlex_report.specs.Literals.{is_quote, is_varied, varies, is_literal, is_quoted, ends_in_name, is_bare_operator, are_bare_operators, is_bare};
+//! Patterns that are meant literally: a text in quotes, also as a part, and operators alone.
+ghost use Rattle.std.specs.Prelude.{◌≡◌, ◌<◌, length, IfSome};
+ghost use Rattle.std.specs.List.{position};
+ghost use Rattle.lrlex_report.specs.Literals.{is_quote, is_varied, varies, is_literal, is_quoted, is_double, ends_text, has_quoted_part, has_quotes, ends_in_name, is_bare_operator, are_bare_operators, is_bare};
 
 use crate::ranges::before_blank;
+use crate::warnings::pattern_classes::BEGINNING;
 
 /// Whether the byte is a quote.
 fn is_quote(byte: u8) -> bool
@@ -39,7 +41,7 @@ fn is_literal(inside: &[u8]) -> bool
 }
 
 /// Whether a pattern is a text in quotes.
-pub(crate) fn is_quoted(pattern: &[u8]) -> bool
+fn is_quoted(pattern: &[u8]) -> bool
     ensures { result ≡ is_quoted pattern.now }
 {
     let [quote, rest @ ..] = pattern else {
@@ -49,6 +51,46 @@ pub(crate) fn is_quoted(pattern: &[u8]) -> bool
         [inside @ .., last] => is_quote(*quote) && *last == *quote && is_literal(inside),
         [] => false,
     }
+}
+
+/// Where the next double quote is.
+fn next_double(rest: &[u8]) -> Option<usize>
+    ensures place { result ≡ position is_double rest.now }
+    ensures bound { IfSome result (λ at. at < length rest.now) }
+{
+    rest.iter().position(|b| *b == b'"')
+}
+
+/// Whether what is behind a quote is a text, and then one quote alone.
+fn ends_text(rest: &[u8]) -> bool
+    ensures { result ≡ ends_text rest.now }
+{
+    let Some(end) = next_double(rest) else {
+        return false;
+    };
+    is_literal(&rest[..end]) && !rest[end + 1..].starts_with(b"\"")
+}
+
+/// Whether the first double quote of a pattern, outside classes of characters, begins a text in quotes.
+fn has_quoted_part(pattern: &[u8]) -> bool
+    ensures { result ≡ has_quoted_part pattern.now }
+{
+    let mut context = BEGINNING;
+    let mut rest = pattern;
+    while let [b, after @ ..] = rest {
+        if context.classes == 0 && *b == b'"' {
+            return ends_text(after);
+        }
+        (context, rest) = context.step(rest);
+    }
+    false
+}
+
+/// Whether a pattern has quotes that are hardly meant: it is a text in quotes, or has one.
+pub(crate) fn has_quotes(pattern: &[u8]) -> bool
+    ensures { result ≡ has_quotes pattern.now }
+{
+    is_quoted(pattern) || has_quoted_part(pattern)
 }
 
 /// Whether the last word of a pattern is a text in quotes, as a name is.

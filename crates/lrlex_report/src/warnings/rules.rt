@@ -9,7 +9,7 @@ use crate::warnings::answers::Facts;
 use crate::warnings::class_operators::has_class_operator;
 use crate::warnings::dots::{begins_with_flags, has_greedy_dot};
 use crate::warnings::kinds::{Warning, WarningKind, push_all};
-use crate::warnings::literals::{ends_in_name, is_bare, is_quoted};
+use crate::warnings::literals::{ends_in_name, has_quotes, is_bare};
 use crate::warnings::looks::looks_around;
 use crate::warnings::patterns::{begins_blank, ends_in_target, has_unmeant, source_of, ungrouped};
 use lrlex::{Rule, StartState};
@@ -133,7 +133,7 @@ pub(crate) fn push_rule<S: Numbered>(
         (WarningKind::NameInPattern, has_name_in_pattern(rule)),
         (
             WarningKind::QuotedPattern,
-            is_quoted(rule.re_str().as_bytes()),
+            has_quotes(rule.re_str().as_bytes()),
         ),
         (WarningKind::BareOperator, is_bare(rule.re_str().as_bytes())),
         (WarningKind::LostCaret, loses_caret(rule)),

@@ -1,11 +1,14 @@
--- What is left has such an operator where the pattern has one.
-use Rattle.std.proofs.Common.{◌≡◌, length}
-use Rattle.lrlex_report.specs.ClassOperators.{has_class_operator}
-use Rattle.lrlex_report.specs.declared.warnings.class_operators.ClassPart.TheVariants.{Outside}
+-- What is left has its first such operator where the pattern has it, and the bytes before it have opened no more classes than they are.
+use Rattle.std.proofs.Common.{◌≡◌, ◌+◌, ◌≤◌, length}
+use Rattle.lrlex_report.specs.PatternClasses.{at_beginning, from_first}
+use Rattle.lrlex_report.specs.ClassOperators.{is_class_operator}
 use Rattle.lrlex_report.proofs.warnings.class_operators.has_class_operator.Given as goal
 
 abbrev pub invariant-loop-rest : goal.invariant-loop-rest
-invariant-loop-rest l = has_class_operator l.part l.rest ≡ has_class_operator Outside l.pattern
+invariant-loop-rest l = record {
+  first : from_first is_class_operator l.context l.rest ≡ from_first is_class_operator at_beginning l.pattern;
+  room : l.context.classes + length l.rest ≤ length l.pattern;
+}
 
 -- how much is left
 abbrev pub decreases-loop-rest : goal.decreases-loop-rest

@@ -1,11 +1,14 @@
--- What is left has such a dot where the pattern has one, and the bytes before it have opened no more classes than they are.
+-- What is left has its first such dot where the pattern has it, and the bytes before it have opened no more classes than they are.
 use Rattle.std.proofs.Common.{◌≡◌, ◌+◌, ◌≤◌, length}
-use Rattle.lrlex_report.specs.Dots.{has_greedy_dot}
-use Rattle.lrlex_report.specs.Looks.{at_beginning}
+use Rattle.lrlex_report.specs.PatternClasses.{at_beginning, from_first}
+use Rattle.lrlex_report.specs.Dots.{is_greedy_dot}
 use Rattle.lrlex_report.proofs.warnings.dots.has_greedy_dot.Given as goal
 
 abbrev pub invariant-loop-rest : goal.invariant-loop-rest
-invariant-loop-rest l = (has_greedy_dot l.context l.rest ≡ has_greedy_dot at_beginning l.pattern) × (l.context.classes + length l.rest ≤ length l.pattern)
+invariant-loop-rest l = record {
+  first : from_first is_greedy_dot l.context l.rest ≡ from_first is_greedy_dot at_beginning l.pattern;
+  room : l.context.classes + length l.rest ≤ length l.pattern;
+}
 
 -- how much is left
 abbrev pub decreases-loop-rest : goal.decreases-loop-rest

@@ -1,10 +1,14 @@
--- What is left looks around where the pattern does, and the bytes before it have opened no more classes than they are.
+-- What is left looks around first where the pattern does, and the bytes before it have opened no more classes than they are.
 use Rattle.std.proofs.Common.{◌≡◌, ◌+◌, ◌≤◌, length}
-use Rattle.lrlex_report.specs.Looks.{at_beginning, looks_around}
+use Rattle.lrlex_report.specs.PatternClasses.{at_beginning, from_first}
+use Rattle.lrlex_report.specs.Looks.{is_look}
 use Rattle.lrlex_report.proofs.warnings.looks.looks_around.Given as goal
 
 abbrev pub invariant-loop-rest : goal.invariant-loop-rest
-invariant-loop-rest l = (looks_around l.context l.rest ≡ looks_around at_beginning l.pattern) × (l.context.classes + length l.rest ≤ length l.pattern)
+invariant-loop-rest l = record {
+  first : from_first is_look l.context l.rest ≡ from_first is_look at_beginning l.pattern;
+  room : l.context.classes + length l.rest ≤ length l.pattern;
+}
 
 -- how much is left
 abbrev pub decreases-loop-rest : goal.decreases-loop-rest
