@@ -1,5 +1,5 @@
 -- Classes of characters: a step on in a pattern, and how many classes it may open.
-use Rattle.std.proofs.Common.{◌≡◌, ℕ, ◌+◌, ◌-◌, ◌≤◌, true, false, Bool, List, [], ◌∷◌, length, take, drop, slice_index_or, refl, sym, ap, arith}
+use Rattle.std.proofs.Common.{◌≡◌, ℕ, ◌+◌, ◌-◌, ◌≤◌, true, false, Bool, List, [], ◌∷◌, length, take, drop, slice_index_or, sym, ap, arith}
 use Rattle.std.proofs.lemmas.List.{take_all}
 use Rattle.lrlex_report.specs.declared.warnings.pattern_classes.Context.{Context}
 use Rattle.lrlex_report.specs.PatternClasses.{after, after_pair, is_pair, from_first}

@@ -1,7 +1,7 @@
 //! The classes of characters of a pattern, in brackets, as `regex` reads them: where a byte stands in them. A class with a name, as
 //! `[:alpha:]`, is read as a class of its bytes, since it ends at the same `]`.
 ghost use Rattle.std.specs.Prelude.{◌≡◌, ℕ, ◌+◌, ◌^◌, ◌<◌, ◌≤◌, Bool, false, List, length};
-ghost use Rattle.lrlex_report.specs.PatternClasses.{in_part, opened, part_around, closed, begins_part, after_outside, after_inside, after_front, after, is_front_operation, is_inner_operation, is_operation, behind_escape, is_pair, after_pair, from_first};
+ghost use Rattle.lrlex_report.specs.PatternClasses.{in_part, opened, part_around, closed, after_outside, after_inside, after_front, after, is_front_operation, is_inner_operation, is_operation, behind_escape, is_pair, after_pair, from_first};
 
 /// Which part of a pattern, or of its innermost class, a byte of it stands in.
 #[derive(Clone, Copy)]

@@ -1,4 +1,4 @@
-use Rattle.std.proofs.Common.{◌≤◌, ◌-◌, List, length, take, drop, sym, ap, ◌∙◌, arith}
+use Rattle.std.proofs.Common.{◌-◌, length, take, drop, sym, ap, ◌∙◌, arith}
 use Rattle.lrlex_report.specs.declared.warnings.pattern_classes.Context.{Context}
 use Rattle.lrlex_report.specs.PatternClasses.{from_first}
 use Rattle.lrlex_report.proofs.ClassLemmas.{passes, passes_pair, fits}
