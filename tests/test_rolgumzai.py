@@ -308,12 +308,19 @@ WARNED = [
     # a class within a class, and `]` as the first character of one
     ("%%\n[[:alpha:]$]{3000} 'A'\n[]$]{3000} 'B'\n[^]$]{3000} 'C'\n", [(2, 1, 18, NO_TABLE), (3, 1, 10, NO_TABLE), (4, 1, 11, NO_TABLE)]),
     ("%%\n[^^]a$ 'A'\n[[b]]b$ 'B'\n", [(2, 1, 6, LOOKS), (3, 1, 7, LOOKS), (3, 1, 7, CLASS)]),
+    # behind a `[` that ends a range, a hyphen that ends a class, and a class in a class
+    ("%%\n[+-[]$ 'A'\n", [(2, 1, 6, LOOKS)]),
+    ("%%\na[^#-[]$ 'A'\nb[-]$ 'B'\nc[+-]$ 'C'\nd[[:alpha:]_]$ 'D'\n", [(line, 1, len_, LOOKS) for line, len_ in [(2, 8), (3, 5), (4, 6), (5, 14)]]),
+    ("%%\na[b-z&&[^c]]$ 'A'\n", [(2, 1, 13, LOOKS)]),
+    ("%%\n[#-[$]{3000} 'A'\n[a-z$&&[$]]{3000} 'B'\n", [(2, 1, 12, NO_TABLE), (3, 1, 17, NO_TABLE)]),
     ("%%\na^b 'A'\n^a 'B'\n(^c|^d)e 'C'\n", [(2, 1, 3, LOOKS), (3, 1, 2, CARET)]),
     # with a list, and an operator's character
     ("%s S\n%%\n^a <+S>;\n<S>^=$ 'B'\n\\^ 'C'\n[^d] 'D'\n", [(3, 1, 2, CARET), (4, 1, 6, LOOKS), (4, 1, 6, CARET)]),
     # lazily, in a class, as a character, repeated otherwise, and with flags of its own
     ("%%\n#.* ;\n//.+ ;\na(.*)b 'B'\n(?:c|d).*e 'C'\n", [(2, 1, 3, DOT), (3, 1, 4, DOT), (4, 1, 6, DOT), (5, 1, 10, DOT)]),
     ("%%\n#.*?e 'A'\n//.+?$ 'B'\n[.*]+ 'C'\n\\.*d 'D'\n.{2} 'E'\n(?-s)f.* 'F'\n(?s)g.* 'G'\n[^]].*?] 'H'\n", [(3, 1, 6, LOOKS)]),
+    # behind a `[` that ends a range, and in a class around another
+    ("%%\na[+-[].* 'A'\nb[^\\]#-[]c.+ 'B'\n[[:digit:].*]+ 'C'\n", [(2, 1, 8, DOT), (3, 1, 12, DOT)]),
     (
         "%x COMMENT\n%%\n/\\* <+COMMENT> ;\n<COMMENT>\\*/ <-COMMENT>;\n",
         [(1, 4, 7, NEVER_ENTERED), (3, 1, 14, IN_PATTERN)],
@@ -346,14 +353,27 @@ WARNED = [
     ("%s S\n%%\na <+S>;\n<S>\"b\" 'B'\n", [(4, 1, 6, QUOTED)]),
     # a pattern for texts in quotes, one quote or two of them, and different ones
     ("%%\n\"\\w+\" 'A'\n'[a-z]' 'B'\n\"[^\"]*\" 'C'\n\".*\" 'D'\n", [(5, 1, 4, DOT)]),
-    ("%%\n\" 'A'\n\"\" 'B'\n'a\" 'C'\n\"b\"c 'D'\n", []),
+    ("%%\n\" 'A'\n\"\" 'B'\n'a\" 'C'\n'b'c 'D'\n", []),
+    # a part in quotes, as flex has it, also with operators in it
+    ('%%\n"0x"[0-9a-f]+ ;\n"/*"[^*]* ;\n"(a|b)*" ;\n', [(2, 1, 13, QUOTED), (3, 1, 9, QUOTED), (4, 1, 8, QUOTED)]),
+    ('%%\n[+-]?"e"[0-9]+ ;\nb\\[a"c" ;\n["]"d" ;\n', [(2, 1, 14, QUOTED), (3, 1, 7, QUOTED), (4, 1, 6, QUOTED)]),
+    ('%s S\n%%\na <+S>;\n<S>"b"+ ;\n"c d"e ;\n<S>f\\"g\\"h ;\n', [(4, 1, 7, QUOTED), (5, 1, 6, QUOTED)]),
+    # patterns for texts in quotes, also with two quotes for one, quotes in a class, escaped ones, and one alone
+    ('%%\n"([^"\\\\]|\\\\.)*" ;\n', []),
+    ('%%\n"""[^"]*""" ;\n', []),
+    ('%%\nf"[^"]*" ;\ng"([^"]|"")*" ;\nh"(""|[^"])*" ;\ni"([^"]|\\\\")*" ;\n', []),
+    ('%%\n["\'] ;\na\\"b\\"c ;\nd"e ;\n["f"] ;\n', []),
     ("%%\n[+--/] 'A'\n[ab&&b] 'B'\n[c~~d] 'C'\n[[e]f] 'D'\n", [(2, 1, 6, CLASS), (3, 1, 7, CLASS), (4, 1, 6, CLASS), (5, 1, 6, CLASS)]),
     ("%s S\n%%\na <+S>;\n<S>x[^]\\]y[z]] 'X'\n", [(4, 1, 14, CLASS)]),
     # behind a range, and behind a character that is none of one
     ("%%\n[a-z--b] 'A'\n[0-9-[.]] 'B'\n", [(2, 1, 8, CLASS), (3, 1, 9, CLASS)]),
     # an operation whose right side is a class in brackets is meant
     ("%%\n[a-z&&[^aeiou]] 'A'\n[0-9--[5]]+ 'B'\n[A-C~~[B-D]] 'C'\n", []),
-    ("%%\n[a-c&&[a-b]&&a] 'A'\n[[d]&&[c-d]] 'B'\n", [(3, 1, 12, CLASS)]),
+    ("%%\n[a-c&&[a-b]&&[b-c]] 'A'\n[[d]&&[c-d]] 'B'\n", [(3, 1, 12, CLASS)]),
+    # an operator behind one, in a class on its right side, and in a class that begins with `]`
+    ("%%\n[a-z&&[^b]--c] 'A'\n[0-9--[1&&[^2]3--4]] 'B'\n[]-[+]] 'C'\n", [(2, 1, 14, CLASS), (3, 1, 20, CLASS), (4, 1, 7, CLASS)]),
+    # a class with a name on its right side, and behind a class in brackets a character outside all classes
+    ("%%\n[a-z&&[:alpha:]] 'A'\n[0-9&&[^4]]&& 'B'\n[*-[]&& 'C'\n", []),
     # the end of a range is a character
     ("%%\n[#-[\\]-~]+ 'A'\n[ -~~]+ 'B'\n", []),
     # so are hyphens at the front of a class; classes with names, escapes and what is outside a class are no operators

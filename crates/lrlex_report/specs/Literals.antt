@@ -1,5 +1,5 @@
 -- Patterns that are meant literally: a text in quotes, also as a part, and operators alone.
-use Rattle.std.specs.Prelude.{ℕ, Bool, false, not, ◌&&◌, ◌||◌, ◌+◌, ◌-◌, ◌==◌, nat_lt, Option, Some, None, List, [], ◌∷◌, length, slice_index, take, drop, codes}
+use Rattle.std.specs.Prelude.{ℕ, Bool, false, not, ◌&&◌, ◌+◌, ◌-◌, ◌==◌, nat_lt, Option, Some, None, List, [], ◌∷◌, length, slice_index, take, drop, codes}
 use Rattle.std.specs.List.{list_all, list_any, position}
 use Rattle.std.specs.Str.{byte}
 use Rattle.lrlex_rules.specs.Escape.{is_one_of}
@@ -48,10 +48,6 @@ ends_text rest = ends_text_at rest (position is_double rest)
 -- a pattern with a part in quotes, as `"0x"[0-9a-f]+`; its first quote decides, since a pattern for texts in quotes has others
 abbrev pub has_quoted_part : (pattern : List ℕ) → Bool
 has_quoted_part pattern = ends_text (drop 1 (from_first is_mark at_beginning pattern))
-
--- a pattern with quotes that are hardly meant
-abbrev pub has_quotes : (pattern : List ℕ) → Bool
-has_quotes pattern = is_quoted pattern || has_quoted_part pattern
 
 -- a pattern whose last word is a text in quotes, as a name is
 abbrev pub ends_in_name : (pattern : List ℕ) → Bool

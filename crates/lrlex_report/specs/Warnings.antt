@@ -19,7 +19,7 @@ use Rattle.lrlex_report.specs.Alternatives.{loses_word}
 use Rattle.lrlex_report.specs.ClassOperators.{has_class_operator}
 use Rattle.lrlex_report.specs.Dots.{begins_with_flags, has_greedy_dot}
 use Rattle.lrlex_report.specs.FaultRanges.{before_blank}
-use Rattle.lrlex_report.specs.Literals.{ends_in_name, has_quotes, is_bare}
+use Rattle.lrlex_report.specs.Literals.{ends_in_name, has_quoted_part, is_bare, is_quoted}
 use Rattle.lrlex_report.specs.Looks.{looks_around}
 use Rattle.lrlex_report.specs.PlaceTexts.{nearest}
 use Rattle.lrlex_report.specs.declared.warnings.kinds.WarningKind.{WarningKind}
@@ -159,6 +159,15 @@ loses_alternative r = let words = ungrouped r.re_str in not (begins_empty words)
 abbrev pub has_name_in_pattern : Rule → Bool
 has_name_in_pattern r = is_none r.name && ends_in_name r.re_str
 
+-- a part of its pattern as it is written is in quotes, and it doesn't end in a name; without a list, the pattern has lost the
+-- backslashes before quotes
+abbrev pub quotes_part : (source : List ℕ) → Rule → Bool
+quotes_part source r =
+    not (has_name_in_pattern r) && (if lists_none r then has_quoted_part source else has_quoted_part r.re_str)
+
+abbrev pub quotes_text : (source : List ℕ) → Rule → Bool
+quotes_text source r = is_quoted r.re_str || quotes_part source r
+
 -- its pattern begins with `^`, and goes on
 abbrev pub loses_caret : Rule → Bool
 loses_caret r = begins_with (codes "^") r.re_str && not (is_bare r.re_str)
@@ -182,7 +191,7 @@ rule_tests known states source r =
     ∷ (EscapeAfterStates, has_escape_after_states r)
     ∷ (LostAlternative, loses_alternative r)
     ∷ (NameInPattern, has_name_in_pattern r)
-    ∷ (QuotedPattern, has_quotes r.re_str)
+    ∷ (QuotedPattern, quotes_text source r)
     ∷ (BareOperator, is_bare r.re_str)
     ∷ (LostCaret, loses_caret r)
     ∷ (GreedyDot, takes_all r)

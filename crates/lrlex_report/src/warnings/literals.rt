@@ -1,7 +1,7 @@
 //! Patterns that are meant literally: a text in quotes, also as a part, and operators alone.
 ghost use Rattle.std.specs.Prelude.{◌≡◌, ◌<◌, length, IfSome};
 ghost use Rattle.std.specs.List.{position};
-ghost use Rattle.lrlex_report.specs.Literals.{is_quote, is_varied, varies, is_literal, is_quoted, is_double, ends_text, has_quoted_part, has_quotes, ends_in_name, is_bare_operator, are_bare_operators, is_bare};
+ghost use Rattle.lrlex_report.specs.Literals.{is_quote, is_varied, varies, is_literal, is_quoted, is_double, ends_text, has_quoted_part, ends_in_name, is_bare_operator, are_bare_operators, is_bare};
 
 use crate::ranges::before_blank;
 use crate::warnings::pattern_classes::BEGINNING;
@@ -41,7 +41,7 @@ fn is_literal(inside: &[u8]) -> bool
 }
 
 /// Whether a pattern is a text in quotes.
-fn is_quoted(pattern: &[u8]) -> bool
+pub(crate) fn is_quoted(pattern: &[u8]) -> bool
     ensures { result ≡ is_quoted pattern.now }
 {
     let [quote, rest @ ..] = pattern else {
@@ -72,7 +72,7 @@ fn ends_text(rest: &[u8]) -> bool
 }
 
 /// Whether the first double quote of a pattern, outside classes of characters, begins a text in quotes.
-fn has_quoted_part(pattern: &[u8]) -> bool
+pub(crate) fn has_quoted_part(pattern: &[u8]) -> bool
     ensures { result ≡ has_quoted_part pattern.now }
 {
     let mut context = BEGINNING;
@@ -84,13 +84,6 @@ fn has_quoted_part(pattern: &[u8]) -> bool
         (context, rest) = context.step(rest);
     }
     false
-}
-
-/// Whether a pattern has quotes that are hardly meant: it is a text in quotes, or has one.
-pub(crate) fn has_quotes(pattern: &[u8]) -> bool
-    ensures { result ≡ has_quotes pattern.now }
-{
-    is_quoted(pattern) || has_quoted_part(pattern)
 }
 
 /// Whether the last word of a pattern is a text in quotes, as a name is.

@@ -2,14 +2,14 @@
 ghost use Rattle.std.specs.Prelude.{◌≡◌, ◌++◌, All, OnOk, map};
 ghost use Rattle.lrlex.specs.Active.{lists_none};
 ghost use Rattle.lrlex_rules.specs.RuleParts.{as_rule};
-ghost use Rattle.lrlex_report.specs.Warnings.{as_told, SpanFits, never_wins, has_no_table_but_looks, has_no_table, has_blank_after_states, loses_escape, has_escape_after_states, loses_alternative, has_name_in_pattern, loses_caret, takes_all, rule_warnings};
+ghost use Rattle.lrlex_report.specs.Warnings.{as_told, SpanFits, never_wins, has_no_table_but_looks, has_no_table, has_blank_after_states, loses_escape, has_escape_after_states, loses_alternative, has_name_in_pattern, quotes_part, quotes_text, loses_caret, takes_all, rule_warnings};
 
 use crate::warnings::alternatives::loses_word;
 use crate::warnings::answers::Facts;
 use crate::warnings::class_operators::has_class_operator;
 use crate::warnings::dots::{begins_with_flags, has_greedy_dot};
 use crate::warnings::kinds::{Warning, WarningKind, push_all};
-use crate::warnings::literals::{ends_in_name, has_quotes, is_bare};
+use crate::warnings::literals::{ends_in_name, has_quoted_part, is_bare, is_quoted};
 use crate::warnings::looks::looks_around;
 use crate::warnings::patterns::{begins_blank, ends_in_target, has_unmeant, source_of, ungrouped};
 use lrlex::{Rule, StartState};
@@ -80,6 +80,28 @@ fn has_name_in_pattern<S: Numbered>(rule: &Rule<S>) -> bool
     rule.name().is_none() && ends_in_name(rule.re_str())
 }
 
+/// Whether a part of the rule's pattern as it is written is in quotes, and it doesn't end in a name. Without a list of start states,
+/// the pattern has lost the backslashes before quotes.
+fn quotes_part<S: Numbered>(source: &str, rule: &Rule<S>) -> bool
+    ensures { result ≡ quotes_part source.now (as_rule S.number rule.now) }
+{
+    if has_name_in_pattern(rule) {
+        return false;
+    }
+    if lists_none(rule) {
+        has_quoted_part(source.as_bytes())
+    } else {
+        has_quoted_part(rule.re_str().as_bytes())
+    }
+}
+
+/// Whether the rule's pattern is a text in quotes, or has one.
+fn quotes_text<S: Numbered>(source: &str, rule: &Rule<S>) -> bool
+    ensures { result ≡ quotes_text source.now (as_rule S.number rule.now) }
+{
+    is_quoted(rule.re_str().as_bytes()) || quotes_part(source, rule)
+}
+
 /// Whether the rule's pattern begins with `^`, and goes on.
 fn loses_caret<S: Numbered>(rule: &Rule<S>) -> bool
     ensures { result ≡ loses_caret (as_rule S.number rule.now) }
@@ -131,10 +153,7 @@ pub(crate) fn push_rule<S: Numbered>(
         ),
         (WarningKind::LostAlternative, loses_alternative(rule)),
         (WarningKind::NameInPattern, has_name_in_pattern(rule)),
-        (
-            WarningKind::QuotedPattern,
-            has_quotes(rule.re_str().as_bytes()),
-        ),
+        (WarningKind::QuotedPattern, quotes_text(source, rule)),
         (WarningKind::BareOperator, is_bare(rule.re_str().as_bytes())),
         (WarningKind::LostCaret, loses_caret(rule)),
         (WarningKind::GreedyDot, takes_all(rule)),
