@@ -43,6 +43,7 @@ FILES = {
     "quoted": "'x' 'y",
     "folder/input": "ab",
     "warned.l": "%x S\n%%\n[a-z]+ 'ID'\nif 'IF'\n",
+    "bars.l": f"%%\n{'a|' * 2047}aa 'A'\n{'c|' * 2047}cdd 'C'\n",
     "initial.l": "%s INITIAL\n%%\né 'A'\nb 'A'\n",
     "long.l": f"%x S\n%%\n{'é' * 80} 'A'\n{'é' * 79}[b]\t<+S>'B'\na|\x1b  ;\n",
     "returns.l": "%%\r[a-z]+ 'ID'\x0b[0-9]+ 'INT'\u2028= '='\u2029== '=='\r\n",
@@ -337,10 +338,23 @@ WARNED = [
     ("%%\n(a|b|ab) 'X'\n(?:=|==|!=) ;\n", [(2, 1, 8, SHORTER), (3, 1, 11, SHORTER)]),
     ("%s S\n%%\na <+S>;\n<S>\\+|\\+= 'P'\nä|ä 'Ä'\n", [(4, 1, 9, SHORTER), (5, 1, 3, SHORTER)]),
     ("%%\nint|integer|in 'INT'\n", [(2, 1, 14, SHORTER)]),
-    # a group with flags, and one with a name
-    ("%%\n(?i:in|int) 'A'\n(?s-i:x|xy) 'B'\n(?P<n>c:d|de) 'C'\n", [(2, 1, 11, SHORTER), (3, 1, 11, SHORTER)]),
-    # the longer one first, a letter after a backslash, a class, a repetition, more than a group
-    ("%%\ninteger|int 'INT'\na|\\d 'A'\n[b]|bc 'B'\ne|ef* 'E'\n(g|gh)i 'G'\n(j)|(jk) 'J'\n", []),
+    # a group with flags, and ones with a name
+    ("%%\n(?i:in|int) 'A'\n(?s-i:x|xy) 'B'\n(?P<n>c:d|de) 'C'\n(?P<m>f|g|gh) 'D'\n", [(2, 1, 11, SHORTER), (3, 1, 11, SHORTER)]),
+    # the longer one first, a letter after a backslash, a class, more than a group
+    ("%%\ninteger|int 'INT'\na|\\d 'A'\n[b]|bc 'B'\n(g|gh)i 'G'\n(j)|(jk) 'J'\n(k)m|(k)mn 'K'\n", []),
+    # a repetition at the end of an alternative, and further in one
+    ("%%\n[0-9]+|[0-9]+\\.[0-9]+ 'NUMBER'\n[a-z]|[a-z]+ 'ID'\n=|=>* 'E'\n", [(2, 1, 21, SHORTER), (3, 1, 12, SHORTER), (4, 1, 5, SHORTER)]),
+    ("%%\n(?:[0-9]+|[0-9]+e[0-9]+) 'NUMBER'\n[A-Z]{2}x*|[A-Z]{2}x*y 'ID'\n", [(2, 1, 24, SHORTER), (3, 1, 22, SHORTER)]),
+    ("%%\n[0-9]+\\.[0-9]+|[0-9]+ 'NUMBER'\na|ba 'A'\nc|c?d 'C'\ne|e* 'E'\nf|f{2}g 'F'\n[a-z]*h|[a-z]h 'H'\n", []),
+    # a dot, an escape, bytes beyond ASCII, and a `$`
+    ("%%\n\\.|\\.\\. 'DOTS'\n\\n|\\n\\r 'NL'\n.|.x 'X'\n[^ä]ü|[^ä]üö 'U'\n", [(2, 1, 7, SHORTER), (3, 1, 7, SHORTER), (4, 1, 4, SHORTER), (5, 1, 12, SHORTER)]),
+    ("%%\na|a$ 'A'\n", [(2, 1, 4, LOOKS), (2, 1, 4, SHORTER)]),
+    # `|`, `(` and `)` in a class, and behind a backslash
+    ("%%\n[|]|[|]= 'A'\n[]|]|[]|]b 'B'\n[[:alpha:]|]c|[[:alpha:]|]cd 'C'\n", [(2, 1, 8, SHORTER), (3, 1, 10, SHORTER), (4, 1, 28, SHORTER)]),
+    ("%%\n\\(|\\(\\* 'A'\n\\)|\\)\\|e 'B'\n[();]|[();]= 'C'\n", [(2, 1, 7, SHORTER), (3, 1, 8, SHORTER), (4, 1, 12, SHORTER)]),
+    ("%%\n[a|ab] 'A'\n\\|c|d 'C'\ne\\|ef 'E'\n\\\\|\\|g 'G'\n", []),
+    # a digit behind a backslash may take those behind it: these are U+0001 and U+000A
+    ("%%\n\\1|\\12 'A'\n[\\2]|[\\2]3 'B'\n", [(3, 1, 10, SHORTER)]),
     ("%%\n|a|ab 'A'\n(|b|bc) 'B'\na||ab 'C'\n", [(2, 1, 5, NEVER_WINS), (3, 1, 7, NEVER_WINS), (4, 1, 5, SHORTER)]),
     ("%%\n| 'A'\n|| 'B'\n^ 'C'\n", [(line, 1, len_, it) for line, len_ in [(2, 1), (3, 2), (4, 1)] for it in (NEVER_WINS, BARE)]),
     ("%%\n$ 'A'\n", [(2, 1, 1, LOOKS), (2, 1, 1, BARE)]),
@@ -413,6 +427,8 @@ FOUND = [
         ],
         1,
     ),
+    # of a pattern of 4,096 bytes, and not of a longer one
+    ("check --json bars.l", [("bars.l", "warning", "LostAlternative", SHORTER, (3, 4099, 2, 1, 2, 4097), None)], 0),
     # no text declares INITIAL; bytes aren't characters
     (
         "check --json --deny-warnings initial.l",

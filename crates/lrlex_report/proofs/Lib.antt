@@ -1,3 +1,4 @@
+pub mod AlternativeLemmas
 pub mod CaretLemmas
 pub mod ClassLemmas
 pub mod FaultLemmas

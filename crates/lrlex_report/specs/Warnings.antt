@@ -15,7 +15,7 @@ use Rattle.lrlex.specs.Active.{active_places, is_state, lists_none}
 use Rattle.lrlex.specs.Never.{NeverWinsAnywhere, WinsAtNoRow, enters, is_active_somewhere, is_asked_somewhere}
 use Rattle.lrlex.specs.Views.{definition_by}
 use Rattle.lrlex.specs.declared.definition.rule_table.RuleTable.{RuleTable}
-use Rattle.lrlex_report.specs.Alternatives.{loses_word}
+use Rattle.lrlex_report.specs.Alternatives.{loses_part}
 use Rattle.lrlex_report.specs.ClassOperators.{has_class_operator}
 use Rattle.lrlex_report.specs.Dots.{begins_with_flags, has_greedy_dot}
 use Rattle.lrlex_report.specs.FaultRanges.{before_blank}
@@ -147,13 +147,18 @@ loses_escape source r = lists_none r && has_unmeant false source
 abbrev pub has_escape_after_states : Rule → Bool
 has_escape_after_states r = not (lists_none r) && has_unmeant true r.re_str
 
--- words, of which the first is none: a pattern of these matches no byte
-abbrev pub begins_empty : (words : List ℕ) → Bool
-begins_empty words = begins_with (codes "|") words
+-- its first alternative has no byte: such a pattern matches none
+abbrev pub begins_empty : (pattern : List ℕ) → Bool
+begins_empty pattern = begins_with (codes "|") pattern
 
--- its pattern is words, perhaps in a group, and one of them begins with an earlier one
+-- it is what a group has behind its `(`, with the group's name, as `?P<n>a`
+abbrev pub begins_named : (pattern : List ℕ) → Bool
+begins_named pattern = begins_with (codes "?") pattern
+
+-- an alternative of its pattern, which may be one group without a name, begins with an earlier one
 abbrev pub loses_alternative : Rule → Bool
-loses_alternative r = let words = ungrouped r.re_str in not (begins_empty words) && loses_word words
+loses_alternative r =
+    let pattern = ungrouped r.re_str in not (begins_empty pattern) && not (begins_named pattern) && loses_part pattern
 
 -- it has no name, and its pattern ends in one
 abbrev pub has_name_in_pattern : Rule → Bool

@@ -29,8 +29,10 @@ pub enum WarningKind {
     LostEscape,
     /// A rule with a list whose pattern has `\<` or `\>`.
     EscapeAfterStates,
-    /// A rule whose pattern is words that `|` parts, perhaps in a group, one of which begins with an earlier one, so that it never
-    /// matches. It is told of patterns of at most 4,096 bytes, and not where the first word is empty, since then none does.
+    /// A rule whose pattern has an alternative that begins with an earlier one, as `a|ab`, so that it never matches. The pattern has
+    /// no groups, but perhaps one around all of it, without a name; no escape of a digit outside classes of characters, as `\1`; and
+    /// at most 4,096 bytes. It isn't told where `*`, `?` or `{` follows that beginning, as in `a|a?b`, nor where the first alternative
+    /// is empty, since then none matches a byte.
     LostAlternative,
     /// A rule without a name whose pattern ends in a blank and a text in quotes, as in `a 'A' ;`.
     NameInPattern,

@@ -4,7 +4,7 @@ ghost use Rattle.lrlex.specs.Active.{lists_none};
 ghost use Rattle.lrlex_rules.specs.RuleParts.{as_rule};
 ghost use Rattle.lrlex_report.specs.Warnings.{as_told, SpanFits, never_wins, has_no_table_but_looks, has_no_table, has_blank_after_states, loses_escape, has_escape_after_states, loses_alternative, has_name_in_pattern, quotes_part, quotes_text, loses_caret, takes_all, rule_warnings};
 
-use crate::warnings::alternatives::loses_word;
+use crate::warnings::alternatives::loses_part;
 use crate::warnings::answers::Facts;
 use crate::warnings::class_operators::has_class_operator;
 use crate::warnings::dots::{begins_with_flags, has_greedy_dot};
@@ -65,12 +65,12 @@ fn has_escape_after_states<S: Numbered>(rule: &Rule<S>) -> bool
     !lists_none(rule) && has_unmeant(true, rule.re_str().as_bytes())
 }
 
-/// Whether the rule's pattern is words, perhaps in a group, and one of them begins with an earlier one.
+/// Whether an alternative of the rule's pattern, which may be one group without a name, begins with an earlier one.
 fn loses_alternative<S: Numbered>(rule: &Rule<S>) -> bool
     ensures { result ≡ loses_alternative (as_rule S.number rule.now) }
 {
-    let words = ungrouped(rule.re_str());
-    !words.starts_with("|") && loses_word(words)
+    let pattern = ungrouped(rule.re_str());
+    !pattern.starts_with("|") && !pattern.starts_with("?") && loses_part(pattern.as_bytes())
 }
 
 /// Whether the rule has no name, and its pattern ends in one.
