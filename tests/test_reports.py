@@ -71,6 +71,11 @@ STOPS = [
         "a\n" + "a" * 100 + "x" + "a" * 100 + "\n",
         f"input.txt:2:101: unexpected character 'x'\n2 | ...{'a' * 80}x{'a' * 79}...\n  |    {' ' * 80}^\n",
     ),
+    # characters of three bytes, each of two columns, in a long line that isn't the first
+    (
+        "漢a\n" + "漢" * 300 + "x\n漢",
+        f"input.txt:2:301: unexpected character 'x'\n2 | ...{'漢' * 80}x\n  |    {' ' * 160}^\n",
+    ),
     # no more than is shown before the place, and from there on
     (
         "a" * 80 + "x" + "a" * 120,

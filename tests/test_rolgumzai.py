@@ -519,6 +519,17 @@ def gone():
         os.close(writer)
 
 
+def shown_state(line, start, message):
+    """What is shown of a name of seven characters at this byte of the first line of `states`, which has more than 200."""
+    front = line[max(0, start - 80):start]
+    rest = line[start:start + 80]
+    shown = f"{'...' if start > 80 else ''}{front}"
+    return (
+        f"states:1:{start + 1}: {message}\n1 | {shown}{rest}{'...' if start + 80 < len(line) else ''}\n"
+        f"  | {' ' * len(shown)}^^^^^^^\n"
+    )
+
+
 class Rolgumzai(unittest.TestCase):
     """What comes of each command."""
 
@@ -698,6 +709,18 @@ class Rolgumzai(unittest.TestCase):
             lines = out.splitlines()
             self.assertEqual((len(lines), lines[0], lines[1]), (200_000, '1:1 0..2 WORD "é"', '1:3 3..5 ID "ab"'))
             self.assertEqual(lines[-1], '1:499998 599997..599999 ID "ab"')
+
+    def test_faults_of_a_long_line(self):
+        # 40,000 places of a line of 320 kB: a minute or more if each of them looked at all of the line
+        line = "%s" + "".join(f" n{it}" for it in range(100_000, 120_000)) * 2
+        wanted = ""
+        for start in range(3, 160_003, 8):
+            wanted += shown_state(line, start + 160_000, "Start state already exists") + shown_state(line, start, "first here")
+        programs.fill(self.folder, {"states": f"{line}\n%%\n"})
+        for program in programs.by_each_compiler(PROGRAM):
+            came = programs.run([program, "check", "states"], cwd=self.folder, timeout=20)
+            self.assertEqual((came.err, came.status), ("", 1))
+            self.assertTrue(came.out == wanted)
 
     def test_standard_output_that_fails(self):
         rows = ["tokens tokens.l input", "highlight tokens.l input", "check bad.l", "explain tokens.l input 0"]

@@ -1,5 +1,6 @@
 pub mod AlternativeLemmas
 pub mod CaretLemmas
+pub mod CharCountLemmas
 pub mod ClassLemmas
 pub mod FaultLemmas
 pub mod PlaceLemmas

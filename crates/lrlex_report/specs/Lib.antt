@@ -1,5 +1,6 @@
 pub mod Alternatives
 pub mod Carets
+pub mod CharCounts
 pub mod ClassOperators
 pub mod Dots
 pub mod Encoding

@@ -1,5 +1,5 @@
 //! How the characters of a line are shown, and the blanks and carets under them.
-ghost use Rattle.std.specs.Prelude.{◌≡◌, ◌<◌, ◌-◌, ◌++◌, OnOk, length, take, drop, replicate, string_bytes};
+ghost use Rattle.std.specs.Prelude.{◌≡◌, ◌<◌, ◌-◌, ◌++◌, nat_lt, OnOk, length, take, drop, replicate, string_bytes};
 ghost use Rattle.std.specs.Str.{chars};
 ghost use Rattle.lrlex_report.specs.Carets.{shown_char, shown_line, most_of, if_hidden, shown_front, shown_rest, columns, under, padding, marks, carets};
 
@@ -37,37 +37,51 @@ pub(crate) fn push_times(out: &mut String, c: char, times: usize) -> Result<(), 
     Ok(())
 }
 
+/// Whether a text has more characters than this. It looks at no more than one after them.
+fn has_more(text: &str, most: usize) -> bool
+    ensures { result ≡ nat_lt most (length (chars text.now)) }
+{
+    text.chars().nth(most).is_some()
+}
+
 /// How many characters of a line are shown before a place, and how many from there on.
 pub(crate) fn most_of(line: &str) -> usize
     ensures { result ≡ most_of (chars line.now) }
 {
-    if line.chars().count() > 200 { 80 } else { 200 }
+    if has_more(line, 200) { 80 } else { 200 }
 }
 
-/// How many characters of a text aren't shown, if so many are shown at most.
-fn hidden(text: &str, most: usize) -> usize
-    ensures { result ≡ length (chars text.now) - most }
+/// The last characters of a text, so many at most. It looks at no others.
+fn last_chars(text: &str, most: usize) -> &str
+    ensures { chars result.now ≡ drop (length (chars text.now) - most) (chars text.now) }
 {
-    text.chars().count().saturating_sub(most)
+    let mut before = text;
+    'last: for _ in 0..most {
+        let mut rest = before.chars();
+        rest.next_back();
+        before = rest.as_str();
+    }
+    &text[before.len()..]
 }
 
-/// Adds a text if characters are hidden.
-fn push_if_hidden(out: &mut String, hidden: usize, text: &str) -> Result<(), AllocError>
-    ensures { OnOk result (string_bytes out.new ≡ string_bytes out.old ++ if_hidden hidden text.now) }
+/// Adds `mark` if characters of a text are hidden, of which so many are shown at most.
+fn push_if_hidden(out: &mut String, text: &str, most: usize, mark: &str) -> Result<(), AllocError>
+    ensures { OnOk result (string_bytes out.new ≡ string_bytes out.old
+        ++ if_hidden (length (chars text.now) - most) mark.now) }
 {
-    if hidden > 0 {
-        out.push_str(text)
+    if has_more(text, most) {
+        out.push_str(mark)
     } else {
         Ok(())
     }
 }
 
-/// Adds the characters of a text behind so many, each as it is shown.
-fn push_behind(out: &mut String, text: &str, hidden: usize) -> Result<(), AllocError>
+/// Adds the characters of a text, each as it is shown.
+fn push_shown(out: &mut String, text: &str) -> Result<(), AllocError>
     ensures { OnOk result (string_bytes out.new ≡ string_bytes out.old
-        ++ shown_line (drop hidden (chars text.now))) }
+        ++ shown_line (chars text.now)) }
 {
-    for c in text.chars().skip(hidden) {
+    for c in text.chars() {
         out.push(shown_char(c))?;
     }
     Ok(())
@@ -89,9 +103,8 @@ pub(crate) fn push_front(out: &mut String, front: &str, most: usize) -> Result<(
     ensures { OnOk result (string_bytes out.new ≡ string_bytes out.old
         ++ shown_line (shown_front most (chars front.now))) }
 {
-    let hidden = hidden(front, most);
-    push_if_hidden(out, hidden, "...")?;
-    push_behind(out, front, hidden)
+    push_if_hidden(out, front, most, "...")?;
+    push_shown(out, last_chars(front, most))
 }
 
 /// Adds what is shown of the text of a line from a place on: so many characters at most.
@@ -100,7 +113,7 @@ pub(crate) fn push_rest(out: &mut String, rest: &str, most: usize) -> Result<(),
         ++ shown_line (shown_rest most (chars rest.now))) }
 {
     push_first(out, rest, most)?;
-    push_if_hidden(out, hidden(rest, most), "...")
+    push_if_hidden(out, rest, most, "...")
 }
 
 /// Adds what goes under a character before the carets: a tab under a tab, and else blanks.
@@ -114,12 +127,12 @@ fn push_under(out: &mut String, c: char) -> Result<(), AllocError>
     }
 }
 
-/// Adds what goes under the characters of a text behind so many.
-fn push_under_behind(out: &mut String, text: &str, hidden: usize) -> Result<(), AllocError>
+/// Adds what goes under the characters of a text.
+fn push_under_each(out: &mut String, text: &str) -> Result<(), AllocError>
     ensures { OnOk result (string_bytes out.new ≡ string_bytes out.old
-        ++ padding (drop hidden (chars text.now))) }
+        ++ padding (chars text.now)) }
 {
-    for c in text.chars().skip(hidden) {
+    for c in text.chars() {
         push_under(out, c)?;
     }
     Ok(())
@@ -130,9 +143,8 @@ pub(crate) fn push_padding(out: &mut String, front: &str, most: usize) -> Result
     ensures { OnOk result (string_bytes out.new ≡ string_bytes out.old
         ++ padding (shown_front most (chars front.now))) }
 {
-    let hidden = hidden(front, most);
-    push_if_hidden(out, hidden, "   ")?;
-    push_under_behind(out, front, hidden)
+    push_if_hidden(out, front, most, "   ")?;
+    push_under_each(out, last_chars(front, most))
 }
 
 /// Adds a caret in each column of the first characters of a text, so many at most.

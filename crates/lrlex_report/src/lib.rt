@@ -3,6 +3,7 @@
 #![tactic(auto)]
 
 mod carets;
+mod char_counts;
 mod encoding;
 mod faults;
 mod notes;

@@ -1,29 +1,36 @@
 //! A place in a text, its line, and carets under it.
-ghost use Rattle.std.specs.Prelude.{◌≡◌, ◌≤◌, ◌++◌, IfOk, OnOk, IsCharBoundary, codes, string_bytes, length, take, min, slice_range};
+ghost use Rattle.std.specs.Prelude.{◌≡◌, ◌≤◌, ◌++◌, ℕ, IfOk, OnOk, IsCharBoundary, codes, string_bytes, length, take, min, slice_range};
 ghost use Rattle.std.specs.Str.{chars};
 ghost use Rattle.lrlex_base.specs.Places.{AreBreaksOf, line_of, column_of, whole_lines};
 ghost use Rattle.lrlex_base.specs.Spans.{as_span, span_start, span_end, span};
 ghost use Rattle.lrlex_report.specs.Carets.{shown_front, shown_rest};
+ghost use Rattle.lrlex_report.specs.CharCounts.{char_counts};
 ghost use Rattle.lrlex_report.specs.PlaceTexts.{nearest, before_return, line_at, heading, numbered, underlined, excerpt, place_text};
 
 use crate::carets::{most_of, push_carets, push_front, push_padding, push_rest, push_times};
+use crate::char_counts::{char_counts, column};
 use lrlex_base::{NewlineCache, Span};
 use std::alloc::{AllocError, Global};
 use std::fmt::Write;
 
-/// A text with the name of its file and its line breaks.
+/// A text with the name of its file, its line breaks, and counts of its characters. With these, a place is shown in about the same
+/// time on a line of any length.
 #[derive(Drop)]
 pub(crate) struct Source<'t> {
     pub(crate) file: &'t str,
     pub(crate) text: &'t str,
     newlines: NewlineCache,
+    counts: Vec<usize>,
     ghost of_text: { AreBreaksOf text.now newlines },
+    ghost of_chars: { counts.items ≡ char_counts text.now },
 }
 
 /// The greatest character boundary of the text up to an offset. Offsets count bytes from 0.
 pub(crate) fn nearest(text: &str, byte: usize) -> usize
     ensures value { result ≡ nearest text.now byte }
     ensures boundary { IsCharBoundary text.now result }
+    ensures bound { result ≤ byte }
+    ensures greatest { (at : ℕ) → at ≤ byte → IsCharBoundary text.now at → at ≤ result }
 {
     text.floor_char_boundary(byte)
 }
@@ -122,10 +129,12 @@ impl<'t> Source<'t> {
         ensures text { IfOk result (λ source. source.text.now ≡ text.now) }
     {
         let newlines = NewlineCache::from_str(alloc, text)?;
+        let counts = char_counts(alloc, text)?;
         Ok(Source {
             file,
             text,
             newlines,
+            counts,
         })
     }
 
@@ -168,12 +177,11 @@ impl<'t> Source<'t> {
     {
         let at = nearest(self.text, span.start());
         let to = nearest(self.text, span.end());
-        let (line, column) = self
-            .newlines
-            .byte_to_line_num_and_col_num(self.text, at)
-            .unwrap();
-        push_heading(out, self.file, line, column, message)?;
-        self.push_excerpt(alloc, out, line, at, to)
+        let number = self.newlines.line_at(at) + 1;
+        let begin = line_at(&self.newlines, self.text, at).start();
+        let column = column(&self.counts, self.text, begin, at);
+        push_heading(out, self.file, number, column, message)?;
+        self.push_excerpt(alloc, out, number, at, to)
     }
 }
 
