@@ -5,7 +5,7 @@ NO_MARK = "no line begins with %%; write one before the rules"
 COMMENT = "a line that begins with // is a comment only with the flag allow_wholeline_comments"
 QUOTES = "write it in quotes and without blanks, or ; for no name; no action or comment follows it"
 DECLARE = "declare it with %s or %x"
-DECLARE_LIST = "declare it with %s or %x; commas part the names of a list, and a target stands before the rule's name; a pattern that begins with the character < begins with \\<"
+DECLARE_LIST = "declare it with %s or %x; commas separate the names of a list, and a target stands before the rule's name; a pattern that begins with the character < begins with \\<"
 NO_END = "no rule matches at the end of the text; leave it out"
 LIST = "a pattern that begins with < lists start states; write \\< for the character"
 BACKSLASH = "the pattern ends in a backslash; write [ ] for a blank, \\\\ for a backslash"
@@ -27,7 +27,7 @@ LOOKS = (
 )
 NO_TABLE = (
     "this rule has no table, and is slower: its table, or all tables together, would be too large; repeat fewer times, "
-    "part the pattern, or have fewer rules"
+    "split the pattern, or have fewer rules"
 )
 IN_PATTERN = "this target is part of the pattern; write no blank between the target and the name"
 BLANK = "the blank after these start states is part of the pattern; leave it out, or write [ ]"

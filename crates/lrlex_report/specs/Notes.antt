@@ -58,7 +58,7 @@ end_note line = if begins_with (codes "<<EOF>>") line then codes ": no rule matc
 abbrev pub undeclared_note : (line : List ℕ) → List ℕ
 undeclared_note line =
     if begins_list line
-    then codes ": declare it with %s or %x; commas part the names of a list, and a target stands before the rule's name; a pattern that begins with the character < begins with \\<" else codes ": declare it with %s or %x"
+    then codes ": declare it with %s or %x; commas separate the names of a list, and a target stands before the rule's name; a pattern that begins with the character < begins with \\<" else codes ": declare it with %s or %x"
 
 abbrev pub state_note : (line : List ℕ) → List ℕ
 state_note line = or_note (end_note line) (undeclared_note line)

@@ -12,7 +12,7 @@ abbrev pub warning_message : WarningKind → List ℕ
 warning_message NeverWins = codes "this rule never wins: it matches no byte, or other rules match as much or more; put it before them, or make them match less"
 warning_message NeverActive = codes "this rule is active in no start state; list one that is declared"
 warning_message LooksAround = codes "this rule has no table, and is slower: $, \\b, \\B, \\z, \\<, \\> and a ^ within it look at what is beside the match; leave them out, or write a backslash before $ and ^ for the characters"
-warning_message NoTable = codes "this rule has no table, and is slower: its table, or all tables together, would be too large; repeat fewer times, part the pattern, or have fewer rules"
+warning_message NoTable = codes "this rule has no table, and is slower: its table, or all tables together, would be too large; repeat fewer times, split the pattern, or have fewer rules"
 warning_message TargetInPattern = codes "this target is part of the pattern; write no blank between the target and the name"
 warning_message BlankAfterStates = codes "the blank after these start states is part of the pattern; leave it out, or write [ ]"
 warning_message LostEscape = codes "a backslash is dropped here, before a letter that begins no escape; write the letter, or \\x41 in place of \\x{41}"

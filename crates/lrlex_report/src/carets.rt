@@ -6,8 +6,9 @@ ghost use Rattle.lrlex_report.specs.Carets.{shown_char, shown_line, most_of, if_
 use std::alloc::AllocError;
 use unicode_width::UnicodeWidthChar;
 
-/// The character that is shown for this one: U+FFFD for a control character other than the tab.
-fn shown_char(c: char) -> char
+/// The character that is shown for this one in a terminal or a page: U+FFFD for a control character of Unicode other than the tab,
+/// and else itself.
+pub fn shown_char(c: char) -> char
     ensures { result ≡ shown_char c }
 {
     if c.is_control() && c != '\t' {

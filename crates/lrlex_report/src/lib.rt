@@ -14,6 +14,7 @@ mod reasons;
 mod stops;
 mod warnings;
 
+pub use crate::carets::shown_char;
 pub use crate::encoding::bad_byte_text;
 pub use crate::faults::{fault_message, fault_name, fault_text, faults_text};
 pub use crate::places::place_text;

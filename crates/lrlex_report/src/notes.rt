@@ -103,7 +103,7 @@ fn undeclared_note(line: &str) -> &'static str
     ensures { result.now ≡ undeclared_note line.now }
 {
     if begins_list(line) {
-        ": declare it with %s or %x; commas part the names of a list, and a target stands before the rule's name; a pattern that begins with the character < begins with \\<"
+        ": declare it with %s or %x; commas separate the names of a list, and a target stands before the rule's name; a pattern that begins with the character < begins with \\<"
     } else {
         ": declare it with %s or %x"
     }

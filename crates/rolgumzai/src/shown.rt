@@ -1,14 +1,6 @@
 //! Characters, as a terminal may be given them.
+use lrlex_report::shown_char;
 use std::alloc::AllocError;
-
-/// The character that is shown for this one: U+FFFD for a control character other than the tab.
-pub fn shown_char(c: char) -> char {
-    if c.is_control() && c != '\t' {
-        char::REPLACEMENT_CHARACTER
-    } else {
-        c
-    }
-}
 
 /// Adds the characters of a part of a line, each as it is shown.
 pub fn push_shown(shown: &mut String, text: &str) -> Result<(), AllocError> {

@@ -132,7 +132,7 @@ impl WarningKind {
                 "this rule has no table, and is slower: $, \\b, \\B, \\z, \\<, \\> and a ^ within it look at what is beside the match; leave them out, or write a backslash before $ and ^ for the characters"
             }
             WarningKind::NoTable => {
-                "this rule has no table, and is slower: its table, or all tables together, would be too large; repeat fewer times, part the pattern, or have fewer rules"
+                "this rule has no table, and is slower: its table, or all tables together, would be too large; repeat fewer times, split the pattern, or have fewer rules"
             }
             WarningKind::TargetInPattern => {
                 "this target is part of the pattern; write no blank between the target and the name"

@@ -1,7 +1,7 @@
 //! How pieces are marked: for a terminal, or as a page of HTML.
 use crate::highlight::classes::Class;
-use crate::shown::shown_char;
 use lrlex::Span;
+use lrlex_report::shown_char;
 use std::alloc::AllocError;
 
 /// The marks of a text.
