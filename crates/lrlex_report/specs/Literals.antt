@@ -35,8 +35,7 @@ is_double c = c == byte "\""
 abbrev pub is_mark : Context → List ℕ → Bool
 is_mark x text = (x.classes == 0) && is_double (slice_index text 0)
 
--- up to the next quote, which is here, there is a text, and behind it there is no quote: two in a row are how a pattern for texts in
--- quotes has a quote in them
+-- The next quote is at this place. Before it is a text, and no quote follows it: a pattern for texts in quotes may have two in a row.
 abbrev pub ends_text_at : (rest : List ℕ) → Option ℕ → Bool
 ends_text_at rest None = false
 ends_text_at rest (Some end) = is_literal (take end rest) && not (is_double (slice_index (drop (end + 1) rest) 0))
