@@ -6,7 +6,7 @@ import unittest
 from support import replay
 from support.definitions import from_text
 from support.messages import (
-    BACKSLASH, BEFORE_RULES, BRACES, COMMENT, DECLARE, DECLARE_LIST, IN_CLASS, LIST, MARGIN, NO_END, NO_MARK, NUMBER, OPERATOR, QUOTES,
+    BACKSLASH, BEFORE_RULES, BRACES, COMMENT, DECLARE, DECLARE_LIST, IN_CLASS, IN_QUOTES, LIST, MARGIN, NO_END, NO_MARK, NUMBER, OPERATOR, QUOTES,
     ROUTINES, RULE, STATE_NAME,
 )
 
@@ -175,7 +175,12 @@ MARKS = [
     ("%%\n«(a\\\\» 'A'\n", "Invalid regular expression: unclosed group"),
     ("%%\n«(a\\» ;\n", f"Invalid regular expression: unclosed group: {BACKSLASH}"),
     ("%%\n«(» 'A'\n", f"Invalid regular expression: unclosed group: {OPERATOR}"),
-    ("%%\n«\"(\"» 'A'\n", f"Invalid regular expression: unclosed group: {OPERATOR}"),
+    ("%%\n«\"(\"» 'A'\n", f"Invalid regular expression: unclosed group: {IN_QUOTES}"),
+    ("%%\n«\"[\"» 'A'\n", f"Invalid regular expression: unclosed character class: {IN_QUOTES}"),
+    ("%%\n«\"(\"[a-z]*» 'A'\n", f"Invalid regular expression: unclosed group: {IN_QUOTES}"),
+    ("%x S\n%%\n«<S>\")\"» ;\n", f"Invalid regular expression: unopened group: {IN_QUOTES}"),
+    ("%%\n«\"(a» 'A'\n", "Invalid regular expression: unclosed group"),
+    ("%%\n«\"(a\"» 'A'\n", "Invalid regular expression: unclosed group"),
     ("%%\n«)» 'A'\n", f"Invalid regular expression: unopened group: {OPERATOR}"),
     ("%x S\n%%\n«<S,INITIAL>[»\t;\n", f"Invalid regular expression: unclosed character class: {OPERATOR}"),
     ("%x S\n%%\n«<S>+=»\t<S>'A'\n", f"Invalid regular expression: repetition operator missing expression: {OPERATOR}"),

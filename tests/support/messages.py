@@ -11,6 +11,7 @@ LIST = "a pattern that begins with < lists start states; write \\< for the chara
 BACKSLASH = "the pattern ends in a backslash; write [ ] for a blank, \\\\ for a backslash"
 MARGIN = "white space begins the line; write the rule without it, or an empty line"
 OPERATOR = "write a backslash before each operator to match its character, as \\+ or \\("
+IN_QUOTES = "the quotes are part of the pattern; leave them out, and write operators with a backslash, as \\("
 BRACES = "a name in braces stands for no pattern; write the pattern in its place"
 NUMBER = "\\x{..} and \\u{..} lose their backslash in a rule without start states; write \\U0001F600, or <INITIAL>\\u{1F600}"
 IN_CLASS = (

@@ -9,7 +9,7 @@ use Rattle.lrlex_rules.specs.declared.faults.LexErrorKind.TheVariants.{Premature
 use Rattle.lrlex_rules.specs.declared.faults.LexBuildError.{LexBuildError}
 use Rattle.lrlex_report.specs.Encoding.{mark_note}
 use Rattle.lrlex_report.specs.FaultRanges.{first_line, source_in, told_span}
-use Rattle.lrlex_report.specs.PatternNotes.{braces_note, class_note, escape_note, number_note, operator_note, pattern_of}
+use Rattle.lrlex_report.specs.PatternNotes.{braces_note, class_note, escape_note, number_note, operator_note, quotes_note, pattern_of}
 use Rattle.lrlex_report.specs.PlaceTexts.{nearest}
 use Rattle.lrlex_report.specs.Warnings.{source_of}
 
@@ -71,7 +71,8 @@ space_note text = or_note (comment_note text) (codes ": a rule is a pattern, a s
 abbrev pub pattern_note : (line : List ℕ) → List ℕ
 pattern_note line =
     let pattern = pattern_of line in
-    let inside = or_note (braces_note pattern) (or_note (class_note pattern) (operator_note pattern)) in
+    let operator = or_note (quotes_note pattern) (or_note (class_note pattern) (operator_note pattern)) in
+    let inside = or_note (braces_note pattern) operator in
     or_note (escape_note line) (or_note (number_note (source_in line)) inside)
 
 -- of a fault of this kind at this place

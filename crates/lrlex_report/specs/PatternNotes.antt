@@ -1,13 +1,14 @@
 -- What the message of a pattern that `regex` refuses ends with: the mistake that it usually comes of, and what to write.
-use Rattle.std.specs.Prelude.{ℕ, Bool, false, not, ◌&&◌, ◌||◌, ◌==◌, if◌then◌else◌, List, [], ◌∷◌, slice_index, codes}
+use Rattle.std.specs.Prelude.{ℕ, Bool, false, not, ◌&&◌, ◌||◌, ◌==◌, if◌then◌else◌, List, [], ◌∷◌, slice_index, drop, codes}
 use Rattle.std.specs.Char.{is_ascii_alphabetic}
-use Rattle.std.specs.List.{list_all}
+use Rattle.std.specs.List.{list_all, list_any, before_first}
 use Rattle.std.specs.Str.{byte}
 use Rattle.lrlex_rules.specs.Escape.{ends_in_escape, is_backslash, is_one_of}
 use Rattle.lrlex_rules.specs.RuleLine.{after_angles}
-use Rattle.lrlex_rules.specs.Text.{begins_with, trim_end}
+use Rattle.lrlex_rules.specs.Text.{begins_with, is_empty, trim_end}
 use Rattle.lrlex_report.specs.ClassOperators.{has_class_operator}
 use Rattle.lrlex_report.specs.FaultRanges.{before_blank, source_in}
+use Rattle.lrlex_report.specs.Literals.{is_double}
 
 -- the pattern of a rule's line, without its list of start states
 abbrev pub pattern_of : (line : List ℕ) → List ℕ
@@ -61,6 +62,23 @@ is_operator c = is_one_of (codes "*+?{}()[]|^$\"") c
 
 abbrev pub are_operators : (pattern : List ℕ) → Bool
 are_operators pattern = list_all is_operator pattern
+
+-- some operators, and nothing else
+abbrev pub are_some_operators : List ℕ → Bool
+are_some_operators text = not (is_empty text) && are_operators text
+
+-- such are before the next quote
+abbrev pub ends_operators : (rest : List ℕ) → Bool
+ends_operators rest = list_any is_double rest && are_some_operators (before_first is_double rest)
+
+-- the pattern begins with operators in quotes, as flex has them
+abbrev pub quotes_operators : (pattern : List ℕ) → Bool
+quotes_operators pattern = begins_with (codes "\"") pattern && ends_operators (drop 1 pattern)
+
+abbrev pub quotes_note : (pattern : List ℕ) → List ℕ
+quotes_note pattern =
+    if quotes_operators pattern
+    then codes ": the quotes are part of the pattern; leave them out, and write operators with a backslash, as \\(" else []
 
 -- the pattern begins with an operator that repeats what is before it
 abbrev pub repeats_nothing : (pattern : List ℕ) → Bool

@@ -7,7 +7,7 @@ ghost use Rattle.lrlex_report.specs.Notes.{text_from, or_note, comment_note, dec
 
 use crate::encoding::mark_note;
 use crate::pattern_notes::{
-    braces_note, class_note, escape_note, number_note, operator_note, pattern_of,
+    braces_note, class_note, escape_note, number_note, operator_note, pattern_of, quotes_note,
 };
 use crate::places::nearest;
 use crate::ranges::{first_line, source_in, told_span, trim_end};
@@ -131,7 +131,8 @@ fn pattern_note(line: &str) -> &'static str
     ensures { result.now ≡ pattern_note line.now }
 {
     let pattern = pattern_of(line);
-    let operator = or_note(class_note(pattern), operator_note(pattern));
+    let unescaped = or_note(class_note(pattern), operator_note(pattern));
+    let operator = or_note(quotes_note(pattern), unescaped);
     let inside = or_note(braces_note(pattern), operator);
     let note = or_note(number_note(source_in(line)), inside);
     or_note(escape_note(line), note)

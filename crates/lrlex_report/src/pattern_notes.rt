@@ -1,7 +1,7 @@
 //! What the message of a pattern that `regex` refuses ends with: the mistake that it usually comes of, and what to write.
 ghost use Rattle.std.specs.Prelude.{◌≡◌};
 ghost use Rattle.lrlex_rules.specs.Escape.{ends_in_escape};
-ghost use Rattle.lrlex_report.specs.PatternNotes.{pattern_of, escape_note, is_braced_number, has_braced_number, number_note, class_note, begins_name, has_braced_name, braces_note, is_operator, are_operators, repeats_nothing, operator_note};
+ghost use Rattle.lrlex_report.specs.PatternNotes.{pattern_of, escape_note, is_braced_number, has_braced_number, number_note, class_note, begins_name, has_braced_name, braces_note, is_operator, are_operators, are_some_operators, ends_operators, quotes_operators, quotes_note, repeats_nothing, operator_note};
 
 use crate::ranges::{before_blank, source_in, trim_end};
 use crate::warnings::class_operators::has_class_operator;
@@ -143,6 +143,44 @@ fn are_operators(pattern: &str) -> bool
     ensures { result ≡ are_operators pattern.now }
 {
     pattern.as_bytes().iter().all(|b| is_operator(*b))
+}
+
+/// Whether these are some operators, and nothing else.
+fn are_some_operators(text: &str) -> bool
+    ensures { result ≡ are_some_operators text.now }
+{
+    !text.is_empty() && are_operators(text)
+}
+
+/// Whether operators alone, and some, are before the next quote.
+fn ends_operators(rest: &str) -> bool
+    ensures { result ≡ ends_operators rest.now }
+{
+    match rest.split_once('"') {
+        Some((inside, _)) => are_some_operators(inside),
+        None => false,
+    }
+}
+
+/// Whether a pattern begins with operators in quotes, as flex has them.
+fn quotes_operators(pattern: &str) -> bool
+    ensures { result ≡ quotes_operators pattern.now }
+{
+    match pattern.strip_prefix('"') {
+        Some(rest) => ends_operators(rest),
+        None => false,
+    }
+}
+
+/// Tells that quotes are part of the pattern, if it begins with operators in quotes.
+pub(crate) fn quotes_note(pattern: &str) -> &'static str
+    ensures { result.now ≡ quotes_note pattern.now }
+{
+    if quotes_operators(pattern) {
+        ": the quotes are part of the pattern; leave them out, and write operators with a backslash, as \\("
+    } else {
+        ""
+    }
 }
 
 /// Whether a pattern begins with an operator that repeats what is before it.
