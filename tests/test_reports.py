@@ -6,8 +6,8 @@ import unittest
 from support import replay
 from support.definitions import from_text
 from support.messages import (
-    BACKSLASH, BEFORE_RULES, BRACES, COMMENT, DECLARE, DECLARE_LIST, IN_CLASS, IN_QUOTES, LIST, MARGIN, NO_END, NO_MARK, NUMBER, OPERATOR, QUOTES,
-    ROUTINES, RULE, STATE_NAME,
+    BACKSLASH, BEFORE_RULES, BRACES, COMMENT, DECLARE, DECLARE_LIST, IN_CLASS, IN_QUOTES, LIST, MARGIN, NO_END, NO_MARK, NUMBER, OPERATOR,
+    QUOTES, ROUTINES, RULE, STATE_NAME,
 )
 
 # Rule texts, and what is shown of their faults.
