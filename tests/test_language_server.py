@@ -670,6 +670,8 @@ class Texts(Session):
             (f"file://{folder}/x/../{name}", 0), (f"file://{folder}/x/%2e%2e/%72ules.l", 0), (f"file:///../..{folder}/x//../{name}", 0),
             (f"file://other{path}", 1), (f"file://localhosts{path}", 1), (f"file://{folder}/../{name}", 1), (f"file://{folder}/{name}/x", 1),
             (f"file://{folder}/.{name}", 1), (f"file://{folder}/...{name}", 1), (f"untitled:{path}", 1),
+            (f"file://localhost{folder}/%2E/{name}", 0), (f"file://{folder}%2F{name}", 0), (f"file://{path}/", 0), (f"file://{path}%", 1),
+            (f"file://{folder}/%7{name}", 1), (f"file://{folder}/%2572ules.l", 1), (f"http://localhost{path}", 1),
         ]
         for uri, wanted in rows:
             with self.subTest(uri=uri):

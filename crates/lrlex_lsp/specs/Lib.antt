@@ -7,3 +7,4 @@ pub mod Messages
 pub mod Rows
 pub mod Shown
 pub mod Tokens
+pub mod Uris

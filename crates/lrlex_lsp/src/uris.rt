@@ -1,4 +1,9 @@
 //! The names under which clients know files.
+ghost use Rattle.std.specs.Prelude.{◌≡◌, ◌↔◌, ◌++◌, IfOk, IsTrue, OnOk, codes, option_copied, string_bytes, take};
+ghost use Rattle.std.specs.List.{before_last};
+ghost use Rattle.percent_encoding.specs.Percent as percent;
+ghost use Rattle.lrlex_lsp.specs.Uris.{IsSameFile, escaped, is_absolute, is_slash, led_to, named, path_of, plain};
+
 use percent_encoding::{AsciiSet, NON_ALPHANUMERIC, ascii_set, percent_decode, percent_encode};
 use std::alloc::{AllocError, Global};
 
@@ -13,14 +18,18 @@ const ESCAPED: AsciiSet = ascii_set!(
 );
 
 /// The bytes that a URI stands for, once its percent escapes are read.
-fn decoded(alloc: Global, uri: &str) -> Result<Vec<u8>, AllocError> {
+fn decoded(alloc: Global, uri: &str) -> Result<Vec<u8>, AllocError>
+    ensures { IfOk result (λ bytes. bytes.items ≡ percent.percent_decode uri.now) }
+{
     let mut bytes = Vec::new(alloc);
     percent_decode(uri.as_bytes()).append_to(&mut bytes)?;
     Ok(bytes)
 }
 
 /// The path that a URI names on this machine, which it calls `localhost` or nothing.
-fn path_of(uri: &[u8]) -> Option<&[u8]> {
+fn path_of(uri: &[u8]) -> Option<&[u8]>
+    ensures { option_copied result ≡ path_of uri.now }
+{
     let path = uri.strip_prefix(b"file://")?;
     let path = path.strip_prefix(b"localhost").unwrap_or(path);
     if path.starts_with(b"/") {
@@ -31,12 +40,16 @@ fn path_of(uri: &[u8]) -> Option<&[u8]> {
 }
 
 /// Where the name of a path's folder ends.
-fn folder_end(path: &[u8]) -> usize {
+fn folder_end(path: &[u8]) -> usize
+    ensures { take result path.now ≡ before_last is_slash path.now }
+{
     path.iter().rposition(|byte| *byte == b'/').unwrap_or(0)
 }
 
 /// Goes on by a part of a path: up for `..`, and nowhere for `.` and an empty one.
-fn go(path: &mut Vec<u8>, part: &[u8]) -> Result<(), AllocError> {
+fn go(path: &mut Vec<u8>, part: &[u8]) -> Result<(), AllocError>
+    ensures { OnOk result (path.new.items ≡ led_to path.old.items part.now) }
+{
     match part {
         b"" | b"." => Ok(()),
         b".." => {
@@ -51,7 +64,9 @@ fn go(path: &mut Vec<u8>, part: &[u8]) -> Result<(), AllocError> {
 }
 
 /// An absolute path without `.`, `..` and empty parts: `/a//b/./c/../d` is `/a/b/d`.
-fn plain(alloc: Global, path: &[u8]) -> Result<Vec<u8>, AllocError> {
+fn plain(alloc: Global, path: &[u8]) -> Result<Vec<u8>, AllocError>
+    ensures { IfOk result (λ path'. path'.items ≡ plain path.now) }
+{
     let mut plain = Vec::new(alloc);
     for part in path.split(|byte| *byte == b'/') {
         go(&mut plain, part)?;
@@ -60,7 +75,9 @@ fn plain(alloc: Global, path: &[u8]) -> Result<Vec<u8>, AllocError> {
 }
 
 /// What a URI names: the plain path of a file of this machine, or else its bytes once their percent escapes are read.
-fn named(alloc: Global, uri: &str) -> Result<Vec<u8>, AllocError> {
+fn named(alloc: Global, uri: &str) -> Result<Vec<u8>, AllocError>
+    ensures { IfOk result (λ bytes. bytes.items ≡ named uri.now) }
+{
     let bytes = decoded(alloc, uri)?;
     if let Some(path) = path_of(&bytes) {
         return plain(alloc, path);
@@ -69,8 +86,10 @@ fn named(alloc: Global, uri: &str) -> Result<Vec<u8>, AllocError> {
 }
 
 /// Whether two URIs name one file: they are the same once their percent escapes are read (RFC 3986, section 2.4), and their paths
-/// made plain. `file://localhost` is `file://`.
-pub fn is_same_file(alloc: Global, one: &str, other: &str) -> Result<bool, AllocError> {
+/// made plain. `file://localhost` is `file://`. A path is plain without `.`, `..` and empty parts, and links aren't followed.
+pub fn is_same_file(alloc: Global, one: &str, other: &str) -> Result<bool, AllocError>
+    ensures { IfOk result (λ same. IsTrue same ↔ IsSameFile one.now other.now) }
+{
     if one == other {
         return Ok(true);
     }
@@ -79,8 +98,13 @@ pub fn is_same_file(alloc: Global, one: &str, other: &str) -> Result<bool, Alloc
     Ok(one.as_slice() == other.as_slice())
 }
 
-/// The URI of a file at an absolute path, with percent escapes (RFC 8089).
-pub fn file_uri(alloc: Global, path: &str) -> Result<String, AllocError> {
+/// The URI of a file at an absolute path (RFC 8089), with percent escapes for all but letters, digits and `/-._~`. It names that
+/// path.
+pub fn file_uri(alloc: Global, path: &str) -> Result<String, AllocError>
+    ensures text { IfOk result (λ uri. string_bytes uri ≡ codes "file://" ++ escaped path.now) }
+    ensures names { IfOk result (λ uri. IsTrue (is_absolute path.now)
+        → named (string_bytes uri) ≡ plain path.now) }
+{
     let mut uri = String::from_str(alloc, "file://")?;
     percent_encode(path.as_bytes(), ESCAPED).append_to(&mut uri)?;
     Ok(uri)
