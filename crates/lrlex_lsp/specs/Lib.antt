@@ -6,5 +6,6 @@ pub mod Guesses
 pub mod Messages
 pub mod Rows
 pub mod Shown
+pub mod TokenTypes
 pub mod Tokens
 pub mod Uris

@@ -1,6 +1,7 @@
 //! The token types of the Language Server Protocol.
-ghost use Rattle.std.specs.Prelude.{◌≡◌};
+ghost use Rattle.std.specs.Prelude.{◌≡◌, is_some};
 ghost use Rattle.lrlex_lsp.specs.Shown.{type_of};
+ghost use Rattle.lrlex_lsp.specs.TokenTypes.{type_named};
 
 use crate::guesses::Guess;
 use std::alloc::{AllocError, Global};
@@ -23,7 +24,9 @@ const NUMBER: u32 = 19;
 const OPERATOR: u32 = 21;
 
 /// The number of a token type: its place among the types that the server names to the client, from 0.
-pub(crate) fn type_named(name: &str) -> Option<u32> {
+pub(crate) fn type_named(name: &str) -> Option<u32>
+    ensures { result ≡ type_named name.now }
+{
     let mut number = 0u32;
     for known in TOKEN_TYPES.split(' ') {
         if known == name {
@@ -49,7 +52,9 @@ pub(crate) fn type_of(guess: Guess) -> u32
 }
 
 /// Whether this is the name of a token type of the protocol (3.17), as `keyword`.
-pub fn is_token_type(name: &str) -> bool {
+pub fn is_token_type(name: &str) -> bool
+    ensures { result ≡ is_some (type_named name.now) }
+{
     type_named(name).is_some()
 }
 
