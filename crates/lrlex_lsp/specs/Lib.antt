@@ -3,6 +3,7 @@ pub mod Edits
 pub mod Faults
 pub mod Framing
 pub mod Guesses
+pub mod Languages
 pub mod Messages
 pub mod Rows
 pub mod Shown

@@ -1,6 +1,7 @@
 //! What a text is lexed by, and what its pieces are shown as.
-ghost use Rattle.std.specs.Prelude.{◌≡◌, option_map};
+ghost use Rattle.std.specs.Prelude.{◌≡◌, [], IfErr, IfOk, codes, option_map};
 ghost use Rattle.lrlex_lsp.specs.Guesses.{guess_of};
+ghost use Rattle.lrlex_lsp.specs.Languages.{IsFaultOf, IsLanguageOf, all_shown, map_pairs, pairs_in, pairs_of, shown_as, shown_by, shown_of};
 ghost use Rattle.lrlex_lsp.specs.Shown.{IsShownAs, type_of};
 
 use crate::guesses::guessed;
@@ -88,6 +89,10 @@ impl fmt::Display for LanguageFault {
 impl Error for LanguageFault {}
 
 impl From<AllocError> for LanguageFault {
+    ghost use Rattle.lrlex_lsp.specs.declared.languages.LanguageFault.TheVariants.{OutOfMemory};
+
+    ghost from_gives = { λ _ e. e ≡ OutOfMemory };
+
     fn from(_: AllocError) -> LanguageFault {
         LanguageFault::OutOfMemory
     }
@@ -103,7 +108,9 @@ enum Map<'m> {
 }
 
 /// What a rule is shown as by the name of a token type. What isn't one stands for plain text.
-fn shown_as(kind: &str) -> Shown {
+fn shown_as(kind: &str) -> Shown
+    ensures { result ≡ shown_as kind.now }
+{
     match type_named(kind) {
         Some(number) => Shown::As(number),
         None => Shown::Plain,
@@ -111,7 +118,9 @@ fn shown_as(kind: &str) -> Shown {
 }
 
 /// What pairs say of a name.
-fn shown_by_pairs(pairs: &[(String, String)], name: &str) -> Shown {
+fn shown_by_pairs(pairs: &[(String, String)], name: &str) -> Shown
+    ensures { result ≡ shown_by (pairs_of pairs.now) name.now }
+{
     for (named, kind) in pairs {
         if named.as_str() == name {
             return shown_as(kind);
@@ -121,7 +130,9 @@ fn shown_by_pairs(pairs: &[(String, String)], name: &str) -> Shown {
 }
 
 /// What words say of a name.
-fn shown_by_words(words: &str, name: &str) -> Shown {
+fn shown_by_words(words: &str, name: &str) -> Shown
+    ensures { result ≡ shown_by (pairs_in words.now) name.now }
+{
     for word in words.split(' ') {
         if let Some((named, kind)) = word.split_once('=') {
             if named == name {
@@ -134,7 +145,9 @@ fn shown_by_words(words: &str, name: &str) -> Shown {
 
 impl Map<'_> {
     /// What it says of a rule.
-    fn shown(self, rule: &Rule<u32>) -> Shown {
+    fn shown(self, rule: &Rule<u32>) -> Shown
+        ensures { result ≡ shown_of (map_pairs self.entry) rule.now.name }
+    {
         match (rule.name(), self) {
             (Some(name), Map::Pairs(pairs)) => shown_by_pairs(pairs, name),
             (Some(name), Map::Words(words)) => shown_by_words(words, name),
@@ -144,7 +157,9 @@ impl Map<'_> {
 }
 
 /// What these rules are shown as.
-fn shown_of(alloc: Global, rules: &[Rule<u32>], map: Map<'_>) -> Result<Vec<Shown>, AllocError> {
+fn all_shown(alloc: Global, rules: &[Rule<u32>], map: Map<'_>) -> Result<Vec<Shown>, AllocError>
+    ensures { IfOk result (λ shown. shown.items ≡ all_shown (map_pairs map.entry) rules.now) }
+{
     let mut shown = Vec::new(alloc);
     for rule in rules {
         shown.push(map.shown(rule))?;
@@ -158,10 +173,13 @@ fn read(
     rules: &str,
     flags: LexFlags,
     map: Map<'_>,
-) -> Result<Language, LanguageFault> {
+) -> Result<Language, LanguageFault>
+    ensures language { IfOk result (IsLanguageOf (map_pairs map.entry) flags rules.now) }
+    ensures faults { IfErr result (IsFaultOf flags rules.now) }
+{
     match Definition::new_with_options(alloc, rules, flags)? {
         Ok(definition) => Ok(Language {
-            shown: shown_of(alloc, definition.rules(), map)?,
+            shown: all_shown(alloc, definition.rules(), map)?,
             rules: String::from_str(alloc, rules)?,
             definition,
             flags,
@@ -182,24 +200,32 @@ fn guessed_kind(name: Option<&str>, text: &str) -> Option<u32>
 
 impl Language {
     /// The language of a rule text. The map has for the name of a rule the token type of the protocol that its pieces are shown
-    /// as, or an empty text where they are plain; other names are guessed at.
+    /// as, or an empty text where they are plain; other names are guessed at. The first pair that has a name counts.
     pub fn from_rules(
         alloc: Global,
         rules: &str,
         flags: LexFlags,
         map: &[(String, String)],
-    ) -> Result<Language, LanguageFault> {
+    ) -> Result<Language, LanguageFault>
+        ensures language { IfOk result (IsLanguageOf (pairs_of map.now) flags rules.now) }
+        ensures faults { IfErr result (IsFaultOf flags rules.now) }
+    {
         read(alloc, rules, flags, Map::Pairs(map))
     }
 
     /// The language of rule files.
-    pub fn of_rules(alloc: Global) -> Result<Language, LanguageFault> {
+    pub fn of_rules(alloc: Global) -> Result<Language, LanguageFault>
+        ensures { IfOk result (IsLanguageOf (pairs_in TYPES_OF_RULES.now) UNSPECIFIED_LEX_FLAGS
+            RULES_OF_RULES.now) }
+    {
         let map = Map::Words(TYPES_OF_RULES);
         read(alloc, RULES_OF_RULES, UNSPECIFIED_LEX_FLAGS, map)
     }
 
     /// A language without rules, by which lexing stops at once.
-    pub fn without_rules(alloc: Global) -> Result<Language, LanguageFault> {
+    pub fn without_rules(alloc: Global) -> Result<Language, LanguageFault>
+        ensures { IfOk result (IsLanguageOf [] UNSPECIFIED_LEX_FLAGS (codes "%%\n")) }
+    {
         read(alloc, "%%\n", UNSPECIFIED_LEX_FLAGS, Map::Pairs(&[]))
     }
 
