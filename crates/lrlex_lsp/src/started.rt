@@ -1,4 +1,6 @@
 //! What a server is begun with, and what outlives it where the given rules change.
+ghost use Rattle.std.specs.Prelude.{◌≡◌, []};
+
 use crate::languages::Language;
 use lrlex::{LexFlags, PositionEncoding};
 use lrlex_report::WarningKind;
@@ -81,8 +83,13 @@ pub struct State {
 }
 
 impl State {
-    /// That before the first message.
-    pub fn new(alloc: Global) -> State {
+    /// That before the first message: no text is open, and columns are counted in UTF-16 until the client says otherwise.
+    pub fn new(alloc: Global) -> State
+        ensures begun { result.phase ≡ Phase.Begun }
+        ensures encoding { result.client.encoding ≡ PositionEncoding.Utf16 }
+        ensures texts { result.kept.items ≡ [] }
+        ensures saved { result.saved ≡ None }
+    {
         State {
             phase: Phase::Begun,
             client: Client {
