@@ -151,7 +151,7 @@ fn state_name(definition: &Definition, state: usize) -> &str {
 fn entering(document: &Document<'_, Types>) -> Option<Span> {
     let tile = document.entered_by()?;
     let begin = document.boundary(tile);
-    let end = document.boundary(tile + 1);
+    let end = document.boundary(tile.saturating_add(1));
     Some(Span::new(begin, begin.max(end)))
 }
 

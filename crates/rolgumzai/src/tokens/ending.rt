@@ -17,7 +17,7 @@ pub struct Ending {
 fn entering(run: &Run<'_, '_>) -> Option<Span> {
     let tile = run.entered_by()?;
     let begin = run.place(tile);
-    let end = run.place(tile + 1);
+    let end = run.place(tile.saturating_add(1));
     Some(Span::new(begin, begin.max(end)))
 }
 
