@@ -151,33 +151,6 @@ fn first_rules(options: &Options) -> Result<Option<String>, AllocError> {
     }
 }
 
-/// Serves as `serve` does, over languages that are read already. What is given lacks the language of the given rules.
-fn serve_given<R: Read, W: Write>(
-    alloc: Global,
-    reader: &mut R,
-    writer: &mut W,
-    given: Given<'_>,
-    options: &Options,
-) -> io::Result<bool> {
-    let mut rules = first_rules(options)?;
-    let mut state = State::new(alloc);
-    for _ in 0..u64::MAX {
-        let language = language_of(alloc, rules.as_ref().map(|text| text.as_str()), options)?;
-        let by = Given {
-            language: language.as_ref(),
-            ..given
-        };
-        match serve_over(alloc, reader, writer, by, state)? {
-            Ended::Done(is_clean) => return Ok(is_clean),
-            Ended::Rules(kept, text) => {
-                state = kept;
-                rules = Some(text);
-            }
-        }
-    }
-    Ok(false)
-}
-
 /// Serves until the input ends or the client ends it, and says whether the client had shut the server down before. Where the given
 /// rules change, all texts are lexed by the new ones. It fails where memory runs out, or the reader or the writer fails.
 pub fn serve<R: Read, W: Write>(
@@ -189,13 +162,25 @@ pub fn serve<R: Read, W: Write>(
     let own = faultless(Language::of_rules(alloc))?;
     let bare = faultless(Language::without_rules(alloc))?;
     let uri = rules_uri(alloc, &options)?;
-    let given = Given {
-        own: &own,
-        bare: &bare,
-        language: None,
-        uri: &uri,
-        flags: options.flags,
-        allowed: options.allowed.as_slice(),
-    };
-    serve_given(alloc, reader, writer, given, &options)
+    let mut rules = first_rules(&options)?;
+    let mut state = State::new(alloc);
+    for _ in 0..u64::MAX {
+        let language = language_of(alloc, rules.as_ref().map(|text| text.as_str()), &options)?;
+        let given = Given {
+            own: &own,
+            bare: &bare,
+            language: language.as_ref(),
+            uri: &uri,
+            flags: options.flags,
+            allowed: options.allowed.as_slice(),
+        };
+        match serve_over(alloc, reader, writer, given, state)? {
+            Ended::Done(is_clean) => return Ok(is_clean),
+            Ended::Rules(kept, text) => {
+                state = kept;
+                rules = Some(text);
+            }
+        }
+    }
+    Ok(false)
 }
