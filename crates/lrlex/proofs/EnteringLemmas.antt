@@ -1,5 +1,5 @@
 -- The tile that entered the start state at the end, from what the search for it says.
-use Rattle.std.proofs.Common.{◌≡◌, ℕ, ◌+◌, ◌-◌, ◌<◌, ◌≤◌, List, length, Option, Some, None, IfSome, IsNone, MatchOption, refl, ap, sym, subst, le_refl, arith}
+use Rattle.std.proofs.Common.{◌≡◌, ℕ, ◌+◌, ◌-◌, ◌<◌, ◌≤◌, List, length, Option, Some, None, IfSome, IsNone, MatchOption, refl, sym, subst, le_refl, arith}
 use Rattle.std.specs.Prelude.{slice_get}
 use Rattle.lrlex_boundaries.specs.Boundaries.{Boundary, boundary_at}
 use Rattle.lrlex.specs.Entering.{AllKeepEnd, IsEntering, Keeps, KeepsEnd, KeepsTop, end_at, end_entry}
