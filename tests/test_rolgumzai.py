@@ -5,8 +5,10 @@ Expected texts are written by hand; tokens and winners are those of the replayed
 
 import contextlib
 import html
+import html.entities
 import json
 import os
+import random
 import re
 import shlex
 import subprocess
@@ -558,6 +560,15 @@ class Rolgumzai(unittest.TestCase):
             with self.subTest(text=text, program=program):
                 wanted = "".join(shown_warning(text, *warning) for warning in warnings)
                 self.assertEqual(self.run_in_folder(program, ["check", "-"], text), Outcome(wanted))
+
+    def test_tables_of_many_keywords(self):
+        # HTML's names of characters, of 6.6 letters on average
+        names = random.Random(1).sample(sorted({it.rstrip(";") for it in html.entities.html5}), 2_000)
+        for program, (count, is_warned) in self.each([(600, False), (2_000, True)]):
+            with self.subTest(count=count, program=program):
+                rules = "".join(f"{name} '{name}'\n" for name in names[:count])
+                outcome = self.run_in_folder(program, ["check", "-"], f"%%\n{rules}[A-Za-z0-9]+ 'word'\n")
+                self.assertEqual(("[NoTable]" in outcome.out, outcome.err, outcome.status), (is_warned, "", 0))
 
     def test_allowed_warnings(self):
         for program, (words, wanted, status) in self.each(ALLOWED):
