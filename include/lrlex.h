@@ -275,6 +275,19 @@ int lrlex_pieces(lrlex_definition *d, const uint8_t *text, size_t text_len, lrle
 int lrlex_stop_report(lrlex_definition *d, const uint8_t *file, size_t file_len, const uint8_t *text, size_t text_len, uint8_t *out,
                       size_t cap, size_t *len);
 
+/* Where a text enters the start state in which it ends: the bytes of the piece that enters it, and the state. */
+typedef struct lrlex_entered {
+    size_t start, end; /* where the piece starts and ends */
+    size_t state;      /* the id of the start state: `state` of lrlex_lexed */
+} lrlex_entered;
+
+/* Where a text enters the start state in which it ends, such as the beginning of a comment that nothing closes: the last piece before
+ * which the stack of start states lacks what is on top at the end. Where lexing stops at an error, the text ends there. A text that ends
+ * in INITIAL has such a piece too if it left INITIAL: `state` tells. The call lexes the text, and keeps nothing of it.
+ * LRLEX_OK; LRLEX_NONE: the text begins in the start state in which it ends, and no piece leaves it; LRLEX_NOT_UTF8; LRLEX_MISUSE;
+ * LRLEX_NOMEM. */
+int lrlex_entered_by(lrlex_definition *d, const uint8_t *text, size_t text_len, lrlex_entered *out);
+
 /* ---- Scanners ---- */
 
 /* A tile: a piece of a text as it is cut, with the id of its lexeme. */
@@ -355,6 +368,10 @@ int lrlex_document_pieces(lrlex_document *d, lrlex_piece *pieces, size_t cap, lr
  * before `from`, and the last end after `to`. Any numbers will do. `count` of `out` counts these pieces.
  * LRLEX_OK; LRLEX_MISUSE; LRLEX_NOMEM. */
 int lrlex_document_pieces_in(lrlex_document *d, size_t from, size_t to, lrlex_piece *pieces, size_t cap, lrlex_lexed *out);
+
+/* Where the document enters the start state in which it ends, as lrlex_entered_by tells it of a text.
+ * LRLEX_OK; LRLEX_NONE: it begins in that state, and no piece leaves it; LRLEX_MISUSE. */
+int lrlex_document_entered_by(lrlex_document *d, lrlex_entered *out);
 
 /* Line and column, from 1, of the place before this byte; the column counts characters. Inside a character it is the place before that,
  * and past the text's end the end. LRLEX_OK; LRLEX_MISUSE. */

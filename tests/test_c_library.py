@@ -14,6 +14,17 @@ stopped at 3 in state 0
 2 tokens, end 6 in state 0
 1 tokens, end 3 in state 1, stopped
 0 tokens, end 0 in state 0, stopped
+state 1, entered at 2 to 4
+state 1, entered at 7 to 9
+not entered
+not entered
+state 1, entered at 0 to 2
+state 1, entered at 2 to 4
+not entered
+state 1, entered at 2 to 4
+state 1, entered at 7 to 9
+not entered
+state 0, entered at 4 to 5
 kind 6, Start state already exists: 1:4, bytes 3 to 4 1:6, bytes 5 to 6
 kind 9, Rule name already exists: 3:6, bytes 15 to 16 4:4, bytes 21 to 22
 kind 10, Invalid regular expression: regex parse error at 2..3: unclosed group: 5:1, bytes 24 to 24

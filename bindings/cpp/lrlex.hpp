@@ -403,6 +403,15 @@ inline std::optional<Stop> stop(std::string_view text, const lrlex_lexed &lexed)
     return Stop{lexed.end, place.line, place.column, lexed.unmatched ? std::optional<std::size_t>(lexed.state) : std::nullopt};
 }
 
+/// What a call says of where a text enters the start state in which it ends.
+template <class Call> std::optional<lrlex_entered> entered_by(Call call) {
+    lrlex_entered entered;
+    const int status = call(&entered);
+    if (status == LRLEX_NONE) return std::nullopt;
+    check(status);
+    return entered;
+}
+
 } // namespace detail
 
 /// The rules of a rule file, ready to lex texts.
@@ -466,6 +475,13 @@ public:
             return lrlex_stop_report(owner_.get(), detail::bytes(file), file.size(), detail::bytes(text), text.size(), out, room, length);
         };
         return detail::text_by(call, 1024);
+    }
+
+    /// Where a text enters the start state in which it ends, such as the beginning of a comment that nothing closes: the piece that
+    /// enters it, and the number of the state. Where lexing stops, the text ends. There is no value if the text begins in that state and
+    /// no piece leaves it. A text that ends in INITIAL has one if it left INITIAL.
+    std::optional<lrlex_entered> entered_by(std::string_view text) const {
+        return detail::entered_by([&](lrlex_entered *out) { return lrlex_entered_by(owner_.get(), detail::bytes(text), text.size(), out); });
     }
 
     /// The name of the first rule that has a name and this id; empty if there is none.
@@ -583,6 +599,11 @@ public:
         pieces.stop = detail::stop(text_, lexed);
         pieces.rows_.count = lexed.count;
         return pieces;
+    }
+
+    /// Where the text enters the start state in which it ends, as `entered_by` of a Definition tells it.
+    std::optional<lrlex_entered> entered_by() const {
+        return detail::entered_by([&](lrlex_entered *out) { return lrlex_document_entered_by(owner_.get(), out); });
     }
 
     /// Line and column of a byte, from 1; the column counts characters.

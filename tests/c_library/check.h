@@ -20,6 +20,9 @@ static void check(int holds, const char *what, const char *file, int line) {
 
 static const char WORDS[] = "%%\n[0-9]+ 'INT'\n[a-z]+ 'ID'\n[ ] ;\n";
 
+/* Comments that nest. Of one, `*` and `/` alone have no rule. */
+static const char NESTED[] = "%x C\n%%\n[a-z]+ 'ID'\n[ ]+ ;\n<INITIAL,C>/\\* <+C>;\n<C>\\*/ <-C>;\n<C>[^*/]+ ;\n";
+
 /* The bytes of a text that ends with a byte 0. */
 static const uint8_t *bytes(const char *text) { return (const uint8_t *)text; }
 

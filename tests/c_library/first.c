@@ -1,4 +1,4 @@
-/* A first text, a text that stops, texts that end in start states, a refused rule text, a document through edits, and a scanner, as a user of the header writes them. */
+/* A first text, a text that stops, texts that end in start states, and where they enter these, a refused rule text, a document through edits, and a scanner, as a user of the header writes them. */
 #include "check.h"
 
 #include <stdlib.h>
@@ -46,6 +46,33 @@ static void count(void) {
         CHECK(tokens[0].start == (lexed.count ? 0 : 7) && tokens[0].len == (lexed.count ? 2 : 7) && tokens[1].start == 7 && tokens[1].id == 7);
         printf("%zu tokens, end %zu in state %zu%s\n", lexed.count, lexed.end, lexed.state, lexed.stopped ? ", stopped" : "");
     }
+    lrlex_free(&d);
+}
+
+static void show_entered(int status, const lrlex_entered *entered) {
+    if (status == LRLEX_OK) printf("state %zu, entered at %zu to %zu\n", entered->state, entered->start, entered->end);
+    else printf("%s\n", status == LRLEX_NONE ? "not entered" : "failed");
+}
+
+/* Where texts enter the start states in which they end, and a document that is edited. */
+static void enter(void) {
+    const char *texts[] = {"a /* b /* c */ d", "a /* b /* c", "a /* b */ c", "", "/*", "a /* b * c", "a ? /*"};
+    lrlex_definition d = LRLEX_EMPTY;
+    lrlex_document document = LRLEX_EMPTY;
+    lrlex_entered entered;
+    CHECK(define(&d, NESTED) == LRLEX_OK);
+    for (size_t i = 0; i < sizeof texts / sizeof *texts; i++) show_entered(lrlex_entered_by(&d, bytes(texts[i]), strlen(texts[i]), &entered), &entered);
+    CHECK(lrlex_document_new(&d, &document, bytes(texts[0]), strlen(texts[0])) == LRLEX_OK);
+    show_entered(lrlex_document_entered_by(&document, &entered), &entered);
+    /* without the end of the inner comment, and then without its beginning too */
+    CHECK(lrlex_document_edit(&document, 12, 14, bytes(""), 0) == LRLEX_OK);
+    show_entered(lrlex_document_entered_by(&document, &entered), &entered);
+    CHECK(lrlex_document_edit(&document, 7, 9, bytes("*/"), 2) == LRLEX_OK);
+    show_entered(lrlex_document_entered_by(&document, &entered), &entered);
+    lrlex_free(&document);
+    /* a rule that goes back to INITIAL */
+    CHECK(define(&d, "%x S\n%%\na ;\n\" <S>;\n<S>\" <INITIAL>;\n<S>a ;\n") == LRLEX_OK);
+    show_entered(lrlex_entered_by(&d, bytes("a\"aa\"a"), 6, &entered), &entered);
     lrlex_free(&d);
 }
 
@@ -198,6 +225,7 @@ int main(void) {
     lex("ab ?");
     lex("");
     count();
+    enter();
     refuse("%x A A\n%%\na+b 'A'\nb 'A'\nc( 'C'\n");
     names();
     ids();

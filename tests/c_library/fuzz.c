@@ -127,6 +127,16 @@ static void check_pieces(lrlex_definition *d, const lrlex_lexed *lexed, const lr
     LAW(lexed->end <= input.len && (lexed->stopped || lexed->end == input.len) && (at == lexed->end || (lexed->stopped && !lexed->unmatched)));
 }
 
+/* Where a text enters the start state in which it ends: at one of its pieces. A text begins in state 0, so it enters any other. */
+static void check_entered(int status, const lrlex_entered *entered, const lrlex_lexed *cut) {
+    size_t i = 0;
+    LAW(status == LRLEX_OK || (status == LRLEX_NONE && cut->state == 0));
+    if (status != LRLEX_OK) return;
+    while (i < cut->count && pieces[i].start < entered->start) i++;
+    LAW(i < cut->count && pieces[i].start == entered->start && pieces[i].start + pieces[i].len == entered->end);
+    LAW(entered->end <= cut->end && entered->state == cut->state);
+}
+
 /* The tiles of a scanner, asked for a few at a time, are the pieces. It ends where and why lexing does. */
 static void check_scanner(lrlex_definition *d, const lrlex_lexed *lexed, const lrlex_lexed *cut) {
     lrlex_scanner scanner = LRLEX_EMPTY;
@@ -229,6 +239,7 @@ static void check_offsets(lrlex_document *document, size_t from) {
 static void check_document(lrlex_document *document, lrlex_definition *d) {
     static uint8_t copy[ROOM];
     lrlex_lexed one, other, cut, part;
+    lrlex_entered entered, of_text;
     lrlex_place place;
     size_t len = 0, from = below(input.len + 2), to = below(input.len + 2), found = 0;
     LAW(lrlex_document_text(document, 0, input.len, copy, ROOM, &len) == LRLEX_OK && len == input.len && memcmp(copy, input.bytes, len) == 0);
@@ -238,6 +249,10 @@ static void check_document(lrlex_document *document, lrlex_definition *d) {
     LAW(same_tokens(tokens, &one, others, &other));
     LAW(lrlex_document_pieces(document, pieces, ROOM, &cut) == LRLEX_OK);
     check_pieces(d, &one, &cut);
+    const int status = lrlex_document_entered_by(document, &entered);
+    check_entered(status, &entered, &cut);
+    LAW(lrlex_entered_by(d, input.bytes, input.len, &of_text) == status);
+    LAW(status != LRLEX_OK || (entered.start == of_text.start && entered.end == of_text.end && entered.state == of_text.state));
     LAW(lrlex_document_pieces_in(document, from, to, parts, ROOM, &part) == LRLEX_OK && part.end == cut.end);
     for (size_t i = 0; i < cut.count; i++) {
         if (pieces[i].start >= to || pieces[i].start + pieces[i].len <= from || from >= to) continue;
@@ -306,6 +321,7 @@ static void check_ids(lrlex_definition *d) {
 static void check_definition(lrlex_definition *d, const lrlex_options *how) {
     static uint8_t report[ROOM];
     lrlex_lexed lexed, cut, slow;
+    lrlex_entered entered;
     lrlex_definition plain = LRLEX_EMPTY;
     size_t len = 0, at = 0;
     const int status = lrlex_lex(d, input.bytes, input.len, tokens, ROOM, &lexed);
@@ -322,6 +338,7 @@ static void check_definition(lrlex_definition *d, const lrlex_options *how) {
     tokens_seen += lexed.count;
     LAW(lrlex_pieces(d, input.bytes, input.len, pieces, ROOM, &cut) == LRLEX_OK);
     check_pieces(d, &lexed, &cut);
+    check_entered(lrlex_entered_by(d, input.bytes, input.len, &entered), &entered, &cut);
     LAW(lrlex_stop_report(d, input.bytes, 0, input.bytes, input.len, report, ROOM, &len) == (lexed.stopped ? LRLEX_OK : LRLEX_NONE));
     if (below(4) == 0) {
         /* without tables the answers are the same */

@@ -4,6 +4,7 @@
 static lrlex_token tokens[8];
 static lrlex_piece pieces[8];
 static lrlex_lexed lexed;
+static lrlex_entered entered;
 static lrlex_fault fault;
 static lrlex_fault_span span;
 static lrlex_rule rule;
@@ -25,6 +26,7 @@ static void none(lrlex_definition *d) {
     CHECK(lrlex_lex(d, bytes("a"), 1, tokens, 8, &lexed) == LRLEX_MISUSE);
     CHECK(lrlex_pieces(d, bytes("a"), 1, pieces, 8, &lexed) == LRLEX_MISUSE);
     CHECK(lrlex_stop_report(d, bytes("f"), 1, bytes("a"), 1, text, sizeof text, &len) == LRLEX_MISUSE);
+    CHECK(lrlex_entered_by(d, bytes("a"), 1, &entered) == LRLEX_MISUSE);
     CHECK(lrlex_rule_count(d) == 0 && lrlex_state_count(d) == 0);
     CHECK(lrlex_rule_at(d, 0, &rule) == LRLEX_MISUSE);
     CHECK(lrlex_rule_name(d, 0, text, sizeof text, &len) == LRLEX_MISUSE);
@@ -56,6 +58,7 @@ static void no_document(lrlex_document *document) {
     CHECK(lrlex_document_text(document, 0, 0, text, sizeof text, &len) == LRLEX_MISUSE);
     CHECK(lrlex_document_pieces(document, pieces, 8, &lexed) == LRLEX_MISUSE);
     CHECK(lrlex_document_pieces_in(document, 0, 1, pieces, 8, &lexed) == LRLEX_MISUSE);
+    CHECK(lrlex_document_entered_by(document, &entered) == LRLEX_MISUSE);
     CHECK(lrlex_document_place(document, 0, &place) == LRLEX_MISUSE);
     CHECK(lrlex_document_position(document, 0, &place) == LRLEX_MISUSE);
     CHECK(lrlex_document_position_in(document, 0, LRLEX_UTF8, &place) == LRLEX_MISUSE);
@@ -134,6 +137,7 @@ static void texts(void) {
         CHECK(lrlex_pieces(&d, bytes(bad[i]), size, pieces, 8, &lexed) == LRLEX_NOT_UTF8);
         CHECK(lrlex_stop_report(&d, bytes("f"), 1, bytes(bad[i]), size, text, sizeof text, &len) == LRLEX_NOT_UTF8);
         CHECK(lrlex_stop_report(&d, bytes(bad[i]), size, bytes("?"), 1, text, sizeof text, &len) == LRLEX_NOT_UTF8);
+        CHECK(lrlex_entered_by(&d, bytes(bad[i]), size, &entered) == LRLEX_NOT_UTF8);
         CHECK(lrlex_places(bytes(bad[i]), size, &at, 1, &place, 1) == LRLEX_NOT_UTF8);
         const lrlex_named_id names[] = {{bytes("ID"), 2, 7}, {bytes(bad[i]), size, 8}};
         CHECK(lrlex_definition_set_rule_ids(&lone, names, 2, missing, 2) == LRLEX_NOT_UTF8);
@@ -164,6 +168,8 @@ static void texts(void) {
     CHECK(lrlex_document_position_in(&document, 0, 2, &place) == LRLEX_NONE);
     CHECK(lrlex_document_position_in(&document, 0, UINT32_MAX, &place) == LRLEX_NONE);
     CHECK(lrlex_stop_report(&d, bytes("f"), 1, bytes("a"), 1, text, sizeof text, &len) == LRLEX_NONE);
+    CHECK(lrlex_entered_by(&d, bytes("a ?"), 3, &entered) == LRLEX_NONE);
+    CHECK(lrlex_document_entered_by(&document, &entered) == LRLEX_NONE);
     lrlex_free(&document);
     lrlex_free(&d);
     lrlex_free(&lone);

@@ -112,6 +112,14 @@ static int find_places(void) {
     return lrlex_places(bytes("a\nb\nc"), 5, at, 2, places, 2);
 }
 
+/* It ends in a start state. */
+static int find_entered(void) {
+    lrlex_entered entered;
+    const int status = lrlex_entered_by(&d, bytes(EDITED), strlen(EDITED), &entered);
+    CHECK(status || (entered.start == 11 && entered.end == 12 && entered.state == 1));
+    return status;
+}
+
 static uint8_t written[512];
 static size_t len;
 
@@ -142,6 +150,7 @@ static int look(void) {
     lrlex_token tokens[32];
     lrlex_lexed lexed;
     lrlex_place place;
+    lrlex_entered entered;
     const int answers[] = {
         lrlex_fault_at(&refused, 0, &fault),
         lrlex_fault_span_at(&refused, 0, 0, &span),
@@ -151,6 +160,7 @@ static int look(void) {
         lrlex_state_at(&d, 0, &state),
         lrlex_state_name(&d, 0, written, sizeof written, &len),
         lrlex_document_tokens(&document, 0, tokens, 32, &lexed),
+        lrlex_document_entered_by(&document, &entered),
         lrlex_document_len(&document, &len),
         lrlex_document_text(&document, 0, 1, written, sizeof written, &len),
         lrlex_document_place(&document, 1, &place),
@@ -179,6 +189,7 @@ static const struct {
     {"lrlex_lex", lex, LRLEX_OK},
     {"lrlex_pieces", cut, LRLEX_OK},
     {"lrlex_stop_report", report_stop, LRLEX_OK},
+    {"lrlex_entered_by", find_entered, LRLEX_OK},
     {"lrlex_definition_new, for ids", make_alone, LRLEX_OK},
     {"lrlex_definition_set_rule_ids", name_ids, LRLEX_OK},
     {"lrlex_definition_share", share, LRLEX_OK},

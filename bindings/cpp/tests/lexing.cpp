@@ -170,6 +170,28 @@ void pieces_are_the_whole_text() {
     EXPECT(definition.state_name(0) == "INITIAL" && definition.state_name(1).empty());
 }
 
+/// Comments that nest. Of one, `*` and `/` alone have no rule.
+const char *const NESTED = "%x C\n%%\n[a-z]+ 'ID'\n[ ]+ ;\n<INITIAL,C>/\\* <+C>;\n<C>\\*/ <-C>;\n<C>[^*/]+ ;\n";
+
+/// Whether the state is the first behind INITIAL, and entered at this place.
+bool is_at(const std::optional<lrlex_entered> &entered, std::size_t start, std::size_t end) {
+    return entered && entered->start == start && entered->end == end && entered->state == 1;
+}
+
+void where_a_text_enters_a_start_state() {
+    const lrlex::Definition definition(NESTED);
+    EXPECT(is_at(definition.entered_by("a /* b /* c */ d"), 2, 4) && is_at(definition.entered_by("a /* b /* c"), 7, 9));
+    EXPECT(is_at(definition.entered_by("a /* b * c"), 2, 4) && definition.state_name(1) == "C");
+    EXPECT(!definition.entered_by("a /* b */ c") && !definition.entered_by({}) && !definition.entered_by("a ? /*"));
+    EXPECT(status_of([&] { definition.entered_by("a\xff"); }) == LRLEX_NOT_UTF8);
+    lrlex::Document document(definition, "a /* b /* c */ d");
+    EXPECT(is_at(document.entered_by(), 2, 4));
+    document.edit(12, 14, "");
+    EXPECT(is_at(document.entered_by(), 7, 9));
+    document.edit(7, 9, "*/");
+    EXPECT(!document.entered_by());
+}
+
 void places_of_a_text() {
     const char *text = "\xc3\xa9\nb c";
     std::string told;
@@ -320,6 +342,7 @@ void what_is_moved_from_is_empty() {
     move_to_itself(document);
     EXPECT(document.text() == "a b c" && document.lex().size() == 3);
     EXPECT(other.text().empty() && status_of([&] { other.lex(); }) == LRLEX_MISUSE);
+    EXPECT(status_of([&] { other.entered_by(); }) == LRLEX_MISUSE);
     EXPECT(status_of([&] { other.edit(0, 0, "a"); }) == LRLEX_MISUSE && other.text().empty());
     const lrlex::Document last = std::move(document);
     EXPECT(document.text().empty() && status_of([&] { document.place(0); }) == LRLEX_MISUSE && last.text() == "a b c");
@@ -336,6 +359,7 @@ void what_is_moved_from_is_empty() {
     lrlex::Definition owner = std::move(definition);
     move_to_itself(owner);
     EXPECT(owner.lex(text).size() == 2 && definition.rule_count() == 0);
+    EXPECT(status_of([&] { definition.entered_by("a"); }) == LRLEX_MISUSE);
     EXPECT(status_of([&] { definition.name(0); }) == LRLEX_MISUSE && status_of([&] { definition.share(); }) == LRLEX_MISUSE);
     EXPECT(error_of([&] { definition.lex("a"); }).what() == std::string("the object is empty: it was moved from"));
 }
@@ -352,6 +376,7 @@ int main() {
     a_text_that_is_not_utf8();
     options_change_what_matches();
     pieces_are_the_whole_text();
+    where_a_text_enters_a_start_state();
     places_of_a_text();
     a_document_through_edits();
     a_document_takes_parts_of_its_own_text();

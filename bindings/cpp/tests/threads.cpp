@@ -45,6 +45,8 @@ Found work(const lrlex::Definition &definition, const std::string &text) {
     lrlex::Document document(definition, text);
     for (std::size_t at = 0; at < 200; at += 20) document.edit(at, at + 3, at % 40 ? "\"" : "12 ab");
     add(found, document.lex());
+    for (const auto &entered : {definition.entered_by(text), document.entered_by()})
+        if (entered) found.insert(found.end(), {entered->start, entered->end, entered->state});
     for (std::size_t rule = 0; rule < definition.rule_count(); rule++) found.push_back(definition.rule_name(rule).size());
     found.push_back(definition.stop_report(text, "a").size());
     return found;

@@ -16,9 +16,9 @@ refers to them, or by close() and at the end of a `with` statement.
 
 from ._c import VERSION as __version__
 from ._c import Error, FaultKind, SharedError
-from ._lexing import Definition, Document, Fault, LexError, Piece, Place, RulesError, Scanner, Tile, Token, places
+from ._lexing import Definition, Document, Entered, Fault, LexError, Piece, Place, RulesError, Scanner, Tile, Token, places
 
 __all__ = [
-    "Definition", "Document", "Error", "Fault", "FaultKind", "LexError", "Piece", "Place", "RulesError", "Scanner", "SharedError", "Tile",
-    "Token", "__version__", "places",
+    "Definition", "Document", "Entered", "Error", "Fault", "FaultKind", "LexError", "Piece", "Place", "RulesError", "Scanner",
+    "SharedError", "Tile", "Token", "__version__", "places",
 ]

@@ -106,6 +106,12 @@ class Lexed(Structure):
     _fields_ = [("count", c_size_t), ("end", c_size_t), ("state", c_size_t), ("stopped", c_bool), ("unmatched", c_bool)]
 
 
+class Entered(Structure):
+    """Where a text enters the start state in which it ends: the bytes of a piece, and the state."""
+
+    _fields_ = [(name, c_size_t) for name in ("start", "end", "state")]
+
+
 class Fault(Structure):
     """A fault of a rule text."""
 
@@ -174,11 +180,13 @@ FUNCTIONS: dict[str, tuple[Any, list[Any]]] = {
     "lrlex_lex": (c_int, [HANDLE, TEXT, SIZE, POINTER(Token), SIZE, LEXED]),
     "lrlex_pieces": (c_int, [HANDLE, TEXT, SIZE, POINTER(Piece), SIZE, LEXED]),
     "lrlex_stop_report": (c_int, [HANDLE, TEXT, SIZE, TEXT, SIZE, *WRITTEN]),
+    "lrlex_entered_by": (c_int, [HANDLE, TEXT, SIZE, POINTER(Entered)]),
     "lrlex_places": (c_int, [TEXT, SIZE, POINTER(SIZE), SIZE, POINTER(Place), SIZE]),
     "lrlex_document_new": (c_int, [HANDLE, HANDLE, TEXT, SIZE]),
     "lrlex_document_edit": (c_int, [HANDLE, SIZE, SIZE, TEXT, SIZE]),
     "lrlex_document_tokens": (c_int, [HANDLE, SIZE, POINTER(Token), SIZE, LEXED]),
     "lrlex_document_pieces_in": (c_int, [HANDLE, SIZE, SIZE, POINTER(Piece), SIZE, LEXED]),
+    "lrlex_document_entered_by": (c_int, [HANDLE, POINTER(Entered)]),
     "lrlex_document_len": (c_int, [HANDLE, POINTER(SIZE)]),
     "lrlex_document_text": (c_int, [HANDLE, SIZE, SIZE, *WRITTEN]),
     "lrlex_document_place": (c_int, [HANDLE, SIZE, POINTER(Place)]),

@@ -138,6 +138,17 @@ class Tile(NamedTuple):
     id: Optional[int]
 
 
+class Entered(NamedTuple):
+    """Where a text enters the start state in which it ends: `start` and `end` are indices of the piece that enters it.
+
+    `state` is the number of the start state, from 0.
+    """
+
+    start: int
+    end: int
+    state: int
+
+
 class _Text:
     """A text as Python has it, and as the C library has it, with the offsets of one in the other."""
 
@@ -183,6 +194,15 @@ class _Text:
             index = first + len(data[start:at].decode())
             found.append((number, first, index))
         return found
+
+    def entered(self, call: Callable[..., int]) -> Optional[Entered]:
+        """What a call says of where this text enters the start state in which it ends."""
+        it = _c.Entered()
+        status = call(byref(it))
+        if status == _c.NONE:
+            return None
+        check(status)
+        return Entered(self.index(it.start), self.index(it.end), it.state)
 
     def error(self, lexed: _c.Lexed) -> Optional[LexError]:
         """Where and why lexing stopped, if it did."""
@@ -425,6 +445,15 @@ class Definition(_Closing):
         name, data = _name(file), text.encode()
         return text_by(self._held.call, LIB.lrlex_stop_report, name, len(name), data, len(data))
 
+    def entered_by(self, text: str) -> Optional[Entered]:
+        """Where the text enters the start state in which it ends, such as the beginning of a comment that nothing closes.
+
+        Where lexing stops, the text ends. None if the text begins in that state and no piece leaves it: of a text that ends in INITIAL,
+        if it didn't leave INITIAL.
+        """
+        it = _Text(text)
+        return it.entered(partial(self._held.call, LIB.lrlex_entered_by, it.data, len(it.data)))
+
 
 def _tokens(names: Mapping[int, str], text: _Text, rows: Iterable[_Span], lexed: _c.Lexed) -> Iterator[Token]:
     """The tokens of these rows by the names of their ids, and then where lexing stopped, if it did."""
@@ -561,6 +590,11 @@ class Document(_Closing):
             call = partial(self._held.call, LIB.lrlex_document_pieces_in, first, last)
             rows, lexed = _rows(call, _c.Piece, _PIECE, max(0, last - first))
         return _pieces(self._rule_names, text, rows), text.error(lexed)
+
+    def entered_by(self) -> Optional[Entered]:
+        """Where the text enters the start state in which it ends, as `Definition.entered_by` tells it."""
+        with self._held.lock:
+            return self._kept().entered(partial(self._held.call, LIB.lrlex_document_entered_by))
 
     def place(self, index: int) -> tuple[int, int]:
         """Line and column of an index of the text, both from 1; the column counts characters.

@@ -28,6 +28,10 @@ from lrlex import _c
 WORDS = "%%\n[0-9]+ 'INT'\n[a-zé😀]+ 'ID'\n[ ]+ ;\n"
 
 
+# Comments that nest. Of one, `*` and `/` alone have no rule.
+NESTED = "%x C\n%%\n[a-zé]+ 'ID'\n[ ]+ ;\n<INITIAL,C>/\\* <+C>;\n<C>\\*/ <-C>;\n<C>[^*/]+ ;\n"
+
+
 def pairs(tokens):
     """Name and text of each token."""
     return [(token.name, token.text) for token in tokens]
@@ -209,6 +213,19 @@ class Tokens(unittest.TestCase):
         self.assertEqual([(it.name, it.text) for it in pieces], [("ID", "é"), (None, "  "), ("INT", "1")])
         self.assertEqual(stop.start, 4)
 
+    def test_where_a_text_enters_a_start_state(self):
+        definition = lrlex.Definition(NESTED)
+        rows = [
+            ("é /* b /* c */ d", (2, 4, 1)), ("é /* 😀 /* c", (7, 9, 1)), ("a /* b * c", (2, 4, 1)),
+            ("é /* b */ c", None), ("", None), ("a ? /*", None),
+        ]
+        for text, wanted in rows:
+            with self.subTest(text=text):
+                self.assertEqual(definition.entered_by(text), wanted)
+                self.assertEqual(lrlex.Document(definition, text).entered_by(), wanted)
+        self.assertEqual(definition.entered_by("/*"), lrlex.Entered(start=0, end=2, state=1))
+        self.assertEqual(definition.state_name(1), "C")
+
     def test_names_and_reports(self):
         definition = lrlex.Definition(WORDS)
         self.assertEqual([definition.rule_name(it) for it in range(definition.rule_count)], ["INT", "ID", None])
@@ -318,6 +335,13 @@ class Documents(unittest.TestCase):
         self.assertEqual(document.pieces(), definition.pieces("éb 1😀"))
         self.assertEqual((document.place(5), document.position(5)), ((1, 6), (0, 6)))
 
+    def test_edits_of_where_a_start_state_is_entered(self):
+        document = lrlex.Document(lrlex.Definition(NESTED), "é /* b /* c */ d")
+        document.edit(12, 14, "")
+        self.assertEqual(document.entered_by(), (7, 9, 1))
+        document.edit(7, 9, "*/")
+        self.assertIsNone(document.entered_by())
+
     def test_places_of_a_text(self):
         text = "é\nb 😀c\n\nd"
         document = lrlex.Document(lrlex.Definition(WORDS), text)
@@ -421,10 +445,11 @@ class Closing(unittest.TestCase):
                 lambda it: it.lex("a"), lambda it: it.spans("a"), lambda it: it.pieces("a"), lambda it: it.scanner("a"),
                 lambda it: lrlex.Document(it, "a"), lambda it: it.name(0), lambda it: it.rule_name(0), lambda it: it.rule_count,
                 lambda it: it.state_name(0), lambda it: it.set_rule_ids({}), lambda it: it.stop_report("?", "a"),
+                lambda it: it.entered_by("a"),
             ]),
             (lrlex.Document(open_one, "a 1"), [
                 lambda it: it.lex(), lambda it: it.pieces(), lambda it: it.text, lambda it: it.edit(0, 0, "b"), lambda it: it.place(0),
-                lambda it: it.position(0), lambda it: it.offset_at(0, 0),
+                lambda it: it.position(0), lambda it: it.offset_at(0, 0), lambda it: it.entered_by(),
             ]),
             (open_one.scanner("a 1"), [next, list]),
         ]

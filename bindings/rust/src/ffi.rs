@@ -92,6 +92,14 @@ pub(crate) struct Lexed {
 
 #[repr(C)]
 #[derive(Clone, Copy, Debug, Default)]
+pub(crate) struct Entered {
+    pub(crate) start: usize,
+    pub(crate) end: usize,
+    pub(crate) state: usize,
+}
+
+#[repr(C)]
+#[derive(Clone, Copy, Debug, Default)]
 pub(crate) struct Fault {
     pub(crate) start: usize,
     pub(crate) end: usize,
@@ -189,6 +197,7 @@ unsafe extern "C" {
         cap: usize,
         len: *mut usize,
     ) -> c_int;
+    pub(crate) fn lrlex_entered_by(d: *mut Handle, text: *const u8, text_len: usize, out: *mut Entered) -> c_int;
     pub(crate) fn lrlex_places(
         text: *const u8,
         text_len: usize,
@@ -214,6 +223,7 @@ unsafe extern "C" {
         cap: usize,
         out: *mut Lexed,
     ) -> c_int;
+    pub(crate) fn lrlex_document_entered_by(d: *mut Handle, out: *mut Entered) -> c_int;
     pub(crate) fn lrlex_document_place(d: *mut Handle, byte: usize, out: *mut Place) -> c_int;
     pub(crate) fn lrlex_document_position_in(d: *mut Handle, byte: usize, encoding: u32, out: *mut Place) -> c_int;
     pub(crate) fn lrlex_document_offset_at(

@@ -510,6 +510,24 @@ fn stop(
     Ok(Some(LexError { start: lexed.end, line, column, state }))
 }
 
+/// Where a text enters the start state in which it ends.
+#[derive(Clone, Debug, PartialEq, Eq, Hash)]
+pub struct Entered {
+    /// The bytes of the piece that enters it.
+    pub span: Range<usize>,
+    /// The number of the start state, from 0.
+    pub state: usize,
+}
+
+/// What a call says of where a text enters the start state in which it ends.
+fn entered_by(call: impl Fn(&mut ffi::Entered) -> c_int) -> Result<Option<Entered>, Error> {
+    let mut it = ffi::Entered::default();
+    match call(&mut it) {
+        ffi::NONE => Ok(None),
+        status => checked(status).map(|()| Some(Entered { span: it.start..it.end, state: it.state })),
+    }
+}
+
 /// Names that no rule has, and names of rules without an id. `None` stands for an empty set.
 pub type IdSets<'a> = (Option<HashSet<&'a str>>, Option<HashSet<String>>);
 
@@ -666,6 +684,26 @@ impl Definition {
             // SAFETY: pointers and lengths are those of `&str`s, and there is room for `room` bytes.
             unsafe { ffi::lrlex_stop_report(self.held.get(), name, size, text, bytes, out, room, len) }
         })
+    }
+
+    /// Where a text enters the start state in which it ends, such as the beginning of a comment that nothing closes. Where lexing
+    /// stops, the text ends. `None` if the text begins in that state and no piece leaves it. Of a text that ends in `INITIAL` it is `Some`
+    /// if the text left `INITIAL`.
+    ///
+    /// ```
+    /// let definition: lrlex::Definition = "%x TEXT\n%%\n[a-z]+ 'ID'\n\" <+TEXT>;\n<TEXT>\" <-TEXT>;\n<TEXT>[^\"]+ 'TEXT'".parse()?;
+    /// let entered = definition.entered_by("a\"b\"\"c")?.unwrap();
+    /// assert_eq!((entered.span, definition.state_name(entered.state).as_deref()), (4..5, Some("TEXT")));
+    /// assert!(definition.entered_by("a\"b\"")?.is_none());
+    /// # Ok::<(), lrlex::Error>(())
+    /// ```
+    ///
+    /// # Errors
+    ///
+    /// [`Error::OutOfMemory`].
+    pub fn entered_by(&self, text: &str) -> Result<Option<Entered>, Error> {
+        // SAFETY: pointer and length are a `&str`'s, and one struct is written.
+        entered_by(|out| unsafe { ffi::lrlex_entered_by(self.held.get(), text.as_ptr(), text.len(), out) })
     }
 
     /// The name of the first rule that has a name and this id. `None` if there is no such rule.
@@ -967,6 +1005,14 @@ impl Document {
         })?;
         let stop = stop(&lexed, |byte| Ok(self.place(byte)))?;
         Ok((pieces.into_iter().map(Piece::from).collect(), stop))
+    }
+
+    /// Where the text enters the start state in which it ends, as [`Definition::entered_by`] tells it.
+    #[must_use]
+    pub fn entered_by(&self) -> Option<Entered> {
+        // SAFETY: one struct is written.
+        entered_by(|out| unsafe { ffi::lrlex_document_entered_by(self.held.get(), out) })
+            .expect("the call asks for no memory")
     }
 
     /// Line and column of a byte, from 1; the column counts characters. A byte inside a character has the character's place.

@@ -10,8 +10,8 @@ use std::sync::Mutex;
 use std::thread;
 
 use lrlex::{
-    Budget, Definition, Document, Error, Fault, FaultKind, FaultSpan, LexError, LexFlags, Lexeme, Lexer, Piece,
-    PositionEncoding, RulesError, Scanner, Tile,
+    Budget, Definition, Document, Entered, Error, Fault, FaultKind, FaultSpan, LexError, LexFlags, Lexeme, Lexer,
+    Piece, PositionEncoding, RulesError, Scanner, Tile,
 };
 
 #[path = "../build.rs"]
@@ -239,6 +239,30 @@ fn pieces_are_the_whole_text() {
 }
 
 #[test]
+fn where_a_text_enters_a_start_state() {
+    // comments that nest; of one, `*` and `/` alone have no rule
+    let rules = "%x C\n%%\n[a-z]+ 'ID'\n[ ]+ ;\n<INITIAL,C>/\\* <+C>;\n<C>\\*/ <-C>;\n<C>[^*/]+ ;\n";
+    let definition: Definition = rules.parse().unwrap();
+    let at = |span| Some(Entered { span, state: 1 });
+    for (text, entered) in [
+        ("a /* b /* c */ d", at(2..4)),
+        ("a /* b /* c", at(7..9)),
+        ("a /* b * c", at(2..4)),
+        ("a /* b */ c", None),
+        ("", None),
+        ("a ? /*", None),
+    ] {
+        assert_eq!(definition.entered_by(text).unwrap(), entered, "{text:?}");
+        assert_eq!(Document::new(&definition, text).unwrap().entered_by(), entered, "{text:?}");
+    }
+    let mut document = Document::new(&definition, "a /* b /* c */ d").unwrap();
+    document.edit(12..14, "").unwrap();
+    assert_eq!(document.entered_by(), at(7..9));
+    document.edit(7..9, "*/").unwrap();
+    assert_eq!(document.entered_by(), None);
+}
+
+#[test]
 fn places_of_a_text() {
     let told = lrlex::places("é\nb c", &[0, 2, 5, 3, 1, usize::MAX]).unwrap();
     assert_eq!(told, [(1, 1), (1, 2), (2, 3), (2, 1), (1, 1), (2, 4)]);
@@ -433,10 +457,10 @@ const _: () = {
     const fn goes<T: Send + Unpin>() {}
     const fn is_shared<T: Sync>() {}
     const fn is_error<T: error::Error + Clone + Eq + Send + Sync + Unpin + 'static>() {}
-    goes::<(Definition, Document, Scanner<'_>, Lexer<'_>, Lexeme<'_>, Tile<'_>, Piece)>();
+    goes::<(Definition, Document, Scanner<'_>, Lexer<'_>, Lexeme<'_>, Tile<'_>, Piece, Entered)>();
     goes::<(Fault, FaultKind, FaultSpan, LexFlags, Budget, PositionEncoding)>();
     is_shared::<(Mutex<Definition>, Mutex<Document>, Mutex<Scanner<'_>>)>();
-    is_shared::<(Lexer<'_>, Lexeme<'_>, Tile<'_>, Piece)>();
+    is_shared::<(Lexer<'_>, Lexeme<'_>, Tile<'_>, Piece, Entered)>();
     is_shared::<(Fault, FaultKind, FaultSpan, LexFlags, Budget, PositionEncoding)>();
     is_error::<RulesError>();
     is_error::<LexError>();

@@ -3,11 +3,12 @@ ghost use Rattle.std.specs.Prelude.{◌≡◌, ◌≢◌, pos, None, Some, Match
 ghost use Rattle.lrlex.specs.Nearest.{FitsAt};
 ghost use Rattle.lrlex_handles.specs.Answers.{WasEdited, AreTokensOf, ArePiecesOf, ArePartOf};
 ghost use Rattle.lrlex_handles.specs.Buffers.{IsWritten};
+ghost use Rattle.lrlex_handles.specs.Entering.{IsEntered};
 ghost use Rattle.lrlex_handles.specs.Objects.{definition_in, document_in};
 
-use lrlex_handles::documents::{editing, making, pieces, text, tokens};
+use lrlex_handles::documents::{editing, entering, making, pieces, text, tokens};
 use lrlex_handles::handle::Handle;
-use lrlex_handles::structs::{Lexed, Piece, Token};
+use lrlex_handles::structs::{Entered, Lexed, Piece, Token};
 use std::alloc::Global;
 
 /// Makes a document of this text. The definition may be freed before it. What `out` had before is freed.
@@ -129,4 +130,22 @@ pub extern "C" fn lrlex_document_pieces_in(
         (λ d. ArePartOf d.0 d.1 from to pieces.old pieces.new out.new) }
 {
     pieces::part(alloc, handle, from, to, pieces, out)
+}
+
+/// Where the document enters the start state in which it ends: the last tile before which the stack lacked the entry on top at the end,
+/// such as that which begins a comment that nothing closes. 5 if the document begins in that state and no tile leaves it.
+#[unsafe(no_mangle)]
+pub extern "C" fn lrlex_document_entered_by(
+    alloc: Global,
+    handle: &mut Handle,
+    out: &mut Entered,
+) -> i32
+    ensures kept { document_in handle.new.value ≡ document_in handle.old.value }
+    ensures misused { result ≡ pos 4 ↔ document_in handle.old.value ≡ None }
+    ensures done { result ≡ pos 0 → IfSome (document_in handle.old.value)
+        (λ d. IsEntered d.0 d.1 (Some out.new)) }
+    ensures none { result ≡ pos 5 → IfSome (document_in handle.old.value)
+        (λ d. IsEntered d.0 d.1 None) }
+{
+    entering::entered_by(alloc, handle, out)
 }

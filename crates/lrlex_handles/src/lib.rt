@@ -3,6 +3,7 @@
 
 pub mod definitions;
 pub mod documents;
+pub mod entering;
 pub mod error_texts;
 pub mod errors;
 mod filling;

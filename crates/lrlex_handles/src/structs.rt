@@ -62,6 +62,16 @@ pub struct Lexed {
     pub unmatched: bool,
 }
 
+/// Where a text enters the start state in which it ends: the bytes of the tile that entered it, from `start` up to `end`, and the
+/// state.
+#[repr(C)]
+#[derive(Clone, Copy)]
+pub struct Entered {
+    pub start: usize,
+    pub end: usize,
+    pub state: usize,
+}
+
 /// A fault of a rule text: its kind, its first span, in bytes, and line and column of that, both from 1.
 #[repr(C)]
 #[derive(Clone, Copy)]

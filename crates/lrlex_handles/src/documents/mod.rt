@@ -2,6 +2,7 @@
 use lrlex::DefaultLexerTypes;
 
 pub mod editing;
+pub mod entering;
 pub mod making;
 pub mod offsets;
 pub mod pieces;
