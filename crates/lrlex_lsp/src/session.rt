@@ -151,30 +151,88 @@ fn first_rules(options: &Options) -> Result<Option<String>, AllocError> {
     }
 }
 
-/// Serves until the input ends or the client ends it, and says whether the client had shut the server down before. Where the given
-/// rules change, all texts are lexed by the new ones. It fails where memory runs out, or the reader or the writer fails.
-pub fn serve<R: Read, W: Write>(
+/// What stays the same in a session.
+#[derive(Drop)]
+struct Base {
+    /// The language of rule files.
+    own: Language,
+    /// The language without rules.
+    bare: Language,
+    /// The URI of the given rule file, or an empty text.
+    uri: String,
+}
+
+/// What stays the same in a session of these options.
+fn base_of(alloc: Global, options: &Options) -> Result<Base, AllocError> {
+    let uri = rules_uri(alloc, options)?;
+    let own = faultless(Language::of_rules(alloc))?;
+    let bare = faultless(Language::without_rules(alloc))?;
+    Ok(Base { own, bare, uri })
+}
+
+/// Serves as `serve_over` does, where this is the language of the given rules.
+fn serve_by<R: Read, W: Write>(
     alloc: Global,
     reader: &mut R,
     writer: &mut W,
-    options: Options,
+    base: &Base,
+    options: &Options,
+    language: Option<&Language>,
+    state: State,
+) -> io::Result<Ended> {
+    let given = Given {
+        own: &base.own,
+        bare: &base.bare,
+        language,
+        uri: &base.uri,
+        flags: options.flags,
+        allowed: options.allowed.as_slice(),
+    };
+    serve_over(alloc, reader, writer, given, state)
+}
+
+/// Serves as `serve_over` does, where this is the text of the given rules, if there are any.
+fn serve_from<R: Read, W: Write>(
+    alloc: Global,
+    reader: &mut R,
+    writer: &mut W,
+    base: &Base,
+    options: &Options,
+    rules: Option<&str>,
+    state: State,
+) -> io::Result<Ended> {
+    let language = language_of(alloc, rules, options)?;
+    serve_by(
+        alloc,
+        reader,
+        writer,
+        base,
+        options,
+        language.as_ref(),
+        state,
+    )
+}
+
+/// Serves until the input ends or the client ends it, and says whether the client had shut the server down before.
+fn serve_all<R: Read, W: Write>(
+    alloc: Global,
+    reader: &mut R,
+    writer: &mut W,
+    base: &Base,
+    options: &Options,
 ) -> io::Result<bool> {
-    let own = faultless(Language::of_rules(alloc))?;
-    let bare = faultless(Language::without_rules(alloc))?;
-    let uri = rules_uri(alloc, &options)?;
-    let mut rules = first_rules(&options)?;
+    let mut rules = first_rules(options)?;
     let mut state = State::new(alloc);
     for _ in 0..u64::MAX {
-        let language = language_of(alloc, rules.as_ref().map(|text| text.as_str()), &options)?;
-        let given = Given {
-            own: &own,
-            bare: &bare,
-            language: language.as_ref(),
-            uri: &uri,
-            flags: options.flags,
-            allowed: options.allowed.as_slice(),
-        };
-        match serve_over(alloc, reader, writer, given, state)? {
+        match serve_from(
+            alloc,
+            reader,
+            writer,
+            base,
+            options,
+            rules.as_deref(),
+            state,
+        )? {
             Ended::Done(is_clean) => return Ok(is_clean),
             Ended::Rules(kept, text) => {
                 state = kept;
@@ -183,4 +241,16 @@ pub fn serve<R: Read, W: Write>(
         }
     }
     Ok(false)
+}
+
+/// Serves until the input ends or the client ends it, and says whether the client had shut the server down before. Where the given
+/// rules change, all texts are lexed by the new ones. It fails where memory runs out, or the reader or the writer fails.
+pub fn serve<R: Read, W: Write>(
+    alloc: Global,
+    reader: &mut R,
+    writer: &mut W,
+    options: Options,
+) -> io::Result<bool> {
+    let base = base_of(alloc, &options)?;
+    serve_all(alloc, reader, writer, &base, &options)
 }
