@@ -59,8 +59,9 @@ path_named [] absolute = absurd (true≢false (sym absolute))
 path_named (b ∷ bs) absolute = subst (λ c. path_of (codes "file://" ++ (c ∷ bs)) ≡ Some (c ∷ bs)) (sym (absolute_first b bs absolute)) refl
 
 -- the URI of an absolute path names it
-pub named_file : (path : List ℕ) → All IsByte path → IsTrue (is_absolute path) → named (codes "file://" ++ escaped path) ≡ plain path
+pub named_file : (path : List ℕ) → All IsByte path → IsTrue (is_absolute path) → named (codes "file://" ++ escaped path) ≡ codes "file:" ++ plain path
 named_file path small absolute =
     let read : percent_decode (codes "file://" ++ escaped path) ≡ codes "file://" ++ path =
     kept_front (escaped path) ∙ ap (λ x. codes "file://" ++ x) (ap percent_decode (sym (escaped_is path small)) ∙ round_trip ESCAPED path refl small) in
-    ap (λ bytes. option_map_or plain (path_of bytes) bytes) read ∙ ap (λ it. option_map_or plain it (codes "file://" ++ path)) (path_named path absolute)
+    let name : List ℕ → List ℕ = λ it. codes "file:" ++ plain it in
+    ap (λ bytes. option_map_or name (path_of bytes) bytes) read ∙ ap (λ it. option_map_or name it (codes "file://" ++ path)) (path_named path absolute)

@@ -22,7 +22,7 @@ pub enum Guess {
 }
 
 /// Whether two texts are the same but for the case of ASCII letters.
-fn is_alike(one: &[u8], other: &str) -> bool
+pub(crate) fn is_alike(one: &[u8], other: &str) -> bool
     ensures { result ≡ str_eq_ignore_ascii_case one.now other.now }
 {
     one.eq_ignore_ascii_case(other.as_bytes())

@@ -137,8 +137,8 @@ fn faultless(language: Result<Language, LanguageFault>) -> Result<Language, Allo
 /// The URI of the given rule file, or an empty text.
 fn rules_uri(alloc: Global, options: &Options) -> Result<String, AllocError> {
     match &options.rules {
-        Some((uri, _)) if uri.starts_with("file:") => uri.clone(),
-        Some((path, _)) => file_uri(alloc, path),
+        Some((path, _)) if path.starts_with('/') => file_uri(alloc, path),
+        Some((uri, _)) => uri.clone(),
         None => Ok(String::new(alloc)),
     }
 }

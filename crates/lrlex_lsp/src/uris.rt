@@ -2,8 +2,9 @@
 ghost use Rattle.std.specs.Prelude.{◌≡◌, ◌↔◌, ◌++◌, IfOk, IsTrue, OnOk, codes, option_copied, string_bytes, take};
 ghost use Rattle.std.specs.List.{before_last};
 ghost use Rattle.percent_encoding.specs.Percent as percent;
-ghost use Rattle.lrlex_lsp.specs.Uris.{IsSameFile, escaped, is_absolute, is_slash, led_to, named, path_of, plain};
+ghost use Rattle.lrlex_lsp.specs.Uris.{IsSameFile, behind, escaped, is_absolute, is_slash, led_to, local, named, path_of, plain};
 
+use crate::guesses::is_alike;
 use percent_encoding::{AsciiSet, NON_ALPHANUMERIC, ascii_set, percent_decode, percent_encode};
 use std::alloc::{AllocError, Global};
 
@@ -26,12 +27,33 @@ fn decoded(alloc: Global, uri: &str) -> Result<Vec<u8>, AllocError>
     Ok(bytes)
 }
 
-/// The path that a URI names on this machine, which it calls `localhost` or nothing.
+/// What is behind this beginning, in letters of either case. None where a text doesn't begin so.
+fn behind<'t>(text: &'t [u8], beginning: &str) -> Option<&'t [u8]>
+    ensures { option_copied result ≡ behind beginning.now text.now }
+{
+    let (front, rest) = text.split_at_checked(beginning.len())?;
+    if is_alike(front, beginning) {
+        Some(rest)
+    } else {
+        None
+    }
+}
+
+/// The path behind `file:`: at once, or behind `//` and the name of this machine, which is `localhost` or nothing.
+fn local(rest: &[u8]) -> &[u8]
+    ensures { result.now ≡ local rest.now }
+{
+    match behind(rest, "//") {
+        Some(host) => behind(host, "localhost").unwrap_or(host),
+        None => rest,
+    }
+}
+
+/// The path that a URI names on this machine.
 fn path_of(uri: &[u8]) -> Option<&[u8]>
     ensures { option_copied result ≡ path_of uri.now }
 {
-    let path = uri.strip_prefix(b"file://")?;
-    let path = path.strip_prefix(b"localhost").unwrap_or(path);
+    let path = local(behind(uri, "file:")?);
     if path.starts_with(b"/") {
         Some(path)
     } else {
@@ -74,19 +96,23 @@ fn plain(alloc: Global, path: &[u8]) -> Result<Vec<u8>, AllocError>
     Ok(plain)
 }
 
-/// What a URI names: the plain path of a file of this machine, or else its bytes once their percent escapes are read.
+/// What a URI names: `file:` and the plain path of a file of this machine, or else its bytes once their percent escapes are read.
 fn named(alloc: Global, uri: &str) -> Result<Vec<u8>, AllocError>
     ensures { IfOk result (λ bytes. bytes.items ≡ named uri.now) }
 {
     let bytes = decoded(alloc, uri)?;
-    if let Some(path) = path_of(&bytes) {
-        return plain(alloc, path);
-    }
-    Ok(bytes)
+    let Some(path) = path_of(&bytes) else {
+        return Ok(bytes);
+    };
+    let mut name = Vec::new(alloc);
+    name.extend_from_slice(b"file:")?;
+    name.extend_from_slice(&plain(alloc, path)?)?;
+    Ok(name)
 }
 
 /// Whether two URIs name one file: they are the same once their percent escapes are read (RFC 3986, section 2.4), and their paths
-/// made plain. `file://localhost` is `file://`. A path is plain without `.`, `..` and empty parts, and links aren't followed.
+/// made plain. `file:/a`, `file:///a` and `FILE://localhost/a` are one file (RFC 8089). A path is plain without `.`, `..` and empty
+/// parts, and links aren't followed.
 pub fn is_same_file(alloc: Global, one: &str, other: &str) -> Result<bool, AllocError>
     ensures { IfOk result (λ same. IsTrue same ↔ IsSameFile one.now other.now) }
 {
@@ -103,7 +129,7 @@ pub fn is_same_file(alloc: Global, one: &str, other: &str) -> Result<bool, Alloc
 pub fn file_uri(alloc: Global, path: &str) -> Result<String, AllocError>
     ensures text { IfOk result (λ uri. string_bytes uri ≡ codes "file://" ++ escaped path.now) }
     ensures names { IfOk result (λ uri. IsTrue (is_absolute path.now)
-        → named (string_bytes uri) ≡ plain path.now) }
+        → named (string_bytes uri) ≡ codes "file:" ++ plain path.now) }
 {
     let mut uri = String::from_str(alloc, "file://")?;
     percent_encode(path.as_bytes(), ESCAPED).append_to(&mut uri)?;
