@@ -6,6 +6,7 @@ pub mod Guesses
 pub mod Languages
 pub mod Messages
 pub mod Rows
+pub mod Servers
 pub mod Shown
 pub mod TokenTypes
 pub mod Tokens

@@ -1,6 +1,7 @@
 //! A document that a client has opened.
 ghost use Rattle.std.specs.Prelude.{◌≡◌, IfOk};
 ghost use Rattle.lrlex_lsp.specs.Changes.{replaced};
+ghost use Rattle.lrlex_lsp.specs.Servers.{kept_as, open_as};
 
 use crate::changes::{NumberEdit, joined};
 use crate::json::push_numbers;
@@ -68,7 +69,9 @@ impl<'d> Opened<'d> {
     }
 
     /// The document of this URI, without what it is lexed by.
-    pub(crate) fn kept(&self, alloc: Global, uri: &str) -> Result<Kept, AllocError> {
+    pub(crate) fn kept(&self, alloc: Global, uri: &str) -> Result<Kept, AllocError>
+        ensures { IfOk result (λ kept. kept_as kept ≡ open_as uri.now self.now) }
+    {
         Ok(Kept {
             uri: String::from_str(alloc, uri)?,
             is_rules: matches!(self.role, Role::Rules),

@@ -4,6 +4,7 @@ ghost use Rattle.serde_json.specs.Data.{Data};
 ghost use Rattle.serde_json.specs.Read.{read};
 ghost use Rattle.serde_json.specs.View.{view};
 ghost use Rattle.lrlex_lsp.specs.Messages.{IsAnswer, IsNotification, IsRequest};
+ghost use Rattle.lrlex_lsp.specs.Servers.{GoesOnFrom, IsLeftBy};
 
 use crate::capabilities::initialized;
 use crate::messages::{
@@ -41,7 +42,9 @@ impl<'d> Server<'d> {
         given: Given<'d>,
         state: State,
         told: &mut Vec<String>,
-    ) -> Result<Server<'d>, AllocError> {
+    ) -> Result<Server<'d>, AllocError>
+        ensures { IfOk result (GoesOnFrom state) }
+    {
         let State {
             phase,
             client,
@@ -63,7 +66,9 @@ impl<'d> Server<'d> {
     }
 
     /// What a server over other languages goes on from.
-    pub fn close(self) -> Result<State, AllocError> {
+    pub fn close(self) -> Result<State, AllocError>
+        ensures { IfOk result (IsLeftBy self.entry) }
+    {
         let Server {
             alloc: _,
             phase,

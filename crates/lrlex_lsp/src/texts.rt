@@ -1,5 +1,6 @@
 //! The documents that are open.
-ghost use Rattle.std.specs.Prelude.{◌≡◌, ◌<◌, ◌+◌, ◌^◌};
+ghost use Rattle.std.specs.Prelude.{◌≡◌, ◌<◌, ◌+◌, ◌^◌, IfOk, map};
+ghost use Rattle.lrlex_lsp.specs.Servers.{KeepsClient, all_open, kept_as};
 
 use crate::diagnostics::{nothing_of, told_of};
 use crate::edits::make_change;
@@ -41,7 +42,11 @@ impl<'d> Texts<'d> {
         client: Client,
         counts: Counts,
         saved: Option<String>,
-    ) -> Texts<'d> {
+    ) -> Texts<'d>
+        ensures client { result.client ≡ client }
+        ensures counts { result.counts ≡ counts }
+        ensures saved { result.saved ≡ saved }
+    {
         Texts {
             alloc,
             given,
@@ -62,7 +67,9 @@ impl<'d> Texts<'d> {
         &mut self,
         kept: Vec<Kept>,
         told: &mut Vec<String>,
-    ) -> Result<(), AllocError> {
+    ) -> Result<(), AllocError>
+        ensures { KeepsClient self.old self.new }
+    {
         for text in &kept {
             self.open(&text.uri, text.is_rules, &text.text, text.version)?;
             self.tell(&text.uri, told)?;
@@ -76,7 +83,9 @@ impl<'d> Texts<'d> {
     }
 
     /// The documents, without what they are lexed by.
-    pub(crate) fn close(self) -> Result<Vec<Kept>, AllocError> {
+    pub(crate) fn close(self) -> Result<Vec<Kept>, AllocError>
+        ensures { IfOk result (λ kept. map kept_as kept.items ≡ all_open self.entry.open.entries) }
+    {
         let mut all = Vec::new(self.alloc);
         for (uri, opened) in self.open.iter() {
             all.push(opened.kept(self.alloc, uri)?)?;
@@ -110,7 +119,9 @@ impl<'d> Texts<'d> {
         is_rules: bool,
         text: &str,
         version: Option<usize>,
-    ) -> Result<(), AllocError> {
+    ) -> Result<(), AllocError>
+        ensures { KeepsClient self.old self.new }
+    {
         let (role, language) = self.role_of(uri, is_rules)?;
         let name = String::from_str(self.alloc, uri)?;
         let opened = Opened::new(self.alloc, role, language, text, version)?;
