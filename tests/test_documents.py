@@ -5,11 +5,17 @@ import unittest
 from support import replay
 from support.definitions import from_rules, from_text, rule
 from support.edits import edited, is_change, moved_item, moved_piece
-from support.formatting import format_items, format_pieces, format_places, names_of
+from support.formatting import format_boundaries, format_items, format_pieces, format_places, names_of
 from support.places import counted
 from support.rule_texts import COMMENTS, LINES, NESTED, WORDS
 
 FACES = "%%\n[a😀]+ 'ID'\n[ ] ;"
+
+# round brackets, square ones inside these, round ones inside those, each kind with a start state of its own
+TWO_KINDS = (
+    "%x round square\n%%\n"
+    "<INITIAL,square>\\( <+round>;\n<round>\\) <-round>;\n<round>\\[ <+square>;\n<square>\\] <-square>;\n<*>[a-z] 'IN'"
+)
 
 # A row: what it shows, rules, text, edits; then text, items, pieces, and how many edits didn't fit.
 DOCUMENTS = [
@@ -180,6 +186,29 @@ CHANGES = [
     ),
 ]
 
+# What a row shows, how its definition is made, its text, the edits, and the boundaries after each of them and before the first:
+# the place and the stack from bottom to top.
+BOUNDARIES = [
+    ("an empty text, and a word that comes", from_text(WORDS), "", [(0, 0, "ab")], ["0:0", "0:0 2:0"]),
+    ("without a state 0", from_rules(LETTERS, False), "aa", [(0, 1, "b")], ["", ""]),
+    (
+        "a comment is opened to the end, and closed", from_text(COMMENTS), "a b c", [(2, 3, "/*"), (4, 4, " */")],
+        ["0:0 1:0 2:0 3:0 4:0 5:0", "0:0 1:0 2:0 4:0,1 6:0,1", "0:0 1:0 2:0 4:0,1 5:0,1 7:0 8:0 9:0"],
+    ),
+    (
+        "a bracket more before open ones, and one less", from_text(NESTED), "(b)d", [(0, 0, "("), (1, 2, "")],
+        ["0:0 1:0,1 2:0,1 3:0 4:0", "0:0 1:0,1 2:0,1*2 3:0,1*2 4:0,1 5:0,1", "0:0 1:0,1 2:0,1 3:0 4:0"],
+    ),
+    (
+        "three states inside one another, one of them twice", from_text(TWO_KINDS), "([x])", [(2, 2, "("), (4, 4, ")")],
+        [
+            "0:0 1:0,1 2:0,1,2 3:0,1,2 4:0,1 5:0",
+            "0:0 1:0,1 2:0,1,2 3:0,1,2,1 4:0,1,2,1",
+            "0:0 1:0,1 2:0,1,2 3:0,1,2,1 4:0,1,2,1 5:0,1,2 6:0,1 7:0",
+        ],
+    ),
+]
+
 # Texts through edits, of which each must say truly what it changed.
 CHAINS = [
     (WORDS, "ab cd ef gh", [(3, 5, "x y"), (0, 0, "q "), (9, 9, "z"), (4, 4, "!"), (4, 5, ""), (0, 4, "")]),
@@ -223,8 +252,15 @@ class Documents(replay.TestCase):
                 of_document, of_run = replay.answers([document_case(rules, text, edits), run])
                 self.assertEqual(len(of_document.values("edit")), len(edits))
                 self.check_document(of_document, wanted)
-                for key in ["items", "pieces"]:
+                for key in ["items", "boundaries", "pieces"]:
                     self.assertEqual(of_document.last(key), of_run.last(key), key)
+
+    def test_the_boundaries_of_a_document_and_of_a_run_through_edits(self):
+        for name, definition, text, edits, wanted in BOUNDARIES:
+            with self.subTest(row=name):
+                cases = [definition.case([step, text, edits]) for step in ["document", "run"]]
+                for answers in replay.answers(cases):
+                    self.assertEqual([format_boundaries(it) for it in answers.values("boundaries")], wanted)
 
     def test_what_an_edit_changed(self):
         for name, definition, text, edits, wanted in CHANGES:

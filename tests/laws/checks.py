@@ -289,14 +289,15 @@ def compare_part(case, lines, run, tally):
 
 
 class DocumentState:
-    """What a document is, as its five lines have it."""
+    """What a document is, as its six lines have it."""
 
     def __init__(self, lines):
         self.lines = lines
-        counts, changed, text, items, pieces = lines
+        counts, changed, text, items, boundaries, pieces = lines
         self.tiles, self.recut, self.searches = value(counts, b"document")
         self.changed = value(changed, b"changed")
-        self.text, self.items, self.pieces = value(text, b"text"), raw(items, b"items"), raw(pieces, b"pieces")
+        self.text, self.items = value(text, b"text"), raw(items, b"items")
+        self.boundaries, self.pieces = raw(boundaries, b"boundaries"), raw(pieces, b"pieces")
 
 
 def compare_places(edit, line, tally):
@@ -310,6 +311,7 @@ def compare_document(shown, text, recomputed, tally):
     """A document has its text, and what lexing it again gives."""
     tally.same("text of a document", text, shown.text)
     tally.same("items of a document", recomputed.items, shown.items)
+    tally.same("boundaries of a document", recomputed.boundaries, shown.boundaries)
     tally.same("pieces of a document", recomputed.pieces, shown.pieces)
     tally.same("tiles of a document", recomputed.counts[0], shown.tiles)
 
@@ -347,13 +349,13 @@ def compare_edits(case, answers, tally):
     """Compares a document and a run after each edit with the run of the new text."""
     lines = answers["document"]
     runs = iter(runs_of(answers["edited runs"]))
-    before, recomputed = DocumentState(lines[:5]), one_run(answers["recomputed", None])
+    before, recomputed = DocumentState(lines[:6]), one_run(answers["recomputed", None])
     compare_document(before, case.edit_text, recomputed, tally)
     compare_relexed(before, recomputed, next(runs), tally)
     for number, edit in enumerate(case.edits):
         tally.at = number
-        fit, *five, places = lines[5 + 7 * number:12 + 7 * number]
-        shown = DocumentState(five)
+        fit, *six, places = lines[6 + 8 * number:14 + 8 * number]
+        shown = DocumentState(six)
         tally.same("whether an edit fits", edit.fits, value(fit, b"edit"))
         if edit.fits:
             recomputed = one_run(answers["recomputed", number])
@@ -368,7 +370,7 @@ def compare_edits(case, answers, tally):
         compare_places(edit, places, tally)
         before = shown
     tally.at = None
-    tally.law("no more runs than edits", next(runs, None) is None and len(lines) == 5 + 7 * len(case.edits))
+    tally.law("no more runs than edits", next(runs, None) is None and len(lines) == 6 + 8 * len(case.edits))
 
 
 # Token ids from a map

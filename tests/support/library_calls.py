@@ -88,6 +88,7 @@ class Lexed:
             ("changed", ANY),
             ("text", self.text),
             ("items", self.items()),
+            ("boundaries", self.boundaries()),
             ("pieces", self.pieces()),
         ]
 

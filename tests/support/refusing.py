@@ -166,7 +166,7 @@ class Calls(Run):
         A step as a whole is lent a definition that it doesn't change.
         """
         if self.line(at).startswith(b"edit "):
-            return self.last(at, b"document ", 5)
+            return self.last(at, b"document ", 6)
         return self.last(at, b"rules ", 1) if self.line(at).startswith(b"ids ") else []
 
     def last(self, at, key, count):

@@ -4,7 +4,7 @@ use crate::items::tell_items;
 use crate::runs::{most_of, tell_pieces};
 use lrlex::{DefaultLexerTypes, Document, EditError, Span};
 use lrlex_examples::callers::editing::{retyped, typed, visible};
-use lrlex_replay_cases::facts::tell_words;
+use lrlex_replay_cases::facts::{tell_boundary, tell_words};
 use lrlex_replay_cases::reading::{
     Change, Trouble, change_of, count_of, list_at, list_of, span_of, text_at,
 };
@@ -19,8 +19,17 @@ fn tell_change(told: &mut Told, change: lrlex::Change) {
     told.numbers(&[change.first, change.removed, change.inserted]);
 }
 
-/// Tells what a document shows: its counts, what the last edit changed in its items and in its pieces, its text, its items and its
-/// pieces.
+/// Tells the boundaries of a document.
+fn tell_boundaries(told: &mut Told, document: &Edited<'_>) {
+    told.list("boundaries");
+    for index in 0..document.boundaries() {
+        tell_boundary(told, document.boundary(index), document.stack(index));
+    }
+    told.close();
+}
+
+/// Tells what a document shows: its counts, what the last edit changed in its items and in its pieces, its text, its items, its
+/// boundaries and its pieces.
 fn tell_shown(told: &mut Told, document: &Edited<'_>) {
     told.key("document");
     told.numbers(&[
@@ -35,6 +44,7 @@ fn tell_shown(told: &mut Told, document: &Edited<'_>) {
     told.key("text");
     told.text(document.text());
     tell_items(told, document.items());
+    tell_boundaries(told, document);
     let pieces = document.pieces(told.alloc());
     tell_pieces(told, document.text(), pieces);
 }
