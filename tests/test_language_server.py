@@ -244,7 +244,7 @@ class RuleFiles(Session):
         text = "%s one\n%x 1\n%%\n[a-z]+ 'ID'\n[0-9+ 'NUMBER'\n<one,two>x 'X'\ny'Y'\nz Z\n<one w 'W'\n[a-z]* 'ID'\n"
         wanted = [
             (1, 3, 1, 4, f"Invalid start state name: {STATE_NAME}"), (4, 0, 4, 5, "Invalid regular expression: unclosed character class"),
-            (5, 0, 5, 9, f"Start state not known: {DECLARE_LIST}"), (6, 0, 6, 4, f"Rule is missing a space: {RULE}"), (7, 2, 7, 3, f"Invalid rule name: {QUOTES}"),
+            (5, 0, 5, 9, f"Start state not known (two): {DECLARE_LIST}"), (6, 0, 6, 4, f"Rule is missing a space: {RULE}"), (7, 2, 7, 3, f"Invalid rule name: {QUOTES}"),
             (8, 0, 8, 10, f"Invalid start state: {LIST}"), (9, 8, 9, 10, "Rule name already exists"),
         ]
         self.assertEqual(wanted, sorted(spot(it) for it in client.open(URI, text)["diagnostics"]))

@@ -1,11 +1,16 @@
 -- What is shown of the errors of a rule text.
 use Rattle.std.specs.Prelude.{◌≡◌, ℕ, List, [], ◌∷◌, ◌++◌, codes, flat_map, MatchOption, ◌==◌, if◌then◌else◌}
+use Rattle.std.specs.Str.{chars}
 use Rattle.lrlex_base.specs.Spans.{as_span, span_start, span_end}
 use Rattle.lrlex_base.specs.declared.spans.Span.{Span}
 use Rattle.lrlex_rules.specs.LexBuildError.{message, kind_text, fault_kind, fault_spans}
+use Rattle.lrlex_rules.specs.Text.{is_empty}
 use Rattle.lrlex_rules.specs.declared.faults.LexErrorKind.{LexErrorKind}
 use Rattle.lrlex_rules.specs.declared.faults.LexErrorKind.TheVariants.{PrematureEnd, RoutinesNotSupported, UnknownDeclaration, MissingSpace, InvalidName, UnknownStartState, DuplicateStartState, InvalidStartState, InvalidStartStateName, DuplicateName, RegexError, VerbatimNotSupported, TooManyRules}
 use Rattle.lrlex_rules.specs.declared.faults.LexBuildError.{LexBuildError}
+use Rattle.lrlex_report.specs.Carets.{shown_line, shown_rest}
+use Rattle.lrlex_report.specs.FaultRanges.{told_span}
+use Rattle.lrlex_report.specs.Listed.{unknown_name}
 use Rattle.lrlex_report.specs.Notes.{fault_note}
 use Rattle.lrlex_report.specs.PlaceTexts.{place_text}
 
@@ -49,9 +54,22 @@ places_text file rules said (x ∷ []) = place_text file rules (as_span x) said
 places_text file rules said (x ∷ y ∷ ys) =
     at_each file rules said (y ∷ ys) ++ first_text file rules x
 
--- what is wrong, without its places: the message, and the mistake that it usually comes of
+-- a name in parentheses, of which at most 80 characters are shown
+abbrev pub shown_name : (name : List ℕ) → List ℕ
+shown_name name = if is_empty name then [] else codes " (" ++ (shown_line (shown_rest 80 (chars name)) ++ codes ")")
+
+-- which name of a list of several start states isn't declared
+abbrev pub name_part : (rules : List ℕ) (at : ℕ) → LexErrorKind → List ℕ
+name_part rules at UnknownStartState = shown_name (unknown_name rules at)
+name_part rules at kind = []
+
+abbrev pub unknown_part : (rules : List ℕ) → LexBuildError → List ℕ
+unknown_part rules e = name_part rules (told_span (fault_spans e)).start (fault_kind e)
+
+-- what is wrong, without its places: the message, the name that isn't declared, and the mistake that it usually comes of
 abbrev pub IsFaultMessage : (rules : List ℕ) → LexBuildError → List ℕ → Type 0
-IsFaultMessage rules e text = (said : List ℕ) × IsMessageOf (fault_kind e) said × (text ≡ said ++ fault_note rules e)
+IsFaultMessage rules e text =
+    (said : List ℕ) × IsMessageOf (fault_kind e) said × (text ≡ (said ++ unknown_part rules e) ++ fault_note rules e)
 
 -- what is shown of an error
 abbrev pub IsFaultText : (file rules : List ℕ) → LexBuildError → List ℕ → Type 0

@@ -6,6 +6,7 @@ pub mod Dots
 pub mod Encoding
 pub mod FaultRanges
 pub mod FaultTexts
+pub mod Listed
 pub mod Literals
 pub mod Looks
 pub mod Notes

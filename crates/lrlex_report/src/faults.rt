@@ -1,10 +1,13 @@
 //! The errors of a rule text, as people read them.
 ghost use Rattle.std.specs.Prelude.{◌≡◌, ◌++◌, IfOk, OnOk, string_bytes};
 ghost use Rattle.lrlex_rules.specs.LexBuildError.{fault_kind, fault_spans};
-ghost use Rattle.lrlex_report.specs.FaultTexts.{IsMessageOf, at_each, fault_name, first_text, places_text, IsFaultMessage, IsFaultText, AreFaultTexts};
+ghost use Rattle.lrlex_report.specs.FaultTexts.{IsMessageOf, shown_name, unknown_part, at_each, fault_name, first_text, places_text, IsFaultMessage, IsFaultText, AreFaultTexts};
 
+use crate::carets::push_rest;
+use crate::listed::unknown_name;
 use crate::notes::fault_note;
 use crate::places::Source;
+use crate::ranges::told_span;
 use lrlex_base::{Span, Spanned};
 use lrlex_rules::{LexBuildError, LexErrorKind};
 use std::alloc::{AllocError, Global};
@@ -55,8 +58,34 @@ fn message_of(alloc: Global, fault: &LexBuildError) -> Result<String, AllocError
     }
 }
 
+/// Adds a name in parentheses, unless it is empty. Of more than 80 characters the first are shown.
+fn push_name(out: &mut String, name: &str) -> Result<(), AllocError>
+    ensures { OnOk result (string_bytes out.new ≡ string_bytes out.old ++ shown_name name.now) }
+{
+    if name.is_empty() {
+        return Ok(());
+    }
+    out.push_str(" (")?;
+    push_rest(out, name, 80)?;
+    out.push_str(")")
+}
+
+/// Adds which name of a list of several start states isn't declared, if that is the error.
+fn push_unknown(out: &mut String, rules: &str, fault: &LexBuildError) -> Result<(), AllocError>
+    ensures { OnOk result (string_bytes out.new ≡ string_bytes out.old
+        ++ unknown_part rules.now fault.now) }
+{
+    match fault.kind() {
+        LexErrorKind::UnknownStartState => {
+            push_name(out, unknown_name(rules, told_span(fault).start()))
+        }
+        _ => Ok(()),
+    }
+}
+
 /// What is wrong with a rule text, in one line, without its places: the kind's message. The reason follows where `regex` refuses
-/// a pattern, and then the mistake that such an error usually comes of, with what to write. `rules` is the text that has the error.
+/// a pattern, and the first name that isn't declared of a list of several start states. Then follows the mistake that such an error
+/// usually comes of, with what to write. `rules` is the text that has the error.
 pub fn fault_message(
     alloc: Global,
     rules: &str,
@@ -65,6 +94,7 @@ pub fn fault_message(
     ensures { IfOk result (λ said. IsFaultMessage rules.now fault.now (string_bytes said)) }
 {
     let mut message = message_of(alloc, fault)?;
+    push_unknown(&mut message, rules, fault)?;
     message.push_str(fault_note(rules, fault))?;
     Ok(message)
 }

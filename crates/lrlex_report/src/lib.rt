@@ -6,6 +6,7 @@ mod carets;
 mod char_counts;
 mod encoding;
 mod faults;
+mod listed;
 mod notes;
 mod pattern_notes;
 mod places;

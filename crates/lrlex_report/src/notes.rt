@@ -15,7 +15,7 @@ use crate::warnings::patterns::source_of;
 use lrlex_rules::{LexBuildError, LexErrorKind};
 
 /// The text from a place on.
-fn text_from(rules: &str, at: usize) -> &str
+pub(crate) fn text_from(rules: &str, at: usize) -> &str
     ensures { result.now ≡ text_from rules.now at }
 {
     &rules[nearest(rules, at)..]
@@ -70,7 +70,7 @@ fn has_blank(line: &str) -> bool
 }
 
 /// Whether a line begins with a list of start states. A target, which begins with `<` too, has no blank after it.
-fn begins_list(line: &str) -> bool
+pub(crate) fn begins_list(line: &str) -> bool
     ensures { result ≡ begins_list line.now }
 {
     line.starts_with("<") && has_blank(line)

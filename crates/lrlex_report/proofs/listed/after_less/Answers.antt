@@ -1,0 +1,7 @@
+use Rattle.std.proofs.Common.{None, lit<, refl}
+use Rattle.std.proofs.lemmas.Str.Pattern.{strip_prefix_char}
+use Rattle.lrlex_rules.proofs.Angles.{begins_no}
+use Rattle.lrlex_report.proofs.listed.after_less.Goals as goal
+
+pub returns-in-None : goal.returns-in-None
+returns-in-None c = rw (begins_no 60 c.args.text.now (strip_prefix_char 60 c.args.text.now None c.in-None.ensures.cases (lit< tt))) refl

@@ -1,0 +1,6 @@
+use Rattle.std.proofs.Common.{eqb, refl, lit<}
+use Rattle.lrlex_rules.proofs.Angles.{none_before}
+use Rattle.lrlex_report.proofs.listed.before_angle.Goals as goal
+
+pub returns-in-None : goal.returns-in-None
+returns-in-None c = rw (none_before (λ b. eqb b 62) c.args.line.now (c.in-None.ensures.byte (lit< tt) (λ w o h. h))) refl
