@@ -17,8 +17,8 @@ import unittest
 
 from support import programs, replay
 from support.messages import (
-    BACKSLASH, BARE, BEFORE_RULES, BLANK, CARET, CLASS, COMMENT, DOT, IN_PATTERN, KINDS, LIST, LOOKS, LOST, MARGIN, NAME_IN_PATTERN, NEVER_ENTERED,
-    NEVER_WINS, NO_MARK, NO_RULES, NO_TABLE, OPERATOR, QUOTED, QUOTES, SHORTER, WORD,
+    BACKSLASH, BARE, BEFORE_RULES, BLANK, CARET, CLASS, CLASS_NAME, COMMENT, DOT, IN_PATTERN, KINDS, LIST, LOOKS, LOST, MARGIN,
+    NAME_IN_PATTERN, NEVER_ENTERED, NEVER_WINS, NO_MARK, NO_RULES, NO_TABLE, OPERATOR, QUOTED, QUOTES, SHORTER, WORD,
 )
 from support.programs import Outcome
 
@@ -394,6 +394,11 @@ WARNED = [
     ("%%\n[#-[\\]-~]+ 'A'\n[ -~~]+ 'B'\n", []),
     # so are hyphens at the front of a class; classes with names, escapes and what is outside a class are no operators
     ("%%\n[[:digit:]] 'A'\n[--/] 'B'\n[]\\[\\-\\-&\\&~] 'C'\n[^--a[:space:]]+ 'D'\n--&& 'E'\n", []),
+    # a class with a name outside a class, and with names that `regex` doesn't know: in a class, behind others and `^`, on a right side
+    ("%%\n[:alpha:]+ 'A'\n[[:dgit:]]+ 'B'\n[^0-9[:^Digit:]] 'C'\n", [(2, 1, 10, CLASS_NAME), (3, 1, 11, CLASS_NAME), (4, 1, 16, CLASS_NAME)]),
+    ("%s S\n%%\na <+S>;\n<S>[b-z&&[:alpah:]] 'B'\n", [(4, 1, 19, CLASS_NAME)]),
+    # names that it knows, a `[` that ends a range, an escaped one, a name with a digit, and none
+    ("%%\n[[:^word:][:xdigit:]] 'A'\n[#-[:alpah:] 'B'\n\\[:alpah:] 'C'\n[[:a1:]]{2} 'D'\nx[[::]] 'E'\n", []),
     ("%x S T\n%%\na <S>'A'\n", [(1, 4, 1, NO_RULES), (1, 6, 1, NEVER_ENTERED), (1, 6, 1, NO_RULES)]),
     ("%s S\n%%\na <-S>'A'\n", [(1, 4, 1, NEVER_ENTERED)]),
     ("%%\n", [(1, 1, 1, NO_RULES)]),

@@ -46,6 +46,10 @@ CLASS = (
     "this class has an operator: [ begins another class, and --, && and ~~ are operations on sets; "
     "write a backslash before the character, as \\[ or \\-"
 )
+CLASS_NAME = (
+    "this [:name:] is no class with a name, but a set of its characters; write it within a class, as [[:alpha:]], and one of "
+    "alnum, alpha, ascii, blank, cntrl, digit, graph, lower, print, punct, space, upper, word or xdigit"
+)
 SHORTER = "an alternative never matches here: it begins with an earlier one, which is tried first; put the longer one first"
 NEVER_ENTERED = "no rule enters this start state; name it as the target of a rule"
 NO_RULES = "no rule is active in this start state, so lexing stops there; list it before a pattern"
@@ -54,5 +58,6 @@ NO_RULES = "no rule is active in this start state, so lexing stops there; list i
 KINDS = {
     NEVER_WINS: "NeverWins", LOOKS: "LooksAround", NO_TABLE: "NoTable", IN_PATTERN: "TargetInPattern", BLANK: "BlankAfterStates",
     LOST: "LostEscape", WORD: "EscapeAfterStates", SHORTER: "LostAlternative", NAME_IN_PATTERN: "NameInPattern", QUOTED: "QuotedPattern",
-    BARE: "BareOperator", CARET: "LostCaret", DOT: "GreedyDot", CLASS: "ClassOperator", NEVER_ENTERED: "NeverEntered", NO_RULES: "NoRules",
+    BARE: "BareOperator", CARET: "LostCaret", DOT: "GreedyDot", CLASS: "ClassOperator", CLASS_NAME: "UnknownClass",
+    NEVER_ENTERED: "NeverEntered", NO_RULES: "NoRules",
 }

@@ -1,6 +1,7 @@
 pub mod Alternatives
 pub mod Carets
 pub mod CharCounts
+pub mod ClassNames
 pub mod ClassOperators
 pub mod Dots
 pub mod Encoding

@@ -5,7 +5,7 @@ use Rattle.lrlex_report.specs.PlaceTexts.{place_text}
 use Rattle.lrlex_report.specs.Warnings.{as_told}
 use Rattle.lrlex_report.specs.declared.warnings.kinds.Warning.{Warning}
 use Rattle.lrlex_report.specs.declared.warnings.kinds.WarningKind.{WarningKind}
-use Rattle.lrlex_report.specs.declared.warnings.kinds.WarningKind.TheVariants.{NeverWins, NeverActive, LooksAround, NoTable, TargetInPattern, BlankAfterStates, LostEscape, EscapeAfterStates, LostAlternative, NameInPattern, QuotedPattern, BareOperator, LostCaret, GreedyDot, ClassOperator, NeverEntered, NoRules}
+use Rattle.lrlex_report.specs.declared.warnings.kinds.WarningKind.TheVariants.{NeverWins, NeverActive, LooksAround, NoTable, TargetInPattern, BlankAfterStates, LostEscape, EscapeAfterStates, LostAlternative, NameInPattern, QuotedPattern, BareOperator, LostCaret, GreedyDot, ClassOperator, UnknownClass, NeverEntered, NoRules}
 
 -- what is unusual, why, and what to write in its place
 abbrev pub warning_message : WarningKind → List ℕ
@@ -24,6 +24,7 @@ warning_message BareOperator = codes "this pattern is an operator, and matches n
 warning_message LostCaret = codes "a ^ at the beginning does nothing, since a match may begin anywhere in a line; leave it out, or write \\^ for the character"
 warning_message GreedyDot = codes "a . matches a newline too, so .* and .+ take all lines that follow; write [^\\n] in place of the dot, or .*? before what ends it"
 warning_message ClassOperator = codes "this class has an operator: [ begins another class, and --, && and ~~ are operations on sets; write a backslash before the character, as \\[ or \\-"
+warning_message UnknownClass = codes "this [:name:] is no class with a name, but a set of its characters; write it within a class, as [[:alpha:]], and one of alnum, alpha, ascii, blank, cntrl, digit, graph, lower, print, punct, space, upper, word or xdigit"
 warning_message NeverEntered = codes "no rule enters this start state; name it as the target of a rule"
 warning_message NoRules = codes "no rule is active in this start state, so lexing stops there; list it before a pattern"
 
@@ -44,11 +45,12 @@ warning_name BareOperator = codes "BareOperator"
 warning_name LostCaret = codes "LostCaret"
 warning_name GreedyDot = codes "GreedyDot"
 warning_name ClassOperator = codes "ClassOperator"
+warning_name UnknownClass = codes "UnknownClass"
 warning_name NeverEntered = codes "NeverEntered"
 warning_name NoRules = codes "NoRules"
 
 abbrev pub warning_kinds : List WarningKind
-warning_kinds = NeverWins ∷ NeverActive ∷ LooksAround ∷ NoTable ∷ TargetInPattern ∷ BlankAfterStates ∷ LostEscape ∷ EscapeAfterStates ∷ LostAlternative ∷ NameInPattern ∷ QuotedPattern ∷ BareOperator ∷ LostCaret ∷ GreedyDot ∷ ClassOperator ∷ NeverEntered ∷ NoRules ∷ []
+warning_kinds = NeverWins ∷ NeverActive ∷ LooksAround ∷ NoTable ∷ TargetInPattern ∷ BlankAfterStates ∷ LostEscape ∷ EscapeAfterStates ∷ LostAlternative ∷ NameInPattern ∷ QuotedPattern ∷ BareOperator ∷ LostCaret ∷ GreedyDot ∷ ClassOperator ∷ UnknownClass ∷ NeverEntered ∷ NoRules ∷ []
 
 abbrev pub is_named : (name : List ℕ) → WarningKind → Bool
 is_named name kind = bytes_eq (warning_name kind) name

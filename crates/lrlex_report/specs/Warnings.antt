@@ -16,6 +16,7 @@ use Rattle.lrlex.specs.Never.{NeverWinsAnywhere, WinsAtNoRow, enters, is_active_
 use Rattle.lrlex.specs.Views.{definition_by}
 use Rattle.lrlex.specs.declared.definition.rule_table.RuleTable.{RuleTable}
 use Rattle.lrlex_report.specs.Alternatives.{loses_part}
+use Rattle.lrlex_report.specs.ClassNames.{has_unknown_class}
 use Rattle.lrlex_report.specs.ClassOperators.{has_class_operator}
 use Rattle.lrlex_report.specs.Dots.{begins_with_flags, has_greedy_dot}
 use Rattle.lrlex_report.specs.FaultRanges.{before_blank}
@@ -23,7 +24,7 @@ use Rattle.lrlex_report.specs.Literals.{ends_in_name, has_quoted_part, is_bare, 
 use Rattle.lrlex_report.specs.Looks.{looks_around}
 use Rattle.lrlex_report.specs.PlaceTexts.{nearest}
 use Rattle.lrlex_report.specs.declared.warnings.kinds.WarningKind.{WarningKind}
-use Rattle.lrlex_report.specs.declared.warnings.kinds.WarningKind.TheVariants.{NeverWins, NeverActive, LooksAround, NoTable, TargetInPattern, BlankAfterStates, LostEscape, EscapeAfterStates, LostAlternative, NameInPattern, QuotedPattern, BareOperator, LostCaret, GreedyDot, ClassOperator, NeverEntered, NoRules}
+use Rattle.lrlex_report.specs.declared.warnings.kinds.WarningKind.TheVariants.{NeverWins, NeverActive, LooksAround, NoTable, TargetInPattern, BlankAfterStates, LostEscape, EscapeAfterStates, LostAlternative, NameInPattern, QuotedPattern, BareOperator, LostCaret, GreedyDot, ClassOperator, UnknownClass, NeverEntered, NoRules}
 use Rattle.lrlex_report.specs.declared.warnings.kinds.Warning.{Warning}
 use Rattle.lrlex_report.specs.declared.warnings.answers.Answers.{Answers}
 use Rattle.lrlex_report.specs.declared.warnings.answers.Facts.{Facts}
@@ -201,6 +202,7 @@ rule_tests known states source r =
     ∷ (LostCaret, loses_caret r)
     ∷ (GreedyDot, takes_all r)
     ∷ (ClassOperator, has_class_operator r.re_str)
+    ∷ (UnknownClass, has_unknown_class r.re_str)
     ∷ []
 
 -- the warnings of the rule, at its pattern

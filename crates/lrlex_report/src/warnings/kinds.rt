@@ -50,6 +50,10 @@ pub enum WarningKind {
     /// `[:alpha:]`, or `--`, `&&` or `~~`. A `-` at the front of a class and what ends a range are characters. An operation
     /// whose right side is a class, as `[a-z&&[^b]]`, is meant, and isn't told.
     ClassOperator,
+    /// A rule whose pattern has `[:`, letters and `:]`, perhaps with `^` before the letters, where this is no class with a name to
+    /// `regex`, but a set of its characters: outside a class, as `[:alpha:]` alone, or with a name that `regex` doesn't know, as
+    /// `[[:alpah:]]`.
+    UnknownClass,
     /// A start state other than `INITIAL` that no rule enters.
     NeverEntered,
     /// A start state that no rule is active in.
@@ -57,7 +61,7 @@ pub enum WarningKind {
 }
 
 /// All kinds.
-static KINDS: [WarningKind; 17] = [
+static KINDS: [WarningKind; 18] = [
     WarningKind::NeverWins,
     WarningKind::NeverActive,
     WarningKind::LooksAround,
@@ -73,6 +77,7 @@ static KINDS: [WarningKind; 17] = [
     WarningKind::LostCaret,
     WarningKind::GreedyDot,
     WarningKind::ClassOperator,
+    WarningKind::UnknownClass,
     WarningKind::NeverEntered,
     WarningKind::NoRules,
 ];
@@ -105,6 +110,7 @@ impl WarningKind {
             WarningKind::LostCaret => "LostCaret",
             WarningKind::GreedyDot => "GreedyDot",
             WarningKind::ClassOperator => "ClassOperator",
+            WarningKind::UnknownClass => "UnknownClass",
             WarningKind::NeverEntered => "NeverEntered",
             WarningKind::NoRules => "NoRules",
         }
@@ -166,6 +172,9 @@ impl WarningKind {
             }
             WarningKind::ClassOperator => {
                 "this class has an operator: [ begins another class, and --, && and ~~ are operations on sets; write a backslash before the character, as \\[ or \\-"
+            }
+            WarningKind::UnknownClass => {
+                "this [:name:] is no class with a name, but a set of its characters; write it within a class, as [[:alpha:]], and one of alnum, alpha, ascii, blank, cntrl, digit, graph, lower, print, punct, space, upper, word or xdigit"
             }
             WarningKind::NeverEntered => {
                 "no rule enters this start state; name it as the target of a rule"

@@ -4,6 +4,7 @@ ghost use Rattle.lrlex_report.specs.Warnings.{as_answered, as_told, SpanFits, st
 
 mod alternatives;
 mod answers;
+mod class_names;
 pub(crate) mod class_operators;
 mod dots;
 pub(crate) mod kinds;

@@ -6,6 +6,7 @@ ghost use Rattle.lrlex_report.specs.Warnings.{as_told, SpanFits, never_wins, has
 
 use crate::warnings::alternatives::loses_part;
 use crate::warnings::answers::Facts;
+use crate::warnings::class_names::has_unknown_class;
 use crate::warnings::class_operators::has_class_operator;
 use crate::warnings::dots::{begins_with_flags, has_greedy_dot};
 use crate::warnings::kinds::{Warning, WarningKind, push_all};
@@ -160,6 +161,10 @@ pub(crate) fn push_rule<S: Numbered>(
         (
             WarningKind::ClassOperator,
             has_class_operator(rule.re_str().as_bytes()),
+        ),
+        (
+            WarningKind::UnknownClass,
+            has_unknown_class(rule.re_str().as_bytes()),
         ),
     ];
     push_all(told, &tests, span)
