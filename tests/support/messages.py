@@ -2,7 +2,7 @@
 
 BEFORE_RULES = "a line before %% is %s or %x with names of start states; rules come after it"
 NO_MARK = "no line begins with %%; write one before the rules"
-COMMENT = "a line that begins with // is a comment only with the flag allow_wholeline_comments"
+COMMENT = "a comment is a line that begins with //, and only with the flag allow_wholeline_comments"
 QUOTES = "write it in quotes and without blanks, or ; for no name; no action or comment follows it"
 DECLARE = "declare it with %s or %x"
 DECLARE_LIST = "declare it with %s or %x; commas separate the names of a list, and a target stands before the rule's name; a pattern that begins with the character < begins with \\<"

@@ -1,5 +1,5 @@
 -- What the message of a fault ends with: the mistake that it usually comes of, and what to write.
-use Rattle.std.specs.Prelude.{ℕ, Bool, ◌&&◌, if◌then◌else◌, List, [], drop, codes}
+use Rattle.std.specs.Prelude.{ℕ, Bool, ◌&&◌, ◌||◌, if◌then◌else◌, List, [], drop, codes}
 use Rattle.std.specs.List.{list_any}
 use Rattle.lrlex_base.specs.Classes.{is_blank}
 use Rattle.lrlex_rules.specs.LexBuildError.{fault_kind, fault_spans}
@@ -25,11 +25,11 @@ line_from rules at = first_line (text_from rules at)
 abbrev pub or_note : (first second : List ℕ) → List ℕ
 or_note first second = if is_empty first then second else first
 
--- of a text that begins with `//`
+-- of a text that begins with `//` or `/*`
 abbrev pub comment_note : List ℕ → List ℕ
 comment_note text =
-    if begins_with (codes "//") text
-    then codes ": a line that begins with // is a comment only with the flag allow_wholeline_comments" else []
+    if begins_with (codes "//") text || begins_with (codes "/*") text
+    then codes ": a comment is a line that begins with //, and only with the flag allow_wholeline_comments" else []
 
 -- of an unknown declaration
 abbrev pub declaration_note : (rules : List ℕ) (at : ℕ) → List ℕ

@@ -28,12 +28,12 @@ fn or_note(first: &'static str, second: &'static str) -> &'static str
     if first.is_empty() { second } else { first }
 }
 
-/// Names the flag that makes a line of `//` a comment, if the text begins with `//`.
+/// Tells what a comment is, and names the flag for it, if the text begins with `//` or `/*`.
 fn comment_note(text: &str) -> &'static str
     ensures { result.now ≡ comment_note text.now }
 {
-    if text.starts_with("//") {
-        ": a line that begins with // is a comment only with the flag allow_wholeline_comments"
+    if text.starts_with("//") || text.starts_with("/*") {
+        ": a comment is a line that begins with //, and only with the flag allow_wholeline_comments"
     } else {
         ""
     }
