@@ -2,6 +2,7 @@
 use crate::rules::{Definition, Types};
 use lrlex::{DefaultLexeme, LRLexError, LRNonStreamingLexer, LexError, Lexeme, Lexer};
 use std::alloc::{AllocError, AllocFailed, Global};
+use std::fmt::Write;
 
 /// Where a configuration is wrong, and why.
 #[derive(Clone, Copy)]
@@ -107,13 +108,9 @@ impl<'t> Reader<'t> {
     /// Writes an entry, behind the names of its sections.
     fn write(&mut self, name: &str, value: &str) -> Result<(), AllocError> {
         for section in &self.sections {
-            self.entries.push_str(*section)?;
-            self.entries.push('.')?;
+            write!(self.entries, "{section}.")?;
         }
-        self.entries.push_str(name)?;
-        self.entries.push_str(" = ")?;
-        self.entries.push_str(value)?;
-        self.entries.push('\n')
+        writeln!(self.entries, "{name} = {value}")
     }
 
     /// Ends an entry.

@@ -38,8 +38,9 @@ fn make(
     }
 }
 
-/// Makes the edits of all lines, the first of them first.
+/// Tells what the document is, and then makes the edits of all lines, the first of them first.
 fn make_all(rt: &HostRuntime, document: &mut Document<'_, Types>, edits: &str) -> io::Result<()> {
+    show(rt, document)?;
     for line in edits.lines() {
         println!(rt; "\n> {line}")?;
         match change_of(line) {
@@ -54,7 +55,6 @@ fn make_all(rt: &HostRuntime, document: &mut Document<'_, Types>, edits: &str) -
 fn edit(rt: &HostRuntime, definition: &Definition, input: &str) -> io::Result<()> {
     let (text, edits) = input.split_once(BETWEEN).unwrap_or((input, ""));
     let mut document = Document::new(rt.alloc(), definition, text)?;
-    show(rt, &document)?;
     make_all(rt, &mut document, edits)
 }
 
