@@ -1,4 +1,7 @@
 //! A session: messages from a reader, answers to a writer.
+ghost use Rattle.std.specs.Prelude.{IfOk};
+ghost use Rattle.lrlex_lsp.specs.Framing.{WritesMessages};
+
 use crate::framing::{Frame, read_frame, write_frame};
 use crate::languages::{Language, LanguageFault};
 use crate::messages::{NO_JSON, TOO_LONG, refusal};
@@ -53,7 +56,9 @@ fn take(
 }
 
 /// Writes what was told, and forgets it.
-fn write_told<W: Write>(alloc: Global, writer: &mut W, told: &mut Vec<String>) -> io::Result<()> {
+fn write_told<W: Write>(alloc: Global, writer: &mut W, told: &mut Vec<String>) -> io::Result<()>
+    ensures { IfOk result (λ _. WritesMessages (W.contents writer.old) (W.contents writer.new)) }
+{
     for body in told.iter() {
         write_frame(alloc, writer, body)?;
     }
@@ -67,7 +72,9 @@ fn turn<R: Read, W: Write>(
     reader: &mut R,
     writer: &mut W,
     server: &mut Server<'_>,
-) -> io::Result<Next> {
+) -> io::Result<Next>
+    ensures { IfOk result (λ _. WritesMessages (W.contents writer.old) (W.contents writer.new)) }
+{
     let mut told = Vec::new(alloc);
     let frame = read_frame(alloc, reader)?;
     let handled = take(alloc, server, frame, &mut told)?;
@@ -84,7 +91,9 @@ fn begun<'d, W: Write>(
     writer: &mut W,
     given: Given<'d>,
     state: State,
-) -> io::Result<Server<'d>> {
+) -> io::Result<Server<'d>>
+    ensures { IfOk result (λ _. WritesMessages (W.contents writer.old) (W.contents writer.new)) }
+{
     let mut told = Vec::new(alloc);
     let server = Server::new(alloc, given, state, &mut told)?;
     write_told(alloc, writer, &mut told)?;
@@ -98,9 +107,11 @@ fn serve_over<R: Read, W: Write>(
     writer: &mut W,
     given: Given<'_>,
     state: State,
-) -> io::Result<Ended> {
+) -> io::Result<Ended>
+    ensures { IfOk result (λ _. WritesMessages (W.contents writer.old) (W.contents writer.new)) }
+{
     let mut server = begun(alloc, writer, given, state)?;
-    for _ in 0..u64::MAX {
+    'turns: for _ in 0..u64::MAX {
         match turn(alloc, reader, writer, &mut server)? {
             Next::GoOn => {}
             Next::End(is_clean) => return Ok(Ended::Done(is_clean)),
@@ -179,7 +190,9 @@ fn serve_by<R: Read, W: Write>(
     options: &Options,
     language: Option<&Language>,
     state: State,
-) -> io::Result<Ended> {
+) -> io::Result<Ended>
+    ensures { IfOk result (λ _. WritesMessages (W.contents writer.old) (W.contents writer.new)) }
+{
     let given = Given {
         own: &base.own,
         bare: &base.bare,
@@ -200,7 +213,9 @@ fn serve_from<R: Read, W: Write>(
     options: &Options,
     rules: Option<&str>,
     state: State,
-) -> io::Result<Ended> {
+) -> io::Result<Ended>
+    ensures { IfOk result (λ _. WritesMessages (W.contents writer.old) (W.contents writer.new)) }
+{
     let language = language_of(alloc, rules, options)?;
     serve_by(
         alloc,
@@ -220,10 +235,12 @@ fn serve_all<R: Read, W: Write>(
     writer: &mut W,
     base: &Base,
     options: &Options,
-) -> io::Result<bool> {
+) -> io::Result<bool>
+    ensures { IfOk result (λ _. WritesMessages (W.contents writer.old) (W.contents writer.new)) }
+{
     let mut rules = first_rules(options)?;
     let mut state = State::new(alloc);
-    for _ in 0..u64::MAX {
+    'rules: for _ in 0..u64::MAX {
         match serve_from(
             alloc,
             reader,
@@ -244,13 +261,16 @@ fn serve_all<R: Read, W: Write>(
 }
 
 /// Serves until the input ends or the client ends it, and says whether the client had shut the server down before. Where the given
-/// rules change, all texts are lexed by the new ones. It fails where memory runs out, or the reader or the writer fails.
+/// rules change, all texts are lexed by the new ones. It writes whole messages. It fails where memory runs out, or the reader or the
+/// writer fails, which may leave a message in part.
 pub fn serve<R: Read, W: Write>(
     alloc: Global,
     reader: &mut R,
     writer: &mut W,
     options: Options,
-) -> io::Result<bool> {
+) -> io::Result<bool>
+    ensures { IfOk result (λ _. WritesMessages (W.contents writer.old) (W.contents writer.new)) }
+{
     let base = base_of(alloc, &options)?;
     serve_all(alloc, reader, writer, &base, &options)
 }
