@@ -1,7 +1,7 @@
 //! A document that a client has opened.
 ghost use Rattle.std.specs.Prelude.{◌≡◌, IfOk};
 ghost use Rattle.lrlex_lsp.specs.Changes.{replaced};
-ghost use Rattle.lrlex_lsp.specs.Servers.{kept_as, open_as};
+ghost use Rattle.lrlex_lsp.specs.Servers.{is_rules, kept_as, open_as};
 
 use crate::changes::{NumberEdit, joined};
 use crate::json::push_numbers;
@@ -55,7 +55,10 @@ impl<'d> Opened<'d> {
         language: &'d Language,
         text: &str,
         version: Option<usize>,
-    ) -> Result<Opened<'d>, AllocError> {
+    ) -> Result<Opened<'d>, AllocError>
+        ensures text { IfOk result (λ opened. opened.document.text ≡ text.now) }
+        ensures version { IfOk result (λ opened. opened.version ≡ version) }
+    {
         let document = Document::new(alloc, language.definition(), text)?;
         Ok(Opened {
             role,
@@ -70,7 +73,8 @@ impl<'d> Opened<'d> {
 
     /// The document of this URI, without what it is lexed by.
     pub(crate) fn kept(&self, alloc: Global, uri: &str) -> Result<Kept, AllocError>
-        ensures { IfOk result (λ kept. kept_as kept ≡ open_as uri.now self.now) }
+        ensures known { IfOk result (λ kept. kept_as kept ≡ open_as uri.now self.now) }
+        ensures role { IfOk result (λ kept. kept.is_rules ≡ is_rules self.now.role) }
     {
         Ok(Kept {
             uri: String::from_str(alloc, uri)?,

@@ -1,6 +1,6 @@
 //! The documents that are open.
-ghost use Rattle.std.specs.Prelude.{◌≡◌, ◌<◌, ◌+◌, ◌^◌, IfOk, map};
-ghost use Rattle.lrlex_lsp.specs.Servers.{KeepsClient, all_open, kept_as};
+ghost use Rattle.std.specs.Prelude.{◌≡◌, ◌<◌, ◌+◌, ◌^◌, [], IfOk, OnOk, fold, map};
+ghost use Rattle.lrlex_lsp.specs.Servers.{KeepsClient, all_open, all_roles, kept_as, put};
 
 use crate::diagnostics::{nothing_of, told_of};
 use crate::edits::make_change;
@@ -46,6 +46,7 @@ impl<'d> Texts<'d> {
         ensures client { result.client ≡ client }
         ensures counts { result.counts ≡ counts }
         ensures saved { result.saved ≡ saved }
+        ensures open { result.open.entries ≡ [] }
     {
         Texts {
             alloc,
@@ -68,7 +69,9 @@ impl<'d> Texts<'d> {
         kept: Vec<Kept>,
         told: &mut Vec<String>,
     ) -> Result<(), AllocError>
-        ensures { KeepsClient self.old self.new }
+        ensures client { KeepsClient self.old self.new }
+        ensures opens { OnOk result (all_open self.new.open.entries
+            ≡ fold put (all_open self.old.open.entries) (map kept_as kept.items)) }
     {
         for text in &kept {
             self.open(&text.uri, text.is_rules, &text.text, text.version)?;
@@ -84,7 +87,8 @@ impl<'d> Texts<'d> {
 
     /// The documents, without what they are lexed by.
     pub(crate) fn close(self) -> Result<Vec<Kept>, AllocError>
-        ensures { IfOk result (λ kept. map kept_as kept.items ≡ all_open self.entry.open.entries) }
+        ensures texts { IfOk result (λ kept. map kept_as kept.items ≡ all_open self.entry.open.entries) }
+        ensures roles { IfOk result (λ kept. map (λ it. it.is_rules) kept.items ≡ all_roles self.entry.open.entries) }
     {
         let mut all = Vec::new(self.alloc);
         for (uri, opened) in self.open.iter() {
@@ -120,7 +124,9 @@ impl<'d> Texts<'d> {
         text: &str,
         version: Option<usize>,
     ) -> Result<(), AllocError>
-        ensures { KeepsClient self.old self.new }
+        ensures client { KeepsClient self.old self.new }
+        ensures opens { OnOk result (all_open self.new.open.entries ≡ put (all_open self.old.open.entries)
+            (record { uri = uri.now; text = text.now; version = version })) }
     {
         let (role, language) = self.role_of(uri, is_rules)?;
         let name = String::from_str(self.alloc, uri)?;
