@@ -132,20 +132,17 @@ fn type_keys(
 /// Makes an edit, and tells which tokens it changed and those that came; null where it doesn't fit.
 fn retype(told: &mut Told, document: &mut Edited<'_>, change: Change<'_>) -> Result<(), Trouble> {
     let (from, to, put) = change;
-    match retyped(told.alloc(), document, from, to, put) {
+    let retyped = retyped(told.alloc(), document, from, to, put);
+    told.key("retyped");
+    match retyped {
         Ok((changed, came)) => {
-            told.key("retyped");
             tell_change(told, changed);
             tell_words(told, Ok(came));
-            Ok(())
         }
-        Err(EditError::DoesNotFit) => {
-            told.key("retyped");
-            told.null();
-            Ok(())
-        }
-        Err(EditError::OutOfMemory) => Err(Trouble::Memory),
+        Err(EditError::DoesNotFit) => told.null(),
+        Err(EditError::OutOfMemory) => return Err(Trouble::Memory),
     }
+    Ok(())
 }
 
 /// Tells the texts that the document has at these spans.

@@ -125,17 +125,19 @@ fn tell_first<'d, 't>(
     Ok(run)
 }
 
-/// Tells what runs answer, of a text and after each edit.
+/// Tells what runs answer, of a text and after each of the edits that were made, and which edit doesn't fit, if one doesn't.
 fn tell_runs<'t>(
     told: &mut Told,
     definition: &Definition<u32>,
     text: &'t str,
+    edits: &[Value],
     made: &'t [Made<'_>],
 ) -> Result<(), Trouble> {
     let mut run = tell_first(told, definition, text)?;
     for next in made {
         run = tell_again(told, run, next)?;
     }
+    tell_unfit(told, edits, made.len());
     Ok(())
 }
 
@@ -147,9 +149,7 @@ pub fn lex(
     edits: &[Value],
 ) -> Result<(), Trouble> {
     let made = all_made_of(told.alloc(), text, edits)?;
-    tell_runs(told, definition, text, made.as_slice())?;
-    tell_unfit(told, edits, made.len());
-    Ok(())
+    tell_runs(told, definition, text, edits, made.as_slice())
 }
 
 /// Tells the pieces of a part of a text, by a run.

@@ -177,14 +177,13 @@ fn tell_step(rt: &HostRuntime, definition: &mut Definition<u32>, step: &Value) -
 /// Makes the steps of a case, and prints what comes of them.
 fn tell_steps(
     rt: &HostRuntime,
-    definition: Definition<u32>,
+    definition: &mut Definition<u32>,
     case: &Value,
     steps: &[Value],
 ) -> io::Result<()> {
-    let mut definition = definition;
     introduce(rt, case, None)?;
     for step in steps {
-        tell_step(rt, &mut definition, step)?;
+        tell_step(rt, definition, step)?;
     }
     Ok(())
 }
@@ -192,7 +191,7 @@ fn tell_steps(
 /// Builds the definition of a case with steps, makes these, and prints what comes of them.
 pub fn tell_case(rt: &HostRuntime, case: &Value, steps: &[Value]) -> io::Result<()> {
     match build_within(rt.alloc(), case)? {
-        Ok(definition) => tell_steps(rt, definition, case, steps),
+        Ok(mut definition) => tell_steps(rt, &mut definition, case, steps),
         Err(refusal) => introduce(rt, case, Some(&refusal)),
     }
 }
