@@ -310,8 +310,8 @@ def compare_places(edit, line, tally):
 def compare_document(shown, text, recomputed, tally):
     """A document has its text, and what lexing it again gives."""
     tally.same("text of a document", text, shown.text)
-    tally.same("items of a document", recomputed.items, shown.items)
-    tally.same("boundaries of a document", recomputed.boundaries, shown.boundaries)
+    lists = [recomputed.items, recomputed.boundaries]
+    tally.same("items and boundaries of a document", lists, [shown.items, shown.boundaries])
     tally.same("pieces of a document", recomputed.pieces, shown.pieces)
     tally.same("tiles of a document", recomputed.counts[0], shown.tiles)
 
