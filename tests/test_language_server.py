@@ -672,7 +672,7 @@ class Texts(Session):
             (f"file://{folder}/.{name}", 1), (f"file://{folder}/...{name}", 1), (f"untitled:{path}", 1),
             (f"file://localhost{folder}/%2E/{name}", 0), (f"file://{folder}%2F{name}", 0), (f"file://{path}/", 0), (f"file://{path}%", 1),
             (f"file://{folder}/%7{name}", 1), (f"file://{folder}/%2572ules.l", 1), (f"http://localhost{path}", 1),
-            (f"file:{path}", 0), (f"FILE:{path}", 0), (f"File://{path}", 0), (f"file://LocalHost{path}", 0), (f"file:/{path}", 0),
+            (f"file:{path}", 0), (f"FILE:{path}", 0), (f"File://{path}", 0), (f"file://LocalHost{path}", 0), (f"file:/{path}", 1),
             (f"file:localhost{path}", 1), (f"file:{path[1:]}", 1), (f"files://{path}", 1), (path, 1),
         ]
         for uri, wanted in rows:
