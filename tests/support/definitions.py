@@ -1,6 +1,6 @@
 """How the definition of a case is made, and what a row calls it."""
 
-WORK = 100_000_000
+WORK = 80_000_000
 
 
 class Definition:

@@ -21,7 +21,7 @@ use std::alloc::{AllocError, Global};
 const MOST_VISITS_ALONE: usize = 3_000_000;
 
 /// What it costs to visit a state, in the budget's units of work.
-const WORK_OF_A_VISIT: usize = 5;
+const WORK_OF_A_VISIT: usize = 12;
 
 /// A table in the making: the rows so far with their threads, the cells of those that were filled, and whether the pattern
 /// matches at each of these. In row `START`, and in no other, nothing is before the position.

@@ -20,7 +20,7 @@ use std::alloc::{AllocError, Global};
 /// What the tables of a definition may cost: rows, of some 512 bytes each, and work, in units of about a nanosecond.
 const MOST_ROWS: usize = 7_000;
 
-const MOST_WORK: usize = 100_000_000;
+const MOST_WORK: usize = 80_000_000;
 
 /// The usual budget.
 pub(crate) fn usual_budget() -> Budget
