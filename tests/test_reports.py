@@ -6,8 +6,8 @@ import unittest
 from support import replay
 from support.definitions import from_text
 from support.messages import (
-    BACKSLASH, BEFORE_RULES, BRACES, COMMENT, DECLARE, DECLARE_LIST, IN_CLASS, IN_QUOTES, LIST, MARGIN, NO_END, NO_MARK, NUMBER, OPERATOR,
-    QUOTES, ROUTINES, RULE, STATE_NAME,
+    ACTION, BACKSLASH, BAR, BEFORE_RULES, BRACES, CODE, COMMENT, DECLARE, DECLARE_LIST, DEFINITION, IN_CLASS, IN_QUOTES, LIST, MARGIN,
+    NO_END, NO_MARK, NUMBER, OPERATOR, OPTION, QUOTES, ROUTINES, RULE, STATE_NAME,
 )
 
 # Rule texts, and what is shown of their faults.
@@ -133,12 +133,33 @@ FIRST = [
 ]
 
 
+NEWLINE = "\n"
+
 # Rule texts, with what an editor underlines between « and », and the message.
 MARKS = [
     ("«»", f"File ends prematurely: {NO_MARK}"),
     ("%x A\n«»", f"File ends prematurely: {NO_MARK}"),
     ("%%\na 'A'\n«%%  int x;»  \n", f"Routines not currently supported: {ROUTINES}"),
-    ("«%option yylineno» \n%%\n", f"Unknown declaration: {BEFORE_RULES}"),
+    ("«%option yylineno» \n%%\n", f"Unknown declaration: {OPTION}"),
+    (" «%option\tcase-insensitive»\n%%\n", f"Unknown declaration: {OPTION}"),
+    ("«%pointer»\n%%\n", f"Unknown declaration: {BEFORE_RULES}"),
+    ("«% option a»\n%%\n", f"Unknown declaration: {BEFORE_RULES}"),
+    ("«%{»\n%%\n", f"Unknown declaration: {CODE}"),
+    ("%x A\n «%{ int n;»\r\n%%\n", f"Unknown declaration: {CODE}"),
+    ("«%}»\n%%\n", f"Unknown declaration: {CODE}"),
+    ("«%top{»\n%%\n", f"Unknown declaration: {CODE}"),
+    ("«{»\n%%\n", f"Unknown declaration: {BEFORE_RULES}"),
+    ("«DIGIT [0-9]»\n%%\n", f"Unknown declaration: {DEFINITION}"),
+    ("\t«_d\t[0-9]+» \r\n%%\n", f"Unknown declaration: {DEFINITION}"),
+    ("«Z \"a\"|b»\n%%\n", f"Unknown declaration: {DEFINITION}"),
+    # one word, a rule, a line of code, and lines that begin with a digit, a bracket and a letter beyond ASCII
+    ("«DIGIT» \n%%\n", f"Unknown declaration: {BEFORE_RULES}"),
+    ("«if 'IF'» \n%%\n", f"Unknown declaration: {BEFORE_RULES}"),
+    ("«if \"IF\"»\n%%\n", f"Unknown declaration: {BEFORE_RULES}"),
+    ("«int n;»\n%%\n", f"Unknown declaration: {BEFORE_RULES}"),
+    ("«1 a»\n%%\n", f"Unknown declaration: {BEFORE_RULES}"),
+    ("«[a-z]+ b»\n%%\n", f"Unknown declaration: {BEFORE_RULES}"),
+    ("«é a»\n%%\n", f"Unknown declaration: {BEFORE_RULES}"),
     ("  «%s»\t\n%%\n", f"Unknown declaration: {BEFORE_RULES}"),
     (" «// a comment»\n%%\n", f"Unknown declaration: {COMMENT}"),
     ("«/* a comment */»\n%%\n", f"Unknown declaration: {COMMENT}"),
@@ -151,19 +172,36 @@ MARKS = [
     ("%%\n# a «comment»\n", f"Invalid rule name: {QUOTES}"),
     ("%%\n[a-z]+ «ID»\n", f"Invalid rule name: {QUOTES}"),
     ("%%\n[a-z]+ «'ID»\t\r\n", f"Invalid rule name: {QUOTES}"),
+    ("%%\na «|»\nb 'B'\n", f"Invalid rule name: {BAR}"),
+    ("%%\n[ \\t]\t«|» \r\n\\n ;\n", f"Invalid rule name: {BAR}"),
+    ("%%\na «||»\n", f"Invalid rule name: {QUOTES}"),
+    ("%%\na «|b»\n", f"Invalid rule name: {QUOTES}"),
+    ("%%\n[0-9]+ { return INT; «}» \n", f"Invalid rule name: {ACTION}"),
+    ("%%\n[0-9]+ «{»\n", f"Invalid rule name: {ACTION}"),
+    ("%%\n[0-9]+ «{INT»\n", f"Invalid rule name: {ACTION}"),
+    ("%%\n[0-9]+ return «INT;»\t\r\n", f"Invalid rule name: {ACTION}"),
+    ("%%\na «<INITIAL>BEGIN(0);»\n", f"Invalid rule name: {ACTION}"),
+    ("%%\na «'A';»\n", f"Invalid rule name: {ACTION}"),
+    ("%%\na «;A»\n", f"Invalid rule name: {QUOTES}"),
+    # an action in a comment
+    ("%%\n// a «}»\n", f"Invalid rule name: {COMMENT}"),
+    ("%%\n/* a «|»\n", f"Invalid rule name: {COMMENT}"),
     ("%x A\n%%\nb «<+B>»'ID'\n", f"Start state not known: {DECLARE}"),
     ("%x A\n%%\n«<A, B>»b c 'ID'\n", f"Start state not known (B): {DECLARE_LIST}"),
     ("%x A\n%%\n«<A,B>»c <A>;\n", f"Start state not known (B): {DECLARE_LIST}"),
     # the first of several; a word of a pattern and a part of a declared name declare nothing
     ("%x AB A\n%s C\n%%\nB 'B'\n«<A, INITIAL,\tB ,D,C>»b 'ID'\n", f"Start state not known (B): {DECLARE_LIST}"),
     ("%x A\n%%\n«<*,A>»b 'ID'\n", f"Start state not known (*): {DECLARE_LIST}"),
-    # a control character, a long name, an empty one, a list of one name, and one of more than 400 bytes
+    # a control character, a long name, an empty one, and lists of one name, of eight and of nine
     ("%x A\n%%\n«<A,\x07>»b 'ID'\n", f"Start state not known (\ufffd): {DECLARE_LIST}"),
     (f"%x A\n%%\n«<A,{'漢' * 81}>»b 'ID'\n", f"Start state not known ({'漢' * 80}...): {DECLARE_LIST}"),
     ("%x A\n%%\n«<A,,B>»b 'ID'\n", f"Start state not known: {DECLARE_LIST}"),
     ("%x A\n%%\n«<B>»b 'ID'\n", f"Start state not known: {DECLARE_LIST}"),
-    (f"%x A\n%%\n«<{'A,' * 199}BC>»b 'ID'\n", f"Start state not known (BC): {DECLARE_LIST}"),
-    (f"%x A\n%%\n«<{'A,' * 199}BCD>»b 'ID'\n", f"Start state not known: {DECLARE_LIST}"),
+    (f"%x A\n%%\n«<{'A,' * 7}B>»b 'ID'\n", f"Start state not known (B): {DECLARE_LIST}"),
+    (f"%x A\n%%\n«<{'A,' * 8}B>»b 'ID'\n", f"Start state not known: {DECLARE_LIST}"),
+    # the `%%` within the first 2,048 bytes, and a byte further on
+    (f"%x A{NEWLINE * 2042}%%\n«<A,B>»b 'ID'\n", f"Start state not known (B): {DECLARE_LIST}"),
+    (f"%x A{NEWLINE * 2043}%%\n«<A,B>»b 'ID'\n", f"Start state not known: {DECLARE_LIST}"),
     ("%%\n«<->» 'ARROW'\n", f"Start state not known: {DECLARE_LIST}"),
     ("%%\n«<<EOF>»> ;\n", f"Start state not known: {NO_END}"),
     ("%%\n«<=\t'LE'»\n", f"Invalid start state: {LIST}"),

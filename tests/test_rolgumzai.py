@@ -17,8 +17,9 @@ import unittest
 
 from support import programs, replay
 from support.messages import (
-    BACKSLASH, BARE, BEFORE_RULES, BLANK, CARET, CLASS, CLASS_NAME, COMMENT, DOT, IN_PATTERN, KINDS, LIST, LOOKS, LOST, MARGIN,
-    NAME_IN_PATTERN, NEVER_ENTERED, NEVER_WINS, NO_MARK, NO_RULES, NO_TABLE, OPERATOR, QUOTED, QUOTES, SHORTER, WORD,
+    ACTION, BACKSLASH, BAR, BARE, BEFORE_RULES, BLANK, CARET, CLASS, CLASS_NAME, CODE, COMMENT, DEFINITION, DOT, IN_PATTERN, KINDS, LIST,
+    LOOKS, LOST, MARGIN, NAME_IN_PATTERN, NEVER_ENTERED, NEVER_WINS, NO_MARK, NO_RULES, NO_TABLE, OPERATOR, OPTION, QUOTED, QUOTES,
+    SHORTER, WORD,
 )
 from support.programs import Outcome
 
@@ -76,6 +77,17 @@ THREE = (
     f"three.l:2:1: Invalid regular expression: unclosed group: {OPERATOR}\n2 | ( 'A'\n  | ^\n"
     f"three.l:3:1: Invalid regular expression: unopened group: {OPERATOR}\n3 | ) 'B'\n  | ^\n"
     f"three.l:4:7: Invalid rule name: {QUOTES}\n4 | [a-z] C\n  |       ^\n"
+)
+# A file of flex, and what is shown of it.
+FLEX = "%option noyywrap\n%{\n#include <stdio.h>\n%}\nDIGIT [0-9]\n%%\n{DIGIT}+ { return INT; }\n[ \\t] |\n\\n ;\n"
+FLEX_TOLD = (
+    f"stdin:1:1: Unknown declaration: {OPTION}\n1 | %option noyywrap\n  | ^\n"
+    f"stdin:2:1: Unknown declaration: {CODE}\n2 | %{{\n  | ^\n"
+    f"stdin:3:1: Unknown declaration: {BEFORE_RULES}\n3 | #include <stdio.h>\n  | ^\n"
+    f"stdin:4:1: Unknown declaration: {CODE}\n4 | %}}\n  | ^\n"
+    f"stdin:5:1: Unknown declaration: {DEFINITION}\n5 | DIGIT [0-9]\n  | ^\n"
+    f"stdin:7:24: Invalid rule name: {ACTION}\n7 | {{DIGIT}}+ {{ return INT; }}\n  | {' ' * 23}^\n"
+    f"stdin:8:7: Invalid rule name: {BAR}\n8 | [ \\t] |\n  |       ^\n"
 )
 OTHER = (
     "other.l:1:6: Start state already exists\n1 | %s k k\n  |      ^\n"
@@ -153,6 +165,7 @@ ROWS = [
     ("check latin folder", "", Outcome("", LATIN + FOLDER, 2)),
     ("check comments.l", "", Outcome(f"comments.l:1:1: Unknown declaration: {COMMENT}\n1 | // c\n  | ^\n", "", 1)),
     ("check first.l", "", Outcome(FIRST, "", 1)),
+    ("check -", FLEX, Outcome(FLEX_TOLD, "", 1)),
     ("check --allow-wholeline-comments true comments.l", "", Outcome()),
     ("highlight tokens.l -", "if @", Outcome("\x1b[31mif\x1b[0m \x1b[41m@\x1b[0m", "", 1)),
     (

@@ -1,14 +1,13 @@
 //! Which name of a list of start states a rule text doesn't declare.
 ghost use Rattle.std.specs.Prelude.{◌≡◌, ◌∷◌, ◌+◌, ◌<◌, ℕ, length, IfSome};
-ghost use Rattle.std.specs.List.{list_any};
 ghost use Rattle.std.specs.Option.{option_copied};
 ghost use Rattle.lrlex_base.specs.Classes.{is_white_space};
 ghost use Rattle.lrlex_rules.specs.RuleLine.{listed_names, names_left};
 ghost use Rattle.lrlex_rules.specs.Text.{cut, piece, pieces_left, trim_start, trim_text};
-ghost use Rattle.lrlex_report.specs.Listed.{declares, is_declared, undeclared, before_angle, after_less, is_comma, names_in, unknown_name};
+ghost use Rattle.lrlex_report.specs.Listed.{declares, is_declared, undeclared, before_angle, after_less, has_few, names_in, unknown_name};
 
 use crate::notes::{begins_list, text_from};
-use crate::ranges::{first_line, trim_end};
+use crate::ranges::{first_bytes, first_line, trim_end};
 use lrlex_base::is_white_space;
 
 /// The text without the white space at its front.
@@ -38,11 +37,11 @@ fn next_word(text: &str) -> (&str, Option<&str>)
     }
 }
 
-/// Whether a rule text has this word before the first that begins with `%%`.
-fn declares(rules: &str, name: &str) -> bool
-    ensures { result ≡ declares name.now (cut is_white_space (piece 0 rules.now)) }
+/// Whether a text has this word before the first that begins with `%%`, or has no word that begins so.
+fn declares(text: &str, name: &str) -> bool
+    ensures { result ≡ declares name.now (cut is_white_space (piece 0 text.now)) }
 {
-    let mut left = Some(rules);
+    let mut left = Some(text);
     while let Some(rest) = left {
         let (word, more) = next_word(rest);
         if word.starts_with("%%") {
@@ -53,14 +52,15 @@ fn declares(rules: &str, name: &str) -> bool
         }
         left = more;
     }
-    false
+    true
 }
 
-/// Whether a start state with this name is declared.
+/// Whether a start state with this name is declared. Each counts as declared where the declarations don't end within the first
+/// 2,048 bytes, so that no more than these are read.
 fn is_declared(rules: &str, name: &str) -> bool
     ensures { result ≡ is_declared rules.now name.now }
 {
-    name == "INITIAL" || declares(rules, name)
+    name == "INITIAL" || declares(first_bytes(rules, 2048), name)
 }
 
 /// The first name of a list of start states, and what follows the comma after it, if there is one.
@@ -110,26 +110,28 @@ fn after_less(text: &str) -> &str
     }
 }
 
-/// Whether a list has several names.
-fn has_comma(names: &str) -> bool
-    ensures { result ≡ list_any is_comma names.now }
+/// Whether a list has 2 to 8 names.
+fn has_few(names: &str) -> bool
+    ensures { result ≡ has_few names.now }
 {
-    names.as_bytes().iter().any(|b| *b == b',')
+    let commas = names.as_bytes().iter().filter(|b| **b == b',').count();
+    1 <= commas && commas <= 7
 }
 
-/// The list of start states that begins a line, if it has several names, and at most 400 bytes.
+/// The list of start states that begins a line, if it has 2 to 8 names.
 fn names_in(line: &str) -> &str
     ensures { result.now ≡ names_in line.now }
 {
     let names = after_less(before_angle(line));
-    if begins_list(line) && names.len() <= 400 && has_comma(names) {
+    if begins_list(line) && has_few(names) {
         names
     } else {
         ""
     }
 }
 
-/// The first name that isn't declared of the list of several names that begins the line at this place. Empty where there is none.
+/// The first name that isn't declared of the list of 2 to 8 names that begins the line at this place. Empty where there is none, and
+/// where the declarations don't end within the first 2,048 bytes: no more of them is read, once for each name.
 pub(crate) fn unknown_name(rules: &str, at: usize) -> &str
     ensures { result.now ≡ unknown_name rules.now at }
 {

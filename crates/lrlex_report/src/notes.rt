@@ -1,9 +1,9 @@
 //! What the message of a fault ends with: the mistake that it usually comes of, and what to write.
-ghost use Rattle.std.specs.Prelude.{◌≡◌};
+ghost use Rattle.std.specs.Prelude.{◌≡◌, slice_index};
 ghost use Rattle.std.specs.List.{list_any};
 ghost use Rattle.lrlex_base.specs.Classes.{is_blank};
 ghost use Rattle.lrlex_rules.specs.Text.{trim_end};
-ghost use Rattle.lrlex_report.specs.Notes.{text_from, or_note, comment_note, declaration_note, name_note, begins_list, list_note, end_note, undeclared_note, state_note, space_note, pattern_note, kind_note, fault_note};
+ghost use Rattle.lrlex_report.specs.Notes.{text_from, or_note, comment_note, option_note, code_note, is_word_start, ends_rule, is_definition, definition_note, flex_note, declaration_note, bar_note, is_action, action_note, word_note, name_note, begins_list, list_note, end_note, undeclared_note, state_note, space_note, pattern_note, kind_note, fault_note};
 
 use crate::encoding::mark_note;
 use crate::pattern_notes::{
@@ -11,7 +11,7 @@ use crate::pattern_notes::{
 };
 use crate::places::nearest;
 use crate::ranges::{first_line, source_in, told_span, trim_end};
-use crate::warnings::patterns::source_of;
+use crate::warnings::patterns::{ends_in, source_of};
 use lrlex_rules::{LexBuildError, LexErrorKind};
 
 /// The text from a place on.
@@ -39,26 +39,136 @@ fn comment_note(text: &str) -> &'static str
     }
 }
 
-/// Why the line at this place declares nothing: it begins with a byte order mark, is a comment, or is another line.
+/// Tells that options aren't read, if this line of flex sets some.
+fn option_note(line: &str) -> &'static str
+    ensures { result.now ≡ option_note line.now }
+{
+    if line.starts_with("%option") {
+        ": options of flex aren't read; leave the line out, and give flags, as case_insensitive, outside the text"
+    } else {
+        ""
+    }
+}
+
+/// Tells that code isn't read, if a block of it begins or ends on this line.
+fn code_note(line: &str) -> &'static str
+    ensures { result.now ≡ code_note line.now }
+{
+    if line.starts_with("%{") || line.starts_with("%}") || line.starts_with("%top") {
+        ": blocks of code aren't read; leave them out"
+    } else {
+        ""
+    }
+}
+
+/// Whether a name of flex begins with this byte: a letter or `_`.
+fn is_word_start(byte: u8) -> bool
+    ensures { result ≡ is_word_start byte }
+{
+    byte.is_ascii_alphabetic() || byte == b'_'
+}
+
+/// Whether a letter or `_` begins a line.
+fn begins_word(line: &str) -> bool
+    ensures { result ≡ is_word_start (slice_index line.now 0) }
+{
+    line.as_bytes().first().is_some_and(|b| is_word_start(*b))
+}
+
+/// Whether a text ends as a rule does: in a quote, or in `;`.
+fn ends_rule(text: &str) -> bool
+    ensures { result ≡ ends_rule text.now }
+{
+    ends_in(b'\'', text) || ends_in(b'"', text) || ends_in(b';', text)
+}
+
+/// Whether a line is a name, a blank and a pattern, as flex has definitions. A rule ends in its own name.
+fn is_definition(line: &str) -> bool
+    ensures { result ≡ is_definition line.now }
+{
+    begins_word(line) && has_blank(line) && !ends_rule(trim_end(line))
+}
+
+/// What to write in place of a definition of a pattern, if this line is one.
+fn definition_note(line: &str) -> &'static str
+    ensures { result.now ≡ definition_note line.now }
+{
+    if is_definition(line) {
+        ": definitions of patterns aren't read; leave the line out, and write the pattern in each rule, in place of {NAME}"
+    } else {
+        ""
+    }
+}
+
+/// What isn't read of this line of flex, if it sets options, is part of a block of code, or defines a pattern.
+fn flex_note(line: &str) -> &'static str
+    ensures { result.now ≡ flex_note line.now }
+{
+    or_note(
+        option_note(line),
+        or_note(code_note(line), definition_note(line)),
+    )
+}
+
+/// Why the line at this place declares nothing: it begins with a byte order mark, is a comment, is one of flex, or is another line.
 fn declaration_note(rules: &str, at: usize) -> &'static str
     ensures { result.now ≡ declaration_note rules.now at }
 {
-    let other = or_note(
-        comment_note(text_from(rules, at)),
+    let flex = or_note(
+        flex_note(first_line(text_from(rules, at))),
         ": a line before %% is %s or %x with names of start states; rules come after it",
     );
+    let other = or_note(comment_note(text_from(rules, at)), flex);
     or_note(mark_note(rules, at), other)
 }
 
-/// What to write in place of the name at this place, or that its line is a comment.
+/// What to write in place of `|`, if that stands for a name. In flex it is the action of the next rule.
+fn bar_note(name: &str) -> &'static str
+    ensures { result.now ≡ bar_note name.now }
+{
+    if name == "|" {
+        ": | takes no name from the next rule; write both patterns in one rule, as a|b, or give each a name"
+    } else {
+        ""
+    }
+}
+
+/// Whether this is the last word of an action, as `}` or `ID;`.
+fn is_action(name: &str) -> bool
+    ensures { result ≡ is_action name.now }
+{
+    name.starts_with("{") || ends_in(b'}', name) || ends_in(b';', name)
+}
+
+/// What to write in place of an action, if this is the last word of one.
+fn action_note(name: &str) -> &'static str
+    ensures { result.now ≡ action_note name.now }
+{
+    if is_action(name) {
+        ": actions aren't read; write a name in quotes, or ; for no name, and nothing after it"
+    } else {
+        ""
+    }
+}
+
+/// What to write in place of this word, which is no name.
+fn word_note(name: &str) -> &'static str
+    ensures { result.now ≡ word_note name.now }
+{
+    let other = or_note(
+        action_note(name),
+        ": write it in quotes and without blanks, or ; for no name; no action or comment follows it",
+    );
+    or_note(bar_note(name), other)
+}
+
+/// What to write in place of the word at this place, which is no name, or that its line is a comment.
 fn name_note(rules: &str, at: usize) -> &'static str
     ensures { result.now ≡ name_note rules.now at }
 {
     let (_, pattern) = source_of(rules, at);
-    or_note(
-        comment_note(pattern),
-        ": write it in quotes and without blanks, or ; for no name; no action or comment follows it",
-    )
+    let name = trim_end(first_line(text_from(rules, at)));
+    or_note(comment_note(pattern), word_note(name))
 }
 
 /// Whether a text has a blank before the white space at its end.

@@ -50,7 +50,7 @@ fn is_state_name(states: &[StartState], name: &str) -> bool
 }
 
 /// Whether this is the text's last byte.
-fn ends_in(byte: u8, text: &str) -> bool
+pub(crate) fn ends_in(byte: u8, text: &str) -> bool
     ensures { result ≡ ends_in byte text.now }
 {
     let bytes = text.as_bytes();

@@ -8,8 +8,8 @@ use Rattle.lrlex_report.proofs.listed.declares.Given as goal
 
 abbrev pub invariant-loop-left : goal.invariant-loop-left
 invariant-loop-left l = record {
-  same : declares l.name (pieces_left is_white_space (length l.rules) (option_copied l.left)) ≡ declares l.name (cut is_white_space (piece 0 l.rules));
-  within : IfSome (option_copied l.left) (λ (rest : List ℕ). length rest ≤ length l.rules);
+  same : declares l.name (pieces_left is_white_space (length l.text) (option_copied l.left)) ≡ declares l.name (cut is_white_space (piece 0 l.text));
+  within : IfSome (option_copied l.left) (λ (rest : List ℕ). length rest ≤ length l.text);
 }
 
 -- how much is left
