@@ -1,5 +1,4 @@
-use Rattle.std.proofs.Common.{◌≡◌, ℕ, Bool, true, false, eqb, List, [], ◌∷◌, length, refl, arith, lit<}
-use Rattle.std.specs.List.{list_any, position_or_len}
+use Rattle.std.proofs.Common.{eqb, refl, lit<}
 use Rattle.lrlex_rules.proofs.Angles.{none_before}
 use Rattle.lrlex_report.proofs.warnings.patterns.after_flags.Goals as goal
 
