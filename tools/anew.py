@@ -3,9 +3,9 @@
 rt lib checks a new crate in batches, which it keeps in out/incremental for the next check. A check that keeps nothing shares its
 work better among processors: lrlex_boundaries takes 58 seconds on four in place of 87. So a first build has the kit make the
 library as rt lib does, but keeps nothing. The notes that rt leaves are left too: one beside the library, so that rt takes it for
-its own, and one by which rt gives it to other copies on this machine, so that none builds it again. A library that was built
-before, or whose checks have kept something, here or in another copy on this machine, is built by rt lib; so is each with a kit
-that can't do this.
+its own, and, with a kit whose rt has that, one by which rt gives it to other copies on this machine, so that none builds it again.
+A library that was built before, or whose checks have kept something, here or in such a copy, is built by rt lib; so is each with a
+kit that can't do this.
 """
 
 import fcntl
@@ -31,6 +31,8 @@ def kit_command():
 
 def is_elsewhere(crate, rt):
     """Whether another copy of the crate on this machine has proved the same, and has kept that: rt lib begins with it."""
+    if not hasattr(rt, "places_of"):
+        return False
     places = [folder for folder, stamp in rt.places_of(crate) if folder != crate.folder and stamp == crate.stamp()]
     return any(os.path.isdir(f"{it}/out/{kept}") for it in places for kept in rooms.KEPT)
 
@@ -54,7 +56,8 @@ def build(name, jobs):
     if not status and stamp == crate.stamp():
         with open(f"{rlib}/stamp", "w", encoding="utf-8") as it:
             it.write(stamp)
-        rt.offer(crate, stamp)
+        if hasattr(rt, "offer"):
+            rt.offer(crate, stamp)
     return status
 
 
