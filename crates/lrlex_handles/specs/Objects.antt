@@ -12,6 +12,7 @@ use Rattle.lrlex_rules.specs.declared.states.StartState as start
 use Rattle.lrlex.specs.Document.{lexed_bytes}
 use Rattle.lrlex.specs.Scanner.{Scanned}
 use Rattle.lrlex.specs.Views.{definition_of, definition_states}
+use Rattle.lrlex.specs.declared.definition.rule_table.RuleTable.{RuleTable}
 use Rattle.lrlex_handles.specs.declared.object.Object.{Object}
 use Rattle.lrlex_handles.specs.declared.object.Object.TheVariants.{Nothing, Definition as Defined, Refusal, Document, Scanner}
 
@@ -32,6 +33,15 @@ states_in (Some (Defined d)) = Some (definition_states (arc_value d))
 states_in (Some (Refusal r)) = None
 states_in (Some (Document e)) = None
 states_in (Some (Scanner s)) = None
+
+-- the rules and start states of the definition as the program has them, if there is one
+abbrev pub table_in : Option Object → Option (RuleTable ℕ)
+table_in None = None
+table_in (Some Nothing) = None
+table_in (Some (Defined d)) = Some (arc_value d).table
+table_in (Some (Refusal r)) = None
+table_in (Some (Document e)) = None
+table_in (Some (Scanner s)) = None
 
 -- a refused rule text and its faults, if there is one
 abbrev pub refusal_in : Option Object → Option (List ℕ × List LexBuildError)

@@ -38,7 +38,7 @@ fn nest_limit(n: u32) -> Option<u32>
     if n == 0 { None } else { Some(n) }
 }
 
-fn flags_of(options: &Options) -> LexFlags
+pub(crate) fn flags_of(options: &Options) -> LexFlags
     ensures { result ≡ flags_by options.now }
 {
     LexFlags {
@@ -57,8 +57,15 @@ fn flags_of(options: &Options) -> LexFlags
     }
 }
 
-fn refusal(alloc: Global, rules: &str, faults: Vec<LexBuildError>) -> Result<Refusal, AllocError>
-    ensures { IfOk result (λ r. refusal_in (Some (Refused r)) ≡ Some (rules.now, faults.items)) }
+/// A rule text that is refused for these faults.
+pub(crate) fn refusal(
+    alloc: Global,
+    rules: &str,
+    faults: Vec<LexBuildError>,
+) -> Result<Refusal, AllocError>
+    ensures faults { IfOk result (λ r. r.faults ≡ faults) }
+    ensures refused { IfOk result
+        (λ r. refusal_in (Some (Refused r)) ≡ Some (rules.now, faults.items)) }
 {
     let newlines = NewlineCache::from_str(alloc, rules)?;
     Ok(Refusal {
@@ -69,7 +76,7 @@ fn refusal(alloc: Global, rules: &str, faults: Vec<LexBuildError>) -> Result<Ref
 }
 
 /// Reads the rule text, under the budget if there is one.
-fn read(
+pub(crate) fn read(
     alloc: Global,
     rules: &str,
     options: &Options,

@@ -1,6 +1,8 @@
-//! What the C library does, for handles that a caller holds: definitions, the faults of rule texts, lexing, documents, and scanners.
+//! What the C library does, for handles that a caller holds: definitions, the faults and warnings of rule texts, lexing, documents, and
+//! scanners.
 #![tactic(auto)]
 
+pub mod checking;
 pub mod definitions;
 pub mod documents;
 pub mod entering;
@@ -9,6 +11,7 @@ pub mod errors;
 mod filling;
 pub mod handle;
 pub mod ids;
+pub mod kinds;
 pub mod lexing;
 mod loose;
 mod object;
@@ -21,3 +24,4 @@ pub mod stops;
 pub mod structs;
 mod taking;
 mod texts;
+pub mod warnings;

@@ -31,7 +31,7 @@ pub(crate) fn place_at(newlines: &NewlineCache, text: &str, byte: usize) -> Plac
 
 /// The same, where bytes are asked one after the other: a cursor of the text tells the places of those that ascend, and `last` is
 /// the last of these.
-fn next_place(
+pub(crate) fn next_place(
     newlines: &NewlineCache,
     cursor: &mut LineCursor<'_>,
     last: &mut usize,

@@ -95,6 +95,17 @@ pub struct FaultSpan {
     pub column: usize,
 }
 
+/// A warning of a rule text: its kind, its span, in bytes, and line and column of that, both from 1.
+#[repr(C)]
+#[derive(Clone, Copy)]
+pub struct Warning {
+    pub start: usize,
+    pub end: usize,
+    pub line: usize,
+    pub column: usize,
+    pub kind: u32,
+}
+
 /// Line and column. Of a place both count from 1, the column in characters; of a position both count from 0, the column in bytes or in
 /// code units of UTF-16.
 #[repr(C)]
