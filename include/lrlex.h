@@ -136,6 +136,12 @@ typedef struct lrlex_options {
  * LRLEX_NOT_UTF8, LRLEX_NOMEM: `out` is empty. */
 int lrlex_definition_new(lrlex_definition *out, const uint8_t *rules, size_t rules_len, const lrlex_options *options);
 
+/* Reads a rule text as lrlex_definition_new does, and tells all its faults: a fault ends its line alone, and the next line is read after
+ * it. A refused text is read twice. What `out` has is freed first.
+ * LRLEX_OK: `out` has the definition. LRLEX_REFUSED: `out` has all faults of the text, for the calls lrlex_fault_*; free it too.
+ * LRLEX_NOT_UTF8, LRLEX_NOMEM: `out` is empty. */
+int lrlex_check(lrlex_definition *out, const uint8_t *rules, size_t rules_len, const lrlex_options *options);
+
 /* Gives `out` the same definition, which is freed with its last owner. What `out` has is freed first. `out` is another handle than `d`.
  * LRLEX_OK; LRLEX_MISUSE, LRLEX_NOMEM: `out` is empty. */
 int lrlex_definition_share(lrlex_definition *d, lrlex_definition *out);
@@ -183,6 +189,42 @@ int lrlex_fault_text(lrlex_definition *d, size_t index, uint8_t *out, size_t cap
  * name to show. `len` is how many bytes that takes.
  * LRLEX_OK; LRLEX_NOT_UTF8; LRLEX_MISUSE; LRLEX_NOMEM. */
 int lrlex_fault_report(lrlex_definition *d, const uint8_t *file, size_t file_len, uint8_t *out, size_t cap, size_t *len);
+
+/* ---- Warnings of a rule text ---- */
+
+/* The kinds of warnings: what is legal in a rule text and hardly meant. */
+enum {
+    LRLEX_NEVER_WINS = 0, LRLEX_NEVER_ACTIVE = 1, LRLEX_LOOKS_AROUND = 2, LRLEX_NO_TABLE = 3, LRLEX_TARGET_IN_PATTERN = 4,
+    LRLEX_BLANK_AFTER_STATES = 5, LRLEX_LOST_ESCAPE = 6, LRLEX_ESCAPE_AFTER_STATES = 7, LRLEX_LOST_ALTERNATIVE = 8,
+    LRLEX_NAME_IN_PATTERN = 9, LRLEX_QUOTED_PATTERN = 10, LRLEX_BARE_OPERATOR = 11, LRLEX_LOST_CARET = 12, LRLEX_GREEDY_DOT = 13,
+    LRLEX_CLASS_OPERATOR = 14, LRLEX_UNKNOWN_CLASS = 15, LRLEX_NEVER_ENTERED = 16, LRLEX_NO_RULES = 17
+};
+
+/* A warning: its kind, and its span in the rule text, in bytes, with line and column: a rule's pattern with its list of start states,
+ * or a start state's name. */
+typedef struct lrlex_warning {
+    size_t start, end;
+    size_t line, column; /* of start, from 1; the column counts characters */
+    uint32_t kind;
+} lrlex_warning;
+
+/* The warnings of a definition: those of each start state, then those of each rule, in order. `rules` is the text that the definition
+ * was read from; with another text the nearest places are told. `count` is how many warnings there are.
+ * LRLEX_OK; LRLEX_NOT_UTF8; LRLEX_MISUSE; LRLEX_NOMEM. */
+int lrlex_warnings(lrlex_definition *d, const uint8_t *rules, size_t rules_len, lrlex_warning *out, size_t cap, size_t *count);
+
+/* The name of a kind of warnings, such as NeverWins. `len` is how many bytes it has. LRLEX_OK; LRLEX_NONE: there is no such kind. */
+int lrlex_warning_name(uint32_t kind, uint8_t *out, size_t cap, size_t *len);
+
+/* What a warning of this kind says, in English, without a full stop: what is unusual, why, and what to write. `len` is how many bytes
+ * that takes. LRLEX_OK; LRLEX_NONE: there is no such kind. */
+int lrlex_warning_text(uint32_t kind, uint8_t *out, size_t cap, size_t *len);
+
+/* A report for people of the warnings that lrlex_warnings tells: of each FILE:LINE:COLUMN, the message, the kind's name, the line, and
+ * carets under the place. `file` is the name to show. `len` is how many bytes that takes: 0 where there are no warnings.
+ * LRLEX_OK; LRLEX_NOT_UTF8: one of the texts is not UTF-8; LRLEX_MISUSE; LRLEX_NOMEM. */
+int lrlex_warning_report(lrlex_definition *d, const uint8_t *file, size_t file_len, const uint8_t *rules, size_t rules_len, uint8_t *out,
+                         size_t cap, size_t *len);
 
 /* ---- Rules and start states ---- */
 

@@ -43,6 +43,43 @@ a.l:3:6: first here
 a.l:5:1: Invalid regular expression: unclosed group
 5 | c( 'C'
   | ^
+kind 6, Start state already exists: 1:4, bytes 3 to 4 1:6, bytes 5 to 6
+kind 10, Invalid regular expression: regex parse error at 2..3: unclosed group: 3:1, bytes 10 to 10
+kind 9, Rule name already exists: 4:4, bytes 20 to 21 5:4, bytes 26 to 27
+kind 5, Start state not known: 6:1, bytes 29 to 29
+a.l:1:6: Start state already exists
+1 | %x A A
+  |      ^
+a.l:1:4: first here
+1 | %x A A
+  |    ^
+a.l:3:1: Invalid regular expression: unclosed group
+3 | c( 'C'
+  | ^
+a.l:5:4: Rule name already exists
+5 | b 'A'
+  |    ^
+a.l:4:4: first here
+4 | a 'A'
+  |    ^
+a.l:6:1: Start state not known: declare it with %s or %x; commas separate the names of a list, and a target stands before the rule's name; a pattern that begins with the character < begins with \\<
+6 | <B>b ;
+  | ^
+1:4, bytes 3 to 4, kind 16, NeverEntered: no rule enters this start state; name it as the target of a rule
+1:4, bytes 3 to 4, kind 17, NoRules: no rule is active in this start state, so lexing stops there; list it before a pattern
+4:1, bytes 20 to 22, kind 0, NeverWins: this rule never wins: it matches no byte, or other rules match as much or more; put it before them, or make them match less
+3 warnings
+a.l:1:4: Warning: no rule enters this start state; name it as the target of a rule [NeverEntered]
+1 | %x S
+  |    ^
+a.l:1:4: Warning: no rule is active in this start state, so lexing stops there; list it before a pattern [NoRules]
+1 | %x S
+  |    ^
+a.l:4:1: Warning: this rule never wins: it matches no byte, or other rules match as much or more; put it before them, or make them match less [NeverWins]
+4 | if 'IF'
+  | ^^
+0 warnings
+NeverWins NeverActive LooksAround NoTable TargetInPattern BlankAfterStates LostEscape EscapeAfterStates LostAlternative NameInPattern QuotedPattern BareOperator LostCaret GreedyDot ClassOperator UnknownClass NeverEntered NoRules
 rule 0: A, id 0, bytes 16 to 17
 state 0: INITIAL
 state 1: STRING, exclusive

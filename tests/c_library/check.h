@@ -32,4 +32,10 @@ static int define(lrlex_definition *d, const char *rules) {
     return lrlex_definition_new(d, bytes(rules), strlen(rules), &options);
 }
 
+/* The same, with all faults where the text is refused. */
+static int check_rules(lrlex_definition *d, const char *rules) {
+    const lrlex_options options = LRLEX_OPTIONS;
+    return lrlex_check(d, bytes(rules), strlen(rules), &options);
+}
+
 #endif

@@ -1,4 +1,4 @@
-/* A first text, a text that stops, texts that end in start states, and where they enter these, a refused rule text, a document through edits, and a scanner, as a user of the header writes them. */
+/* A first text, a text that stops, texts that end in start states, and where they enter these, a refused rule text, one with all its faults, warnings, a document through edits, and a scanner, as a user of the header writes them. */
 #include "check.h"
 
 #include <stdlib.h>
@@ -76,11 +76,11 @@ static void enter(void) {
     lrlex_free(&d);
 }
 
-static void refuse(const char *rules) {
+static void refuse(const char *rules, int (*read)(lrlex_definition *, const char *)) {
     lrlex_definition d = LRLEX_EMPTY;
-    uint8_t text[512];
+    uint8_t text[1024];
     size_t len = 0;
-    CHECK(define(&d, rules) == LRLEX_REFUSED);
+    CHECK(read(&d, rules) == LRLEX_REFUSED);
     const size_t count = lrlex_fault_count(&d);
     for (size_t i = 0; i < count; i++) {
         lrlex_fault fault;
@@ -98,6 +98,34 @@ static void refuse(const char *rules) {
     CHECK(lrlex_fault_report(&d, bytes("a.l"), 3, text, sizeof text, &len) == LRLEX_OK && len <= sizeof text);
     fwrite(text, 1, len, stdout);
     lrlex_free(&d);
+}
+
+/* What a rule text says that its author hardly meant. */
+static void warn(const char *rules) {
+    lrlex_definition d = LRLEX_EMPTY;
+    lrlex_warning warnings[8];
+    uint8_t text[1024];
+    size_t count = 0, len = 0;
+    CHECK(check_rules(&d, rules) == LRLEX_OK);
+    CHECK(lrlex_warnings(&d, bytes(rules), strlen(rules), warnings, 8, &count) == LRLEX_OK && count <= 8);
+    for (size_t i = 0; i < count; i++) {
+        const lrlex_warning *it = &warnings[i];
+        CHECK(lrlex_warning_name(it->kind, text, sizeof text, &len) == LRLEX_OK && len <= sizeof text);
+        printf("%zu:%zu, bytes %zu to %zu, kind %u, %.*s", it->line, it->column, it->start, it->end, (unsigned)it->kind, (int)len, (const char *)text);
+        CHECK(lrlex_warning_text(it->kind, text, sizeof text, &len) == LRLEX_OK && len <= sizeof text);
+        printf(": %.*s\n", (int)len, (const char *)text);
+    }
+    CHECK(lrlex_warning_report(&d, bytes("a.l"), 3, bytes(rules), strlen(rules), text, sizeof text, &len) == LRLEX_OK && len <= sizeof text);
+    printf("%zu warnings\n%.*s", count, (int)len, (const char *)text);
+    lrlex_free(&d);
+}
+
+/* The names of the kinds of warnings, up to the first number that none has. */
+static void kinds(void) {
+    uint8_t name[64];
+    size_t len = 0;
+    for (uint32_t kind = 0; lrlex_warning_name(kind, name, sizeof name, &len) == LRLEX_OK; kind++) printf("%s%.*s", kind ? " " : "", (int)len, (const char *)name);
+    puts("");
 }
 
 /* The names of a definition's rules and start states. */
@@ -226,7 +254,11 @@ int main(void) {
     lex("");
     count();
     enter();
-    refuse("%x A A\n%%\na+b 'A'\nb 'A'\nc( 'C'\n");
+    refuse("%x A A\n%%\na+b 'A'\nb 'A'\nc( 'C'\n", define);
+    refuse("%x A A\n%%\nc( 'C'\na 'A'\nb 'A'\n<B>b ;\n", check_rules);
+    warn("%x S\n%%\n[a-z]+ 'ID'\nif 'IF'\n\"[^\"]*\" 'S'\n");
+    warn("%%\na 'A'\n");
+    kinds();
     names();
     ids();
     edit();

@@ -1,5 +1,5 @@
 /* fuzz SEEDS SECONDS [SEED]: mutated rule texts, inputs and edits through the C library, with laws on what comes back: of definitions,
-   ids by names, lexing, scanners, and documents with their places and offsets.
+   all faults, warnings, ids by names, lexing, scanners, and documents with their places and offsets.
    SEEDS has cases: of each the lengths of a rule text and of an input, as two uint32_t, then both. The last line says how many texts there
    were. A law that fails is printed with its case, and the status is 1. Build it with -fsanitize=address,undefined. */
 #include "lrlex.h"
@@ -25,7 +25,7 @@ static seed *seeds;
 static size_t seed_count;
 static text rules, input;
 static uint64_t state;
-static unsigned long long texts, built, refused, not_utf8, tokens_seen, edits, scans, offsets;
+static unsigned long long texts, built, refused, not_utf8, tokens_seen, warnings_seen, edits, scans, offsets;
 
 static const char *const BITS[] = {"%%\n", "%x a\n", "%s b c\n", "<a>", "<+a>", "<-a>", "'X'\n", ";\n", "[a-z]+", "(a|b)*", "\\p{L}", "(?i)", "\\b", "$",
                                    "^", "{3}", "{1,40}", "\\x41", "\\u{41}", "\xc3\xa9", "\xf0\x9f\x98\x80", "\"", "'", "<*>", "//", "\r\n", "\r", "\xe2\x80\xa8",
@@ -167,14 +167,14 @@ static void check_scanner(lrlex_definition *d, const lrlex_lexed *lexed, const l
     scans++;
 }
 
-/* Line and column of a place, from 1, as a reader counts them. */
-static lrlex_place place_of(size_t byte) {
+/* Line and column of a place of a text, from 1, as a reader counts them. */
+static lrlex_place place_of(const text *of, size_t byte) {
     lrlex_place it = {1, 1};
-    if (byte > input.len) byte = input.len;
-    while (byte < input.len && (input.bytes[byte] & 0xc0) == 0x80) byte--;
+    if (byte > of->len) byte = of->len;
+    while (byte < of->len && (of->bytes[byte] & 0xc0) == 0x80) byte--;
     for (size_t i = 0; i < byte; i++) {
-        if (input.bytes[i] == '\n') it.line++, it.column = 1;
-        else if ((input.bytes[i] & 0xc0) != 0x80) it.column++;
+        if (of->bytes[i] == '\n') it.line++, it.column = 1;
+        else if ((of->bytes[i] & 0xc0) != 0x80) it.column++;
     }
     return it;
 }
@@ -261,7 +261,7 @@ static void check_document(lrlex_document *document, lrlex_definition *d) {
     }
     LAW(found == part.count);
     LAW(lrlex_document_place(document, from, &place) == LRLEX_OK);
-    LAW(place.line == place_of(from).line && place.column == place_of(from).column);
+    LAW(place.line == place_of(&input, from).line && place.column == place_of(&input, from).column);
     LAW(lrlex_document_position(document, from, &place) == LRLEX_OK);
     LAW(place.line == position_of(from, LRLEX_UTF16).line && place.column == position_of(from, LRLEX_UTF16).column);
     check_offsets(document, from);
@@ -318,6 +318,31 @@ static void check_ids(lrlex_definition *d) {
     for (size_t i = 0; i < NAMES; i++) LAW(missing[i] == !has_rule[i]);
 }
 
+/* A checked text has a definition where the text has one, and warnings that fit in it. A report shows each. */
+static void check_warnings(const lrlex_options *how) {
+    static lrlex_warning warnings[ROOM];
+    static uint8_t report[16 * ROOM];
+    lrlex_definition d = LRLEX_EMPTY;
+    size_t count = 0, len = 0, shown = 0;
+    LAW(lrlex_check(&d, rules.bytes, rules.len, how) == LRLEX_OK);
+    LAW(lrlex_warnings(&d, rules.bytes, rules.len, warnings, ROOM, &count) == LRLEX_OK);
+    for (size_t i = 0; i < count && i < ROOM; i++) {
+        const lrlex_warning *it = &warnings[i];
+        const lrlex_place place = place_of(&rules, it->start);
+        uint8_t name[32];
+        LAW(it->kind <= LRLEX_NO_RULES && it->start <= it->end && it->end <= rules.len && it->line == place.line && it->column == place.column);
+        LAW(lrlex_warning_name(it->kind, name, sizeof name, &len) == LRLEX_OK && len > 0 && len <= sizeof name);
+        LAW(lrlex_warning_text(it->kind, report, sizeof report, &len) == LRLEX_OK && len > 0);
+    }
+    LAW(lrlex_warning_report(&d, rules.bytes, 0, rules.bytes, rules.len, report, sizeof report, &len) == LRLEX_OK && (len == 0) == (count == 0));
+    if (len <= sizeof report) {
+        for (size_t i = 0; i < len; i++) shown += report[i] == '\n';
+        LAW(shown == 3 * count);
+    }
+    lrlex_free(&d);
+    warnings_seen += count;
+}
+
 static void check_definition(lrlex_definition *d, const lrlex_options *how) {
     static uint8_t report[ROOM];
     lrlex_lexed lexed, cut, slow;
@@ -358,9 +383,25 @@ static void check_definition(lrlex_definition *d, const lrlex_options *how) {
         check_scanner(d, &lexed, &cut);
     }
     if (below(2) == 0) check_edits(d);
+    if (below(2) == 0) check_warnings(how);
 }
 
-static void check_faults(lrlex_definition *d) {
+/* All faults of a refused text: first those that the reading tells. */
+static void check_all_faults(lrlex_definition *d, const lrlex_options *how) {
+    lrlex_definition all = LRLEX_EMPTY;
+    const size_t count = lrlex_fault_count(d);
+    LAW(lrlex_check(&all, rules.bytes, rules.len, how) == LRLEX_REFUSED && lrlex_fault_count(&all) >= count);
+    for (size_t i = 0; i < lrlex_fault_count(&all); i++) {
+        lrlex_fault one, other;
+        LAW(lrlex_fault_at(&all, i, &one) == LRLEX_OK && one.spans > 0 && one.start <= one.end && one.end <= rules.len);
+        if (i >= count) continue;
+        LAW(lrlex_fault_at(d, i, &other) == LRLEX_OK);
+        LAW(one.start == other.start && one.end == other.end && one.spans == other.spans && one.kind == other.kind);
+    }
+    lrlex_free(&all);
+}
+
+static void check_faults(lrlex_definition *d, const lrlex_options *how) {
     static uint8_t report[ROOM];
     const size_t count = lrlex_fault_count(d);
     size_t len = 0;
@@ -376,6 +417,7 @@ static void check_faults(lrlex_definition *d) {
         LAW(lrlex_fault_text(d, i, report, ROOM, &len) == LRLEX_OK && len > 0);
     }
     LAW(lrlex_fault_report(d, rules.bytes, 0, report, ROOM, &len) == LRLEX_OK && len > 0);
+    check_all_faults(d, how);
 }
 
 static void once(void) {
@@ -389,7 +431,7 @@ static void once(void) {
     texts++;
     switch (lrlex_definition_new(&d, rules.bytes, rules.len, &how)) {
     case LRLEX_OK: check_definition(&d, &how); break;
-    case LRLEX_REFUSED: check_faults(&d); break;
+    case LRLEX_REFUSED: check_faults(&d, &how); break;
     case LRLEX_NOT_UTF8: not_utf8++; LAW(d.hidden == NULL); break;
     default: law(0, "a status of a definition", __LINE__);
     }
@@ -423,7 +465,7 @@ int main(int count, char **words) {
     while (time(NULL) < end) once();
     for (size_t i = 0; i < seed_count; i++) free(seeds[i].rules), free(seeds[i].input);
     free(seeds);
-    printf("%llu texts: %llu definitions, %llu refused, %llu not UTF-8, %llu tokens, %llu edits, %llu scans, %llu offsets: nothing found\n", texts, built, refused,
-           not_utf8, tokens_seen, edits, scans, offsets);
+    printf("%llu texts: %llu definitions, %llu refused, %llu not UTF-8, %llu tokens, %llu warnings, %llu edits, %llu scans, %llu offsets: nothing found\n", texts, built, refused,
+           not_utf8, tokens_seen, warnings_seen, edits, scans, offsets);
     return 0;
 }

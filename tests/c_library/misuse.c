@@ -7,6 +7,7 @@ static lrlex_lexed lexed;
 static lrlex_entered entered;
 static lrlex_fault fault;
 static lrlex_fault_span span;
+static lrlex_warning warnings[8];
 static lrlex_rule rule;
 static lrlex_state state;
 static lrlex_place place;
@@ -27,6 +28,9 @@ static void none(lrlex_definition *d) {
     CHECK(lrlex_pieces(d, bytes("a"), 1, pieces, 8, &lexed) == LRLEX_MISUSE);
     CHECK(lrlex_stop_report(d, bytes("f"), 1, bytes("a"), 1, text, sizeof text, &len) == LRLEX_MISUSE);
     CHECK(lrlex_entered_by(d, bytes("a"), 1, &entered) == LRLEX_MISUSE);
+    CHECK(lrlex_warnings(d, bytes("%%"), 2, warnings, 8, &len) == LRLEX_MISUSE);
+    CHECK(lrlex_warnings(d, bytes("\xff"), 1, warnings, 8, &len) == LRLEX_MISUSE);
+    CHECK(lrlex_warning_report(d, bytes("f"), 1, bytes("%%"), 2, text, sizeof text, &len) == LRLEX_MISUSE);
     CHECK(lrlex_rule_count(d) == 0 && lrlex_state_count(d) == 0);
     CHECK(lrlex_rule_at(d, 0, &rule) == LRLEX_MISUSE);
     CHECK(lrlex_rule_name(d, 0, text, sizeof text, &len) == LRLEX_MISUSE);
@@ -133,6 +137,10 @@ static void texts(void) {
         lrlex_document made = LRLEX_EMPTY;
         lrlex_scanner scanner = LRLEX_EMPTY;
         CHECK(define(&other, bad[i]) == LRLEX_NOT_UTF8);
+        CHECK(check_rules(&other, bad[i]) == LRLEX_NOT_UTF8);
+        CHECK(lrlex_warnings(&d, bytes(bad[i]), size, warnings, 8, &len) == LRLEX_NOT_UTF8);
+        CHECK(lrlex_warning_report(&d, bytes("f"), 1, bytes(bad[i]), size, text, sizeof text, &len) == LRLEX_NOT_UTF8);
+        CHECK(lrlex_warning_report(&d, bytes(bad[i]), size, bytes(WORDS), strlen(WORDS), text, sizeof text, &len) == LRLEX_NOT_UTF8);
         CHECK(lrlex_lex(&d, bytes(bad[i]), size, tokens, 8, &lexed) == LRLEX_NOT_UTF8);
         CHECK(lrlex_pieces(&d, bytes(bad[i]), size, pieces, 8, &lexed) == LRLEX_NOT_UTF8);
         CHECK(lrlex_stop_report(&d, bytes("f"), 1, bytes(bad[i]), size, text, sizeof text, &len) == LRLEX_NOT_UTF8);
@@ -192,6 +200,42 @@ static void buffers(void) {
     /* a handle that holds something is used again */
     CHECK(define(&d, "%%\na 'A'\n") == LRLEX_OK);
     CHECK(lrlex_rule_count(&d) == 1);
+    lrlex_free(&d);
+}
+
+/* A checked rule text fills any handle. Warnings are told with any room, of any text, and kinds have any number. */
+static void checks(void) {
+    static const char warned[] = "%x A B\n%%\na 'A'\n<B>b 'B'\n", faulty[] = "%%\n( 'A'\n) 'B'\n";
+    lrlex_definition d = LRLEX_EMPTY;
+    lrlex_document document = LRLEX_EMPTY;
+    uint8_t name[16] = {0};
+    CHECK(check_rules(&d, faulty) == LRLEX_REFUSED && lrlex_fault_count(&d) == 2);
+    none(&d);
+    CHECK(check_rules(&d, warned) == LRLEX_OK);
+    no_faults(&d);
+    CHECK(lrlex_document_new(&d, &document, bytes("a"), 1) == LRLEX_OK);
+    CHECK(check_rules((lrlex_definition *)&document, faulty) == LRLEX_REFUSED);
+    no_document(&document);
+    CHECK(check_rules((lrlex_definition *)&document, "\xff") == LRLEX_NOT_UTF8 && !document.hidden);
+    /* A is never entered, and has no rules; B is never entered */
+    for (size_t cap = 0; cap <= 4; cap++) {
+        for (size_t i = 0; i < 8; i++) warnings[i].kind = 77, warnings[i].line = 0;
+        CHECK(lrlex_warnings(&d, bytes(warned), strlen(warned), warnings, cap, &len) == LRLEX_OK && len == 3);
+        for (size_t i = 0; i < 8; i++) CHECK((warnings[i].kind != 77) == (i < cap && i < 3) && (warnings[i].line == 1) == (i < cap && i < 3));
+    }
+    CHECK(warnings[0].kind == LRLEX_NEVER_ENTERED && warnings[1].kind == LRLEX_NO_RULES && warnings[2].kind == LRLEX_NEVER_ENTERED);
+    CHECK(warnings[1].start == 3 && warnings[1].end == 4 && warnings[1].column == 4 && warnings[2].start == 5 && warnings[2].column == 6);
+    /* texts that the definition was not read from: a shorter one, and one with a character there */
+    CHECK(lrlex_warnings(&d, bytes("%x"), 2, warnings, 8, &len) == LRLEX_OK && len == 3 && warnings[2].start == 2 && warnings[2].end == 2 && warnings[2].column == 3);
+    CHECK(lrlex_warnings(&d, bytes("a\n\xf0\x9f\x98\x80"), 6, warnings, 8, &len) == LRLEX_OK && len == 3 && warnings[1].start == 2 && warnings[1].line == 2 && warnings[1].column == 1);
+    CHECK(lrlex_warnings(&d, bytes(""), 0, warnings, 8, &len) == LRLEX_OK && len == 3 && warnings[0].line == 1 && warnings[0].column == 1);
+    CHECK(lrlex_warning_report(&d, bytes("f"), 1, bytes(""), 0, text, 0, &len) == LRLEX_OK && len > sizeof text);
+    CHECK(lrlex_warning_name(LRLEX_NEVER_WINS, name, sizeof name, &len) == LRLEX_OK && len == 9 && memcmp(name, "NeverWins", 9) == 0);
+    name[1] = '#';
+    CHECK(lrlex_warning_name(LRLEX_NO_RULES, name, 1, &len) == LRLEX_OK && len == 7 && name[0] == 'N' && name[1] == '#');
+    CHECK(lrlex_warning_name(LRLEX_NO_RULES + 1, name, sizeof name, &len) == LRLEX_NONE && lrlex_warning_name(UINT32_MAX, name, sizeof name, &len) == LRLEX_NONE);
+    CHECK(lrlex_warning_text(LRLEX_NO_RULES, name, 0, &len) == LRLEX_OK && len > sizeof name && name[0] == 'N');
+    CHECK(lrlex_warning_text(LRLEX_NO_RULES + 1, name, sizeof name, &len) == LRLEX_NONE && lrlex_warning_text(UINT32_MAX, name, sizeof name, &len) == LRLEX_NONE);
     lrlex_free(&d);
 }
 
@@ -313,6 +357,7 @@ int main(void) {
     owners();
     texts();
     buffers();
+    checks();
     offsets();
     scanners();
     return failed;

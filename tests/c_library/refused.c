@@ -37,9 +37,10 @@ void __wrap_free(void *block) {
 
 static const char RULES[] = "%x S\n%%\n[0-9]+ 'INT'\n[a-z]+ 'ID'\n[ ] ;\n\" <+S>;\n<S>\" <-S>;\n<S>[^\"]+ 'TEXT'\n";
 static const char FAULTY[] = "%x A A\n%%\na+b 'A'\nb 'A'\nc( 'C'\n";
+static const char WARNED[] = "%x A B\n%%\na+ 'A'\na 'B'\n<B>b$ 'C'\n";
 static const char TEXT[] = "ab 12 \"x y\" c", EDITED[] = "ab \" q \"x y\" c";
 
-static lrlex_definition d, shared, refused, alone;
+static lrlex_definition d, shared, refused, alone, warned, faulty;
 static lrlex_document document;
 static lrlex_scanner scanner;
 /* Where the scanner stands, and where its text ends. */
@@ -59,6 +60,10 @@ static int is_of(const char *text) {
 static int make(void) { return define(&d, RULES); }
 
 static int refuse(void) { return define(&refused, FAULTY); }
+
+static int make_warned(void) { return check_rules(&warned, WARNED); }
+
+static int refuse_for_all(void) { return check_rules(&faulty, FAULTY); }
 
 static int lex(void) {
     lrlex_token tokens[32];
@@ -127,6 +132,16 @@ static int tell_fault(void) { return lrlex_fault_text(&refused, 0, written, size
 
 static int report_faults(void) { return lrlex_fault_report(&refused, bytes("a.l"), 3, written, sizeof written, &len); }
 
+/* Of the start states A and B, and of the rules B and C. */
+static int tell_warnings(void) {
+    lrlex_warning warnings[8];
+    const int status = lrlex_warnings(&warned, bytes(WARNED), strlen(WARNED), warnings, 8, &len);
+    CHECK(status || (len == 5 && warnings[3].kind == LRLEX_NEVER_WINS && warnings[3].line == 4 && warnings[4].kind == LRLEX_LOOKS_AROUND));
+    return status;
+}
+
+static int report_warnings(void) { return lrlex_warning_report(&warned, bytes("a.l"), 3, bytes(WARNED), strlen(WARNED), written, sizeof written, &len); }
+
 static int report_stop(void) { return lrlex_stop_report(&d, bytes("a"), 1, bytes("ab ?"), 4, written, sizeof written, &len); }
 
 static int cut_document(void) {
@@ -167,6 +182,8 @@ static int look(void) {
         lrlex_document_position(&document, 1, &place),
         lrlex_document_position_in(&document, 1, LRLEX_UTF8, &place),
         lrlex_document_offset_at(&document, 0, 1, LRLEX_UTF16, &len),
+        lrlex_warning_name(LRLEX_NEVER_WINS, written, sizeof written, &len),
+        lrlex_warning_text(LRLEX_NEVER_WINS, written, sizeof written, &len),
         lrlex_fault_count(&refused) == 0,
         lrlex_rule_count(&d) == 0,
         lrlex_state_count(&d) == 0,
@@ -186,6 +203,10 @@ static const struct {
     {"lrlex_definition_new, refused", refuse, LRLEX_REFUSED},
     {"lrlex_fault_text", tell_fault, LRLEX_OK},
     {"lrlex_fault_report", report_faults, LRLEX_OK},
+    {"lrlex_check", make_warned, LRLEX_OK},
+    {"lrlex_check, refused", refuse_for_all, LRLEX_REFUSED},
+    {"lrlex_warnings", tell_warnings, LRLEX_OK},
+    {"lrlex_warning_report", report_warnings, LRLEX_OK},
     {"lrlex_lex", lex, LRLEX_OK},
     {"lrlex_pieces", cut, LRLEX_OK},
     {"lrlex_stop_report", report_stop, LRLEX_OK},
@@ -231,7 +252,7 @@ int main(void) {
         }
     }
     CHECK(is_of(EDITED));
-    lrlex_free(&d), lrlex_free(&alone), lrlex_free(&shared), lrlex_free(&refused), lrlex_free(&document), lrlex_free(&scanner);
+    lrlex_free(&d), lrlex_free(&alone), lrlex_free(&shared), lrlex_free(&refused), lrlex_free(&warned), lrlex_free(&faulty), lrlex_free(&document), lrlex_free(&scanner);
     CHECK(blocks == 0 && reported > 0);
     printf("%ld requests refused, %ld reported, %ld blocks left\n", requests, reported, blocks);
     return failed;

@@ -3,13 +3,14 @@ ghost use Rattle.std.specs.Prelude.{◌≡◌, ◌≢◌, ◌↔◌, ◌^◌, �
 ghost use Rattle.lrlex_rules.specs.LexBuildResult.{IsAnswer};
 ghost use Rattle.lrlex.specs.Ids.{with_ids};
 ghost use Rattle.lrlex_handles.specs.Buffers.{filled};
+ghost use Rattle.lrlex_handles.specs.Checking.{IsChecked};
 ghost use Rattle.lrlex_handles.specs.NamedIds.{AreNamesUtf8, id_by, is_missing};
 ghost use Rattle.lrlex_handles.specs.Objects.{answer_in, definition_in, refusal_in};
 ghost use Rattle.lrlex_handles.specs.Settings.{flags_by};
 
 use lrlex_handles::handle::Handle;
 use lrlex_handles::structs::{NamedId, Options};
-use lrlex_handles::{definitions, handle, ids};
+use lrlex_handles::{checking, definitions, handle, ids};
 use std::alloc::Global;
 
 /// Reads a rule text. The handle has the definition, or, where the call returns 1, the text's faults. Else it is empty. What it had
@@ -30,6 +31,26 @@ pub extern "C" fn lrlex_definition_new(
     ensures unread { result ≡ pos 3 → ¬ (IsUtf8 rules.now) }
 {
     definitions::define(alloc, out, rules, options)
+}
+
+/// Reads a rule text. The handle has the definition, or, where the call returns 1, all faults of the text. Else it is empty. What it
+/// had before is freed.
+#[unsafe(no_mangle)]
+pub extern "C" fn lrlex_check(
+    alloc: Global,
+    out: &mut Handle,
+    rules: &[u8],
+    options: &Options,
+) -> i32
+    ensures answer { IfSome (answer_in out.new.value)
+        (IsChecked (flags_by options.now) (2 ^ 32 - 1) rules.now) }
+    ensures defined { result ≡ pos 0 ↔ IsSome (definition_in out.new.value) }
+    ensures refused { result ≡ pos 1 ↔ IsSome (refusal_in out.new.value) }
+    ensures failed { result ≢ pos 0 → result ≢ pos 1 → out.new.value ≡ None }
+    ensures misused { result ≢ pos 4 }
+    ensures unread { result ≡ pos 3 → ¬ (IsUtf8 rules.now) }
+{
+    checking::check(alloc, out, rules, options)
 }
 
 /// Gives another handle the same definition. What that handle had before is freed.
