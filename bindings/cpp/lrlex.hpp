@@ -8,6 +8,8 @@
 /// Error. Spans are in bytes. Calls on one object come one at a time, also those that are const, on any thread. For a second thread
 /// `share()` makes a second Definition of the same rules. What is moved from is empty: it has no tokens, pieces and text, and takes other
 /// content; calls that need its handle throw Error, with the status LRLEX_MISUSE.
+///
+/// `check` gives all faults of a rule text, or warnings of what is legal there and hardly meant.
 #ifndef LRLEX_HPP
 #define LRLEX_HPP
 
@@ -413,6 +415,78 @@ template <class Call> std::optional<lrlex_entered> entered_by(Call call) {
 }
 
 } // namespace detail
+
+/// What `check` finds in a rule text: a fault, or a warning of what is legal there and hardly meant. `kind` is one of LRLEX_PREMATURE_END
+/// and so on of a fault, and one of LRLEX_NEVER_WINS and so on of a warning, so ask `is_fault` first. A warning has one span, and a fault
+/// those of a Fault.
+struct Finding {
+    bool is_fault;
+    std::uint32_t kind;
+    std::string message;
+    std::vector<lrlex_fault_span> spans;
+};
+
+namespace detail {
+
+/// Whether `lrlex_check` finds faults in a rule text. The handle has them then, and else the text's definition.
+inline bool has_faults(const Owner<lrlex_definition> &owner, std::string_view rules, const Options &options) {
+    const int status = lrlex_check(owner.get(), bytes(rules), rules.size(), options.get());
+    if (status == LRLEX_REFUSED) return true;
+    check(status);
+    return false;
+}
+
+/// The warnings of a rule text, whose definition the handle has. Where there are more than there is room for, the call is made twice.
+inline std::vector<lrlex_warning> warnings_of(const Owner<lrlex_definition> &owner, std::string_view rules) {
+    std::vector<lrlex_warning> found;
+    std::size_t count = 64;
+    do {
+        found.resize(count);
+        check(lrlex_warnings(owner.get(), bytes(rules), rules.size(), found.data(), found.size(), &count));
+    } while (count > found.size());
+    found.resize(count);
+    return found;
+}
+
+} // namespace detail
+
+/// All faults of a rule text, or its warnings if it has none. Empty if nothing is found. It goes on below a faulty line, at which the
+/// faults of a RulesError end, and never throws that.
+inline std::vector<Finding> check(std::string_view rules, const Options &options = {}) {
+    const detail::Owner<lrlex_definition> owner;
+    std::vector<Finding> found;
+    if (detail::has_faults(owner, rules, options)) {
+        for (Fault &it : detail::faults_of(owner)) found.push_back({true, it.kind, std::move(it.message), std::move(it.spans)});
+        return found;
+    }
+    for (const lrlex_warning &it : detail::warnings_of(owner, rules)) {
+        const auto message = [&](std::uint8_t *out, std::size_t room, std::size_t *length) {
+            return lrlex_warning_text(it.kind, out, room, length);
+        };
+        found.push_back({false, it.kind, detail::text_by(message, 256), {{it.start, it.end, it.line, it.column}}});
+    }
+    return found;
+}
+
+/// A report of what `check` finds for people: of each FILE:LINE:COLUMN, the message, the line, and carets under the place. Empty if
+/// nothing is found. `file` is the name to show.
+inline std::string check_report(std::string_view rules, std::string_view file, const Options &options = {}) {
+    const detail::Owner<lrlex_definition> owner;
+    const bool is_refused = detail::has_faults(owner, rules, options);
+    const auto call = [&](std::uint8_t *out, std::size_t room, std::size_t *length) {
+        const std::uint8_t *name = detail::bytes(file);
+        if (is_refused) return lrlex_fault_report(owner.get(), name, file.size(), out, room, length);
+        return lrlex_warning_report(owner.get(), name, file.size(), detail::bytes(rules), rules.size(), out, room, length);
+    };
+    return detail::text_by(call, 1024);
+}
+
+/// The name of a kind of warnings, as "NeverWins" of LRLEX_NEVER_WINS; empty if there is no such kind.
+inline std::string warning_name(std::uint32_t kind) {
+    return detail::text_by([&](std::uint8_t *out, std::size_t room, std::size_t *length) {
+        return lrlex_warning_name(kind, out, room, length);
+    });
+}
 
 /// The rules of a rule file, ready to lex texts.
 class Definition {

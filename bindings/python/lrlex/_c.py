@@ -124,6 +124,12 @@ class FaultSpan(Structure):
     _fields_ = [(name, c_size_t) for name in ("start", "end", "line", "column")]
 
 
+class RuleWarning(Structure):
+    """A warning of a rule text."""
+
+    _fields_ = [(name, c_size_t) for name in ("start", "end", "line", "column")] + [("kind", c_uint32)]
+
+
 class Rule(Structure):
     """A rule."""
 
@@ -169,6 +175,11 @@ FUNCTIONS: dict[str, tuple[Any, list[Any]]] = {
     "lrlex_fault_span_at": (c_int, [HANDLE, SIZE, SIZE, POINTER(FaultSpan)]),
     "lrlex_fault_text": (c_int, [HANDLE, SIZE, *WRITTEN]),
     "lrlex_fault_report": (c_int, [HANDLE, TEXT, SIZE, *WRITTEN]),
+    "lrlex_check": (c_int, [HANDLE, TEXT, SIZE, POINTER(Options)]),
+    "lrlex_warnings": (c_int, [HANDLE, TEXT, SIZE, POINTER(RuleWarning), SIZE, POINTER(SIZE)]),
+    "lrlex_warning_name": (c_int, [c_uint32, *WRITTEN]),
+    "lrlex_warning_text": (c_int, [c_uint32, *WRITTEN]),
+    "lrlex_warning_report": (c_int, [HANDLE, TEXT, SIZE, TEXT, SIZE, *WRITTEN]),
     "lrlex_rule_count": (SIZE, [HANDLE]),
     "lrlex_rule_at": (c_int, [HANDLE, SIZE, POINTER(Rule)]),
     "lrlex_rule_name": (c_int, [HANDLE, SIZE, *WRITTEN]),

@@ -50,8 +50,13 @@ class Fault(NamedTuple):
     kind: FaultKind
 
     def __str__(self) -> str:
-        first, *more = [f"{it.line}:{it.column}" for it in self.places]
-        return f"{first}: {self.message}" + (f", again at {', '.join(more)}" if more else "")
+        return _shown(self.message, self.places)
+
+
+def _shown(message: str, places: list[Place]) -> str:
+    """A message with its place before it, and the other places, if there are any, behind it."""
+    first, *more = [f"{it.line}:{it.column}" for it in places]
+    return f"{first}: {message}" + (f", again at {', '.join(more)}" if more else "")
 
 
 class RulesError(Error, ValueError):
@@ -77,11 +82,10 @@ class RulesError(Error, ValueError):
         """
         if self._rules is None:
             return str(self)
-        held, status = _read(_Text(self._rules), self._settings or {})
+        held, status = _read(LIB.lrlex_definition_new, _Text(self._rules), self._settings or {})
         if status != _c.REFUSED:
             check(status)
-        name = _name(file)
-        return text_by(held.call, LIB.lrlex_fault_report, name, len(name)) or ""
+        return _fault_report(held, file)
 
 
 def _name(file: str) -> bytes:
@@ -330,7 +334,7 @@ class Definition(_Closing):
         Raises RulesError if the rule text has faults, TypeError for an unknown flag, and OverflowError if a number is below 0 or too large.
         """
         settings, text = {"size_limit": size_limit, "nest_limit": nest_limit, "budget": budget, **flags}, _Text(rules)
-        self._held, status = _read(text, settings)
+        self._held, status = _read(LIB.lrlex_definition_new, text, settings)
         if status == _c.REFUSED:
             raise RulesError(_faults(self._held, text), rules, settings)
         check(status)
@@ -495,10 +499,16 @@ def _fitting(name: str, number: int, bits: int) -> int:
     return number
 
 
-def _read(rules: _Text, settings: Mapping[str, Any]) -> tuple[_Held, int]:
-    """The handle that a rule text is read into by settings of a Definition, and the status of that."""
+def _read(function: Callable[..., int], rules: _Text, settings: Mapping[str, Any]) -> tuple[_Held, int]:
+    """The handle that a function reads a rule text into by settings of a Definition, and the status of that."""
     held, options = _Held("Definition"), _options(**settings)
-    return held, held.call(LIB.lrlex_definition_new, rules.data, len(rules.data), byref(options))
+    return held, held.call(function, rules.data, len(rules.data), byref(options))
+
+
+def _fault_report(held: _Held, file: str) -> str:
+    """The report of the faults that the handle of a refused rule text has."""
+    name = _name(file)
+    return text_by(held.call, LIB.lrlex_fault_report, name, len(name)) or ""
 
 
 def _faults(held: _Held, rules: _Text) -> list[Fault]:

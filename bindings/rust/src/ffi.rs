@@ -120,6 +120,16 @@ pub(crate) struct FaultSpan {
 
 #[repr(C)]
 #[derive(Clone, Copy, Debug, Default)]
+pub(crate) struct Warning {
+    pub(crate) start: usize,
+    pub(crate) end: usize,
+    pub(crate) line: usize,
+    pub(crate) column: usize,
+    pub(crate) kind: u32,
+}
+
+#[repr(C)]
+#[derive(Clone, Copy, Debug, Default)]
 pub(crate) struct Rule {
     pub(crate) name_start: usize,
     pub(crate) name_end: usize,
@@ -154,6 +164,26 @@ unsafe extern "C" {
         d: *mut Handle,
         file: *const u8,
         file_len: usize,
+        out: *mut u8,
+        cap: usize,
+        len: *mut usize,
+    ) -> c_int;
+    pub(crate) fn lrlex_check(out: *mut Handle, rules: *const u8, rules_len: usize, options: *const Options) -> c_int;
+    pub(crate) fn lrlex_warnings(
+        d: *mut Handle,
+        rules: *const u8,
+        rules_len: usize,
+        out: *mut Warning,
+        cap: usize,
+        count: *mut usize,
+    ) -> c_int;
+    pub(crate) fn lrlex_warning_text(kind: u32, out: *mut u8, cap: usize, len: *mut usize) -> c_int;
+    pub(crate) fn lrlex_warning_report(
+        d: *mut Handle,
+        file: *const u8,
+        file_len: usize,
+        rules: *const u8,
+        rules_len: usize,
         out: *mut u8,
         cap: usize,
         len: *mut usize,

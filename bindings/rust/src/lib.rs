@@ -16,14 +16,18 @@
 //! in bytes.
 //!
 //! Two kinds of errors have reports with the line and carets, as compilers show them: [`RulesError::report`] for rule files, and
-//! [`Definition::stop_report`] for texts.
+//! [`Definition::stop_report`] for texts. [`check`] finds all faults of a rule file, or warnings of what is legal there and hardly meant;
+//! [`check_report`] shows them.
 //!
 //! A definition, a document and a scanner may go to another thread, but two threads can't use one at the same time: they are `Send`,
 //! not `Sync`. [`Definition::try_clone`] gives each thread a definition of its own, without a copy of the rules.
 
 #![warn(missing_docs, missing_debug_implementations)]
 
+mod checking;
 mod ffi;
+
+pub use checking::{Finding, Warning, WarningKind, check, check_report};
 
 use std::cell::{Cell, UnsafeCell};
 use std::collections::{HashMap, HashSet, TryReserveError};
