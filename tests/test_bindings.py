@@ -11,7 +11,7 @@ RUST = f"{programs.TOP}/bindings/rust"
 PYTHON = f"{programs.TOP}/bindings/python"
 
 # The tests of C++, each a program that prints what is wrong, and words for the compiler.
-CPP_TESTS = [["lexing"], ["memory"], ["ranges", "-std=c++2a"], ["threads", "-pthread"]]
+CPP_TESTS = [["lexing"], ["checking"], ["memory"], ["ranges", "-std=c++2a"], ["threads", "-pthread"]]
 
 # A text in C of about 1 MB, and one that stops.
 LONG = programs.read("examples/sorted.c") * (1_000_000 // len(programs.read("examples/sorted.c")))
@@ -148,7 +148,9 @@ class Bindings(unittest.TestCase):
         self.check_tokens([c_library.of_cpp("bindings/cpp/tokens.cpp")])
 
     def test_rust(self):
-        run_well([rust_program("tests/lexing.rs", "--test"), "--quiet"])
+        for name in ["lexing", "checking"]:
+            with self.subTest(name=name):
+                run_well([rust_program(f"tests/{name}.rs", "--test"), "--quiet"])
 
     def test_the_example_of_the_crate(self):
         rust_program("examples/tokens.rs")

@@ -32,6 +32,35 @@ WORDS = "%%\n[0-9]+ 'INT'\n[a-zé😀]+ 'ID'\n[ ]+ ;\n"
 NESTED = "%x C\n%%\n[a-zé]+ 'ID'\n[ ]+ ;\n<INITIAL,C>/\\* <+C>;\n<C>\\*/ <-C>;\n<C>[^*/]+ ;\n"
 
 
+# What the messages of `./rolgumzai check` end with, and one of warnings.
+BEFORE_RULES = "a line before %% is %s or %x with names of start states; rules come after it"
+OPERATOR = "write a backslash before each operator to match its character, as \\+ or \\("
+QUOTES = "write it in quotes and without blanks, or ; for no name; no action or comment follows it"
+NEVER_WINS = "this rule never wins: it matches no byte, or other rules match as much or more; put it before them, or make them match less"
+
+# Rule texts, and the kinds of their warnings in order, by the rows of `./rolgumzai check`.
+WARNED = [
+    ("%%\nif 'IF'\n[a-z]+ 'ID'\n", []),
+    ("%%\n[a-z]+ 'ID'\nif 'IF'\n", ["NeverWins"]),
+    ("%%\na\\b 'A'\n", ["LooksAround"]),
+    ("%%\n[ab]{3000} 'A'\n", ["NoTable"]),
+    ("%s S\n%%\na<S> 'A'\nb <+S>'B'\n", ["TargetInPattern"]),
+    ("%s S\n%%\na <+S>;\n<S> b 'B'\n", ["BlankAfterStates"]),
+    ("%%\n\\x{41} 'A'\n", ["LostEscape"]),
+    ("%s S\n%%\na <+S>;\n<S>\\< 'LT'\n", ["LooksAround", "EscapeAfterStates"]),
+    ("%%\nint|integer 'INT'\n", ["LostAlternative"]),
+    ("%%\n[a-z]+ 'ID' ;\na \"B\" ''\n", ["NameInPattern", "NameInPattern"]),
+    ("%s S\n%%\na <+S>;\n<S>\"b\" 'B'\n", ["QuotedPattern"]),
+    ("%%\n$ 'A'\n", ["LooksAround", "BareOperator"]),
+    ("%%\na^b 'A'\n^a 'B'\n(^c|^d)e 'C'\n", ["LooksAround", "LostCaret"]),
+    ("%%\n#.* ;\n//.+ ;\na(.*)b 'B'\n(?:c|d).*e 'C'\n", ["GreedyDot"] * 4),
+    ("%s S\n%%\na <+S>;\n<S>x[^]\\]y[z]] 'X'\n", ["ClassOperator"]),
+    ("%s S\n%%\na <+S>;\n<S>[b-z&&[:alpah:]] 'B'\n", ["UnknownClass"]),
+    ("%s S\n%%\na <-S>'A'\n", ["NeverEntered"]),
+    ("%%\n", ["NoRules"]),
+]
+
+
 def pairs(tokens):
     """Name and text of each token."""
     return [(token.name, token.text) for token in tokens]
@@ -239,6 +268,111 @@ class Tokens(unittest.TestCase):
     def test_what_is_not_a_text(self):
         with self.assertRaises(UnicodeEncodeError):
             lrlex.Definition(WORDS).lex("\ud800")
+
+
+class Checking(unittest.TestCase):
+    """What is wrong with a rule text, or hardly meant in it."""
+
+    def test_faults_below_the_first(self):
+        rows = [
+            ("word\n%s 1\n%%\na 'A'\n", [("UnknownDeclaration", [(1, 1, 0, 0)]), ("InvalidStartStateName", [(2, 4, 8, 8)])]),
+            ("word\n%%\n( 'A'\n", [("UnknownDeclaration", [(1, 1, 0, 0)]), ("RegexError", [(3, 1, 8, 8)])]),
+        ]
+        for rules, wanted in rows:
+            with self.subTest(rules=rules):
+                found = lrlex.check(rules)
+                self.assertEqual([(it.kind, it.places, it.is_fault) for it in found], [(*it, True) for it in wanted])
+                refused = error_of(lambda: lrlex.Definition(rules))  # pylint: disable=cell-var-from-loop
+                self.assertEqual([str(it) for it in refused.faults], [str(found[0])])
+        self.assertEqual(str(lrlex.check("%%\n) 'A'")[0]), "2:1: Invalid regular expression: unopened group")
+
+    def test_faults_with_more_than_one_place(self):
+        found = lrlex.check("%s INITIAL\n%%\né 'A'\nb 'A'\n( 'B'\nc 'A'\n")
+        self.assertEqual([it.kind for it in found], ["DuplicateStartState", "DuplicateName", "RegexError", "DuplicateName"])
+        self.assertEqual(found[1].places, [(3, 4, 17, 18), (4, 4, 23, 24)])
+        self.assertEqual(str(found[3]), "3:4: Rule name already exists, again at 6:4")
+
+    def test_names_of_faults(self):
+        rows = [
+            ("", "PrematureEnd"), ("%%\n%%\nmore", "RoutinesNotSupported"), ("word\n%%\n", "UnknownDeclaration"),
+            ("%%\na\n", "MissingSpace"), ("%%\nb 'B\n", "InvalidName"), ("%%\n<B>b 'B'\n", "UnknownStartState"),
+            ("%x A A\n%%\n<A>a 'A'\n", "DuplicateStartState"), ("%%\n<c 'D'\n", "InvalidStartState"),
+            ("%s 1\n%%\n", "InvalidStartStateName"), ("%%\na 'A'\nb 'A'\n", "DuplicateName"), ("%%\n( 'A'\n", "RegexError"),
+            ("%%\n code\n", "VerbatimNotSupported"),
+        ]
+        for rules, kind in rows:
+            with self.subTest(rules=rules):
+                self.assertEqual([it.kind for it in lrlex.check(rules)], [kind])
+
+    def test_warnings(self):
+        for rules, kinds in WARNED:
+            with self.subTest(rules=rules):
+                found = lrlex.check(rules)
+                self.assertEqual([it.kind for it in found], kinds)
+                self.assertEqual([it for it in found if it.is_fault or not it.message], [])
+        found = lrlex.check("%x S\n%%\n[a-z]+ 'ID'\nif 'IF'\n")
+        self.assertEqual([it.kind for it in found], ["NeverEntered", "NoRules", "NeverWins"])
+        self.assertEqual([it.places for it in found], [[(1, 4, 3, 4)], [(1, 4, 3, 4)], [(4, 1, 20, 22)]])
+        self.assertEqual((found[2].message, str(found[2])), (NEVER_WINS, f"4:1: Warning: {NEVER_WINS} [NeverWins]"))
+        self.assertEqual(found[2], ("NeverWins", NEVER_WINS, [lrlex.Place(line=4, column=1, start=20, end=22)], False))
+
+    def test_places_are_indices_of_the_str(self):
+        rules = "%%\né😀 'E'\n[a-z]+ 'ID'\nif 'IF'\n"
+        [found] = lrlex.check(rules)
+        [place] = found.places
+        self.assertEqual((place, rules[place.start:place.end]), ((4, 1, 22, 24), "if"))
+        [found] = lrlex.check("%%\nä|äö 'Ä'\n")
+        self.assertEqual((found.kind, found.places), ("LostAlternative", [(2, 1, 3, 7)]))
+
+    def test_many_findings(self):
+        found = lrlex.check("%%\n" + "| ;\n" * 100)
+        self.assertEqual([it.kind for it in found], ["NeverWins", "BareOperator"] * 100)
+        self.assertEqual([it.places[0].start for it in found], [3 + it // 2 * 4 for it in range(200)])
+        self.assertEqual(len(lrlex.check("%%\n" + "( ;\n" * 100)), 100)
+
+    def test_settings(self):
+        self.assertEqual([it.kind for it in lrlex.check("%%\n#.* ;\n")], ["GreedyDot"])
+        self.assertEqual(lrlex.check("%%\n#.* ;\n", dot_matches_new_line=False), [])
+        self.assertEqual(lrlex.check_report("%%\n#.* ;\n", "a.l", dot_matches_new_line=False), "")
+        comments = "// c\n%%\na 'A'\n"
+        self.assertEqual([it.kind for it in lrlex.check(comments)], ["UnknownDeclaration"])
+        self.assertEqual(lrlex.check(comments, allow_wholeline_comments=True, octal=None), [])
+        self.assertEqual([it.kind for it in lrlex.check("%%\n((a)) 'A'\n", nest_limit=1)], ["RegexError"])
+        with self.assertRaises(TypeError):
+            lrlex.check(WORDS, no_such_flag=True)
+        with self.assertRaises(OverflowError):
+            lrlex.check_report(WORDS, "a.l", size_limit=-1)
+        with self.assertRaises(UnicodeEncodeError):
+            lrlex.check("\ud800")
+
+    def test_reports(self):
+        rows = [
+            ("%%\nif 'IF'\n[a-z]+ 'ID'\n", ""),
+            ("%%\n[a-z]+ 'ID'\nif 'IF'\n", f"a.l:3:1: Warning: {NEVER_WINS} [NeverWins]\n3 | if 'IF'\n  | ^^\n"),
+            (
+                "%s k k\n%%\n",
+                "a.l:1:6: Start state already exists\n1 | %s k k\n  |      ^\n"
+                "a.l:1:4: first here\n1 | %s k k\n  |    ^\n",
+            ),
+            (
+                "%%\n( 'A'\n) 'B'\n[a-z] C\n",
+                f"a.l:2:1: Invalid regular expression: unclosed group: {OPERATOR}\n2 | ( 'A'\n  | ^\n"
+                f"a.l:3:1: Invalid regular expression: unopened group: {OPERATOR}\n3 | ) 'B'\n  | ^\n"
+                f"a.l:4:7: Invalid rule name: {QUOTES}\n4 | [a-z] C\n  |       ^\n",
+            ),
+        ]
+        for rules, report in rows:
+            with self.subTest(rules=rules):
+                self.assertEqual(lrlex.check_report(rules, "a.l"), report)
+        self.assertEqual(lrlex.check_report(rows[1][0], "é\udcff.l"), rows[1][1].replace("a.l", "é?.l"))
+
+    def test_memory_that_has_run_out(self):
+        for name in ["lrlex_check", "lrlex_warnings", "lrlex_warning_text"]:
+            with mock.patch.object(_c.LIB, name, return_value=_c.NOMEM), self.assertRaises(MemoryError):
+                lrlex.check("%%\n")
+        for rules, name in [("%%\n", "lrlex_warning_report"), ("", "lrlex_fault_report"), ("", "lrlex_check")]:
+            with mock.patch.object(_c.LIB, name, return_value=_c.NOMEM), self.assertRaises(MemoryError):
+                lrlex.check_report(rules, "a.l")
 
 
 class Threads(unittest.TestCase):
@@ -522,7 +656,7 @@ class Names(unittest.TestCase):
 
     def test_all_is_typed(self):
         """Each function says what it takes and gives, and each type that it names is there."""
-        for module in [importlib.import_module(name) for name in ["lrlex._c", "lrlex._lexing", "lrlex.__main__"]]:
+        for module in [importlib.import_module(name) for name in ["lrlex._c", "lrlex._lexing", "lrlex._checking", "lrlex.__main__"]]:
             for owner in [module, *(it for it in vars(module).values() if isinstance(it, type) and it.__module__ == module.__name__)]:
                 for name, it in vars(owner).items():
                     it = getattr(it, "fget", None) or getattr(it, "__func__", it)
@@ -677,6 +811,10 @@ class Loading(unittest.TestCase):
             self.assertEqual({name: numbers.get(name) for name in names}, dict(names))
         kinds = re.search(r"LRLEX_PREMATURE_END.*?}", header, re.S)[0]
         self.assertEqual(len(lrlex.FaultKind), kinds.count("="))
+        warnings = re.findall(r"LRLEX_(\w+) = (\d+)", re.search(r"LRLEX_NEVER_WINS.*?}", header, re.S)[0])
+        named = [_c.text_by(_c.LIB.lrlex_warning_name, it) for it in range(len(warnings) + 1)]
+        self.assertEqual(named, [*(name.title().replace("_", "") for name, _ in warnings), None])
+        self.assertEqual([int(number) for _, number in warnings], list(range(18)))
         called = set(re.findall(r"^\w[\w *]*?\b(lrlex_\w+)\(", header, re.M))
         self.assertLessEqual(_c.FUNCTIONS.keys(), called)
 
@@ -747,12 +885,36 @@ class Program(unittest.TestCase):
         for words, message in [
             (["-", "-"], "RULES and INPUT can't both be standard input"), (["rules"], "the following arguments are required: INPUT"),
             (["rules", "text", "--unicode", "maybe"], "argument --unicode: invalid choice"),
+            (["--check"], "the following arguments are required: RULES"), (["--check", "rules", "text"], "--check takes no INPUT"),
+            (["--check", "rules", "--json"], "argument --json: not allowed with argument --check"),
         ]:
             with self.subTest(words=words), redirect_stderr(io.StringIO()) as err:
                 with self.assertRaises(SystemExit) as raised:
                     program.main(words)
                 self.assertEqual(raised.exception.code, 1)
                 self.assertIn(f"python3 -m lrlex: error: {message}", err.getvalue())
+
+    def run_check(self, rules, *words):
+        """The status, and the texts of standard output and standard error, of --check on a file `rules` that has this content."""
+        words = ["--check", self.file("rules", rules), *words]
+        with mock.patch("sys.stdout", io.TextIOWrapper(io.BytesIO())) as out, redirect_stderr(io.StringIO()) as err:
+            status = program.main(words)
+        return status, out.buffer.getvalue().decode().replace(f"{self.folder}/", ""), err.getvalue()
+
+    def test_what_is_found_in_rules(self):
+        warned = f"rules:3:1: Warning: {NEVER_WINS} [NeverWins]\n3 | if 'IF'\n  | ^^\n"
+        self.assertEqual(self.run_check("%%\n[a-z]+ 'ID'\nif 'IF'\n"), (0, warned, ""))
+        self.assertEqual(self.run_check("%%\nif 'IF'\n[a-z]+ 'ID'\n"), (0, "", ""))
+        told = (
+            f"rules:1:1: Unknown declaration: {BEFORE_RULES}\n1 | a\n  | ^\n"
+            "rules:1:2: File ends prematurely: no line begins with %%; write one before the rules\n1 | a\n  |  ^\n"
+        )
+        self.assertEqual(self.run_check("a"), (1, told, ""))
+        self.assertEqual(self.run_check("%%\n#.* ;\n", "--dot-matches-new-line", "false"), (0, "", ""))
+        self.assertEqual(self.run_check(b"\xff"), (1, "", f"File {self.folder}/rules is not UTF-8\n"))
+        self.assertEqual(self.run_alone("--check", "-", input=b"a"), (1, told.replace("rules:", "stdin:"), ""))
+        with open("/dev/full", "wb") as full:
+            self.assertEqual(self.run_alone("--check", self.file("rules", "a"), stdout=full), (1, "", "Can't write\n"))
 
     def test_standard_streams(self):
         rules, text = self.file("rules", WORDS), self.file("text", "é 1")

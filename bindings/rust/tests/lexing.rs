@@ -10,8 +10,8 @@ use std::sync::Mutex;
 use std::thread;
 
 use lrlex::{
-    Budget, Definition, Document, Entered, Error, Fault, FaultKind, FaultSpan, LexError, LexFlags, Lexeme, Lexer,
-    Piece, PositionEncoding, RulesError, Scanner, Tile,
+    Budget, Definition, Document, Entered, Error, Fault, FaultKind, FaultSpan, Finding, LexError, LexFlags, Lexeme,
+    Lexer, Piece, PositionEncoding, RulesError, Scanner, Tile, Warning, WarningKind,
 };
 
 #[path = "../build.rs"]
@@ -383,10 +383,13 @@ fn lack_of_memory_is_an_error() {
     let mut document = Document::new(&definition, &text).unwrap();
     let refused = refused(&("%%\n".to_owned() + &" code\n".repeat(5_000)));
     let stops = text.clone() + "?";
+    let warned = "%%\n".to_owned() + &"| ;\n".repeat(1_000);
     assert_eq!(starved(|| definition.lexer(&text).map(drop)), LACK);
     assert_eq!(starved(|| definition.pieces(&text).map(drop)), LACK);
     assert_eq!(starved(|| definition.stop_report(&stops, &text).map(drop)), LACK);
     assert_eq!(starved(|| refused.report("").map(drop)), LACK);
+    assert_eq!(starved(|| lrlex::check(&warned, &LexFlags::default()).map(drop)), LACK);
+    assert_eq!(starved(|| lrlex::check_report(&warned, "", &LexFlags::default()).map(drop)), LACK);
     assert_eq!(starved(|| lrlex::places("", &[0; 5_000]).map(drop)), LACK);
     assert_eq!(starved(|| Document::new(&definition, &text).map(drop)), LACK);
     assert_eq!(starved(|| document.lexer().map(drop)), LACK);
@@ -459,9 +462,11 @@ const _: () = {
     const fn is_error<T: error::Error + Clone + Eq + Send + Sync + Unpin + 'static>() {}
     goes::<(Definition, Document, Scanner<'_>, Lexer<'_>, Lexeme<'_>, Tile<'_>, Piece, Entered)>();
     goes::<(Fault, FaultKind, FaultSpan, LexFlags, Budget, PositionEncoding)>();
+    goes::<(Finding, Warning, WarningKind)>();
     is_shared::<(Mutex<Definition>, Mutex<Document>, Mutex<Scanner<'_>>)>();
     is_shared::<(Lexer<'_>, Lexeme<'_>, Tile<'_>, Piece, Entered)>();
     is_shared::<(Fault, FaultKind, FaultSpan, LexFlags, Budget, PositionEncoding)>();
+    is_shared::<(Finding, Warning, WarningKind)>();
     is_error::<RulesError>();
     is_error::<LexError>();
     is_error::<Error>();
