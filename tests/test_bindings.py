@@ -170,6 +170,14 @@ class Bindings(unittest.TestCase):
         came = run_well([sys.executable, "-m", "support.c_replay"], cwd=f"{programs.TOP}/tests", environment=python_environment())
         self.assertRegex(came.out, r"\A\d+ cases, 110 left out, 0 differences\n\Z")
 
+    def test_python_checks_a_rule_file(self):
+        """What is printed is what docs/rolgumzai.md shows."""
+        asked = "./rolgumzai check examples/faults.l"
+        [wanted] = re.findall(rf"^\$ {re.escape(asked)}\n(.*?)^```$", programs.read("docs/rolgumzai.md"), re.M | re.S)
+        words = [sys.executable, "-m", "lrlex", "--check", "examples/faults.l"]
+        came = programs.run(words, environment=python_environment())
+        self.assertEqual(came, programs.Outcome(wanted, "", 1))
+
     def test_python_prints_tokens(self):
         self.check_tokens([sys.executable, "-m", "lrlex"], python_environment())
 
