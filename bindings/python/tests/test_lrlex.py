@@ -284,7 +284,8 @@ class Checking(unittest.TestCase):
                 self.assertEqual([(it.kind, it.places, it.is_fault) for it in found], [(*it, True) for it in wanted])
                 refused = error_of(lambda: lrlex.Definition(rules))  # pylint: disable=cell-var-from-loop
                 self.assertEqual([str(it) for it in refused.faults], [str(found[0])])
-        self.assertEqual(str(lrlex.check("%%\n) 'A'")[0]), "2:1: Invalid regular expression: unopened group")
+        message = "Invalid regular expression: regex parse error at 2..3: unclosed group"
+        self.assertEqual([str(it) for it in lrlex.check("%%\nc( 'C'\n")], [f"2:1: {message}"])
 
     def test_faults_with_more_than_one_place(self):
         found = lrlex.check("%s INITIAL\n%%\né 'A'\nb 'A'\n( 'B'\nc 'A'\n")
