@@ -21,17 +21,21 @@ fn warned(rules: &str) -> Vec<WarningKind> {
 fn faults_below_the_first() {
     use FaultKind::*;
     for (rules, wanted) in [
-        ("word\n%s 1\n%%\na 'A'\n", vec![(UnknownDeclaration, vec![0..0]), (InvalidStartStateName, vec![8..8])]),
-        ("word\n%%\n( 'A'\n", vec![(UnknownDeclaration, vec![0..0]), (RegexError, vec![8..8])]),
+        ("word\n%s 1\n%%\na 'A'\n", vec![(UnknownDeclaration, vec![(0, 0)]), (InvalidStartStateName, vec![(8, 8)])]),
+        ("word\n%%\n( 'A'\n", vec![(UnknownDeclaration, vec![(0, 0)]), (RegexError, vec![(8, 8)])]),
         (
             "%%\né 'A'\nb 'A'\n( 'B'\nc 'A'\n",
-            vec![(DuplicateName, vec![7..8, 13..14]), (RegexError, vec![16..16]), (DuplicateName, vec![7..8, 25..26])],
+            vec![
+                (DuplicateName, vec![(7, 8), (13, 14)]),
+                (RegexError, vec![(16, 16)]),
+                (DuplicateName, vec![(7, 8), (25, 26)]),
+            ],
         ),
     ] {
         let found = found(rules);
         let spans = |it: &Finding| {
             let Finding::Fault(it) = it else { panic!("{rules:?}: {it}") };
-            (it.kind, it.spans.iter().map(|it| it.span.clone()).collect::<Vec<_>>())
+            (it.kind, it.spans.iter().map(|it| (it.span.start, it.span.end)).collect::<Vec<_>>())
         };
         assert_eq!(found.iter().map(spans).collect::<Vec<_>>(), wanted, "{rules:?}");
         assert!(found.iter().all(Finding::is_fault));
