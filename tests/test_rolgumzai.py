@@ -582,7 +582,7 @@ class Rolgumzai(unittest.TestCase):
     def test_tables_of_many_keywords(self):
         # HTML's names of characters, of 6.6 letters on average
         names = random.Random(1).sample(sorted({it.rstrip(";") for it in html.entities.html5}), 2_000)
-        for program, (count, is_warned) in self.each([(600, False), (2_000, True)]):
+        for program, (count, is_warned) in self.each([(1_000, False), (2_000, True)]):
             with self.subTest(count=count, program=program):
                 rules = "".join(f"{name} '{name}'\n" for name in names[:count])
                 outcome = self.run_in_folder(program, ["check", "-"], f"%%\n{rules}[A-Za-z0-9]+ 'word'\n")
