@@ -185,6 +185,11 @@ int lrlex_fault_span_at(lrlex_definition *d, size_t index, size_t span, lrlex_fa
  * LRLEX_OK; LRLEX_NONE; LRLEX_MISUSE; LRLEX_NOMEM. */
 int lrlex_fault_text(lrlex_definition *d, size_t index, uint8_t *out, size_t cap, size_t *len);
 
+/* What the fault at this index is, and what to write where the mistake is usual, in English, without a full stop: its message in
+ * lrlex_fault_report. `len` is how many bytes that takes.
+ * LRLEX_OK; LRLEX_NONE; LRLEX_MISUSE; LRLEX_NOMEM. */
+int lrlex_fault_message(lrlex_definition *d, size_t index, uint8_t *out, size_t cap, size_t *len);
+
 /* A report for people of the faults that the handle has: of each FILE:LINE:COLUMN, the message, the line, and carets under the place. `file` is the
  * name to show. `len` is how many bytes that takes.
  * LRLEX_OK; LRLEX_NOT_UTF8; LRLEX_MISUSE; LRLEX_NOMEM. */

@@ -26,8 +26,11 @@ state 1, entered at 7 to 9
 not entered
 state 0, entered at 4 to 5
 kind 6, Start state already exists: 1:4, bytes 3 to 4 1:6, bytes 5 to 6
+  Start state already exists
 kind 9, Rule name already exists: 3:6, bytes 15 to 16 4:4, bytes 21 to 22
+  Rule name already exists
 kind 10, Invalid regular expression: regex parse error at 2..3: unclosed group: 5:1, bytes 24 to 24
+  Invalid regular expression: unclosed group
 a.l:1:6: Start state already exists
 1 | %x A A
   |      ^
@@ -44,9 +47,13 @@ a.l:5:1: Invalid regular expression: unclosed group
 5 | c( 'C'
   | ^
 kind 6, Start state already exists: 1:4, bytes 3 to 4 1:6, bytes 5 to 6
+  Start state already exists
 kind 10, Invalid regular expression: regex parse error at 2..3: unclosed group: 3:1, bytes 10 to 10
+  Invalid regular expression: unclosed group
 kind 9, Rule name already exists: 4:4, bytes 20 to 21 5:4, bytes 26 to 27
+  Rule name already exists
 kind 5, Start state not known: 6:1, bytes 29 to 29
+  Start state not known: declare it with %s or %x; commas separate the names of a list, and a target stands before the rule's name; a pattern that begins with the character < begins with \\<
 a.l:1:6: Start state already exists
 1 | %x A A
   |      ^

@@ -113,7 +113,10 @@ struct Fault {
 
 namespace detail {
 
-inline std::vector<Fault> faults_of(const Owner<lrlex_definition> &refused) {
+/// A call that tells what a fault is: `lrlex_fault_text`, or `lrlex_fault_message`.
+using FaultCall = int (*)(lrlex_definition *, std::size_t, std::uint8_t *, std::size_t, std::size_t *);
+
+inline std::vector<Fault> faults_of(const Owner<lrlex_definition> &refused, FaultCall call) {
     std::vector<Fault> found;
     for (std::size_t at = 0, count = lrlex_fault_count(refused.get()); at < count; at++) {
         lrlex_fault fault;
@@ -121,7 +124,7 @@ inline std::vector<Fault> faults_of(const Owner<lrlex_definition> &refused) {
         Fault it{{}, fault.kind, std::vector<lrlex_fault_span>(fault.spans)};
         for (std::size_t span = 0; span < fault.spans; span++) check(lrlex_fault_span_at(refused.get(), at, span, &it.spans[span]));
         it.message = text_by([&](std::uint8_t *out, std::size_t room, std::size_t *length) {
-            return lrlex_fault_text(refused.get(), at, out, room, length);
+            return call(refused.get(), at, out, room, length);
         });
         found.push_back(std::move(it));
     }
@@ -131,7 +134,7 @@ inline std::vector<Fault> faults_of(const Owner<lrlex_definition> &refused) {
 /// A rule text that is refused: the handle that has the text, and its faults. An exception may be copied to any thread, so calls on the
 /// handle wait for each other.
 struct Refusal {
-    explicit Refusal(Owner<lrlex_definition> refused) : owner(std::move(refused)), faults(faults_of(owner)) {}
+    explicit Refusal(Owner<lrlex_definition> refused) : owner(std::move(refused)), faults(faults_of(owner, lrlex_fault_text)) {}
     Owner<lrlex_definition> owner;
     std::vector<Fault> faults;
     mutable std::mutex mutex;
@@ -418,7 +421,7 @@ template <class Call> std::optional<lrlex_entered> entered_by(Call call) {
 
 /// What `check` finds in a rule text: a fault, or a warning of what is legal there and hardly meant. `kind` is one of LRLEX_PREMATURE_END
 /// and so on of a fault, and one of LRLEX_NEVER_WINS and so on of a warning, so ask `is_fault` first. A warning has one span, and a fault
-/// those of a Fault.
+/// those of a Fault. The message of a fault also says what to write where the mistake is usual.
 struct Finding {
     bool is_fault;
     std::uint32_t kind;
@@ -456,7 +459,9 @@ inline std::vector<Finding> check(std::string_view rules, const Options &options
     const detail::Owner<lrlex_definition> owner;
     std::vector<Finding> found;
     if (detail::has_faults(owner, rules, options)) {
-        for (Fault &it : detail::faults_of(owner)) found.push_back({true, it.kind, std::move(it.message), std::move(it.spans)});
+        for (Fault &it : detail::faults_of(owner, lrlex_fault_message)) {
+            found.push_back({true, it.kind, std::move(it.message), std::move(it.spans)});
+        }
         return found;
     }
     for (const lrlex_warning &it : detail::warnings_of(owner, rules)) {

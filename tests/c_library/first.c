@@ -93,7 +93,8 @@ static void refuse(const char *rules, int (*read)(lrlex_definition *, const char
             CHECK(k > 0 || (span.start == fault.start && span.end == fault.end && span.line == fault.line && span.column == fault.column));
             printf(" %zu:%zu, bytes %zu to %zu", span.line, span.column, span.start, span.end);
         }
-        puts("");
+        CHECK(lrlex_fault_message(&d, i, text, sizeof text, &len) == LRLEX_OK && len <= sizeof text);
+        printf("\n  %.*s\n", (int)len, (const char *)text);
     }
     CHECK(lrlex_fault_report(&d, bytes("a.l"), 3, text, sizeof text, &len) == LRLEX_OK && len <= sizeof text);
     fwrite(text, 1, len, stdout);

@@ -415,6 +415,7 @@ static void check_faults(lrlex_definition *d, const lrlex_options *how) {
             LAW(lrlex_fault_span_at(d, i, k, &span) == LRLEX_OK && span.start <= span.end && span.end <= rules.len && span.line && span.column);
         LAW(lrlex_fault_span_at(d, i, fault.spans, &span) == LRLEX_NONE);
         LAW(lrlex_fault_text(d, i, report, ROOM, &len) == LRLEX_OK && len > 0);
+        LAW(lrlex_fault_message(d, i, report, ROOM, &len) == LRLEX_OK && len > 0);
     }
     LAW(lrlex_fault_report(d, rules.bytes, 0, report, ROOM, &len) == LRLEX_OK && len > 0);
     check_all_faults(d, how);

@@ -50,6 +50,7 @@ static void no_faults(lrlex_definition *d) {
     CHECK(lrlex_fault_at(d, 0, &fault) == LRLEX_MISUSE);
     CHECK(lrlex_fault_span_at(d, 0, 0, &span) == LRLEX_MISUSE);
     CHECK(lrlex_fault_text(d, 0, text, sizeof text, &len) == LRLEX_MISUSE);
+    CHECK(lrlex_fault_message(d, 0, text, sizeof text, &len) == LRLEX_MISUSE);
     CHECK(lrlex_fault_report(d, bytes("f"), 1, text, sizeof text, &len) == LRLEX_MISUSE);
 }
 
@@ -113,6 +114,7 @@ static void handles(void) {
     CHECK(lrlex_fault_span_at(&refused, 1, 0, &span) == LRLEX_NONE);
     CHECK(lrlex_fault_span_at(&refused, SIZE_MAX, SIZE_MAX, &span) == LRLEX_NONE);
     CHECK(lrlex_fault_text(&refused, 1, text, sizeof text, &len) == LRLEX_NONE);
+    CHECK(lrlex_fault_message(&refused, 1, text, sizeof text, &len) == LRLEX_NONE);
     CHECK(lrlex_fault_report(&refused, bytes("\xff"), 1, text, sizeof text, &len) == LRLEX_NOT_UTF8);
     lrlex_free(&d);
     lrlex_free(&d);

@@ -129,6 +129,7 @@ static uint8_t written[512];
 static size_t len;
 
 static int tell_fault(void) { return lrlex_fault_text(&refused, 0, written, sizeof written, &len); }
+static int tell_message(void) { return lrlex_fault_message(&refused, 0, written, sizeof written, &len); }
 
 static int report_faults(void) { return lrlex_fault_report(&refused, bytes("a.l"), 3, written, sizeof written, &len); }
 
@@ -202,6 +203,7 @@ static const struct {
     {"lrlex_definition_new", make, LRLEX_OK},
     {"lrlex_definition_new, refused", refuse, LRLEX_REFUSED},
     {"lrlex_fault_text", tell_fault, LRLEX_OK},
+    {"lrlex_fault_message", tell_message, LRLEX_OK},
     {"lrlex_fault_report", report_faults, LRLEX_OK},
     {"lrlex_check", make_warned, LRLEX_OK},
     {"lrlex_check, refused", refuse_for_all, LRLEX_REFUSED},

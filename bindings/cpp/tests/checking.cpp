@@ -56,7 +56,8 @@ void faults_below_the_first() {
     EXPECT(found_in("word\n%%\n( 'A'\n") == "fault 2 1:1 0..0, fault 10 3:1 8..8");
     EXPECT(found_in("%%\n\xc3\xa9 'A'\nb 'A'\n( 'B'\nc 'A'\n") == "fault 9 2:4 7..8 3:4 13..14, fault 10 4:1 16..16, fault 9 2:4 7..8 5:4 25..26");
     EXPECT(found_in("") == "fault 0 1:1 0..0");
-    EXPECT(lrlex::check("%%\nc( 'C'\n").at(0).message == "Invalid regular expression: regex parse error at 2..3: unclosed group");
+    EXPECT(lrlex::check("%%\nc( 'C'\n").at(0).message == "Invalid regular expression: unclosed group");
+    EXPECT(lrlex::check("%%\n( 'C'\n").at(0).message == "Invalid regular expression: unclosed group: " + OPERATOR);
     try {
         lrlex::Definition definition("word\n%%\n( 'A'\n");
         expect(false, "it was taken", __LINE__);

@@ -174,6 +174,7 @@ FUNCTIONS: dict[str, tuple[Any, list[Any]]] = {
     "lrlex_fault_at": (c_int, [HANDLE, SIZE, POINTER(Fault)]),
     "lrlex_fault_span_at": (c_int, [HANDLE, SIZE, SIZE, POINTER(FaultSpan)]),
     "lrlex_fault_text": (c_int, [HANDLE, SIZE, *WRITTEN]),
+    "lrlex_fault_message": (c_int, [HANDLE, SIZE, *WRITTEN]),
     "lrlex_fault_report": (c_int, [HANDLE, TEXT, SIZE, *WRITTEN]),
     "lrlex_check": (c_int, [HANDLE, TEXT, SIZE, POINTER(Options)]),
     "lrlex_warnings": (c_int, [HANDLE, TEXT, SIZE, POINTER(RuleWarning), SIZE, POINTER(SIZE)]),

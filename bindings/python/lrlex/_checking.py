@@ -14,8 +14,8 @@ from ._lexing import Place, _fault_report, _faults, _Held, _name, _read, _shown,
 class Finding(NamedTuple):
     """A fault of a rule text, or a warning: what is legal in it and hardly meant.
 
-    `kind` is a name, such as RegexError or NeverWins, as `./rolgumzai check --json` has it. A warning has one place, and a fault those of
-    a `Fault`.
+    `kind` is a name, such as RegexError or NeverWins, and `message` what is wrong, and what to write where the mistake is usual, both as
+    `./rolgumzai check --json` has them. A warning has one place, and a fault those of a `Fault`.
     """
 
     kind: str
@@ -36,7 +36,8 @@ def check(rules: str, **settings: Any) -> list[Finding]:
     text = _Text(rules)
     held, status = _read(LIB.lrlex_check, text, settings)
     if status == _c.REFUSED:
-        return [Finding(it.kind.name.title().replace("_", ""), it.message, it.places, True) for it in _faults(held, text)]
+        faults = _faults(held, text, LIB.lrlex_fault_message)
+        return [Finding(it.kind.name.title().replace("_", ""), it.message, it.places, True) for it in faults]
     _c.check(status)
     return [_warning(it, text) for it in _warnings(held, text)]
 

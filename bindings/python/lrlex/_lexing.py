@@ -336,7 +336,7 @@ class Definition(_Closing):
         settings, text = {"size_limit": size_limit, "nest_limit": nest_limit, "budget": budget, **flags}, _Text(rules)
         self._held, status = _read(LIB.lrlex_definition_new, text, settings)
         if status == _c.REFUSED:
-            raise RulesError(_faults(self._held, text), rules, settings)
+            raise RulesError(_faults(self._held, text, LIB.lrlex_fault_text), rules, settings)
         check(status)
         count = self._held.call(LIB.lrlex_rule_count)
         self._rule_names = [text_by(self._held.call, LIB.lrlex_rule_name, rule) for rule in range(count)]
@@ -511,8 +511,8 @@ def _fault_report(held: _Held, file: str) -> str:
     return text_by(held.call, LIB.lrlex_fault_report, name, len(name)) or ""
 
 
-def _faults(held: _Held, rules: _Text) -> list[Fault]:
-    """The faults that the handle of a refused rule text has."""
+def _faults(held: _Held, rules: _Text, message: Callable[..., int]) -> list[Fault]:
+    """The faults that the handle of a refused rule text has, each with what this function tells of it."""
     found = []
     for number in range(held.call(LIB.lrlex_fault_count)):
         fault, places = _c.Fault(), []
@@ -521,7 +521,7 @@ def _faults(held: _Held, rules: _Text) -> list[Fault]:
             it = _c.FaultSpan()
             check(held.call(LIB.lrlex_fault_span_at, number, at, byref(it)))
             places.append(Place(it.line, it.column, rules.index(it.start), rules.index(it.end)))
-        found.append(Fault(text_by(held.call, LIB.lrlex_fault_text, number) or "", places, FaultKind(fault.kind)))
+        found.append(Fault(text_by(held.call, message, number) or "", places, FaultKind(fault.kind)))
     return found
 
 

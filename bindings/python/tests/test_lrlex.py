@@ -283,9 +283,11 @@ class Checking(unittest.TestCase):
                 found = lrlex.check(rules)
                 self.assertEqual([(it.kind, it.places, it.is_fault) for it in found], [(*it, True) for it in wanted])
                 refused = error_of(lambda: lrlex.Definition(rules))  # pylint: disable=cell-var-from-loop
-                self.assertEqual([str(it) for it in refused.faults], [str(found[0])])
-        message = "Invalid regular expression: regex parse error at 2..3: unclosed group"
-        self.assertEqual([str(it) for it in lrlex.check("%%\nc( 'C'\n")], [f"2:1: {message}"])
+                self.assertEqual([(it.places, it.kind.name) for it in refused.faults], [(found[0].places, "UNKNOWN_DECLARATION")])
+                self.assertEqual(str(found[0]), f"1:1: Unknown declaration: {BEFORE_RULES}")
+        rows = [("%%\nc( 'C'\n", "unclosed group"), ("%%\n( 'C'\n", f"unclosed group: {OPERATOR}")]
+        for rules, message in rows:
+            self.assertEqual([str(it) for it in lrlex.check(rules)], [f"2:1: Invalid regular expression: {message}"])
 
     def test_faults_with_more_than_one_place(self):
         found = lrlex.check("%s INITIAL\n%%\né 'A'\nb 'A'\n( 'B'\nc 'A'\n")

@@ -144,7 +144,7 @@ impl fmt::Display for Finding {
 pub fn check(rules: &str, flags: &LexFlags) -> Result<Vec<Finding>, Error> {
     let (held, is_refused) = read(rules, flags)?;
     if is_refused {
-        return Ok(faults_in(&held)?.into_iter().map(Finding::Fault).collect());
+        return Ok(faults_in(&held, ffi::lrlex_fault_message)?.into_iter().map(Finding::Fault).collect());
     }
     warnings_in(&held, rules)?.iter().map(|it| Ok(Finding::Warning(warning(it)?))).collect()
 }

@@ -160,6 +160,7 @@ unsafe extern "C" {
     pub(crate) fn lrlex_fault_at(d: *mut Handle, index: usize, out: *mut Fault) -> c_int;
     pub(crate) fn lrlex_fault_span_at(d: *mut Handle, index: usize, span: usize, out: *mut FaultSpan) -> c_int;
     pub(crate) fn lrlex_fault_text(d: *mut Handle, index: usize, out: *mut u8, cap: usize, len: *mut usize) -> c_int;
+    pub(crate) fn lrlex_fault_message(d: *mut Handle, index: usize, out: *mut u8, cap: usize, len: *mut usize) -> c_int;
     pub(crate) fn lrlex_fault_report(
         d: *mut Handle,
         file: *const u8,

@@ -223,7 +223,7 @@ pub struct RulesError {
 
 impl RulesError {
     fn new(held: Held) -> Result<Self, Error> {
-        Ok(RulesError { faults: faults_in(&held)?, held: Arc::new(Mutex::new(held)) })
+        Ok(RulesError { faults: faults_in(&held, ffi::lrlex_fault_text)?, held: Arc::new(Mutex::new(held)) })
     }
 
     /// The faults. There is at least one.
@@ -812,8 +812,11 @@ impl Definition {
     }
 }
 
-/// The faults that the handle of a refused rule text holds.
-fn faults_in(held: &Held) -> Result<Vec<Fault>, Error> {
+/// A call that tells what a fault is: `lrlex_fault_text`, or `lrlex_fault_message`.
+type FaultCall = unsafe extern "C" fn(*mut ffi::Handle, usize, *mut u8, usize, *mut usize) -> c_int;
+
+/// The faults that the handle of a refused rule text holds, each with what this call tells of it.
+fn faults_in(held: &Held, call: FaultCall) -> Result<Vec<Fault>, Error> {
     // SAFETY: (here and below) the handle holds faults, and what is written is one struct, and as many bytes as there is room for.
     let count = unsafe { ffi::lrlex_fault_count(held.get()) };
     let mut faults = Vec::with_capacity(count);
@@ -826,7 +829,7 @@ fn faults_in(held: &Held) -> Result<Vec<Fault>, Error> {
             checked(unsafe { ffi::lrlex_fault_span_at(held.get(), at, number, &raw mut it) })?;
             spans.push(FaultSpan { span: it.start..it.end, line: it.line, column: it.column });
         }
-        let message = text_by(NAME, |out, room, len| unsafe { ffi::lrlex_fault_text(held.get(), at, out, room, len) })?;
+        let message = text_by(NAME, |out, room, len| unsafe { call(held.get(), at, out, room, len) })?;
         faults.push(Fault { kind: FaultKind::of(fault.kind), message: message.unwrap_or_default(), spans });
     }
     Ok(faults)

@@ -43,8 +43,9 @@ fn faults_below_the_first() {
         let fatal = wanted.iter().position(|(kind, _)| *kind != DuplicateName).expect("there is one");
         assert_eq!(error.faults().len(), fatal + 1, "{rules:?}");
     }
-    let message = "Invalid regular expression: regex parse error at 2..3: unclosed group";
-    assert_eq!(found("%%\nc( 'C'\n")[0].to_string(), format!("2:1: {message}"));
+    assert_eq!(found("%%\nc( 'C'\n")[0].to_string(), "2:1: Invalid regular expression: unclosed group");
+    let message = format!("2:1: Invalid regular expression: unclosed group: {OPERATOR}");
+    assert_eq!(found("%%\n( 'C'\n")[0].to_string(), message);
 }
 
 #[test]

@@ -2,7 +2,7 @@
 ghost use Rattle.std.specs.Option.{option_map_or};
 ghost use Rattle.std.specs.Prelude.{◌≡◌, ◌↔◌, length, pos, None, Some, IfSome, IsUtf8, MatchOption};
 ghost use Rattle.lrlex_rules.specs.LexBuildError.{fault_kind};
-ghost use Rattle.lrlex_report.specs.FaultTexts.{AreFaultTexts, IsMessageOf};
+ghost use Rattle.lrlex_report.specs.FaultTexts.{AreFaultTexts, IsFaultMessage, IsMessageOf};
 ghost use Rattle.lrlex_handles.specs.Buffers.{IsReport};
 ghost use Rattle.lrlex_handles.specs.Faults.{fault_at, fault_span_at};
 ghost use Rattle.lrlex_handles.specs.Objects.{fault_in, refusal_in};
@@ -72,6 +72,26 @@ pub extern "C" fn lrlex_fault_text(
     ensures none { result ≡ pos 5 → fault_in handle.old.value index ≡ None }
 {
     error_texts::fault_text(alloc, handle, index, out, len)
+}
+
+/// What the fault at this index is, and what to write where the mistake is usual, in English, without a full stop: its message in the
+/// report of all faults. As many bytes are written as there is room for.
+#[unsafe(no_mangle)]
+pub extern "C" fn lrlex_fault_message(
+    alloc: Global,
+    handle: &mut Handle,
+    index: usize,
+    out: &mut [u8],
+    len: &mut usize,
+) -> i32
+    ensures kept { handle.new.value ≡ handle.old.value }
+    ensures misused { result ≡ pos 4 ↔ refusal_in handle.old.value ≡ None }
+    ensures done { result ≡ pos 0 → IfSome (refusal_in handle.old.value)
+        (λ r. MatchOption (fault_in handle.old.value index) ⊥
+        (λ e. IsReport (IsFaultMessage r.0 e) out.old out.new len.new)) }
+    ensures none { result ≡ pos 5 → fault_in handle.old.value index ≡ None }
+{
+    error_texts::fault_message(alloc, handle, index, out, len)
 }
 
 /// The report of all faults, each with its line and carets. `file` is the file name that it shows. As many bytes are written as there

@@ -1,7 +1,7 @@
 //! What the faults of a refused rule text are, for people.
 ghost use Rattle.std.specs.Prelude.{◌≡◌, ◌↔◌, string_bytes, pos, None, Some, IfOk, IfSome, IsUtf8, MatchOption};
 ghost use Rattle.lrlex_rules.specs.LexBuildError.{fault_kind};
-ghost use Rattle.lrlex_report.specs.FaultTexts.{AreFaultTexts, IsMessageOf};
+ghost use Rattle.lrlex_report.specs.FaultTexts.{AreFaultTexts, IsFaultMessage, IsMessageOf};
 ghost use Rattle.lrlex_handles.specs.Buffers.{IsReport};
 ghost use Rattle.lrlex_handles.specs.Objects.{fault_in, refusal_in};
 
@@ -69,6 +69,52 @@ pub fn fault_text(
         handle,
         MISUSE,
         |object| text_in(alloc, &object, index, out, len)
+    )
+}
+
+fn message_in(alloc: Global, object: &Object, index: usize, out: &mut [u8], len: &mut usize) -> i32
+    ensures misused { result ≡ pos 4 ↔ refusal_in (Some object.now) ≡ None }
+    ensures done { result ≡ pos 0 → IfSome (refusal_in (Some object.now))
+        (λ r. MatchOption (fault_in (Some object.now) index) ⊥
+        (λ e. IsReport (IsFaultMessage r.0 e) out.old out.new len.new)) }
+    ensures none { result ≡ pos 5 → fault_in (Some object.now) index ≡ None }
+{
+    match object {
+        Object::Refusal(refusal) => match refusal.faults.get(index) {
+            None => NONE,
+            Some(fault) => match lrlex_report::fault_message(alloc, &refusal.rules, fault) {
+                Err(_) => NO_MEMORY,
+                Ok(text) => {
+                    write_text(&text, out, len);
+                    OK
+                }
+            },
+        },
+        _ => MISUSE,
+    }
+}
+
+/// What the fault at this index is, and what to write where the mistake is usual, in English, without a full stop: its message in the
+/// report of all faults. As many bytes are written as there is room for.
+pub fn fault_message(
+    alloc: Global,
+    handle: &mut Handle,
+    index: usize,
+    out: &mut [u8],
+    len: &mut usize,
+) -> i32
+    ensures kept { handle.new.value ≡ handle.old.value }
+    ensures misused { result ≡ pos 4 ↔ refusal_in handle.old.value ≡ None }
+    ensures done { result ≡ pos 0 → IfSome (refusal_in handle.old.value)
+        (λ r. MatchOption (fault_in handle.old.value index) ⊥
+        (λ e. IsReport (IsFaultMessage r.0 e) out.old out.new len.new)) }
+    ensures none { result ≡ pos 5 → fault_in handle.old.value index ≡ None }
+{
+    with_object!(
+        alloc,
+        handle,
+        MISUSE,
+        |object| message_in(alloc, &object, index, out, len)
     )
 }
 
