@@ -6,8 +6,8 @@ Each round runs each program in turn, three times each way. A line has a way, it
 times as many they are as those of `lrlex_lex` into a buffer that is kept. All must find as many tokens. `run` is measured where
 lrlex_bench is built.
 
-With --instructions valgrind counts the instructions of each way, once, in place of its time. They are the same each time, whatever else
-the machine does: those of four times less those of one time, by three.
+With --instructions valgrind counts the instructions of each way, once, in place of its time. Other work of the machine doesn't change
+them. They are those of lexing four times less those of lexing once, by three.
 """
 
 import argparse

@@ -1,24 +1,13 @@
 // What is wrong with a rule text, or hardly meant in it.
 
+#include "expect.hpp"
 #include "lrlex.hpp"
 
-#include <cstdio>
 #include <string>
 #include <string_view>
 #include <vector>
 
 namespace {
-
-int failed = 0;
-
-void expect(bool holds, const char *what, int line) {
-    if (!holds) {
-        std::printf("line %d: %s\n", line, what);
-        failed = 1;
-    }
-}
-
-#define EXPECT(condition) expect((condition), #condition, __LINE__)
 
 /// The status of the Error that a call throws. LRLEX_OK if it throws none.
 template <class Call> int status_of(Call call) {

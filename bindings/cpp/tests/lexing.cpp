@@ -1,9 +1,9 @@
 // A first text, a refused rule text, a document through edits, and a scanner.
 
+#include "expect.hpp"
 #include "lrlex.hpp"
 
 #include <algorithm>
-#include <cstdio>
 #include <iterator>
 #include <memory_resource>
 #include <string>
@@ -12,17 +12,6 @@
 #include <vector>
 
 namespace {
-
-int failed = 0;
-
-void expect(bool holds, const char *what, int line) {
-    if (!holds) {
-        std::printf("line %d: %s\n", line, what);
-        failed = 1;
-    }
-}
-
-#define EXPECT(condition) expect((condition), #condition, __LINE__)
 
 /// The Error that a call throws. One of LRLEX_OK if it throws none.
 template <class Call> lrlex::Error error_of(Call call) {

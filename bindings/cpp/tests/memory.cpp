@@ -1,26 +1,16 @@
 // What calls leave where `new` has no memory, or not so much at once.
 
+#include "expect.hpp"
 #include "lrlex.hpp"
 
-#include <cstdio>
 #include <cstdlib>
 #include <new>
 #include <string>
 
 namespace {
 
-int failed = 0;
 // How many requests to `new` are granted before one is refused, and the largest one.
 std::size_t granted = SIZE_MAX, largest = 0;
-
-void expect(bool holds, const char *what, int line) {
-    if (!holds) {
-        std::printf("line %d: %s\n", line, what);
-        failed = 1;
-    }
-}
-
-#define EXPECT(condition) expect((condition), #condition, __LINE__)
 
 const char *const WORDS = "%%\n[0-9]+ 'INT'\n[a-z]+ 'ID'\n[ ] ;\n";
 

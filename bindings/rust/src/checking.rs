@@ -100,7 +100,7 @@ impl fmt::Display for Warning {
 /// What [`check`] finds in a rule text.
 #[derive(Clone, Debug, PartialEq, Eq)]
 pub enum Finding {
-    /// For this the rule text is refused.
+    /// For this the rule text is refused. The message also says what to write where the mistake is usual.
     Fault(Fault),
     /// This is legal and hardly meant.
     Warning(Warning),
