@@ -12,6 +12,8 @@ pub mod LengthLemmas
 pub mod NfaLemmas
 pub mod LongestLemmas
 pub mod PartLemmas
+pub mod GroupLemmas
+pub mod GroupGrowth
 pub mod DeadEndLemmas
 pub mod WorkLemmas
 pub mod KnownLemmas

@@ -1,13 +1,17 @@
 -- The parts of a list of patterns: their patterns rise, and each pattern has a table or is matched by `regex`.
-use Rattle.std.proofs.Common.{◌≡◌, ℕ, zero, suc, ◌+◌, ◌-◌, ◌<◌, ◌≤◌, ◌==◌, true, false, List, All, [], ◌∷◌, ◌++◌, length, map, set, get_or, refl, sym, ap, ◌∙◌, subst, inl, inr, arith}
+use Rattle.std.proofs.Common.{◌≡◌, ◌≢◌, ℕ, zero, suc, ◌+◌, ◌-◌, ◌<◌, ◌≤◌, ◌==◌, true, false, List, All, [], ◌∷◌, ◌++◌, length, map, take, drop, set, get_or, refl, sym, ap, ◌∙◌, subst, inl, inr, arith, get_or-set_other, get_or-set_same}
 use Rattle.std.proofs.lemmas.Bool.{cases_lt, or_cases, or_parts, or_from, or_left, or_right, eqb-true, eq-eqb}
-use Rattle.std.proofs.lemmas.List.{map-append, get_or_at, length-append}
+use Rattle.std.proofs.lemmas.List.{map-append, get_or_at, get_or-map, get_or-take, get_or-drop, length-append, length-set, length-map, length-take-le, length-drop, same_lists}
 use Rattle.std.proofs.lemmas.List.Elements.{All-nil, All-push, All-get_or, All-weaker}
 use Rattle.std.proofs.lemmas.List.Folds.{list_any-append}
-use Rattle.regex.specs.Patterns.{Re}
+use Rattle.std.proofs.lemmas.Option.{slice_get_within, slice_get-get_or, get_or_from_slice_get}
+use Rattle.std.specs.List.{slice_range}
+use Rattle.std.specs.Prelude.{IfSome}
+use Rattle.regex.specs.Patterns.{Re, empty}
 use Rattle.lrlex_table.specs.Table.{pattern_at, IsTableOf}
+use Rattle.lrlex_table.specs.declared.cached_table.CachedTable.{CachedTable}
 use Rattle.lrlex_table.specs.declared.merged_tables.Part.{Part}
-use Rattle.lrlex_table.specs.Tables.{is_among, is_tabled, AreRising, IsPartOf, AreParts, Covers, ArePartsOf}
+use Rattle.lrlex_table.specs.Tables.{is_among, is_tabled, AreCached, AreRising, patterns_at, IsPartOf, AreParts, Covers, ArePartsOf}
 
 -- ---- numbers that rise
 
@@ -200,3 +204,71 @@ rising_gap lo hi (x ∷ xs) (suc i) (suc j) r le lt = omega (arith, rising_gap (
 -- where the last is its own place, so is each
 pub rising_whole : (hi : ℕ) (xs : List ℕ) (k : ℕ) → AreRising 0 hi xs → k < length xs → get_or xs (length xs - 1) 0 ≡ length xs - 1 → get_or xs k 0 ≡ k
 rising_whole hi xs k r lt last = omega (arith, rising_at 0 hi xs k r lt, rising_gap 0 hi xs k (length xs - 1) r (omega arith) (omega arith), last)
+
+-- ---- the cache
+
+pub cached_at : (pattern : ℕ → Re) (cache : List CachedTable) (at : ℕ) (d : CachedTable) → at < length cache → AreCached pattern cache →
+    IfSome (get_or cache at d).table (IsTableOf (pattern at ∷ []))
+cached_at pattern cache at d lt are = are at (get_or cache at d) (slice_get-get_or cache at d lt)
+
+pub cached_set : (pattern : ℕ → Re) (cache : List CachedTable) (at : ℕ) (s : CachedTable) → at < length cache → AreCached pattern cache →
+    IfSome s.table (IsTableOf (pattern at ∷ [])) → AreCached pattern (set cache at s)
+cached_set pattern cache at s lt are is k t here =
+    let found = get_or_from_slice_get (set cache at s) k t t here in
+    let within = slice_get_within (set cache at s) k t here in
+    let other : k ≢ at → IfSome t.table (IsTableOf (pattern k ∷ [])) =
+    λ ne.
+    let same : get_or cache k t ≡ t = sym (get_or-set_other cache at k s t ne) ∙ found in
+    subst (λ (u : CachedTable). IfSome u.table (IsTableOf (pattern k ∷ []))) same (cached_at pattern cache k t (omega (arith, within, length-set cache at s)) are) in
+    elim (cases_lt k at) [
+      | inl low ↦ other (omega arith)
+      | inr ge ↦ elim (cases_lt at k) [
+        | inl high ↦ other (omega arith)
+        | inr le ↦
+            let e : at ≡ k = omega arith in
+            let same : s ≡ t = sym (get_or-set_same cache at s t lt) ∙ ap (λ i. get_or (set cache at s) i t) e ∙ found in
+            subst (λ (u : CachedTable). IfSome u.table (IsTableOf (pattern k ∷ []))) same (subst (λ i. IfSome s.table (IsTableOf (pattern i ∷ []))) e is)
+      ]
+    ]
+
+-- ---- the table of a group
+
+pub among_here : (xs : List ℕ) (i k : ℕ) → i < length xs → get_or xs i 0 ≡ k → is_among xs k ≡ true
+among_here [] i k lt is = absurd (omega arith)
+among_here (x ∷ xs) zero k lt is = or_left (x == k) (is_among xs k) (eq-eqb x k is)
+among_here (x ∷ xs) (suc i) k lt is = or_right (x == k) (is_among xs k) (among_here xs i k (omega arith) is)
+
+-- the patterns whose places are from..to of the list's are those with these numbers
+pub range_patterns : (pattern : ℕ → Re) (places : List ℕ) (from to : ℕ) (ns : List ℕ) → from ≤ to → to ≤ length places → length ns ≡ to - from →
+    ((i : ℕ) → i < to - from → get_or ns i 0 ≡ from + i) → map pattern (slice_range places from to) ≡ patterns_at (map pattern places) ns
+range_patterns pattern places from to ns order within len each =
+    let ps = map pattern places in
+    let f : ℕ → Re = λ k. pattern_at ps k in
+    let rest = drop from places in
+    let some = take (to - from) rest in
+    let len_some : length some ≡ to - from = length-take-le (to - from) rest (omega (arith, length-drop from places)) in
+    same_lists (map pattern some) (map f ns) (length-map some pattern ∙ len_some ∙ sym len ∙ sym (length-map ns f))
+    (λ k d lt.
+    let low : k < to - from = omega (arith, lt, length-map some pattern, len_some) in
+    get_or-map pattern some k 0 d (omega (arith, low, len_some))
+    ∙ ap pattern (get_or-take (to - from) rest k 0 low ∙ get_or-drop from places k 0)
+    ∙ sym (get_or-map pattern places (from + k) 0 empty (omega (arith, low, within)))
+    ∙ ap f (sym (each k low))
+    ∙ sym (get_or-map f ns k 0 d (omega (arith, low, len))))
+
+pub grouped_parts : (pattern : ℕ → Re) (places : List ℕ) (from to : ℕ) (p : Part) → from ≤ to → to ≤ length places → AreRising from to p.patterns.items →
+    length p.patterns.items ≡ to - from → ((i : ℕ) → i < to - from → get_or p.patterns.items i 0 ≡ from + i) →
+    IsTableOf (map pattern (slice_range places from to)) p.table → ArePartsOf (map pattern places) from to (p ∷ []) []
+grouped_parts pattern places from to p order within rises len each table =
+    let ps = map pattern places in
+    let ns = p.patterns.items in record {
+      are = All-push (IsPartOf ps from to) [] p (All-nil (IsPartOf ps from to)) (record {
+        rises = rises;
+        table = subst (λ qs. IsTableOf qs p.table) (range_patterns pattern places from to ns order within len each) table;
+      });
+      rises = order;
+      each = λ k ge lt none.
+          let among : is_among ns k ≡ true = among_here ns (k - from) k (omega (arith, ge, lt, len)) (each (k - from) (omega (arith, ge, lt)) ∙ omega (arith, ge)) in
+          let missing : is_among ns k ≡ false = (or_parts (is_among ns k) false none).0 in
+          absurd (cc);
+    }

@@ -7,6 +7,7 @@ pub mod Reach
 pub mod Rows
 pub mod Determinizer
 pub mod ProductBuilder
+pub mod Group
 pub mod Source
 pub mod Tables
 pub mod Work

@@ -32,6 +32,11 @@ cached_rows cache = sum_by (λ s. table_rows s.table) cache
 abbrev pub tables_rows : Tables → ℕ
 tables_rows t = rows_of t.parts.items
 
+-- the rows of the tables of a list of patterns, where there are some
+abbrev pub some_rows : Option Tables → ℕ
+some_rows None = 0
+some_rows (Some t) = tables_rows t
+
 -- the rows of all tables of these lists
 abbrev pub rows_held : List Tables → ℕ
 rows_held lists = sum_by tables_rows lists

@@ -84,4 +84,20 @@ impl CachedTable {
         let copy = table.copy(alloc)?;
         Ok(Some(copy))
     }
+
+    /// Notes that one of the lists has the pattern in the table of a group. With the last list the table goes, and its rows
+    /// are given back.
+    pub(crate) fn release(&mut self, budget: &mut Budget)
+        ensures kept { (ps : List Re) → IfSome self.old.table (IsTableOf ps) →
+            IfSome self.new.table (IsTableOf ps) }
+        ensures paid { table_rows self.new.table + budget.new.rows
+            ≤ table_rows self.old.table + budget.old.rows }
+    {
+        self.lists = self.lists.saturating_sub(1);
+        if self.lists == 0
+            && let Some(table) = self.table.take()
+        {
+            budget.free_rows(table.rows());
+        }
+    }
 }

@@ -10,6 +10,7 @@ mod chaining;
 mod checking;
 mod dead_ends;
 mod determinize;
+mod group;
 mod hash;
 mod index;
 mod lanes;

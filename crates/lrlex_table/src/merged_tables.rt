@@ -1,14 +1,16 @@
-//! Merges the tables of a list's patterns in pairs, so that as few tables as can be had are left.
-ghost use Rattle.std.specs.Prelude.{◌≡◌, ℕ, Bool, ◌*◌, ◌||◌, ◌+◌, ◌^◌, ◌<◌, ◌≤◌, List, [], ◌∷◌, ◌++◌, length, map, vec_len, slice_index, IfOk, OnOk, IsSome, IfSome, MatchOption, IsTrue, IsFalse, IsUtf8};
+//! Merges the tables of a list's patterns, so that as few tables as can be had are left: those of a group of patterns at once,
+//! where one table for all of them isn't too big, and else the tables of its halves.
+ghost use Rattle.std.specs.Prelude.{◌≡◌, ℕ, Bool, ◌*◌, ◌||◌, ◌+◌, ◌-◌, ◌^◌, ◌<◌, ◌≤◌, List, [], ◌∷◌, ◌++◌, length, map, vec_len, slice_index, IfOk, OnOk, IsSome, IfSome, MatchOption, IsTrue, IsFalse, IsUtf8};
 ghost use Rattle.regex.specs.Patterns.{Re};
 ghost use Rattle.lrlex_table.specs.Table.{pattern_at, EndsInRowOf, IsTableOf};
 ghost use Rattle.lrlex_table.specs.Reach.{IsDecidedBy, IsReach};
 ghost use Rattle.lrlex_table.specs.Work.{cells};
-ghost use Rattle.lrlex_table.specs.Rows.{table_rows, part_rows, cached_rows, tables_rows};
+ghost use Rattle.lrlex_table.specs.Rows.{table_rows, part_rows, cached_rows, tables_rows, some_rows};
 ghost use Rattle.lrlex_table.specs.Tables.{AreRising, AreCached, rows_of, is_among, is_tabled, patterns_at, IsPartOf, AreParts, Covers, ArePartsOf, AreTablesOf, IsBelow, IsLongestOf, IsBestAmong, IsWinnerAmong, IsTableScanOf, len_of};
 
 use crate::budget::Budget;
 use crate::cached_table::CachedTable;
+use crate::group::group_table;
 use crate::product::product;
 use crate::table::Table;
 use crate::tables::Tables;
@@ -213,6 +215,73 @@ fn middle_of(cache: &[CachedTable], places: &[usize], from: usize, to: usize) ->
     to - 1
 }
 
+/// How many rows the table of a group may have more than the tables of its patterns have together.
+const MORE_ROWS_OF_A_GROUP: usize = 64;
+
+/// Notes for each of these places of the cache that one of the lists has its pattern in the table of a group.
+fn release_all(cache: &mut [CachedTable], places: &[usize], budget: &mut Budget)
+    ensures kept { (pattern : ℕ → Re) → AreCached pattern cache.old → AreCached pattern cache.new }
+    ensures paid { cached_rows cache.new + budget.new.rows ≤ cached_rows cache.old + budget.old.rows }
+{
+    'places: for place in places {
+        if *place < cache.len() {
+            cache[*place].release(budget);
+        }
+    }
+}
+
+/// The numbers from `from` to before `to`.
+fn numbers(alloc: Global, from: usize, to: usize) -> Result<Vec<usize>, AllocError>
+    requires { from ≤ to }
+    ensures rises { IfOk result (λ v. AreRising from to v.items) }
+    ensures len { IfOk result (λ v. length v.items ≡ to - from) }
+    ensures each { IfOk result (λ v. (i : ℕ) → i < to - from → slice_index v.items i ≡ from + i) }
+{
+    let mut numbers = Vec::with_capacity(alloc, to - from)?;
+    'numbers: for number in from..to {
+        numbers.push(number)?;
+    }
+    Ok(numbers)
+}
+
+/// One table for all of the list's patterns from index `from` to before `to`, joined at once. None where one of them has no table,
+/// where the table would have many more rows than theirs, and where the budget is spent.
+fn grouped(
+    alloc: Global,
+    cache: &mut [CachedTable],
+    places: &[usize],
+    from: usize,
+    to: usize,
+    budget: &mut Budget,
+) -> Result<Option<Tables>, AllocError>
+    requires from { from < to }
+    requires to { to ≤ length places.now }
+    ensures tables { (pattern : ℕ → Re) → AreCached pattern cache.old →
+        IfOk result (λ o. IfSome o (λ t.
+        ArePartsOf (map pattern places.now) from to t.parts.items t.asked.items)) }
+    ensures kept { (pattern : ℕ → Re) → AreCached pattern cache.old →
+        OnOk result (AreCached pattern cache.new) }
+    ensures paid { IfOk result (λ o. cached_rows cache.new + some_rows o + budget.new.rows
+        ≤ cached_rows cache.old + budget.old.rows) }
+{
+    let rows = rows_between(cache, places, from, to);
+    let most = rows.saturating_add(MORE_ROWS_OF_A_GROUP).min(MOST_ROWS) as u16;
+    let left = budget.rows();
+    let made = group_table(alloc, cache, &places[from..to], most, budget)?;
+    let Some(table) = made else {
+        budget.free_rows(left.saturating_sub(budget.rows()));
+        return Ok(None);
+    };
+    let patterns = numbers(alloc, from, to)?;
+    release_all(cache, &places[from..to], budget);
+    let mut parts = Vec::new(alloc);
+    parts.push(Part { table, patterns })?;
+    Ok(Some(Tables {
+        parts,
+        asked: Vec::new(alloc),
+    }))
+}
+
 /// Tables for the list's patterns from index `from` to before `to`, as few as can be had. `places` has the places of the
 /// list's patterns in the cache, which hands out their tables. `asked` lists the patterns that have none.
 pub fn tables_between(
@@ -234,6 +303,9 @@ pub fn tables_between(
 {
     if to - from == 1 {
         return alone(alloc, cache, places[from], from, budget);
+    }
+    if let Some(tables) = grouped(alloc, cache, places, from, to, budget)? {
+        return Ok(tables);
     }
     let middle = middle_of(cache, places, from, to);
     let left = tables_between(alloc, cache, places, from, middle, budget)?;
