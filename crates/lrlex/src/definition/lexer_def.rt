@@ -160,7 +160,7 @@ impl<L: LexerTypes> LexerDef<L> for LRNonStreamingLexerDef<L> {
             ≡ DEFAULT_LEX_FLAGS) }
         ensures made_of { IfOk result (λ d. IsMadeOf L.StorageT.number (definition_rules d)
             (definition_states d) (definition_of L.StorageT.number d)) }
-        ensures within { IfOk result (λ d. definition_rows d ≤ 7000) }
+        ensures within { IfOk result (λ d. definition_rows d ≤ 14000) }
     {
         let flags = DEFAULT_LEX_FLAGS;
         let table = RuleTable::made(alloc, start_states, rules, flags, usual_budget())?;
@@ -185,7 +185,7 @@ impl<L: LexerTypes> LexerDef<L> for LRNonStreamingLexerDef<L> {
         ensures made_of { IfOk result (λ built. IfOk built
             (λ d. IsMadeOf L.StorageT.number (definition_rules d) (definition_states d)
             (definition_of L.StorageT.number d))) }
-        ensures within { IfOk result (λ built. IfOk built (λ d. definition_rows d ≤ 7000)) }
+        ensures within { IfOk result (λ built. IfOk built (λ d. definition_rows d ≤ 14000)) }
     {
         LRNonStreamingLexerDef::new_with_options(alloc, text, UNSPECIFIED_LEX_FLAGS)
     }
@@ -258,7 +258,7 @@ impl<L: LexerTypes> LRNonStreamingLexerDef<L> {
             (λ d. IsLawful text.now (definition_of L.StorageT.number d))) }
         ensures initial { IfOk result (λ built. IfOk built
             (λ d. is_state (definition_of L.StorageT.number d) 0 ≡ true)) }
-        ensures within { IfOk result (λ built. IfOk built (λ d. definition_rows d ≤ 7000)) }
+        ensures within { IfOk result (λ built. IfOk built (λ d. definition_rows d ≤ 14000)) }
     {
         LRNonStreamingLexerDef::new_with_budget(alloc, text, flags, usual_budget())
     }

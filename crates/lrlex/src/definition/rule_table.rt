@@ -18,13 +18,13 @@ use lrlex_table::{Budget, Chain, Tables};
 use std::alloc::{AllocError, Global};
 
 /// What the tables of a definition may cost: rows, of some 512 bytes each, and work, in units of about a nanosecond.
-const MOST_ROWS: usize = 7_000;
+const MOST_ROWS: usize = 14_000;
 
-const MOST_WORK: usize = 80_000_000;
+const MOST_WORK: usize = 60_000_000;
 
 /// The usual budget.
 pub(crate) fn usual_budget() -> Budget
-    ensures { result.rows ≡ 7000 }
+    ensures { result.rows ≡ 14000 }
 {
     Budget::new(MOST_ROWS, MOST_WORK)
 }

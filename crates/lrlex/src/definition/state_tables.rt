@@ -78,7 +78,7 @@ fn try_singles<S>(
 }
 
 /// For how many rules the table of each alone is made before they are joined.
-const RULES_AT_ONCE: usize = 128;
+const RULES_AT_ONCE: usize = 256;
 
 /// Tables for those of the rules at these places whose index in the list is from `from` on and below `to`. The tables of rules
 /// alone have many more rows than one for all, so of a long list one part is joined before the next is begun. In a part at
