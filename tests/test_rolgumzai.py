@@ -580,9 +580,10 @@ class Rolgumzai(unittest.TestCase):
                 self.assertEqual(self.run_in_folder(program, ["check", "-"], text), Outcome(wanted))
 
     def test_tables_of_many_keywords(self):
-        # HTML's names of characters, of 6.6 letters on average
+        # HTML's names of characters, of 6.6 letters on average, and then the same with two digits
         names = random.Random(1).sample(sorted({it.rstrip(";") for it in html.entities.html5}), 2_000)
-        for program, (count, is_warned) in self.each([(1_000, False), (2_000, True)]):
+        names += [f"{name}99" for name in names]
+        for program, (count, is_warned) in self.each([(1_000, False), (2_000, False), (4_000, True)]):
             with self.subTest(count=count, program=program):
                 rules = "".join(f"{name} '{name}'\n" for name in names[:count])
                 outcome = self.run_in_folder(program, ["check", "-"], f"%%\n{rules}[A-Za-z0-9]+ 'word'\n")
