@@ -6,8 +6,26 @@ from support import replay
 from support.definitions import WORK, from_text, new_with_budget
 from support.rule_texts import FAR, FAR_PAIRS, FAR_STATES, FAR_TWO_TABLES
 
+
+def in_letters(number):
+    """The number in the letters a to z, the least of them first."""
+    return chr(97 + number % 26) + (in_letters(number // 26) if number >= 26 else "")
+
+
+def by_word(count, pattern, more=""):
+    """A rule text of so many rules, each of the pattern with a word of its own for WORD, and more of them below."""
+    return "%%\n" + "".join(f"{pattern.replace('WORD', in_letters(it))} 'R{it}'\n" for it in range(count)) + more
+
+
 # Rules, a text and its edits.
 BOTH_WAYS = [
+    # one table for a group of rules: of as many as there may be, of more, and of those around one without a table
+    (by_word(256, "xWORD"), "xaxbxccxivbxax", []),
+    (by_word(700, "xWORD", "[a-z]+ 'WORD'\n[ ] ;"), "xa xba xyza xbw xza x y", [(3, 4, "z")]),
+    (by_word(80, "xWORD", "xab$ 'END'\n[a-z]+ 'WORD'\n\\n ;"), "xa\nxab\nxab", []),
+    # rules that match on from everywhere, so that no group has one table
+    (by_word(60, "[a-z]*WORD"), "abcabdxyaz", []),
+    (by_word(30, "[ab]*aWORD[ab]*", "[a-z] 'LETTER'"), "abaabazabcab", [(0, 1, "zz")]),
     ("%%\n[a-z]+ 'ID'\nif 'IF'\n[ ] ;", "if iffy fi if", []),
     ("%%\nif 'IF'\n[a-z]+ 'ID'\n[ ] ;", "if iffy fi if", []),
     ("%%\na$ 'END'\na 'A'\n\\n 'NL'", "aa\na\naaa", []),
