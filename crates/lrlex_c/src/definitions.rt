@@ -3,7 +3,7 @@ ghost use Rattle.std.specs.Prelude.{◌≡◌, ◌≢◌, ◌↔◌, ◌^◌, �
 ghost use Rattle.lrlex_rules.specs.LexBuildResult.{IsAnswer};
 ghost use Rattle.lrlex.specs.Ids.{with_ids};
 ghost use Rattle.lrlex_handles.specs.Buffers.{filled};
-ghost use Rattle.lrlex_handles.specs.Checking.{IsChecked};
+ghost use Rattle.lrlex_handles.specs.LexBuildResult.{IsChecked};
 ghost use Rattle.lrlex_handles.specs.NamedIds.{AreNamesUtf8, id_by, is_missing};
 ghost use Rattle.lrlex_handles.specs.Objects.{answer_in, definition_in, refusal_in};
 ghost use Rattle.lrlex_handles.specs.Settings.{flags_by};

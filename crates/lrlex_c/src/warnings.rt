@@ -3,7 +3,7 @@ ghost use Rattle.std.specs.Prelude.{◌≡◌, ◌↔◌, slice_get, pos, None, 
 ghost use Rattle.lrlex_report.specs.WarningTexts.{warning_kinds, warning_message, warning_name};
 ghost use Rattle.lrlex_handles.specs.Buffers.{IsReport, IsWritten};
 ghost use Rattle.lrlex_handles.specs.Objects.{definition_in, table_in};
-ghost use Rattle.lrlex_handles.specs.Warned.{AreWarningsIn, IsWarningReport};
+ghost use Rattle.lrlex_handles.specs.Warnings.{AreWarningsIn, IsWarningReport};
 
 use lrlex_handles::handle::Handle;
 use lrlex_handles::structs::Warning;

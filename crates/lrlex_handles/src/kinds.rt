@@ -2,7 +2,7 @@
 ghost use Rattle.std.specs.Prelude.{◌≡◌, slice_get, pos, Some, MatchOption};
 ghost use Rattle.lrlex_report.specs.WarningTexts.{warning_kinds, warning_message, warning_name};
 ghost use Rattle.lrlex_handles.specs.Buffers.{IsWritten};
-ghost use Rattle.lrlex_handles.specs.Warned.{warning_number};
+ghost use Rattle.lrlex_handles.specs.Warnings.{warning_number};
 
 use crate::status::{NONE, OK};
 use crate::texts::write_text;

@@ -3,7 +3,7 @@ ghost use Rattle.std.specs.Prelude.{◌≡◌, ◌↔◌, string_bytes, pos, Non
 ghost use Rattle.lrlex_base.specs.Places.{AreBreaksOf};
 ghost use Rattle.lrlex_handles.specs.Buffers.{filled, IsReport};
 ghost use Rattle.lrlex_handles.specs.Objects.{definition_in, table_in};
-ghost use Rattle.lrlex_handles.specs.Warned.{warning_by, AreWarningsIn, IsWarningReport};
+ghost use Rattle.lrlex_handles.specs.Warnings.{warning_by, AreWarningsIn, IsWarningReport};
 
 use crate::handle::{Handle, with_object};
 use crate::kinds::number_of;

@@ -1,6 +1,6 @@
 use Rattle.std.proofs.Common.{◌<◌, length, ◌∙◌, sym, ap, set, arith}
 use Rattle.lrlex_report.specs.declared.warnings.kinds.Warning as told
-use Rattle.lrlex_handles.specs.Warned.{warning_by}
+use Rattle.lrlex_handles.specs.Warnings.{warning_by}
 use Rattle.lrlex_handles.specs.declared.structs.Warning.{Warning}
 use Rattle.lrlex_handles.proofs.Fills.{put_next, counted, loop_end}
 use Rattle.lrlex_handles.proofs.warnings.copy_warnings.Goals as goal

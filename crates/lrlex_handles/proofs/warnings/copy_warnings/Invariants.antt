@@ -1,6 +1,6 @@
 use Rattle.std.proofs.Common.{◌≡◌, take}
 use Rattle.lrlex_handles.specs.Buffers.{filled}
-use Rattle.lrlex_handles.specs.Warned.{warning_by}
+use Rattle.lrlex_handles.specs.Warnings.{warning_by}
 use Rattle.lrlex_handles.proofs.warnings.copy_warnings.Given as goal
 
 -- the warnings so far are written, and the cursor is one of the text
