@@ -181,6 +181,9 @@ int lrlex_fault_at(lrlex_definition *d, size_t index, lrlex_fault *out);
  * LRLEX_OK; LRLEX_NONE: there are fewer faults or fewer spans; LRLEX_MISUSE. */
 int lrlex_fault_span_at(lrlex_definition *d, size_t index, size_t span, lrlex_fault_span *out);
 
+/* The name of a kind of faults, such as DuplicateName. `len` is how many bytes it has. LRLEX_OK; LRLEX_NONE: there is no such kind. */
+int lrlex_fault_name(uint32_t kind, uint8_t *out, size_t cap, size_t *len);
+
 /* What the fault at this index is, in English, without a full stop. `len` is how many bytes that takes.
  * LRLEX_OK; LRLEX_NONE; LRLEX_MISUSE; LRLEX_NOMEM. */
 int lrlex_fault_text(lrlex_definition *d, size_t index, uint8_t *out, size_t cap, size_t *len);

@@ -86,6 +86,7 @@ a.l:4:1: Warning: this rule never wins: it matches no byte, or other rules match
 4 | if 'IF'
   | ^^
 0 warnings
+PrematureEnd RoutinesNotSupported UnknownDeclaration MissingSpace InvalidName UnknownStartState DuplicateStartState InvalidStartState InvalidStartStateName DuplicateName RegexError VerbatimNotSupported TooManyRules
 NeverWins NeverActive LooksAround NoTable TargetInPattern BlankAfterStates LostEscape EscapeAfterStates LostAlternative NameInPattern QuotedPattern BareOperator LostCaret GreedyDot ClassOperator UnknownClass NeverEntered NoRules
 rule 0: A, id 0, bytes 16 to 17
 state 0: INITIAL

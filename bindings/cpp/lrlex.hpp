@@ -486,6 +486,13 @@ inline std::string check_report(std::string_view rules, std::string_view file, c
     return detail::text_by(call, 1024);
 }
 
+/// The name of a kind of faults, as "DuplicateName" of LRLEX_DUPLICATE_NAME; empty if there is no such kind.
+inline std::string fault_name(std::uint32_t kind) {
+    return detail::text_by([&](std::uint8_t *out, std::size_t room, std::size_t *length) {
+        return lrlex_fault_name(kind, out, room, length);
+    });
+}
+
 /// The name of a kind of warnings, as "NeverWins" of LRLEX_NEVER_WINS; empty if there is no such kind.
 inline std::string warning_name(std::uint32_t kind) {
     return detail::text_by([&](std::uint8_t *out, std::size_t room, std::size_t *length) {

@@ -121,11 +121,11 @@ static void warn(const char *rules) {
     lrlex_free(&d);
 }
 
-/* The names of the kinds of warnings, up to the first number that none has. */
-static void kinds(void) {
+/* The names of kinds, up to the first number that none has. */
+static void kinds(int (*name_of)(uint32_t, uint8_t *, size_t, size_t *)) {
     uint8_t name[64];
     size_t len = 0;
-    for (uint32_t kind = 0; lrlex_warning_name(kind, name, sizeof name, &len) == LRLEX_OK; kind++) printf("%s%.*s", kind ? " " : "", (int)len, (const char *)name);
+    for (uint32_t kind = 0; name_of(kind, name, sizeof name, &len) == LRLEX_OK; kind++) printf("%s%.*s", kind ? " " : "", (int)len, (const char *)name);
     puts("");
 }
 
@@ -259,7 +259,8 @@ int main(void) {
     refuse("%x A A\n%%\nc( 'C'\na 'A'\nb 'A'\n<B>b ;\n", check_rules);
     warn("%x S\n%%\n[a-z]+ 'ID'\nif 'IF'\n\"[^\"]*\" 'S'\n");
     warn("%%\na 'A'\n");
-    kinds();
+    kinds(lrlex_fault_name);
+    kinds(lrlex_warning_name);
     names();
     ids();
     edit();

@@ -410,10 +410,12 @@ static void check_faults(lrlex_definition *d, const lrlex_options *how) {
     for (size_t i = 0; i < count && i < 20; i++) {
         lrlex_fault fault;
         lrlex_fault_span span;
+        uint8_t name[32];
         LAW(lrlex_fault_at(d, i, &fault) == LRLEX_OK && fault.spans > 0 && fault.kind <= LRLEX_TOO_MANY_RULES);
         for (size_t k = 0; k < fault.spans; k++)
             LAW(lrlex_fault_span_at(d, i, k, &span) == LRLEX_OK && span.start <= span.end && span.end <= rules.len && span.line && span.column);
         LAW(lrlex_fault_span_at(d, i, fault.spans, &span) == LRLEX_NONE);
+        LAW(lrlex_fault_name(fault.kind, name, sizeof name, &len) == LRLEX_OK && len > 0 && len <= sizeof name);
         LAW(lrlex_fault_text(d, i, report, ROOM, &len) == LRLEX_OK && len > 0);
         LAW(lrlex_fault_message(d, i, report, ROOM, &len) == LRLEX_OK && len > 0);
     }

@@ -232,6 +232,11 @@ static void checks(void) {
     CHECK(lrlex_warnings(&d, bytes("a\n\xf0\x9f\x98\x80"), 6, warnings, 8, &len) == LRLEX_OK && len == 3 && warnings[1].start == 2 && warnings[1].line == 2 && warnings[1].column == 1);
     CHECK(lrlex_warnings(&d, bytes(""), 0, warnings, 8, &len) == LRLEX_OK && len == 3 && warnings[0].line == 1 && warnings[0].column == 1);
     CHECK(lrlex_warning_report(&d, bytes("f"), 1, bytes(""), 0, text, 0, &len) == LRLEX_OK && len > sizeof text);
+    CHECK(lrlex_fault_name(LRLEX_PREMATURE_END, name, sizeof name, &len) == LRLEX_OK && len == 12 && memcmp(name, "PrematureEnd", 12) == 0);
+    name[1] = '#';
+    CHECK(lrlex_fault_name(LRLEX_TOO_MANY_RULES, name, 1, &len) == LRLEX_OK && len == 12 && name[0] == 'T' && name[1] == '#');
+    CHECK(lrlex_fault_name(LRLEX_TOO_MANY_RULES, name, 0, &len) == LRLEX_OK && len == 12 && name[0] == 'T');
+    CHECK(lrlex_fault_name(LRLEX_TOO_MANY_RULES + 1, name, sizeof name, &len) == LRLEX_NONE && lrlex_fault_name(UINT32_MAX, name, sizeof name, &len) == LRLEX_NONE);
     CHECK(lrlex_warning_name(LRLEX_NEVER_WINS, name, sizeof name, &len) == LRLEX_OK && len == 9 && memcmp(name, "NeverWins", 9) == 0);
     name[1] = '#';
     CHECK(lrlex_warning_name(LRLEX_NO_RULES, name, 1, &len) == LRLEX_OK && len == 7 && name[0] == 'N' && name[1] == '#');

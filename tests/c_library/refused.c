@@ -183,6 +183,7 @@ static int look(void) {
         lrlex_document_position(&document, 1, &place),
         lrlex_document_position_in(&document, 1, LRLEX_UTF8, &place),
         lrlex_document_offset_at(&document, 0, 1, LRLEX_UTF16, &len),
+        lrlex_fault_name(LRLEX_PREMATURE_END, written, sizeof written, &len),
         lrlex_warning_name(LRLEX_NEVER_WINS, written, sizeof written, &len),
         lrlex_warning_text(LRLEX_NEVER_WINS, written, sizeof written, &len),
         lrlex_fault_count(&refused) == 0,

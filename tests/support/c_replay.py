@@ -18,13 +18,6 @@ from support.replay import stored
 
 LIB = _c.LIB
 
-# The kinds of faults, by their numbers.
-KINDS = [
-    "PrematureEnd", "RoutinesNotSupported", "UnknownDeclaration", "MissingSpace", "InvalidName", "UnknownStartState",
-    "DuplicateStartState", "InvalidStartState", "InvalidStartStateName", "DuplicateName", "RegexError", "VerbatimNotSupported",
-    "TooManyRules",
-]
-
 
 def is_left_out(case):
     """Whether the case can't be said in C."""
@@ -61,7 +54,7 @@ def faults_of(handle):
     for number, it in enumerate(each(LIB.lrlex_fault_count(handle), lambda *to: LIB.lrlex_fault_at(handle, *to), _c.Fault)):
         # pylint: disable-next=cell-var-from-loop
         spans = each(it.spans, lambda *to: LIB.lrlex_fault_span_at(handle, number, *to), _c.FaultSpan)
-        found.append({"kind": KINDS[it.kind], "spans": [[span.start, span.end] for span in spans]})
+        found.append({"kind": _c.text_by(LIB.lrlex_fault_name, it.kind), "spans": [[span.start, span.end] for span in spans]})
     return found
 
 

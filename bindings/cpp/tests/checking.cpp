@@ -69,6 +69,29 @@ void warnings() {
     EXPECT(many.at(199).spans[0].start == 399 && many.at(199).spans[0].line == 101);
 }
 
+void kinds_of_faults() {
+    const struct {
+        std::uint32_t kind;
+        const char *name;
+    } rows[] = {
+        {LRLEX_PREMATURE_END, "PrematureEnd"},
+        {LRLEX_ROUTINES_NOT_SUPPORTED, "RoutinesNotSupported"},
+        {LRLEX_UNKNOWN_DECLARATION, "UnknownDeclaration"},
+        {LRLEX_MISSING_SPACE, "MissingSpace"},
+        {LRLEX_INVALID_NAME, "InvalidName"},
+        {LRLEX_UNKNOWN_START_STATE, "UnknownStartState"},
+        {LRLEX_DUPLICATE_START_STATE, "DuplicateStartState"},
+        {LRLEX_INVALID_START_STATE, "InvalidStartState"},
+        {LRLEX_INVALID_START_STATE_NAME, "InvalidStartStateName"},
+        {LRLEX_DUPLICATE_NAME, "DuplicateName"},
+        {LRLEX_REGEX_ERROR, "RegexError"},
+        {LRLEX_VERBATIM_NOT_SUPPORTED, "VerbatimNotSupported"},
+        {LRLEX_TOO_MANY_RULES, "TooManyRules"},
+    };
+    for (const auto &it : rows) EXPECT(lrlex::fault_name(it.kind) == it.name);
+    EXPECT(lrlex::fault_name(13).empty() && lrlex::fault_name(UINT32_MAX).empty());
+}
+
 void kinds_of_warnings() {
     const struct {
         std::uint32_t kind;
@@ -128,6 +151,7 @@ void what_is_not_utf8() {
 int main() {
     faults_below_the_first();
     warnings();
+    kinds_of_faults();
     kinds_of_warnings();
     options();
     reports();

@@ -173,6 +173,7 @@ FUNCTIONS: dict[str, tuple[Any, list[Any]]] = {
     "lrlex_fault_count": (SIZE, [HANDLE]),
     "lrlex_fault_at": (c_int, [HANDLE, SIZE, POINTER(Fault)]),
     "lrlex_fault_span_at": (c_int, [HANDLE, SIZE, SIZE, POINTER(FaultSpan)]),
+    "lrlex_fault_name": (c_int, [c_uint32, *WRITTEN]),
     "lrlex_fault_text": (c_int, [HANDLE, SIZE, *WRITTEN]),
     "lrlex_fault_message": (c_int, [HANDLE, SIZE, *WRITTEN]),
     "lrlex_fault_report": (c_int, [HANDLE, TEXT, SIZE, *WRITTEN]),

@@ -37,7 +37,7 @@ def check(rules: str, **settings: Any) -> list[Finding]:
     held, status = _read(LIB.lrlex_check, text, settings)
     if status == _c.REFUSED:
         faults = _faults(held, text, LIB.lrlex_fault_message)
-        return [Finding(it.kind.name.title().replace("_", ""), it.message, it.places, True) for it in faults]
+        return [Finding(text_by(LIB.lrlex_fault_name, it.kind) or "", it.message, it.places, True) for it in faults]
     _c.check(status)
     return [_warning(it, text) for it in _warnings(held, text)]
 

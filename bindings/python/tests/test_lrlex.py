@@ -812,12 +812,12 @@ class Loading(unittest.TestCase):
         numbers = {name: int(number) for name, number in re.findall(r"\bLRLEX_([A-Z0-9_]+) = (\d+)\b", header)}
         for names in [lrlex.FaultKind.__members__, {name.upper(): bit for name, bit in _c.FLAGS.items()}]:
             self.assertEqual({name: numbers.get(name) for name in names}, dict(names))
-        kinds = re.search(r"LRLEX_PREMATURE_END.*?}", header, re.S)[0]
-        self.assertEqual(len(lrlex.FaultKind), kinds.count("="))
-        warnings = re.findall(r"LRLEX_(\w+) = (\d+)", re.search(r"LRLEX_NEVER_WINS.*?}", header, re.S)[0])
-        named = [_c.text_by(_c.LIB.lrlex_warning_name, it) for it in range(len(warnings) + 1)]
-        self.assertEqual(named, [*(name.title().replace("_", "") for name, _ in warnings), None])
-        self.assertEqual([int(number) for _, number in warnings], list(range(18)))
+        for first, name_of, count in [("PREMATURE_END", _c.LIB.lrlex_fault_name, 13), ("NEVER_WINS", _c.LIB.lrlex_warning_name, 18)]:
+            kinds = re.findall(r"LRLEX_(\w+) = (\d+)", re.search(f"LRLEX_{first}.*?}}", header, re.S)[0])
+            self.assertEqual([int(number) for _, number in kinds], list(range(count)))
+            named = [_c.text_by(name_of, it) for it in range(count + 1)]
+            self.assertEqual(named, [*(name.title().replace("_", "") for name, _ in kinds), None])
+        self.assertEqual(len(lrlex.FaultKind), 13)
         called = set(re.findall(r"^\w[\w *]*?\b(lrlex_\w+)\(", header, re.M))
         self.assertLessEqual(_c.FUNCTIONS.keys(), called)
 

@@ -2,7 +2,7 @@
 
 use std::fmt;
 
-use crate::{Error, Fault, FaultSpan, Held, LexFlags, REPORT, checked, faults_in, ffi, text_by};
+use crate::{Error, Fault, FaultSpan, Held, LexFlags, REPORT, checked, faults_in, ffi, name_by, number_in, text_by};
 
 /// Room for most messages of warnings.
 const MESSAGE: usize = 256;
@@ -76,6 +76,17 @@ impl WarningKind {
 
     fn of(number: u32) -> WarningKind {
         Self::ALL.get(number as usize).copied().unwrap_or(WarningKind::Other(number))
+    }
+
+    /// The name of the kind, such as `NeverWins`, as the C library has it. `None` if it has no such kind.
+    #[must_use]
+    pub fn name(self) -> Option<String> {
+        let number = match self {
+            WarningKind::Other(number) => number,
+            known => number_in(&Self::ALL, known),
+        };
+        // SAFETY: there is room for `room` bytes.
+        name_by(|out, room, len| unsafe { ffi::lrlex_warning_name(number, out, room, len) })
     }
 }
 

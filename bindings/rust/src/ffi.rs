@@ -159,6 +159,7 @@ unsafe extern "C" {
     pub(crate) fn lrlex_fault_count(d: *mut Handle) -> usize;
     pub(crate) fn lrlex_fault_at(d: *mut Handle, index: usize, out: *mut Fault) -> c_int;
     pub(crate) fn lrlex_fault_span_at(d: *mut Handle, index: usize, span: usize, out: *mut FaultSpan) -> c_int;
+    pub(crate) fn lrlex_fault_name(kind: u32, out: *mut u8, cap: usize, len: *mut usize) -> c_int;
     pub(crate) fn lrlex_fault_text(d: *mut Handle, index: usize, out: *mut u8, cap: usize, len: *mut usize) -> c_int;
     pub(crate) fn lrlex_fault_message(d: *mut Handle, index: usize, out: *mut u8, cap: usize, len: *mut usize) -> c_int;
     pub(crate) fn lrlex_fault_report(
@@ -178,6 +179,7 @@ unsafe extern "C" {
         cap: usize,
         count: *mut usize,
     ) -> c_int;
+    pub(crate) fn lrlex_warning_name(kind: u32, out: *mut u8, cap: usize, len: *mut usize) -> c_int;
     pub(crate) fn lrlex_warning_text(kind: u32, out: *mut u8, cap: usize, len: *mut usize) -> c_int;
     pub(crate) fn lrlex_warning_report(
         d: *mut Handle,

@@ -174,6 +174,17 @@ impl FaultKind {
     fn of(number: u32) -> FaultKind {
         Self::ALL.get(number as usize).copied().unwrap_or(FaultKind::Other(number))
     }
+
+    /// The name of the kind, such as `DuplicateName`, as the C library has it. `None` if it has no such kind.
+    #[must_use]
+    pub fn name(self) -> Option<String> {
+        let number = match self {
+            FaultKind::Other(number) => number,
+            known => number_in(&Self::ALL, known),
+        };
+        // SAFETY: there is room for `room` bytes.
+        name_by(|out, room, len| unsafe { ffi::lrlex_fault_name(number, out, room, len) })
+    }
 }
 
 /// A fault of a rule text.
@@ -380,6 +391,11 @@ fn text_by(room: usize, call: impl Fn(*mut u8, usize, &mut usize) -> c_int) -> R
 /// The name that a call writes, if there is one. These calls only copy: none answers that memory lacks.
 fn name_by(call: impl Fn(*mut u8, usize, &mut usize) -> c_int) -> Option<String> {
     text_by(NAME, call).expect("a name is there to be copied")
+}
+
+/// The number of a kind: its place among all.
+fn number_in<K: PartialEq>(kinds: &[K], kind: K) -> u32 {
+    (0..).zip(kinds).find(|(_, it)| **it == kind).map_or(u32::MAX, |(number, _)| number)
 }
 
 /// Line and column of a byte of the text.

@@ -90,6 +90,53 @@ fn warnings_have_kinds() {
 }
 
 #[test]
+fn kinds_have_names() {
+    use FaultKind::*;
+    use WarningKind::*;
+    for kind in [
+        PrematureEnd,
+        RoutinesNotSupported,
+        UnknownDeclaration,
+        MissingSpace,
+        InvalidName,
+        UnknownStartState,
+        DuplicateStartState,
+        InvalidStartState,
+        InvalidStartStateName,
+        DuplicateName,
+        RegexError,
+        VerbatimNotSupported,
+        TooManyRules,
+    ] {
+        assert_eq!(kind.name(), Some(format!("{kind:?}")));
+    }
+    for kind in [
+        NeverWins,
+        NeverActive,
+        LooksAround,
+        NoTable,
+        TargetInPattern,
+        BlankAfterStates,
+        LostEscape,
+        EscapeAfterStates,
+        LostAlternative,
+        NameInPattern,
+        QuotedPattern,
+        BareOperator,
+        LostCaret,
+        GreedyDot,
+        ClassOperator,
+        UnknownClass,
+        NeverEntered,
+        NoRules,
+    ] {
+        assert_eq!(kind.name(), Some(format!("{kind:?}")));
+    }
+    assert_eq!((FaultKind::Other(13).name(), FaultKind::Other(u32::MAX).name()), (None, None));
+    assert_eq!((WarningKind::Other(18).name(), WarningKind::Other(u32::MAX).name()), (None, None));
+}
+
+#[test]
 fn flags_change_what_is_found() {
     let lines = LexFlags { dot_matches_new_line: Some(false), ..LexFlags::default() };
     assert_eq!(warned("%%\n#.* ;\n"), [WarningKind::GreedyDot]);

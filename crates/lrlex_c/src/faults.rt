@@ -1,10 +1,10 @@
 //! The faults of a refused rule text.
 ghost use Rattle.std.specs.Option.{option_map_or};
-ghost use Rattle.std.specs.Prelude.{◌≡◌, ◌↔◌, length, pos, None, Some, IfSome, IsUtf8, MatchOption};
+ghost use Rattle.std.specs.Prelude.{◌≡◌, ◌↔◌, length, slice_get, pos, None, Some, IfSome, IsUtf8, MatchOption};
 ghost use Rattle.lrlex_rules.specs.LexBuildError.{fault_kind};
 ghost use Rattle.lrlex_report.specs.FaultTexts.{AreFaultTexts, IsFaultMessage, IsMessageOf};
-ghost use Rattle.lrlex_handles.specs.Buffers.{IsReport};
-ghost use Rattle.lrlex_handles.specs.Faults.{fault_at, fault_span_at};
+ghost use Rattle.lrlex_handles.specs.Buffers.{IsReport, IsWritten};
+ghost use Rattle.lrlex_handles.specs.Faults.{fault_names, fault_at, fault_span_at};
 ghost use Rattle.lrlex_handles.specs.Objects.{fault_in, refusal_in};
 
 use lrlex_handles::handle::Handle;
@@ -54,6 +54,15 @@ pub extern "C" fn lrlex_fault_span_at(
         ≡ None }
 {
     errors::fault_span_at(alloc, handle, index, span, out)
+}
+
+/// The name of the kind of this number, as `DuplicateName`. As many bytes are written as there is room for.
+#[unsafe(no_mangle)]
+pub extern "C" fn lrlex_fault_name(kind: u32, out: &mut [u8], len: &mut usize) -> i32
+    ensures { MatchOption (slice_get fault_names kind) (result ≡ pos 5)
+        (λ name. (result ≡ pos 0) × IsWritten name out.old out.new len.new) }
+{
+    errors::fault_name(kind, out, len)
 }
 
 /// What the fault at this index is, in English, without a full stop. As many bytes are written as there is room for.

@@ -1,10 +1,11 @@
 -- The faults of a rule text, as C reads them.
-use Rattle.std.specs.Prelude.{ℕ, List, length, option_map, slice_get}
+use Rattle.std.specs.Prelude.{ℕ, List, [], ◌∷◌, codes, length, option_map, slice_get}
 use Rattle.std.specs.Option.{option_and_then}
 use Rattle.std.specs.declared.option.Option.{Option}
 use Rattle.lrlex_base.specs.Places.{line_of, column_of}
 use Rattle.lrlex_base.specs.Spans.{span_start, span_end}
 use Rattle.lrlex_base.specs.declared.spans.Span.{Span}
+use Rattle.lrlex_report.specs.FaultTexts.{fault_name}
 use Rattle.lrlex_report.specs.PlaceTexts.{nearest}
 use Rattle.lrlex_rules.specs.LexBuildError.{fault_kind, fault_spans}
 use Rattle.lrlex_rules.specs.declared.faults.LexBuildError.{LexBuildError}
@@ -27,6 +28,10 @@ kind_number DuplicateName = 9
 kind_number (RegexError e) = 10
 kind_number VerbatimNotSupported = 11
 kind_number TooManyRules = 12
+
+-- the names of the kinds, each at its number
+abbrev pub fault_names : List (List ℕ)
+fault_names = fault_name PrematureEnd ∷ fault_name RoutinesNotSupported ∷ fault_name UnknownDeclaration ∷ fault_name MissingSpace ∷ fault_name InvalidName ∷ fault_name UnknownStartState ∷ fault_name DuplicateStartState ∷ fault_name InvalidStartState ∷ fault_name InvalidStartStateName ∷ fault_name DuplicateName ∷ codes "RegexError" ∷ fault_name VerbatimNotSupported ∷ fault_name TooManyRules ∷ []
 
 -- a span with line and column of its start
 abbrev pub span_by : (rules : List ℕ) → Span → FaultSpan

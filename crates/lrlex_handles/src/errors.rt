@@ -1,8 +1,10 @@
 //! The faults of a refused rule text, and where they are.
-ghost use Rattle.std.specs.Prelude.{◌≡◌, ◌↔◌, length, pos, None, Some};
+ghost use Rattle.std.specs.Prelude.{◌≡◌, ◌↔◌, length, option_map, slice_get, pos, None, Some, MatchOption};
 ghost use Rattle.std.specs.Option.{option_map_or};
 ghost use Rattle.lrlex_base.specs.Places.{AreBreaksOf};
-ghost use Rattle.lrlex_handles.specs.Faults.{kind_number, fault_by, span_by, fault_at, fault_span_at};
+ghost use Rattle.lrlex_report.specs.FaultTexts.{fault_name};
+ghost use Rattle.lrlex_handles.specs.Buffers.{IsWritten};
+ghost use Rattle.lrlex_handles.specs.Faults.{kind_number, fault_names, fault_by, span_by, fault_at, fault_span_at};
 ghost use Rattle.lrlex_handles.specs.Objects.{fault_in, refusal_in};
 ghost use Rattle.lrlex_handles.specs.declared.object.Object.TheVariants.{Refusal as Refused};
 
@@ -11,12 +13,32 @@ use crate::object::{Object, Refusal};
 use crate::places::place_at;
 use crate::status::{MISUSE, NONE, OK};
 use crate::structs::{Fault, FaultSpan};
+use crate::texts::write_text;
 use lrlex::{LexBuildError, LexErrorKind, NewlineCache, Span, Spanned};
 use std::alloc::Global;
 use std::str;
 
+/// The names of the kinds, each at its number.
+static NAMES: [&str; 13] = [
+    "PrematureEnd",
+    "RoutinesNotSupported",
+    "UnknownDeclaration",
+    "MissingSpace",
+    "InvalidName",
+    "UnknownStartState",
+    "DuplicateStartState",
+    "InvalidStartState",
+    "InvalidStartStateName",
+    "DuplicateName",
+    "RegexError",
+    "VerbatimNotSupported",
+    "TooManyRules",
+];
+
+/// The number of a kind.
 fn kind_of(kind: &LexErrorKind) -> u32
-    ensures { result ≡ kind_number kind.now }
+    ensures number { result ≡ kind_number kind.now }
+    ensures named { slice_get fault_names result ≡ Some (fault_name kind.now) }
 {
     match kind {
         LexErrorKind::PrematureEnd => 0,
@@ -32,6 +54,27 @@ fn kind_of(kind: &LexErrorKind) -> u32
         LexErrorKind::RegexError(_) => 10,
         LexErrorKind::VerbatimNotSupported => 11,
         LexErrorKind::TooManyRules => 12,
+    }
+}
+
+/// The name of the kind of a number, if there is one.
+fn name_at(number: u32) -> Option<&'static str>
+    ensures { option_map (λ t. t.now) result ≡ slice_get fault_names number }
+{
+    NAMES.get(number as usize).copied()
+}
+
+/// The name of the kind of this number, as `DuplicateName`. As many bytes are written as there is room for.
+pub fn fault_name(kind: u32, out: &mut [u8], len: &mut usize) -> i32
+    ensures { MatchOption (slice_get fault_names kind) (result ≡ pos 5)
+        (λ name. (result ≡ pos 0) × IsWritten name out.old out.new len.new) }
+{
+    match name_at(kind) {
+        None => NONE,
+        Some(name) => {
+            write_text(name, out, len);
+            OK
+        }
     }
 }
 
