@@ -315,11 +315,11 @@ WARNED = [
     ("%%\na\\b 'A'\n", [(2, 1, 3, LOOKS)]),
     ("%%\n[ab]{3000} 'A'\n", [(2, 1, 10, NO_TABLE)]),
     ("%%\n[$]{3000} 'A'\n\\${3000} 'B'\n", [(2, 1, 9, NO_TABLE), (3, 1, 8, NO_TABLE)]),
-    # one such rule has a table, and of eight only the first
+    # one such rule has a table of 1,903 rows, and of eight the first three: half of 14,000 rows are for tables of one rule
     ("%%\n[a-z]{1900}0 'N0'\n", []),
     (
         "%%\n" + "".join(f"[a-z]{{1900}}{k} 'N{k}'\n" for k in range(8)),
-        [(line, 1, 12, NO_TABLE) for line in range(3, 10)],
+        [(line, 1, 12, NO_TABLE) for line in range(5, 10)],
     ),
     # a class within a class, and `]` as the first character of one
     ("%%\n[[:alpha:]$]{3000} 'A'\n[]$]{3000} 'B'\n[^]$]{3000} 'C'\n", [(2, 1, 18, NO_TABLE), (3, 1, 10, NO_TABLE), (4, 1, 11, NO_TABLE)]),
@@ -583,7 +583,7 @@ class Rolgumzai(unittest.TestCase):
         # HTML's names of characters, of 6.6 letters on average, and then the same with two digits
         names = random.Random(1).sample(sorted({it.rstrip(";") for it in html.entities.html5}), 2_000)
         names += [f"{name}99" for name in names]
-        for program, (count, is_warned) in self.each([(1_000, False), (2_000, False), (4_000, True)]):
+        for program, (count, is_warned) in self.each([(1_000, False), (1_500, False), (4_000, True)]):
             with self.subTest(count=count, program=program):
                 rules = "".join(f"{name} '{name}'\n" for name in names[:count])
                 outcome = self.run_in_folder(program, ["check", "-"], f"%%\n{rules}[A-Za-z0-9]+ 'word'\n")
