@@ -4,14 +4,15 @@ use Rattle.std.proofs.lemmas.Str.{IsCharBoundary-from_rest}
 use Rattle.lrlex_base.specs.LexemeParts.{LexemeParts}
 use Rattle.lrlex_boundaries.specs.Entries.{plain, AreEntries}
 use Rattle.lrlex_rules.specs.Definition.{Definition}
-use Rattle.lrlex.specs.Active.{active_count}
+use Rattle.lrlex_rules.specs.Active.{active_count}
 use Rattle.lrlex.specs.Lookahead.{IsDecided, capped}
 use Rattle.lrlex.specs.Progress.{Front, HasAdvanced, HasSearched, IsUnderWay}
 use Rattle.lrlex.specs.Reach.{Reached}
-use Rattle.lrlex.specs.Searches.{untabled_count}
+use Rattle.lrlex_definition.specs.RuleTable.{untabled_count}
 use Rattle.lrlex.specs.Tiling.{Tile, IsTaken, stack_past, tile_items, top}
-use Rattle.lrlex.specs.Views.{definition_by, items_by}
-use Rattle.lrlex.specs.declared.definition.rule_table.RuleTable.{RuleTable}
+use Rattle.lrlex_definition.specs.RuleTable.{definition_by}
+use Rattle.lrlex.specs.Views.{items_by}
+use Rattle.lrlex_definition.specs.declared.rule_table.RuleTable.{RuleTable}
 use Rattle.lrlex.specs.declared.lexing.step.Progress.{Progress}
 use Rattle.lrlex.proofs.FrontLemmas.{joined}
 use Rattle.lrlex.proofs.LookaheadLemmas.{looked_more}

@@ -4,7 +4,7 @@ use Rattle.std.proofs.lemmas.Bool.{cases_lt}
 use Rattle.std.proofs.lemmas.Option.{slice_get_past}
 use Rattle.std.proofs.lemmas.List.{length-drop}
 use Rattle.lrlex_rules.specs.Definition.{Definition}
-use Rattle.lrlex.specs.Active.{taken_by_any, taken, rule_at, lacks_id, lacks_target}
+use Rattle.lrlex_rules.specs.Active.{taken_by_any, taken, rule_at, lacks_id, lacks_target}
 use Rattle.lrlex.specs.Tiling.{Tile}
 use Rattle.lrlex.specs.Tiling.{Wins, IsStuck, top, End, Done, NoMatch, NoId, NoTarget, stack_past, IsTiling}
 

@@ -9,18 +9,19 @@ use Rattle.lrlex_base.specs.Spans.{as_span, Span as Cut}
 use Rattle.lrlex_base.specs.declared.spans.Span.{Span}
 use Rattle.lrlex_rules.specs.Definition.{Definition}
 use Rattle.lrlex_table.specs.Reach.{IsText}
-use Rattle.lrlex.specs.Active.{is_state}
+use Rattle.lrlex_rules.specs.Active.{is_state}
 use Rattle.lrlex.specs.Changes.{IsChange, HasChanged, change, none_of, moved_past}
 use Rattle.lrlex.specs.Moves.{IsMovable, items_from}
 use Rattle.lrlex.specs.Progress.{HasRecut, HasMet, IsEditOf, HasReplacedTail, HasReplacedMiddle, front_of}
 use Rattle.lrlex.specs.Reach.{IsLexed, Reached}
 use Rattle.lrlex.specs.Tiling.{Item, Lexeme, Error, IsTiling, boundaries, rebased}
-use Rattle.lrlex.specs.Views.{definition_by, item_of, items_by}
+use Rattle.lrlex_definition.specs.RuleTable.{definition_by}
+use Rattle.lrlex.specs.Views.{item_of, items_by}
 use Rattle.lrlex_boundaries.specs.Boundaries.{Boundary, boundary_at, place_and_stack, no_boundary}
 use Rattle.lrlex_boundaries.specs.Entries.{plain}
 use Rattle.lrlex.specs.declared.editing.changes.Change.{Change}
 use Rattle.lrlex.specs.declared.errors.LRLexError.{LRLexError}
-use Rattle.lrlex.specs.declared.definition.rule_table.RuleTable.{RuleTable}
+use Rattle.lrlex_definition.specs.declared.rule_table.RuleTable.{RuleTable}
 use Rattle.lrlex.specs.declared.editing.relex.Recut.{Recut}
 use Rattle.lrlex.proofs.DecidedLemmas.{decided_safe}
 use Rattle.lrlex.proofs.InPlaceLemmas.{met_items, met_within}

@@ -3,7 +3,7 @@ use Rattle.std.proofs.Common.{ℕ, ◌+◌, ◌*◌, ◌≤◌, Bool, true, fals
 use Rattle.std.specs.List.{sum_by}
 use Rattle.std.proofs.lemmas.List.Sums.{count_by-le-length, sum_by-cons}
 use Rattle.lrlex_rules.specs.Definition.{Definition}
-use Rattle.lrlex.specs.Active.{is_active, active_count}
+use Rattle.lrlex_rules.specs.Active.{is_active, active_count}
 use Rattle.lrlex.specs.Tiling.{top, stack_past, boundaries, asked_at}
 use Rattle.lrlex.specs.Tiling.{Tile}
 

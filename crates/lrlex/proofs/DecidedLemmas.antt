@@ -6,14 +6,14 @@ use Rattle.std.proofs.lemmas.Bool.{cases_lt}
 use Rattle.regex.specs.Patterns.{Re}
 use Rattle.lrlex_table.specs.Tables.{AreTablesOf, IsBestAmong}
 use Rattle.lrlex_table.specs.declared.tables.Tables.{Tables}
-use Rattle.lrlex.specs.StateTables.{patterns_on}
+use Rattle.lrlex_definition.specs.StateTables.{patterns_on}
 use Rattle.std.proofs.lemmas.List.{length-take-le, get_or-take, take_all}
 use Rattle.std.proofs.lemmas.List.Elements.{All-from_get_or}
 use Rattle.lrlex_rules.specs.Definition.{Definition}
 use Rattle.lrlex_table.specs.Table.{IsLongest, NoneMatches}
 use Rattle.lrlex_table.specs.Reach.{IsText, BeginsAlike, IsDecidedBy}
 use Rattle.lrlex_table.proofs.PrefixLemmas.{alike_less, alike_len}
-use Rattle.lrlex.specs.Active.{is_state, active_places}
+use Rattle.lrlex_rules.specs.Active.{is_state, active_places}
 use Rattle.lrlex.specs.Tiling.{Item, Wins, top}
 use Rattle.lrlex_boundaries.specs.Entries.{plain}
 use Rattle.lrlex_boundaries.specs.Boundaries.{Boundary, no_boundary, boundary_at}

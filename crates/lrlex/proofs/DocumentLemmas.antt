@@ -15,13 +15,14 @@ use Rattle.lrlex.specs.Searches.{asks_by}
 use Rattle.lrlex.specs.Document.{IsLexedBy, WasEdited, WasLeft}
 use Rattle.lrlex.specs.ItemLaws.{HaveLaws}
 use Rattle.lrlex.specs.Lookahead.{LooksAhead}
-use Rattle.lrlex.specs.Nearest.{FitsAt}
+use Rattle.lrlex_positions.specs.Nearest.{FitsAt}
 use Rattle.lrlex.specs.Reach.{IsRun}
 use Rattle.lrlex.specs.Relex.{AreCountsOf}
-use Rattle.lrlex.specs.Views.{definition_by, items_by}
+use Rattle.lrlex_definition.specs.RuleTable.{definition_by}
+use Rattle.lrlex.specs.Views.{items_by}
 use Rattle.lrlex.specs.Work.{IsLinearIn}
 use Rattle.lrlex.specs.declared.errors.LRLexError.{LRLexError}
-use Rattle.lrlex.specs.declared.definition.rule_table.RuleTable.{RuleTable}
+use Rattle.lrlex_definition.specs.declared.rule_table.RuleTable.{RuleTable}
 use Rattle.lrlex.specs.declared.editing.document.LexedText.{LexedText}
 use Rattle.lrlex.proofs.InPlaceLemmas.{counts_moved}
 use Rattle.lrlex.proofs.ItemLemmas.{have_laws}

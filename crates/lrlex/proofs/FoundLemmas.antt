@@ -14,22 +14,24 @@ use Rattle.lrlex_table.specs.Tables.{AreTablesOf, IsBestAmong, is_tabled}
 use Rattle.lrlex_table.specs.declared.looking.MatchAhead.{MatchAhead}
 use Rattle.lrlex_table.specs.declared.tables.Tables.{Tables}
 use Rattle.lrlex_table.specs.declared.walk.PatternMatch.{PatternMatch}
-use Rattle.lrlex.specs.Active.{rule_at}
-use Rattle.lrlex.specs.Kinds.{IsPlain}
-use Rattle.lrlex.specs.RowKinds.{own_kind}
+use Rattle.lrlex_rules.specs.Active.{rule_at}
+use Rattle.lrlex_rules.specs.Kinds.{IsPlain}
+use Rattle.lrlex_definition.specs.RowKinds.{own_kind}
 use Rattle.lrlex.specs.Scanner.{IsSought, sought_at, sought_to}
-use Rattle.lrlex.specs.Searcher.{AreOf, IsFoundAt, IsSearcherOf, tile_of}
-use Rattle.lrlex.specs.StateTables.{list_in, pattern_in, patterns_on}
+use Rattle.lrlex_definition.specs.RuleTable.{AreOf}
+use Rattle.lrlex.specs.Searcher.{IsFoundAt, IsSearcherOf, tile_of}
+use Rattle.lrlex_rules.specs.RuleLists.{list_in}
+use Rattle.lrlex_definition.specs.StateTables.{pattern_in, patterns_on}
 use Rattle.lrlex.specs.Tiling.{Wins}
-use Rattle.lrlex.specs.Views.{definition_by}
-use Rattle.lrlex.specs.declared.definition.row_kinds.RowKind.{RowKind}
-use Rattle.lrlex.specs.declared.definition.rule_table.RuleTable.{RuleTable}
-use Rattle.lrlex.specs.declared.definition.rule_table.StateRules.{StateRules}
+use Rattle.lrlex_definition.specs.RuleTable.{definition_by}
+use Rattle.lrlex_definition.specs.declared.row_kinds.RowKind.{RowKind}
+use Rattle.lrlex_definition.specs.declared.rule_table.RuleTable.{RuleTable}
+use Rattle.lrlex_definition.specs.declared.rule_table.StateRules.{StateRules}
 use Rattle.lrlex.specs.declared.lexing.cursor.Sought.{Sought}
 use Rattle.lrlex.specs.declared.lexing.winner.Searcher.{Searcher}
 use Rattle.lrlex.specs.declared.lexing.winner.Tile.{Tile}
 use Rattle.lrlex.proofs.DecidedLemmas.{decided_look}
-use Rattle.lrlex.proofs.RowKindLemmas.{the_chain, row_list, row_rule, row_plain}
+use Rattle.lrlex_definition.proofs.RowKindLemmas.{the_chain, row_list, row_rule, row_plain}
 use Rattle.lrlex.proofs.TableLemmas.{active_within, looked_at, told_some, told_bytes, best_wins}
 use Rattle.lrlex.proofs.TilingLemmas.{one_len}
 

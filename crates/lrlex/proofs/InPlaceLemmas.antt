@@ -8,7 +8,7 @@ use Rattle.lrlex_base.specs.LexemeParts.{LexemeParts}
 use Rattle.lrlex_base.specs.Spans.{as_span, Span as Cut}
 use Rattle.lrlex_base.specs.declared.spans.Span.{Span}
 use Rattle.lrlex_rules.specs.Definition.{Definition}
-use Rattle.lrlex.specs.Active.{is_state}
+use Rattle.lrlex_rules.specs.Active.{is_state}
 use Rattle.lrlex.specs.Searches.{asks_by}
 use Rattle.lrlex_boundaries.specs.Boundaries.{Boundary, boundary_at, last_entries, no_boundary}
 use Rattle.lrlex.specs.Lookahead.{LooksAhead, items_before}
@@ -18,11 +18,12 @@ use Rattle.lrlex.specs.Reach.{IsLexed, IsRun}
 use Rattle.lrlex.specs.Relex.{AreCountsOf}
 use Rattle.lrlex.specs.Tiling.{Item, Item-set, rebased}
 use Rattle.lrlex.specs.Progress.{HasRecut, HasMet, IsEditOf, HasReplacedTail, HasReplacedMiddle, front_of}
-use Rattle.lrlex.specs.Views.{definition_by, item_of, items_by}
+use Rattle.lrlex_definition.specs.RuleTable.{definition_by}
+use Rattle.lrlex.specs.Views.{item_of, items_by}
 use Rattle.lrlex.specs.Changes.{change}
 use Rattle.lrlex.specs.Work.{HasLinearRecut, IsLinearIn}
 use Rattle.lrlex.specs.declared.errors.LRLexError.{LRLexError}
-use Rattle.lrlex.specs.declared.definition.rule_table.RuleTable.{RuleTable}
+use Rattle.lrlex_definition.specs.declared.rule_table.RuleTable.{RuleTable}
 use Rattle.lrlex.specs.declared.editing.relex.Recut.{Recut}
 use Rattle.lrlex.proofs.LookaheadLemmas.{looks_known}
 use Rattle.lrlex.proofs.RecutLemmas.{old_lexed, old_looks, old_sorted}

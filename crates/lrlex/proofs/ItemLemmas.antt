@@ -15,7 +15,7 @@ use Rattle.lrlex_rules.specs.Definition.{Definition, Rule}
 use Rattle.lrlex_matching.specs.Matching.{match_length}
 use Rattle.lrlex_matching.proofs.ForCallers.{length_cuts}
 use Rattle.lrlex_rules.specs.Patterns.{pattern_of}
-use Rattle.lrlex.specs.Active.{is_active, is_state, taken_by, taken_by_any, no_rule, rule_at, lexeme_id, lacks_id}
+use Rattle.lrlex_rules.specs.Active.{is_active, is_state, taken_by, taken_by_any, no_rule, rule_at, lexeme_id, lacks_id}
 use Rattle.lrlex.specs.Tiling.{Tile, Item, Item-set, Lexeme, Error, Wins, IsWinner, top, End, Done, NoMatch, NoId, NoTarget, IsEnd, stack_past, IsTiling, lexeme_of, tile_items, end_items, items}
 use Rattle.lrlex_boundaries.specs.Boundaries.{Boundary}
 use Rattle.lrlex.specs.Reach.{IsLexed, IsRun}

@@ -5,7 +5,7 @@ use Rattle.std.proofs.Props.{props}
 use Rattle.std.proofs.Math.Logic.{∥∥₁_elim}
 use Rattle.std.proofs.lemmas.List.{drop-drop, length-drop, get_or-map, length-map}
 use Rattle.lrlex_rules.specs.Definition.{Definition}
-use Rattle.lrlex.specs.Active.{is_state}
+use Rattle.lrlex_rules.specs.Active.{is_state}
 use Rattle.lrlex.specs.Tiling.{Item, Item-set, End, IsTiling, stack_past, items, boundaries}
 use Rattle.lrlex_boundaries.specs.Entries.{Differ, AreEntries}
 use Rattle.lrlex_boundaries.specs.Boundaries.{Boundary, place_and_stack, no_boundary, boundary_at}

@@ -4,16 +4,11 @@ pub mod BestLemmas
 pub mod ChangeLemmas
 pub mod CountLemmas
 pub mod EditLemmas
-pub mod IdLemmas
 pub mod InPlaceLemmas
 pub mod ItemLemmas
-pub mod KindLemmas
 pub mod KnownLemmas
 pub mod MeetLemmas
-pub mod NameLemmas
-pub mod Parted
 pub mod PeakLemmas
-pub mod PlaceLemmas
 pub mod ReachLemmas
 pub mod EntryLemmas
 pub mod ScanLemmas
@@ -23,12 +18,10 @@ pub mod StepsLemmas
 pub mod SpliceLemmas
 pub mod TailLemmas
 pub mod TilingLemmas
-pub mod ViewLemmas
 pub mod WithinLemmas
 pub mod TableLemmas
 pub mod NeverLemmas
 pub mod NeverRunLemmas
-pub mod MarkLemmas
 pub mod ResumeLemmas
 pub mod DecidedLemmas
 pub mod LookaheadLemmas
@@ -41,14 +34,9 @@ pub mod GoingLemmas
 pub mod AdvanceLemmas
 pub mod PlainLemmas
 pub mod SearchLemmas
+pub mod ReadLemmas
 pub mod RestLemmas
-pub mod RowKindLemmas
 pub mod PieceLemmas
 mod PieceLawLemmas
 pub mod DocumentLemmas
-pub mod LineCursorLemmas
 pub mod LinearLemmas
-pub mod ListLemmas
-pub mod NotedLemmas
-pub mod MergedLemmas
-pub mod EnteringLemmas

@@ -9,28 +9,13 @@ use Rattle.lrlex_table.specs.Linear.{HasWorkedTo, count_of_rows, most_cells}
 use Rattle.lrlex_table.proofs.LinearLemmas.{linear_later}
 use Rattle.lrlex_table.specs.declared.dead_ends.DeadEnds.{DeadEnds}
 use Rattle.lrlex_table.specs.declared.tables.Tables.{Tables}
-use Rattle.lrlex.specs.StateTables.{most_tables}
+use Rattle.lrlex_definition.specs.StateTables.{most_tables}
 use Rattle.lrlex_boundaries.specs.Boundaries.{Boundary, boundary_at}
 use Rattle.lrlex.specs.Scanner.{IsSought, sought_to}
 use Rattle.lrlex.specs.Work.{HasGoneOn, HasLinearRecut, HasWorked, IsLinearIn, won_bytes}
-use Rattle.lrlex.specs.declared.definition.rule_table.RuleTable.{RuleTable}
+use Rattle.lrlex_definition.specs.declared.rule_table.RuleTable.{RuleTable}
 use Rattle.lrlex.specs.declared.editing.changes.Change.{Change}
 use Rattle.lrlex.specs.declared.lexing.winner.Tile.{Tile}
-
--- a list's tables are no more than the most
-pub few_tables : (lists : List Tables) (k : ℕ) (t : Tables) → slice_get lists k ≡ Some t → vec_len t.parts ≤ most_tables lists
-few_tables [] k t is = absurd (true≢false (ap is_some (sym is)))
-few_tables (x ∷ xs) zero t is =
-    let most : most_tables (x ∷ xs) ≡ max (vec_len x.parts) (most_tables xs) = refl in
-    omega (arith, most, ap (λ y. vec_len y.parts) (same_Some _ _ is))
-few_tables (x ∷ xs) (suc k) t is =
-    let most : most_tables (x ∷ xs) ≡ max (vec_len x.parts) (most_tables xs) = refl in
-    omega (arith, most, few_tables xs k t is)
-
--- the most of some lists and one more
-pub most_more : (lists : List Tables) (t : Tables) → most_tables (lists ++ t ∷ []) ≡ max (most_tables lists) (vec_len t.parts)
-most_more [] t = omega arith
-most_more (x ∷ xs) t = ap (max (vec_len x.parts)) (most_more xs t) ∙ omega arith
 
 le_prop : (a b : ℕ) → IsProp (a ≤ b)
 le_prop a b = Prim.hlevel props

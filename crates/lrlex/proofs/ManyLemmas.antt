@@ -12,23 +12,26 @@ use Rattle.lrlex_rules.specs.Definition.{Definition}
 use Rattle.lrlex_table.specs.Ahead.{begin_at, match_at}
 use Rattle.lrlex_table.specs.Chain.{end_of, no_mark, row_of}
 use Rattle.lrlex_table.specs.declared.marks.Mark.{Mark}
-use Rattle.lrlex.specs.Active.{is_state, rule_at}
-use Rattle.lrlex.specs.Kinds.{IsPlain}
+use Rattle.lrlex_rules.specs.Active.{is_state, rule_at}
+use Rattle.lrlex_rules.specs.Kinds.{IsPlain}
 use Rattle.lrlex.specs.Lookahead.{HasLooked, IsDecided}
 use Rattle.lrlex.specs.Plain.{AllArePlain, IsRunningIn, boundaries_of, id_at, lexemes_of}
 use Rattle.lrlex.specs.Reach.{Reached}
-use Rattle.lrlex.specs.RowKinds.{own_kind}
+use Rattle.lrlex_definition.specs.RowKinds.{own_kind}
 use Rattle.lrlex.specs.Searcher.{AreFoundAt, IsFoundAt, IsSearcherOf, tile_of}
-use Rattle.lrlex.specs.Searches.{asks_by, untabled_count}
+use Rattle.lrlex.specs.Searches.{asks_by}
+use Rattle.lrlex_definition.specs.RuleTable.{untabled_count}
 use Rattle.lrlex.specs.Tiling.{Item, Tile, IsTaken, Wins, lexeme_of, stack_past, tile_items, top}
-use Rattle.lrlex.specs.Views.{definition_by, items_by}
-use Rattle.lrlex.specs.declared.definition.row_kinds.RowKind.{RowKind}
-use Rattle.lrlex.specs.declared.definition.rule_table.RuleTable.{RuleTable}
+use Rattle.lrlex_definition.specs.RuleTable.{definition_by}
+use Rattle.lrlex.specs.Views.{items_by}
+use Rattle.lrlex_definition.specs.declared.row_kinds.RowKind.{RowKind}
+use Rattle.lrlex_definition.specs.declared.rule_table.RuleTable.{RuleTable}
 use Rattle.lrlex.specs.declared.lexing.step.Progress.{Progress}
 use Rattle.lrlex.specs.declared.lexing.winner.Searcher.{Searcher}
 use Rattle.lrlex.specs.declared.lexing.winner.Tile.{Tile as Won}
 use Rattle.lrlex.proofs.FoundLemmas.{got}
-use Rattle.lrlex.proofs.KindLemmas.{no_target_of, stays}
+use Rattle.lrlex_definition.proofs.KindLemmas.{no_target_of}
+use Rattle.lrlex.proofs.PlainLemmas.{stays}
 use Rattle.lrlex.proofs.LookaheadLemmas.{looked_more}
 use Rattle.lrlex.proofs.ReachLemmas.{Reached-more, entries_now, last_now}
 use Rattle.lrlex.proofs.SearchLemmas.{next_asked}

@@ -3,7 +3,7 @@ use Rattle.std.proofs.Common.{◌≡◌, ℕ, zero, suc, ◌+◌, ◌-◌, ◌<�
 use Rattle.std.proofs.lemmas.List.Elements.{All-head, All-tail}
 use Rattle.std.proofs.lemmas.List.{length-map}
 use Rattle.lrlex_rules.specs.Definition.{Definition}
-use Rattle.lrlex.specs.Active.{rule_at}
+use Rattle.lrlex_rules.specs.Active.{rule_at}
 use Rattle.lrlex.specs.Tiling.{Item, top, or_initial, stack_after, stack_past, boundaries}
 use Rattle.lrlex_boundaries.specs.Entries.{AreEntries, entry_count}
 use Rattle.lrlex_boundaries.specs.Boundaries.{Boundary, place_and_stack, most_entries, most_entry_count}

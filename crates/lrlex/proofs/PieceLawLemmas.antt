@@ -8,7 +8,7 @@ use Rattle.std.proofs.lemmas.Option.{slice_get_within, slice_get-get_or}
 use Rattle.lrlex_base.specs.Spans.{Span, span_start, span_end}
 use Rattle.lrlex_rules.specs.Definition.{Definition}
 use Rattle.lrlex_boundaries.specs.Boundaries.{Boundary, place_and_stack, no_boundary, boundary_at}
-use Rattle.lrlex.specs.Active.{is_state, rule_at, lexeme_id}
+use Rattle.lrlex_rules.specs.Active.{is_state, rule_at, lexeme_id}
 use Rattle.lrlex.specs.ItemLaws.{total_len}
 use Rattle.lrlex.specs.LexRun.{end_of}
 use Rattle.lrlex.specs.Pieces.{IsPiece, AreTiles, AreTilesOfRun, ArePieces, ArePiecesOfRun, joined, lexemes_of}

@@ -6,7 +6,7 @@ use Rattle.std.proofs.lemmas.Option.{slice_get-get_or, slice_get_within, get_or_
 use Rattle.std.proofs.lemmas.Str.{IsCharBoundary-start, IsCharBoundary-from_rest}
 use Rattle.lrlex_rules.specs.Definition.{Definition}
 use Rattle.lrlex_table.specs.Reach.{IsText}
-use Rattle.lrlex.specs.Active.{is_state, rule_at}
+use Rattle.lrlex_rules.specs.Active.{is_state, rule_at}
 use Rattle.lrlex_boundaries.specs.Boundaries.{Boundary, boundary_at}
 use Rattle.lrlex.specs.Pieces.{IsPiece, HasByteIn}
 use Rattle.lrlex_boundaries.specs.Moves.{AreSorted}

@@ -8,7 +8,7 @@ use Rattle.std.proofs.lemmas.List.Sums.{sum_by-append, sum_by-cons}
 use Rattle.std.proofs.lemmas.Bool.{cond-true, lt-ltb}
 use Rattle.std.proofs.Math.Nat.{mul-le-mul_right}
 use Rattle.lrlex_rules.specs.Definition.{Definition}
-use Rattle.lrlex.specs.Active.{active_count, is_state, rule_at}
+use Rattle.lrlex_rules.specs.Active.{active_count, is_state, rule_at}
 use Rattle.lrlex.specs.Tiling.{Item, Error, top, Wins, End, IsTaken, IsEnd, IsWinner, stack_past, stack_after, or_initial, IsTiling, tile_items, end_items, items, boundaries, asked_at}
 use Rattle.lrlex_boundaries.specs.Entries.{plain, AreEntries}
 use Rattle.lrlex_boundaries.specs.Boundaries.{Boundary, place_and_stack, no_boundary, boundary_at, last_entries}

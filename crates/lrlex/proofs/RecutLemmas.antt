@@ -11,8 +11,9 @@ use Rattle.lrlex_base.specs.LexemeParts.{LexemeParts}
 use Rattle.lrlex_base.specs.Spans.{Fits, as_span}
 use Rattle.lrlex_base.specs.declared.spans.Span.{Span}
 use Rattle.lrlex_table.specs.Reach.{IsText}
-use Rattle.lrlex.specs.Active.{is_state}
-use Rattle.lrlex.specs.Searches.{IsLastSafe, asks_by, untabled_count}
+use Rattle.lrlex_rules.specs.Active.{is_state}
+use Rattle.lrlex.specs.Searches.{IsLastSafe, asks_by}
+use Rattle.lrlex_definition.specs.RuleTable.{untabled_count}
 use Rattle.lrlex_boundaries.specs.Boundaries.{Boundary, place_and_stack, no_boundary, boundary_at}
 use Rattle.lrlex_boundaries.specs.Entries.{plain}
 use Rattle.lrlex.specs.Lookahead.{HasLooked, IsSafe, LooksAhead, items_before}
@@ -22,10 +23,11 @@ use Rattle.lrlex.specs.Reach.{IsLexed, Reached, searches}
 use Rattle.lrlex.specs.Relex.{AreCountsOf}
 use Rattle.lrlex.specs.Tiling.{Done, Item, asked_at, top}
 use Rattle.lrlex.specs.Progress.{HasAdvanced, HasRecut, HasEnded, HasMet, IsEditOf, IsUnderWay, StandsAt, Front, front_of}
-use Rattle.lrlex.specs.Views.{definition_by, items_by}
+use Rattle.lrlex_definition.specs.RuleTable.{definition_by}
+use Rattle.lrlex.specs.Views.{items_by}
 use Rattle.lrlex.specs.Work.{IsLinearIn}
 use Rattle.lrlex.specs.declared.errors.LRLexError.{LRLexError}
-use Rattle.lrlex.specs.declared.definition.rule_table.RuleTable.{RuleTable}
+use Rattle.lrlex_definition.specs.declared.rule_table.RuleTable.{RuleTable}
 use Rattle.lrlex.specs.declared.lexing.step.Progress.{Progress}
 use Rattle.lrlex.proofs.LookaheadLemmas.{looks_known}
 use Rattle.lrlex.proofs.SearchLemmas.{asks_nowhere, next_asked, cut_to_meeting, cut_to_stop, cut_to_end}

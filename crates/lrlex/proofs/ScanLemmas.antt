@@ -5,10 +5,10 @@ use Rattle.std.proofs.lemmas.List.{drop-drop, nil_from_length, length-drop}
 use Rattle.std.proofs.lemmas.Option.{slice_get_within}
 use Rattle.regex_hir.specs.Text.{is_some_and}
 use Rattle.lrlex_rules.specs.Definition.{Definition, Rule}
-use Rattle.lrlex.specs.Active.{is_active, active_count, active_places, places_from, taken, taken_by_any}
+use Rattle.lrlex_rules.specs.Active.{is_active, active_count, active_places, places_from, taken, taken_by_any}
 use Rattle.lrlex.proofs.BestLemmas.{IsBest, IsBest-none, IsBest-kept, IsBest-taken, IsBest-skip}
-use Rattle.lrlex.proofs.PlaceLemmas.{IsNext, next_place, no_place, length-places}
-use Rattle.lrlex.proofs.ViewLemmas.{taken_inactive}
+use Rattle.lrlex_rules.proofs.PlaceLemmas.{IsNext, next_place, no_place, length-places}
+use Rattle.lrlex_rules.proofs.ViewLemmas.{taken_inactive}
 
 -- the places before the one at `index` were looked at, and with them all rules before `upto`
 pub record IsScanned (d : Definition) (q : ℕ) (text : List ℕ) (places : List ℕ) (index k n : ℕ) : Type 0 where

@@ -7,7 +7,7 @@ use Rattle.lrlex_base.specs.Spans.{Span, span_end}
 use Rattle.lrlex_boundaries.specs.Boundaries.{Boundary, boundary_at, last_entries, no_boundary, place_and_stack}
 use Rattle.lrlex_boundaries.specs.Entries.{AreEntries, plain}
 use Rattle.lrlex_rules.specs.Definition.{Definition}
-use Rattle.lrlex.specs.Active.{is_state, rule_at}
+use Rattle.lrlex_rules.specs.Active.{is_state, rule_at}
 use Rattle.lrlex.specs.LexRun.{end_of, end_state_of}
 use Rattle.lrlex.specs.Reach.{IsLexed, IsRun}
 use Rattle.lrlex.specs.Scanner.{AreScanned, IsTileAt, Scanned, at_front, left, past, top_state}

@@ -6,7 +6,7 @@ use Rattle.lrlex_base.specs.Spans.{Span, span_end}
 use Rattle.lrlex_rules.specs.Definition.{Definition}
 use Rattle.lrlex_rules.specs.RuleParts.{state_number}
 use Rattle.lrlex_boundaries.specs.Boundaries.{Boundary}
-use Rattle.lrlex.specs.Active.{is_state, lacks_id, rule_at}
+use Rattle.lrlex_rules.specs.Active.{is_state, lacks_id, rule_at}
 use Rattle.lrlex.specs.Reach.{IsLexed}
 use Rattle.lrlex.specs.Scanner.{AreScanned, EndsBy, IsTileAt, Scanned, at_front, left, past}
 use Rattle.lrlex.specs.Tiling.{Item, Tile, End, Done, NoMatch, IsEnd, IsTaken, IsTiling, items, stack_after, stack_past, top}

@@ -14,23 +14,11 @@ use Rattle.lrlex_boundaries.specs.Entries.{plain}
 use Rattle.lrlex_boundaries.specs.Boundaries.{Boundary, place_and_stack, no_boundary, boundary_at}
 use Rattle.lrlex_boundaries.specs.Moves.{Meets}
 use Rattle.lrlex.specs.Reach.{Reached}
-use Rattle.lrlex.specs.Searches.{tables_in, untabled_count, asks_at, asks_by, IsLastSafe, IsFirstMeeting, WasRecut}
-use Rattle.lrlex.specs.declared.definition.rule_table.RuleTable.{RuleTable}
+use Rattle.lrlex_definition.specs.RuleTable.{tables_in, untabled_count}
+use Rattle.lrlex.specs.Searches.{asks_at, asks_by, IsLastSafe, IsFirstMeeting, WasRecut}
+use Rattle.lrlex_definition.specs.declared.rule_table.RuleTable.{RuleTable}
 use Rattle.lrlex.proofs.ReachLemmas.{length_now}
 use Rattle.lrlex.proofs.MeetLemmas.{meets_front, front_at, last_at}
-
--- ---- the tables of a state
-
--- the first state with the id has the tables that stand at its place
-pub untabled_here : {S : Type 0} (def : RuleTable S) (q i j : ℕ) (t : Tables) →
-    Some i ≡ position (λ s. (as_state s).id == q) def.start_states.items → slice_get def.list_at.items i ≡ Some j → slice_get def.tables.items j ≡ Some t →
-    length t.asked.items ≡ untabled_count def q
-unfolding untabled_count
-untabled_here def q i j t found is has =
-    let there : tables_in def q ≡ Some t =
-    ap (λ o. option_and_then (λ k. option_and_then (slice_get def.tables.items) (slice_get def.list_at.items k)) o) (sym found)
-    ∙ ap (λ o. option_and_then (slice_get def.tables.items) o) is ∙ has in
-    sym (ap (λ o. unwrap_or (option_map (λ (u : Tables). length u.asked.items) o) 0) there)
 
 -- ---- the front of a list, from a place on
 

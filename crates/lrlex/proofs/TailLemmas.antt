@@ -3,7 +3,7 @@ use Rattle.std.proofs.Common.{◌≡◌, ℕ, zero, suc, ◌+◌, List, [], ◌�
 use Rattle.std.proofs.lemmas.Option.{none-some, same_Some}
 use Rattle.std.proofs.lemmas.List.{drop-drop, map-append}
 use Rattle.lrlex_rules.specs.Definition.{Definition}
-use Rattle.lrlex.specs.Active.{rule_at, lexeme_id}
+use Rattle.lrlex_rules.specs.Active.{rule_at, lexeme_id}
 use Rattle.lrlex.specs.Tiling.{Tile}
 use Rattle.lrlex.specs.Tiling.{Item, Error, End, Done, NoMatch, NoId, NoTarget, stack_past, IsTiling, lexeme_of, tile_items, end_items, items, boundaries, moved}
 

@@ -12,13 +12,14 @@ use Rattle.lrlex.specs.Reach.{IsRun}
 use Rattle.lrlex.specs.Relex.{AreCountsOf}
 use Rattle.lrlex.specs.Changes.{HasChanged}
 use Rattle.lrlex.specs.Progress.{HasSame}
-use Rattle.lrlex.specs.Views.{definition_by, items_by}
+use Rattle.lrlex_definition.specs.RuleTable.{definition_by}
+use Rattle.lrlex.specs.Views.{items_by}
 use Rattle.lrlex.specs.Work.{HasLinearRecut}
 use Rattle.lrlex_boundaries.specs.Boundaries.{Boundary}
 use Rattle.lrlex_positions.specs.Lines.{AreLinesOf}
 use Rattle.lrlex.specs.declared.errors.LRLexError.{LRLexError}
 use Rattle.lrlex.specs.declared.definition.non_streaming.LRNonStreamingLexerDef.{LRNonStreamingLexerDef}
-use Rattle.lrlex.specs.declared.definition.rule_table.RuleTable.{RuleTable}
+use Rattle.lrlex_definition.specs.declared.rule_table.RuleTable.{RuleTable}
 use Rattle.lrlex.specs.declared.editing.document.LexedText.{LexedText}
 
 -- what a text that was lexed has: its bytes, and the items and boundaries that were found

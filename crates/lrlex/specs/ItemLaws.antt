@@ -2,7 +2,7 @@
 use Rattle.std.specs.Prelude.{◌≡◌, ℕ, ◌+◌, ◌<◌, ◌≤◌, Bool, true, false, IsSome, IsNone, IfSome, List, [], ◌∷◌, ◌++◌, All, Any, take, drop, length, Some, slice_get, IsCharBoundary, IsUtf8}
 use Rattle.std.specs.List.{AllPairs, AllAdjacentBelow, concat, list_any, sum_by}
 use Rattle.lrlex_rules.specs.Definition.{Definition, Rule}
-use Rattle.lrlex.specs.Active.{rule_at}
+use Rattle.lrlex_rules.specs.Active.{rule_at}
 use Rattle.lrlex_boundaries.specs.Boundaries.{Boundary}
 use Rattle.lrlex.specs.Reach.{IsLexed}
 use Rattle.lrlex.specs.Tiling.{Tile, Item, Lexeme, Error}

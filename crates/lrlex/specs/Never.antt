@@ -1,38 +1,21 @@
--- Rules that never win, and rules that are active in no start state.
-use Rattle.std.specs.Prelude.{◌≡◌, ◌≢◌, ℕ, ◌==◌, Bool, true, false, List, [], All, Vec, map, option_map, slice_get, unwrap_or}
-use Rattle.std.specs.List.{list_any}
+-- Rules that never win, and what rules enter.
+use Rattle.std.specs.Prelude.{◌≡◌, ◌≢◌, ℕ, ◌==◌, Bool, true, false, List, All, Vec, map}
 use Rattle.std.specs.declared.alloc.Global.{Global}
 use Rattle.regex_hir.specs.Text.{is_some_and}
-use Rattle.lrlex_rules.specs.Definition.{Definition, Rule, StartState}
+use Rattle.lrlex_rules.specs.Definition.{Definition, Rule}
 use Rattle.lrlex_rules.specs.declared.states.StartStateOperation.{StartStateOperation}
 use Rattle.lrlex_rules.specs.declared.states.StartStateOperation.TheVariants.{Pop}
 use Rattle.lrlex_table.specs.Reach.{IsText}
 use Rattle.lrlex_table.specs.Never.{WinsNowhereIn}
-use Rattle.lrlex_table.specs.declared.tables.Tables.{Tables}
-use Rattle.lrlex.specs.StateTables.{list_in}
-use Rattle.lrlex.specs.Active.{is_state, is_active, rule_at}
+use Rattle.lrlex_rules.specs.Active.{is_state}
 use Rattle.lrlex.specs.Tiling.{Wins, Tile, End, NoTarget}
-use Rattle.lrlex.specs.declared.definition.rule_table.RuleTable.{RuleTable}
+use Rattle.lrlex_definition.specs.declared.rule_table.RuleTable.{RuleTable}
+unfoldable pub use Rattle.lrlex_definition.specs.Somewhere.{is_active_somewhere}
+pub use Rattle.lrlex_definition.specs.Somewhere.{is_asked_somewhere}
 
 -- in no start state does the rule at place k win a text
 abbrev pub NeverWinsAnywhere : Definition → ℕ → Type 0
 NeverWinsAnywhere d k = (q : ℕ) → is_state d q ≡ true → (text : List ℕ) (n : ℕ) → IsText text → Wins d q text k n → ⊥
-
--- the rule at place k is active in some start state
-unfoldable pub is_active_somewhere : Definition → ℕ → Bool
-is_active_somewhere d k = list_any (λ (s : StartState). is_active d.states s.id (rule_at d k)) d.states
-
--- the places of the rules of a list that have no table there, as indices of the list
-abbrev pub untabled_in : {S : Type 0} → RuleTable S → ℕ → List ℕ
-untabled_in t j = unwrap_or (option_map (λ (x : Tables). x.asked.items) (slice_get t.tables.items j)) []
-
--- rule k stands at this index of the list
-abbrev pub stands_at : List ℕ → ℕ → ℕ → Bool
-stands_at places k i = is_some_and (slice_get places i) (λ p. p == k)
-
--- the rule at place k has no table in some start state, so that `regex` matches it there
-abbrev pub is_asked_somewhere : {S : Type 0} → RuleTable S → ℕ → Bool
-is_asked_somewhere t k = list_any (λ j. list_any (stands_at (list_in (map (λ v. v.items) t.lists.items) j) k) (untabled_in t j)) t.list_at.items
 
 -- a rule with this target puts the state on top of the stack
 abbrev pub puts : ℕ → ℕ × StartStateOperation → Bool

@@ -1,7 +1,7 @@
 -- How high a stack grows in entries.
 use Rattle.std.specs.Prelude.{ℕ, ◌+◌, ◌==◌, if◌then◌else◌, List, [], ◌∷◌, Option, None, Some}
 use Rattle.lrlex_rules.specs.Definition.{Definition}
-use Rattle.lrlex.specs.Active.{rule_at}
+use Rattle.lrlex_rules.specs.Active.{rule_at}
 use Rattle.lrlex.specs.Tiling.{top, stack_past}
 use Rattle.lrlex_rules.specs.declared.states.StartStateOperation.{StartStateOperation}
 use Rattle.lrlex_rules.specs.declared.states.StartStateOperation.TheVariants.{ReplaceStack, Push, Pop}

@@ -3,7 +3,7 @@ use Rattle.std.specs.Prelude.{◌≡◌, ◌↔◌, ℕ, ◌+◌, ◌-◌, ◌<�
 use Rattle.std.specs.List.{concat}
 use Rattle.lrlex_base.specs.Spans.{span, as_span, span_start, span_end}
 use Rattle.lrlex_rules.specs.Definition.{Definition}
-use Rattle.lrlex.specs.Active.{is_state, rule_at, lexeme_id}
+use Rattle.lrlex_rules.specs.Active.{is_state, rule_at, lexeme_id}
 use Rattle.lrlex_boundaries.specs.Boundaries.{Boundary, boundary_at}
 use Rattle.lrlex.specs.LexRun.{end_of}
 use Rattle.lrlex.specs.Reach.{IsLexed}

@@ -8,14 +8,14 @@ use Rattle.lrlex_table.specs.Ahead.{begin_at}
 use Rattle.lrlex_table.specs.Chain.{end_of, row_of}
 use Rattle.lrlex_table.specs.declared.marks.Mark.{Mark}
 use Rattle.lrlex.specs.Progress.{IsUnderWay, no_front}
-use Rattle.lrlex.specs.RowKinds.{own_kind}
+use Rattle.lrlex_definition.specs.RowKinds.{own_kind}
 use Rattle.lrlex.specs.Searcher.{IsSearcherOf}
 use Rattle.lrlex.specs.Searches.{asks_by}
 use Rattle.lrlex.specs.Tiling.{Item, lexeme_of, top}
-use Rattle.lrlex.specs.Views.{definition_by}
+use Rattle.lrlex_definition.specs.RuleTable.{definition_by}
 use Rattle.lrlex.specs.Work.{HasWorked}
-use Rattle.lrlex.specs.declared.definition.row_kinds.RowKind.{RowKind}
-use Rattle.lrlex.specs.declared.definition.rule_table.RuleTable.{RuleTable}
+use Rattle.lrlex_definition.specs.declared.row_kinds.RowKind.{RowKind}
+use Rattle.lrlex_definition.specs.declared.rule_table.RuleTable.{RuleTable}
 use Rattle.lrlex.specs.declared.lexing.step.Progress.{Progress}
 use Rattle.lrlex.specs.declared.lexing.winner.Searcher.{Searcher}
 

@@ -6,7 +6,8 @@ use Rattle.lrlex_base.specs.Edits.{edited}
 use Rattle.lrlex_base.specs.declared.spans.Span.{Span}
 use Rattle.lrlex_rules.specs.declared.states.StartStateOperation.{StartStateOperation}
 use Rattle.lrlex_rules.specs.Definition.{Definition}
-use Rattle.lrlex.specs.Searches.{IsLastSafe, asks_by, untabled_count}
+use Rattle.lrlex.specs.Searches.{IsLastSafe, asks_by}
+use Rattle.lrlex_definition.specs.RuleTable.{untabled_count}
 use Rattle.lrlex.specs.Lookahead.{AreRaised, HasLooked, LooksAhead, capped, items_before}
 use Rattle.lrlex_boundaries.specs.Moves.{moved_boundary}
 use Rattle.lrlex.specs.Moves.{items_from}
@@ -17,9 +18,10 @@ use Rattle.lrlex.specs.Relex.{AreCountsOf}
 use Rattle.lrlex_boundaries.specs.Entries.{AreEntries, plain}
 use Rattle.lrlex.specs.Work.{IsLinearIn}
 use Rattle.lrlex.specs.Tiling.{Item, rebased, stack_after, top}
-use Rattle.lrlex.specs.Views.{definition_by, items_by}
+use Rattle.lrlex_definition.specs.RuleTable.{definition_by}
+use Rattle.lrlex.specs.Views.{items_by}
 use Rattle.lrlex.specs.declared.errors.LRLexError.{LRLexError}
-use Rattle.lrlex.specs.declared.definition.rule_table.RuleTable.{RuleTable}
+use Rattle.lrlex_definition.specs.declared.rule_table.RuleTable.{RuleTable}
 use Rattle.lrlex.specs.declared.lexing.step.Progress.{Progress}
 use Rattle.lrlex.specs.declared.editing.relex.Recut.{Recut}
 use Rattle.lrlex.specs.declared.lexing.run.Lexed.{Lexed}

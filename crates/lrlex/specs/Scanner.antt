@@ -6,12 +6,13 @@ use Rattle.lrlex_boundaries.specs.Entries.{plain, AreEntries}
 use Rattle.lrlex_rules.specs.Definition.{Definition}
 use Rattle.lrlex_rules.specs.RuleParts.{state_number}
 use Rattle.lrlex_rules.specs.declared.states.StartStateId.{StartStateId}
-use Rattle.lrlex.specs.Active.{is_state, lexeme_id, lacks_id, rule_at}
-use Rattle.lrlex.specs.Searcher.{AreOf, IsSearcherOf}
+use Rattle.lrlex_rules.specs.Active.{is_state, lexeme_id, lacks_id, rule_at}
+use Rattle.lrlex_definition.specs.RuleTable.{AreOf}
+use Rattle.lrlex.specs.Searcher.{IsSearcherOf}
 use Rattle.lrlex.specs.Tiling.{Tile, End, Done, NoMatch, NoTarget, IsEnd, IsStuck, IsTaken, IsTiling, IsWinner, Wins, stack_after, top}
-use Rattle.lrlex.specs.Views.{definition_by}
+use Rattle.lrlex_definition.specs.RuleTable.{definition_by}
 use Rattle.lrlex.specs.Work.{HasWorked, most_cells_by, won_bytes}
-use Rattle.lrlex.specs.declared.definition.rule_table.RuleTable.{RuleTable}
+use Rattle.lrlex_definition.specs.declared.rule_table.RuleTable.{RuleTable}
 use Rattle.lrlex.specs.declared.lexing.cursor.Cursor.{Cursor}
 use Rattle.lrlex.specs.declared.lexing.cursor.ScanPlace.{ScanPlace}
 use Rattle.lrlex.specs.declared.lexing.cursor.Sought.{Sought}

@@ -1,34 +1,22 @@
--- The rules of a start state, as lexing holds them from tile to tile.
-use Rattle.std.specs.Prelude.{◌≡◌, ℕ, ◌+◌, ◌-◌, ◌<◌, ◌≤◌, true, List, MatchOption, Some, length, map, drop, option_copied, slice_get, IsCharBoundary}
+-- What looks for winners in a text, and what it finds.
+use Rattle.std.specs.Prelude.{◌≡◌, ℕ, ◌+◌, ◌-◌, ◌<◌, ◌≤◌, true, List, MatchOption, Some, length, drop, option_copied, slice_get, IsCharBoundary}
 use Rattle.lrlex_rules.specs.Definition.{Definition}
 use Rattle.lrlex_table.specs.Ahead.{begin_at, match_at}
 use Rattle.lrlex_table.specs.Chain.{end_of, row_of}
-use Rattle.lrlex_table.specs.Tables.{AreTablesOf}
 use Rattle.lrlex_table.specs.declared.marks.Mark.{Mark}
-use Rattle.lrlex.specs.Active.{active_count, active_places, rule_at}
-use Rattle.lrlex.specs.Kinds.{IsPlain}
+use Rattle.lrlex_rules.specs.Active.{active_count, rule_at}
+use Rattle.lrlex_rules.specs.Kinds.{IsPlain}
 use Rattle.lrlex.specs.Lookahead.{IsDecided}
 use Rattle.lrlex.specs.Tiling.{IsStuck, Wins}
 use Rattle.lrlex_rules.specs.Matchers.{AreMatchers}
-use Rattle.lrlex.specs.RowKinds.{own_kind}
-use Rattle.lrlex.specs.StateTables.{list_in, patterns_on}
-use Rattle.lrlex.specs.Searches.{untabled_count}
-use Rattle.lrlex.specs.Views.{definition_by}
-use Rattle.lrlex.specs.declared.definition.row_kinds.RowKind.{RowKind}
-use Rattle.lrlex.specs.declared.definition.rule_table.RuleTable.{RuleTable}
-use Rattle.lrlex.specs.declared.definition.rule_table.StateRules.{StateRules}
+use Rattle.lrlex_definition.specs.RowKinds.{own_kind}
+use Rattle.lrlex_definition.specs.RuleTable.{definition_by, untabled_count}
+use Rattle.lrlex_definition.specs.declared.row_kinds.RowKind.{RowKind}
+use Rattle.lrlex_definition.specs.declared.rule_table.RuleTable.{RuleTable}
 use Rattle.lrlex.specs.declared.lexing.winner.Searcher.{Searcher}
 use Rattle.lrlex.specs.declared.lexing.winner.Scan.{Scan}
 use Rattle.lrlex.specs.declared.lexing.winner.Found.{Found}
 use Rattle.lrlex.specs.declared.lexing.winner.Tile.{Tile}
-
--- these are the rules that are active in state q of the definition, and their tables
-pub record AreOf {S : Type 0} (number : S → ℕ) (d : RuleTable S) (q : ℕ) (rules : StateRules) : Type 0 where
-  pub active : rules.active.now ≡ active_places (definition_by number d).states (definition_by number d).rules q
-  pub tables : ∥ AreTablesOf (patterns_on (definition_by number d).rules (active_places (definition_by number d).states (definition_by number d).rules q)) rules.tables.now ∥₁
-  pub list : slice_get d.tables.items rules.list ≡ Some rules.tables.now
-  pub own : rules.active.now ≡ list_in (map (λ v. v.items) d.lists.items) rules.list
-  pub untabled : length rules.tables.now.asked.items ≡ untabled_count d q
 
 -- this looks for winners in the text by the definition: its matchers are those of the rules, and its dead ends are of the
 -- definition's tables and chain, and of the text

@@ -1,23 +1,13 @@
 -- How many searches a run makes: only rules that the tables of a state leave out are searched for.
-use Rattle.std.specs.Prelude.{◌≡◌, ℕ, ◌+◌, ◌-◌, ◌<◌, ◌⊎◌, ◌==◌, min, List, length, map, Option, option_map, option_and_then, unwrap_or, slice_get, slice_range, nat_lt, if◌then◌else◌}
-use Rattle.std.specs.List.{position, sum_by}
-use Rattle.lrlex_rules.specs.RuleParts.{as_state}
-use Rattle.lrlex_table.specs.declared.tables.Tables.{Tables}
+use Rattle.std.specs.Prelude.{◌≡◌, ℕ, ◌+◌, ◌-◌, ◌<◌, ◌⊎◌, ◌==◌, min, List, length, map, slice_range, nat_lt, if◌then◌else◌}
+use Rattle.std.specs.List.{sum_by}
 use Rattle.lrlex.specs.Tiling.{top}
 use Rattle.lrlex_boundaries.specs.Boundaries.{Boundary, place_and_stack}
 use Rattle.lrlex_boundaries.specs.Moves.{Meets}
 use Rattle.lrlex.specs.Lookahead.{IsSafe}
 use Rattle.lrlex.specs.declared.definition.non_streaming.LRNonStreamingLexerDef.{LRNonStreamingLexerDef}
-use Rattle.lrlex.specs.declared.definition.rule_table.RuleTable.{RuleTable}
-
--- the tables of the first state with the id
-abbrev pub tables_in : {S : Type 0} → RuleTable S → ℕ → Option Tables
-tables_in d q =
-    option_and_then (λ i. option_and_then (slice_get d.tables.items) (slice_get d.list_at.items i)) (position (λ s. (as_state s).id == q) d.start_states.items)
-
--- how many of the rules that are active in the state these leave out: each is asked by itself
-unfoldable pub untabled_count : {S : Type 0} → RuleTable S → ℕ → ℕ
-untabled_count d q = unwrap_or (option_map (λ t. length t.asked.items) (tables_in d q)) 0
+use Rattle.lrlex_definition.specs.RuleTable.{untabled_count}
+use Rattle.lrlex_definition.specs.declared.rule_table.RuleTable.{RuleTable}
 
 -- the searches at a boundary in a text of this length: one for each rule that is left out, and none at the text's end
 abbrev pub asks_at : {S : Type 0} → RuleTable S → ℕ → ℕ × List ℕ → ℕ

@@ -1,7 +1,7 @@
 -- The tiles into which a lexer cuts a text, and the items that they give.
 use Rattle.std.specs.Prelude.{◌≡◌, ◌≢◌, ℕ, ◌+◌, ◌-◌, ◌<◌, ◌≤◌, Bool, true, false, List, [], ◌∷◌, ◌++◌, length, take, drop, Option, Some, None, slice_index, nat_lt, if◌then◌else◌}
 use Rattle.lrlex_rules.specs.Definition.{Definition}
-use Rattle.lrlex.specs.Active.{active_count, taken, rule_at, lexeme_id, lacks_id, lacks_target}
+use Rattle.lrlex_rules.specs.Active.{active_count, taken, rule_at, lexeme_id, lacks_id, lacks_target}
 use Rattle.lrlex_rules.specs.declared.states.StartStateOperation.{StartStateOperation}
 use Rattle.lrlex_rules.specs.declared.states.StartStateOperation.TheVariants.{ReplaceStack, Push, Pop}
 

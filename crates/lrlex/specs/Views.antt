@@ -5,22 +5,15 @@ use Rattle.lrlex_base.specs.LexemeParts.{LexemeParts}
 use Rattle.lrlex_rules.specs.Definition.{Definition}
 use Rattle.lrlex_table.specs.Rows as held
 use Rattle.lrlex_table.specs.declared.tables.Tables.{Tables}
-use Rattle.lrlex.specs.StateTables.{chains_rows}
+use Rattle.lrlex_definition.specs.StateTables.{chains_rows}
 use Rattle.lrlex.specs.Errors.{lex_error_span, lex_error_state}
-use Rattle.lrlex_rules.specs.RuleParts.{RuleParts, as_rule, as_state, state_number}
+use Rattle.lrlex_rules.specs.RuleParts.{RuleParts, state_number}
 use Rattle.lrlex.specs.Tiling.{Item, Lexeme, Error}
 use Rattle.lrlex.specs.declared.errors.LRLexError.{LRLexError}
 use Rattle.lrlex_rules.specs.declared.states.StartState as start
 use Rattle.lrlex.specs.declared.definition.non_streaming.LRNonStreamingLexerDef.{LRNonStreamingLexerDef}
-use Rattle.lrlex.specs.declared.definition.rule_table.RuleTable.{RuleTable}
-
--- what a rule table says, where `number` gives the number that an id stands for
-abbrev pub definition_by : {S : Type 0} → (S → ℕ) → RuleTable S → Definition
-definition_by number t = record {
-  states = map as_state t.start_states.items;
-  rules = map (as_rule number) t.rules.items;
-  flags = t.flags;
-}
+pub use Rattle.lrlex_definition.specs.RuleTable.{definition_by}
+pub use Rattle.lrlex_definition.specs.declared.rule_table.RuleTable.{RuleTable}
 
 -- a definition: what its table says
 abbrev pub definition_of : {L X S E P Q : Type 0} → (S → ℕ) → LRNonStreamingLexerDef L X S E P Q → Definition

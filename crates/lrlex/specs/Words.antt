@@ -11,8 +11,8 @@ pub use Rattle.lrlex_base.specs.Lexemes.{lexeme_seen}
 pub use Rattle.lrlex_base.specs.Items.{items_left}
 pub use Rattle.lrlex_rules.specs.Definition.{Definition, Rule, StartState}
 pub use Rattle.lrlex_rules.specs.RuleParts.{RuleParts, as_rule, as_state}
-pub use Rattle.lrlex_rules.specs.LexBuildResult.{IsAnswer, AreAllFaults, BeginAsRead, as_faults}
-pub use Rattle.lrlex_rules.specs.LexBuildError.{IsPlaced, fault_kind, fault_spans}
-pub use Rattle.lrlex_rules.specs.DefinitionLaws.{IsLawful}
+pub use Rattle.lrlex_parser.specs.LexBuildResult.{IsAnswer, AreAllFaults, BeginAsRead, as_faults}
+pub use Rattle.lrlex_parser.specs.LexBuildError.{IsPlaced, fault_kind, fault_spans}
+pub use Rattle.lrlex_parser.specs.DefinitionLaws.{IsLawful}
 unfoldable pub use Rattle.lrlex_matching.specs.Matching.{match_length}
 pub use Rattle.lrlex_rules.specs.Patterns.{rule_pattern}

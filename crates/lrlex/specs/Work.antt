@@ -3,9 +3,9 @@ use Rattle.std.specs.Prelude.{◌≡◌, ℕ, ◌+◌, ◌-◌, ◌<◌, ◌≤�
 use Rattle.lrlex_table.specs.Linear.{HasWorkedTo, count_of_rows, most_cells}
 use Rattle.lrlex_table.specs.declared.dead_ends.DeadEnds.{DeadEnds}
 use Rattle.lrlex_boundaries.specs.Boundaries.{Boundary, boundary_at}
-use Rattle.lrlex.specs.StateTables.{most_tables}
+use Rattle.lrlex_definition.specs.StateTables.{most_tables}
 use Rattle.lrlex.specs.declared.definition.non_streaming.LRNonStreamingLexerDef.{LRNonStreamingLexerDef}
-use Rattle.lrlex.specs.declared.definition.rule_table.RuleTable.{RuleTable}
+use Rattle.lrlex_definition.specs.declared.rule_table.RuleTable.{RuleTable}
 use Rattle.lrlex.specs.declared.editing.changes.Change.{Change}
 use Rattle.lrlex.specs.declared.lexing.winner.Tile.{Tile}
 

@@ -20,16 +20,16 @@ pub use crate::lexing::run::LexRun;
 pub use crate::lexing::scanner::{ScanEnd, ScannedTile, Scanner, Step};
 pub use crate::lexing::steps::Steps;
 pub use crate::reading::lexer::LRNonStreamingLexer;
-pub use crate::reading::line_cursor::LineCursor;
 pub use crate::reading::pieces::{Piece, piece_laws};
 pub use lrlex_base::{
     DefaultLexeme, Edit, Id, Items, LexError, Lexeme, Lexer, LexerTypes, NewlineCache,
     NonStreamingLexer, Span, Spanned, SpansKind,
 };
-pub use lrlex_positions::PositionEncoding;
+pub use lrlex_parser::{LexBuildError, LexBuildResult, LexErrorKind, line_laws};
+pub use lrlex_positions::{LineCursor, PositionEncoding};
 pub use lrlex_rules::{
-    DEFAULT_LEX_FLAGS, LexBuildError, LexBuildResult, LexErrorKind, LexFlags, Rule, StartState,
-    StartStateId, StartStateOperation, UNSPECIFIED_LEX_FLAGS, flag_laws, line_laws, operation_laws,
+    DEFAULT_LEX_FLAGS, LexFlags, Rule, StartState, StartStateId, StartStateOperation,
+    UNSPECIFIED_LEX_FLAGS, flag_laws, operation_laws,
 };
 pub use lrlex_table::Budget;
 pub use lrlex_tokens::{CTTokenMapBuilder, TokenMapFault, ct_token_map};

@@ -2,13 +2,15 @@
 //! cases of standard input, and `lrlex_bench --example NAME` runs an example.
 #![tactic(auto)]
 
+mod callers;
+mod cases;
 mod edits;
 mod keys;
 mod measure;
 
+use crate::cases::replay_all;
 use crate::measure::{Definition, definition_by, tell_run};
 use lrlex_bench_lib::{Fault, Request, Task, Watch, asked, tell_usage};
-use lrlex_replay::replay_all;
 use std::io;
 use std::process::ExitCode;
 

@@ -2,3 +2,4 @@ pub mod StretchLemmas
 pub mod ArenaLemmas
 pub mod SliceLemmas
 pub mod PairLemmas
+pub mod EnteringLemmas

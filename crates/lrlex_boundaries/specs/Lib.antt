@@ -2,6 +2,7 @@
 pub mod Entries
 pub mod Boundaries
 pub mod Moves
+pub mod Entering
 -- what the functions inside the crate promise each other
 pub mod Ranges
 pub mod Arena

@@ -2,7 +2,9 @@
 #![tactic(auto)]
 
 mod boundaries;
+mod entering;
 pub mod room;
 mod stretch;
 
 pub use crate::boundaries::Boundaries;
+pub use crate::entering::entered_by;

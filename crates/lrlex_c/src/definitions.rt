@@ -1,6 +1,6 @@
 //! Definitions.
 ghost use Rattle.std.specs.Prelude.{◌≡◌, ◌≢◌, ◌↔◌, ◌^◌, ◌-◌, pos, None, Some, IfSome, IsSome, IsUtf8};
-ghost use Rattle.lrlex_rules.specs.LexBuildResult.{IsAnswer};
+ghost use Rattle.lrlex_parser.specs.LexBuildResult.{IsAnswer};
 ghost use Rattle.lrlex.specs.Ids.{with_ids};
 ghost use Rattle.lrlex_handles.specs.Buffers.{filled};
 ghost use Rattle.lrlex_handles.specs.LexBuildResult.{IsChecked};

@@ -1,7 +1,7 @@
 //! The faults of a refused rule text.
 ghost use Rattle.std.specs.Option.{option_map_or};
 ghost use Rattle.std.specs.Prelude.{◌≡◌, ◌↔◌, length, slice_get, pos, None, Some, IfSome, IsUtf8, MatchOption};
-ghost use Rattle.lrlex_rules.specs.LexBuildError.{fault_kind};
+ghost use Rattle.lrlex_parser.specs.LexBuildError.{fault_kind};
 ghost use Rattle.lrlex_report.specs.FaultTexts.{AreFaultTexts, IsFaultMessage, IsMessageOf};
 ghost use Rattle.lrlex_handles.specs.Buffers.{IsReport, IsWritten};
 ghost use Rattle.lrlex_handles.specs.Faults.{fault_names, fault_at, fault_span_at};

@@ -6,14 +6,14 @@ use Rattle.std.specs.Result.{IsErrAnd}
 use Rattle.std.specs.declared.alloc.Global.{Global}
 use Rattle.std.proofs.lemmas.List.Folds.{list_any-append}
 use Rattle.lrlex.specs.declared.errors.LRLexError.{LRLexError}
-use Rattle.lrlex_rules.specs.declared.faults.LexBuildError.{LexBuildError}
+use Rattle.lrlex_parser.specs.declared.faults.LexBuildError.{LexBuildError}
 use Rattle.lrlex_rules.specs.Definition.{Definition}
 use Rattle.lrlex.specs.Active.{is_state}
 use Rattle.lrlex.specs.Boundaries.{Boundary}
-use Rattle.lrlex_rules.specs.Outcome.{outcome}
+use Rattle.lrlex_parser.specs.Outcome.{outcome}
 use Rattle.lrlex.specs.ItemLaws.{is_error}
 use Rattle.lrlex.specs.Reach.{IsRun}
-use Rattle.lrlex_rules.specs.LexBuildResult.{seen, settings, refused_by, as_faults}
+use Rattle.lrlex_parser.specs.LexBuildResult.{seen, settings, refused_by, as_faults}
 use Rattle.lrlex.specs.Scanner.{IsAtFront, Scanned, at_front}
 use Rattle.lrlex.specs.Tiling.{Tile, Item, Error, End, Done, NoMatch, NoId, NoTarget, items, tile_items, lexeme_of}
 use Rattle.lrlex_base.specs.LexemeParts.{LexemeParts}

@@ -3,9 +3,9 @@ use Rattle.std.specs.Prelude.{◌≡◌, ◌≢◌, ℕ, Bool, true, false, List
 use Rattle.std.specs.Io.KnownBytes.{Appends, Keeps}
 use Rattle.lrlex_rules.specs.declared.flags.LexFlags.{LexFlags}
 use Rattle.lrlex_rules.specs.Definition.{Definition}
-use Rattle.lrlex_rules.specs.LexBuildError.{IsPlaced}
-use Rattle.lrlex_rules.specs.Outcome.{outcome}
-use Rattle.lrlex_rules.specs.LexBuildResult.{settings, refused_in, as_faults, AreByRegex}
+use Rattle.lrlex_parser.specs.LexBuildError.{IsPlaced}
+use Rattle.lrlex_parser.specs.Outcome.{outcome}
+use Rattle.lrlex_parser.specs.LexBuildResult.{settings, refused_in, as_faults, AreByRegex}
 use Rattle.std.specs.List.{list_any}
 use Rattle.lrlex.specs.Boundaries.{Boundary}
 use Rattle.lrlex.specs.ItemLaws.{is_error}

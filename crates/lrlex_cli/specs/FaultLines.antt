@@ -4,9 +4,9 @@ use Rattle.std.specs.Fmt.{decimal}
 use Rattle.lrlex_base.specs.Places.{line_of, column_of}
 use Rattle.lrlex_base.specs.Spans.{span_start}
 use Rattle.lrlex_base.specs.declared.spans.Span.{Span}
-use Rattle.lrlex_rules.specs.LexBuildError.{message, fault_kind, fault_spans}
-use Rattle.lrlex_rules.specs.declared.faults.LexErrorKind.{LexErrorKind}
-use Rattle.lrlex_rules.specs.declared.faults.LexBuildError.{LexBuildError}
+use Rattle.lrlex_parser.specs.LexBuildError.{message, fault_kind, fault_spans}
+use Rattle.lrlex_parser.specs.declared.faults.LexErrorKind.{LexErrorKind}
+use Rattle.lrlex_parser.specs.declared.faults.LexBuildError.{LexBuildError}
 
 -- the place of a span's start, as `L:C`
 abbrev pub place : List ℕ → Span → List ℕ

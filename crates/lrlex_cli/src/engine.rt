@@ -6,7 +6,7 @@ ghost use Rattle.lrlex_base.specs.Edits.{edited};
 ghost use Rattle.lrlex_cli.specs.Engine.{IsEngineRun, EndsWriting, EndsLexing, IsReport};
 ghost use Rattle.lrlex_cli.specs.Writing.{Writes};
 ghost use Rattle.lrlex_cli.specs.declared.engine.EngineFault.TheVariants.{Memory};
-ghost use Rattle.lrlex_rules.specs.LexBuildError.{IsPlaced};
+ghost use Rattle.lrlex_parser.specs.LexBuildError.{IsPlaced};
 ghost use Rattle.lrlex.specs.Active.{is_state};
 ghost use Rattle.lrlex.specs.Views.{definition_of};
 ghost use Rattle.lrlex_cli.specs.FaultLines.{fault_lines};

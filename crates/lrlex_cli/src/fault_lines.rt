@@ -2,7 +2,7 @@
 ghost use Rattle.std.specs.Prelude.{◌≡◌, ◌++◌, ◌∷◌, [], All, IfOk, OnOk, codes, string_bytes};
 ghost use Rattle.lrlex_base.specs.Places.{AreBreaksOf};
 ghost use Rattle.lrlex_base.specs.Spans.{Fits};
-ghost use Rattle.lrlex_rules.specs.LexBuildError.{IsPlaced};
+ghost use Rattle.lrlex_parser.specs.LexBuildError.{IsPlaced};
 ghost use Rattle.lrlex_cli.specs.FaultLines.{place, more_places, other_places, fault_line, fault_lines};
 
 use lrlex::LexBuildError;

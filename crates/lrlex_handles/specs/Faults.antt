@@ -7,10 +7,10 @@ use Rattle.lrlex_base.specs.Spans.{span_start, span_end}
 use Rattle.lrlex_base.specs.declared.spans.Span.{Span}
 use Rattle.lrlex_report.specs.FaultTexts.{fault_name}
 use Rattle.lrlex_report.specs.PlaceTexts.{nearest}
-use Rattle.lrlex_rules.specs.LexBuildError.{fault_kind, fault_spans}
-use Rattle.lrlex_rules.specs.declared.faults.LexBuildError.{LexBuildError}
-use Rattle.lrlex_rules.specs.declared.faults.LexErrorKind.{LexErrorKind}
-use Rattle.lrlex_rules.specs.declared.faults.LexErrorKind.TheVariants.{PrematureEnd, RoutinesNotSupported, UnknownDeclaration, MissingSpace, InvalidName, UnknownStartState, DuplicateStartState, InvalidStartState, InvalidStartStateName, DuplicateName, RegexError, VerbatimNotSupported, TooManyRules}
+use Rattle.lrlex_parser.specs.LexBuildError.{fault_kind, fault_spans}
+use Rattle.lrlex_parser.specs.declared.faults.LexBuildError.{LexBuildError}
+use Rattle.lrlex_parser.specs.declared.faults.LexErrorKind.{LexErrorKind}
+use Rattle.lrlex_parser.specs.declared.faults.LexErrorKind.TheVariants.{PrematureEnd, RoutinesNotSupported, UnknownDeclaration, MissingSpace, InvalidName, UnknownStartState, DuplicateStartState, InvalidStartState, InvalidStartStateName, DuplicateName, RegexError, VerbatimNotSupported, TooManyRules}
 use Rattle.lrlex_handles.specs.declared.structs.Fault.{Fault}
 use Rattle.lrlex_handles.specs.declared.structs.FaultSpan.{FaultSpan}
 

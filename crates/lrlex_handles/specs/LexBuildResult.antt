@@ -2,8 +2,8 @@
 use Rattle.std.specs.Prelude.{ℕ, List, Result, Ok, Err, Vec}
 use Rattle.std.specs.declared.alloc.Global.{Global}
 use Rattle.lrlex_rules.specs.Definition.{Definition}
-use Rattle.lrlex_rules.specs.LexBuildResult.{IsAnswer, AreAllFaults, BeginAsRead, as_faults}
-use Rattle.lrlex_rules.specs.declared.faults.LexBuildError.{LexBuildError}
+use Rattle.lrlex_parser.specs.LexBuildResult.{IsAnswer, AreAllFaults, BeginAsRead, as_faults}
+use Rattle.lrlex_parser.specs.declared.faults.LexBuildError.{LexBuildError}
 use Rattle.lrlex_rules.specs.declared.flags.LexFlags.{LexFlags}
 
 -- reading refuses the text, and these are all its faults: first those that the reading tells

@@ -7,12 +7,11 @@ use Rattle.std.specs.declared.alloc.Global.{Global}
 use Rattle.std.specs.declared.option.Option.{Option}
 use Rattle.std.specs.declared.option.Option.TheVariants.{None, Some}
 use Rattle.lrlex_rules.specs.Definition.{Definition}
-use Rattle.lrlex_rules.specs.declared.faults.LexBuildError.{LexBuildError}
+use Rattle.lrlex_parser.specs.declared.faults.LexBuildError.{LexBuildError}
 use Rattle.lrlex_rules.specs.declared.states.StartState as start
 use Rattle.lrlex.specs.Document.{lexed_bytes}
 use Rattle.lrlex.specs.Scanner.{Scanned}
-use Rattle.lrlex.specs.Views.{definition_of, definition_states}
-use Rattle.lrlex.specs.declared.definition.rule_table.RuleTable.{RuleTable}
+use Rattle.lrlex.specs.Views.{RuleTable, definition_of, definition_states}
 use Rattle.lrlex_handles.specs.declared.object.Object.{Object}
 use Rattle.lrlex_handles.specs.declared.object.Object.TheVariants.{Nothing, Definition as Defined, Refusal, Document, Scanner}
 

@@ -2,7 +2,7 @@
 use Rattle.std.specs.Prelude.{◌≡◌, ℕ, List, length, map}
 use Rattle.std.specs.List.{position_or_len}
 use Rattle.lrlex_base.specs.Places.{place_of}
-use Rattle.lrlex.specs.declared.definition.rule_table.RuleTable.{RuleTable}
+use Rattle.lrlex.specs.Views.{RuleTable}
 use Rattle.lrlex_report.specs.PlaceTexts.{nearest}
 use Rattle.lrlex_report.specs.Warnings.{as_told, AreWarnings}
 use Rattle.lrlex_report.specs.WarningTexts.{is_named, warning_kinds, warning_name, warning_texts}

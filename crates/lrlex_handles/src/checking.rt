@@ -1,6 +1,6 @@
 //! Definitions, or all faults of a rule text.
 ghost use Rattle.std.specs.Prelude.{◌≡◌, ◌≢◌, ◌↔◌, ◌^◌, ◌-◌, ◌⊎◌, pos, None, Some, IfOk, IfSome, IsSome, IsUtf8};
-ghost use Rattle.lrlex_rules.specs.LexBuildResult.{AreAllFaults, BeginAsRead, as_faults};
+ghost use Rattle.lrlex_parser.specs.LexBuildResult.{AreAllFaults, BeginAsRead, as_faults};
 ghost use Rattle.lrlex_handles.specs.LexBuildResult.{IsChecked};
 ghost use Rattle.lrlex_handles.specs.Objects.{answer_in, definition_in, refusal_in};
 ghost use Rattle.lrlex_handles.specs.Settings.{flags_by};

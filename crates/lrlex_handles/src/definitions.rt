@@ -1,7 +1,7 @@
 //! Definitions: read from a rule text, and shared.
 ghost use Rattle.std.specs.Prelude.{◌≡◌, ◌≢◌, ◌↔◌, ◌^◌, ◌-◌, ◌⊎◌, pos, None, Some, IfOk, IfSome, IsSome, IsUtf8, MatchOption};
 ghost use Rattle.std.specs.Arc.{arc_value};
-ghost use Rattle.lrlex_rules.specs.LexBuildResult.{IsAnswer};
+ghost use Rattle.lrlex_parser.specs.LexBuildResult.{IsAnswer};
 ghost use Rattle.lrlex.specs.Views.{definition_of};
 ghost use Rattle.lrlex_handles.specs.Objects.{answer_in, definition_in, refusal_in};
 ghost use Rattle.lrlex_handles.specs.declared.object.Object.TheVariants.{Refusal as Refused};

@@ -1,6 +1,6 @@
 //! What the faults of a refused rule text are, for people.
 ghost use Rattle.std.specs.Prelude.{◌≡◌, ◌↔◌, string_bytes, pos, None, Some, IfOk, IfSome, IsUtf8, MatchOption};
-ghost use Rattle.lrlex_rules.specs.LexBuildError.{fault_kind};
+ghost use Rattle.lrlex_parser.specs.LexBuildError.{fault_kind};
 ghost use Rattle.lrlex_report.specs.FaultTexts.{AreFaultTexts, IsFaultMessage, IsMessageOf};
 ghost use Rattle.lrlex_handles.specs.Buffers.{IsReport};
 ghost use Rattle.lrlex_handles.specs.Objects.{fault_in, refusal_in};

@@ -5,7 +5,7 @@ use Rattle.std.specs.List.{after_first, before_first, filter_map, slice_split}
 use Rattle.std.specs.Option.{option_map_or}
 use Rattle.lrlex.specs.Views.{definition_of, definition_rules}
 use Rattle.lrlex_rules.specs.Definition.{Definition}
-use Rattle.lrlex_rules.specs.LexBuildResult.{IsAnswer}
+use Rattle.lrlex_parser.specs.LexBuildResult.{IsAnswer}
 use Rattle.lrlex_rules.specs.RuleParts.{RuleParts}
 use Rattle.lrlex_rules.specs.declared.flags.LexFlags.{LexFlags}
 use Rattle.lrlex_lsp.specs.TokenTypes.{type_named}

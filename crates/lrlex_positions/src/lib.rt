@@ -1,11 +1,15 @@
-//! Positions of the Language Server Protocol: the line and column of a place, and the place of a line and column.
+//! Lines and columns of a text's places, and the positions of the Language Server Protocol: of a place, and back.
 #![tactic(auto)]
 
 mod encoding;
+mod line_cursor;
 mod lines;
+mod places;
 mod positions;
 mod walks;
 
 pub use crate::encoding::PositionEncoding;
+pub use crate::line_cursor::LineCursor;
 pub use crate::lines::Lines;
+pub use crate::places::{place_of, text_of};
 pub use crate::positions::{offset_at, position_at};

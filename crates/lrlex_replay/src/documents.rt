@@ -1,10 +1,9 @@
-//! What a document shows, at first and after each of its edits, and small questions to documents.
+//! What a document shows, at first and after each of its edits, and its texts.
 use crate::building::Definition;
 use crate::items::tell_items;
 use crate::runs::{most_of, tell_pieces};
-use lrlex::{DefaultLexerTypes, Document, EditError, Span};
-use lrlex_examples::callers::editing::{retyped, typed, visible};
-use lrlex_replay_cases::facts::{tell_boundary, tell_words};
+use lrlex::{DefaultLexerTypes, Document, EditError};
+use lrlex_replay_cases::facts::tell_boundary;
 use lrlex_replay_cases::reading::{
     Change, Trouble, change_of, count_of, list_at, list_of, span_of, text_at,
 };
@@ -15,7 +14,7 @@ use serde_json::Value;
 pub type Edited<'d> = Document<'d, DefaultLexerTypes<u32>>;
 
 /// Tells a change: `[first, removed, inserted]`.
-fn tell_change(told: &mut Told, change: lrlex::Change) {
+pub fn tell_change(told: &mut Told, change: lrlex::Change) {
     told.numbers(&[change.first, change.removed, change.inserted]);
 }
 
@@ -112,39 +111,6 @@ fn tell_edits(told: &mut Told, document: &mut Edited<'_>, edits: &[Value]) -> Re
     Ok(())
 }
 
-/// Types keys, and tells where typing ended; null where they don't fit.
-fn type_keys(
-    told: &mut Told,
-    document: &mut Edited<'_>,
-    change: Change<'_>,
-) -> Result<(), Trouble> {
-    let (at, _, keys) = change;
-    let typed = typed(told.alloc(), document, at, keys);
-    told.key("typed");
-    match typed {
-        Ok(place) => told.pair(place),
-        Err(EditError::DoesNotFit) => told.null(),
-        Err(EditError::OutOfMemory) => return Err(Trouble::Memory),
-    }
-    Ok(())
-}
-
-/// Makes an edit, and tells which tokens it changed and those that came; null where it doesn't fit.
-fn retype(told: &mut Told, document: &mut Edited<'_>, change: Change<'_>) -> Result<(), Trouble> {
-    let (from, to, put) = change;
-    let retyped = retyped(told.alloc(), document, from, to, put);
-    told.key("retyped");
-    match retyped {
-        Ok((changed, came)) => {
-            tell_change(told, changed);
-            tell_words(told, Ok(came));
-        }
-        Err(EditError::DoesNotFit) => told.null(),
-        Err(EditError::OutOfMemory) => return Err(Trouble::Memory),
-    }
-    Ok(())
-}
-
 /// Tells the texts that the document has at these spans.
 fn tell_texts(told: &mut Told, document: &Edited<'_>, spans: &[Value]) {
     told.list("texts");
@@ -152,12 +118,6 @@ fn tell_texts(told: &mut Told, document: &Edited<'_>, spans: &[Value]) {
         told.text(document.text_of(span_of(list_of(span))));
     }
     told.close();
-}
-
-/// Tells the part of a document that a window shows.
-fn tell_visible(told: &mut Told, document: &Edited<'_>, span: Span) {
-    let words = visible(told.alloc(), document, span.start(), span.end());
-    tell_words(told, words);
 }
 
 /// Tells what the step of this name asks a document; the last of them is `texts`.
@@ -169,12 +129,6 @@ fn tell_document(
 ) -> Result<(), Trouble> {
     match name {
         "document" => tell_edits(told, document, asked),
-        "visible" => {
-            tell_visible(told, document, span_of(asked));
-            Ok(())
-        }
-        "typed" => type_keys(told, document, change_of(asked)),
-        "retyped" => retype(told, document, change_of(asked)),
         _ => {
             tell_texts(told, document, asked);
             Ok(())

@@ -3,20 +3,12 @@ use lrlex::{
     DefaultLexerTypes, LRLexError, LRNonStreamingLexerDef, LexBuildError, LexerDef, Span,
     StartStateId,
 };
-use lrlex_examples::callers::marking::{Diagnostic, faults, stop};
-use lrlex_examples::callers::reporting::complaints_of_file;
 use lrlex_replay_cases::facts::tell_report;
-use lrlex_replay_cases::reading::{Trouble, count_at, file_of, list_at, span_of, text_at};
+use lrlex_replay_cases::reading::{Trouble, count_at, list_at, span_of, text_at};
 use lrlex_replay_cases::told::Told;
 use lrlex_report::{fault_text, place_text, stop_text};
 use serde_json::Value;
 use std::alloc::{AllocError, Global};
-
-/// What is wrong with a rule file of these bytes, or where lexing the input stops.
-fn complaints(alloc: Global, bytes: &[Value], input: &str) -> Result<String, AllocError> {
-    let bytes = file_of(alloc, bytes)?;
-    complaints_of_file(alloc, bytes.as_slice(), input)
-}
 
 /// What is shown of a fault, behind its own text by `Display`.
 fn shown_of_fault(alloc: Global, rules: &str, fault: &LexBuildError) -> Result<String, AllocError> {
@@ -32,39 +24,6 @@ fn first_fault(alloc: Global, rules: &str) -> Result<String, AllocError> {
             Some(fault) => shown_of_fault(alloc, rules, fault),
             None => Ok(String::new(alloc)),
         },
-    }
-}
-
-/// A range and its message, as `START..END MESSAGE`.
-fn shown_mark(alloc: Global, mark: &Diagnostic) -> Result<String, AllocError> {
-    let (start, end) = (mark.range.start(), mark.range.end());
-    format!(in alloc; "{start}..{end} {}\n", mark.message)
-}
-
-/// These marks, each in a line.
-fn shown_all(alloc: Global, marks: &[Diagnostic]) -> Result<String, AllocError> {
-    let mut shown = String::new(alloc);
-    for mark in marks {
-        let line = shown_mark(alloc, mark)?;
-        shown.push_str(&line)?;
-    }
-    Ok(shown)
-}
-
-/// What an editor marks in a rule text, each in a line.
-fn shown_marks(alloc: Global, rules: &str) -> Result<String, AllocError> {
-    let marks = faults(alloc, rules)?;
-    shown_all(alloc, marks.as_slice())
-}
-
-/// Why lexing an input by a rule text stops; nothing where it doesn't, or where the rule text has faults.
-fn shown_reason(alloc: Global, rules: &str, input: &str) -> Result<String, AllocError> {
-    match LRNonStreamingLexerDef::<DefaultLexerTypes<u32>>::from_str(alloc, rules)? {
-        Ok(definition) => match stop(alloc, &definition, input)? {
-            Some(mark) => shown_mark(alloc, &mark),
-            None => Ok(String::new(alloc)),
-        },
-        Err(_) => Ok(String::new(alloc)),
     }
 }
 
@@ -84,10 +43,7 @@ fn shown_of_stop(
 pub fn report(told: &mut Told, name: &str, step: &[Value]) -> Result<(), Trouble> {
     let (alloc, text) = (told.alloc(), text_at(step, 1));
     let shown = match name {
-        "complaints" => complaints(alloc, list_at(step, 1), text_at(step, 2)),
         "first_fault" => first_fault(alloc, text),
-        "diagnostics" => shown_marks(alloc, text),
-        "stop" => shown_reason(alloc, text, text_at(step, 2)),
         "place_text" => place_text(
             alloc,
             "f",

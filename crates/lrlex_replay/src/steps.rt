@@ -1,6 +1,5 @@
-//! Steps: what is done with the definition of a case, one thing after the other, and told.
-use crate::building::{Definition, build_within};
-use crate::callers::{keep_run, replace};
+//! Steps: what is done with the definition of a case, and told.
+use crate::building::Definition;
 use crate::documents::{cut_document, show};
 use crate::engines::{display_faults, drive, serve};
 use crate::faults::tell_all_faults;
@@ -11,15 +10,11 @@ use crate::reports::report;
 use crate::runs::{cut_run, lex, tell_end};
 use crate::scanners::scan;
 use lrlex::{DEFAULT_LEX_FLAGS, LexerDef};
-use lrlex_examples::callers::editing::highlighted;
-use lrlex_examples::callers::lexing::words;
 use lrlex_replay_cases::edits::{edit_of, tell_edit};
-use lrlex_replay_cases::facts::{tell_rules, tell_states, tell_words};
-use lrlex_replay_cases::printing::{introduce, print_refused, print_told, told_of_step};
-use lrlex_replay_cases::reading::{Trouble, count_at, is_true_at, list_at, list_of, text_at};
+use lrlex_replay_cases::facts::{tell_rules, tell_states};
+use lrlex_replay_cases::reading::{Trouble, count_at, is_true_at, list_at, text_at};
 use lrlex_replay_cases::told::Told;
 use serde_json::Value;
-use std::io;
 
 /// Tells whether the definition's flags are the default ones; null where it has none.
 fn tell_flags(told: &mut Told, definition: &Definition<u32>) {
@@ -103,29 +98,16 @@ fn ask_about_text(
             text,
             (count_at(step, 2), count_at(step, 3)),
         ),
-        "words" => {
-            let words = words(told.alloc(), definition, text);
-            tell_words(told, words);
-            Ok(())
-        }
-        "highlighted" => {
-            let words = highlighted(told.alloc(), definition, text);
-            tell_words(told, words);
-            Ok(())
-        }
         "end" => tell_end(told, definition, text),
         "scan" => scan(told, definition, text),
-        "after" => keep_run(told, definition, text, list_at(step, 2)),
         "positions" => ask_positions(told, definition, text, list_at(step, 2), list_at(step, 3)),
-        "document" | "visible" | "typed" | "retyped" | "texts" => show(
-            told, definition, name, step,
-        ),
+        "document" | "texts" => show(told, definition, name, step),
         _ => make_alone(told, name, step),
     }
 }
 
 /// Makes a step, and tells what comes of it.
-fn make(
+pub fn make(
     rt: &HostRuntime,
     told: &mut Told,
     definition: &mut Definition<u32>,
@@ -142,56 +124,10 @@ fn make(
             Ok(())
         }
         "ids" => set_ids(told, definition, step.get(1), is_true_at(step, 2)),
-        "replaced" => replace(told, definition, text_at(step, 1), text_at(step, 2)),
         "served" => {
             serve(rt, told, step);
             Ok(())
         }
         name => ask_about_text(told, definition, name, step),
-    }
-}
-
-/// What is told of a step: its name, and then what comes of it.
-fn answer(
-    rt: &HostRuntime,
-    definition: &mut Definition<u32>,
-    step: &Value,
-) -> Result<String, Trouble> {
-    let step = list_of(step);
-    let mut told = told_of_step(rt.alloc(), text_at(step, 0));
-    make(rt, &mut told, definition, step)?;
-    Ok(told.lines()?)
-}
-
-/// Makes a step, once more where it is out of memory, and prints what is told of it.
-fn tell_step(rt: &HostRuntime, definition: &mut Definition<u32>, step: &Value) -> io::Result<()> {
-    match answer(rt, definition, step) {
-        Err(Trouble::Memory) => {
-            print_refused(rt)?;
-            print_told(rt, answer(rt, definition, step))
-        }
-        told => print_told(rt, told),
-    }
-}
-
-/// Makes the steps of a case, and prints what comes of them.
-fn tell_steps(
-    rt: &HostRuntime,
-    definition: &mut Definition<u32>,
-    case: &Value,
-    steps: &[Value],
-) -> io::Result<()> {
-    introduce(rt, case, None)?;
-    for step in steps {
-        tell_step(rt, definition, step)?;
-    }
-    Ok(())
-}
-
-/// Builds the definition of a case with steps, makes these, and prints what comes of them.
-pub fn tell_case(rt: &HostRuntime, case: &Value, steps: &[Value]) -> io::Result<()> {
-    match build_within(rt.alloc(), case)? {
-        Ok(mut definition) => tell_steps(rt, &mut definition, case, steps),
-        Err(refusal) => introduce(rt, case, Some(&refusal)),
     }
 }

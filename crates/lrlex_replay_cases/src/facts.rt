@@ -1,7 +1,8 @@
 //! What definitions say, lexemes and errors, and what setting token ids gives.
 use crate::told::Told;
 use lrlex_base::{Span, Spanned};
-use lrlex_rules::{LexBuildError, LexErrorKind, Rule, StartState, StartStateOperation};
+use lrlex_parser::{LexBuildError, LexErrorKind};
+use lrlex_rules::{Rule, StartState, StartStateOperation};
 use serde_json::Value;
 use std::alloc::AllocError;
 use std::collections::HashSet;

@@ -1,6 +1,6 @@
 -- One more fault.
 use Rattle.std.proofs.Common.{ℕ, List, [], ◌∷◌, ◌++◌, ap, refl, ◌∙◌, sym, append_assoc, append-nil}
-use Rattle.lrlex_rules.specs.declared.faults.LexBuildError.{LexBuildError}
+use Rattle.lrlex_parser.specs.declared.faults.LexBuildError.{LexBuildError}
 use Rattle.lrlex_report.specs.FaultTexts.{IsFaultText, AreFaultTexts}
 
 pub AreFaultTexts_more : (file rules : List ℕ) (es : List LexBuildError) (e : LexBuildError) (shown one : List ℕ) → AreFaultTexts file rules es shown → IsFaultText file rules e one →

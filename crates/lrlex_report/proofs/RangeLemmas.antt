@@ -10,8 +10,8 @@ use Rattle.std.proofs.Math.Seq.{take-add}
 use Rattle.std.proofs.lemmas.List.{length-drop, length-take, drop-take, take-take}
 use Rattle.std.proofs.lemmas.List.Sums.{take_while-cons}
 use Rattle.std.proofs.lemmas.Str.{encodes-chars, encodes_same, IsCharBoundary-from_take, IsUtf8-append, IsUtf8-take}
-use Rattle.lrlex_rules.specs.Escape.{first_char}
-use Rattle.lrlex_rules.proofs.Cuts.{FindsByCalls, chars_around}
+use Rattle.lrlex_parser.specs.Escape.{first_char}
+use Rattle.lrlex_parser.proofs.Cuts.{FindsByCalls, chars_around}
 
 -- ---- up to the first character that passes
 none_before : (p : ℕ → Bool) (cs : List ℕ) → NonePass p cs → before_first p cs ≡ cs

@@ -3,8 +3,8 @@ use Rattle.std.specs.Prelude.{ℕ, Bool, false, not, ◌&&◌, ◌||◌, ◌==�
 use Rattle.std.specs.Char.{is_ascii_digit}
 use Rattle.std.specs.List.{list_any, onto_first}
 use Rattle.std.specs.Str.{byte}
-use Rattle.lrlex_rules.specs.Escape.{is_backslash, is_one_of}
-use Rattle.lrlex_rules.specs.Text.{begins_with, is_empty}
+use Rattle.lrlex_parser.specs.Escape.{is_backslash, is_one_of}
+use Rattle.lrlex_parser.specs.Text.{begins_with, is_empty}
 use Rattle.lrlex_report.specs.PatternClasses.{at_beginning, after, after_pair, is_pair, from_first}
 use Rattle.lrlex_report.specs.declared.warnings.pattern_classes.Context.{Context}
 

@@ -4,7 +4,7 @@ use Rattle.std.specs.Prelude.{ℕ, Bool, false, not, ◌&&◌, ◌||◌, ◌==�
 use Rattle.std.specs.Char.{is_ascii_alphabetic}
 use Rattle.std.specs.List.{list_any, position}
 use Rattle.std.specs.Str.{byte, bytes_eq}
-use Rattle.lrlex_rules.specs.Text.{begins_with, is_empty}
+use Rattle.lrlex_parser.specs.Text.{begins_with, is_empty}
 use Rattle.lrlex_report.specs.PatternClasses.{at_beginning, from_first}
 use Rattle.lrlex_report.specs.declared.warnings.pattern_classes.Part.{Part}
 use Rattle.lrlex_report.specs.declared.warnings.pattern_classes.Part.TheVariants.{Range}

@@ -2,7 +2,7 @@
 -- sets. An operation with a class on its right side is meant, as in `[a-z&&[^b]]`.
 use Rattle.std.specs.Prelude.{ℕ, Bool, true, false, not, ◌&&◌, ◌||◌, ◌==◌, List, [], ◌∷◌, slice_index}
 use Rattle.std.specs.Str.{byte}
-use Rattle.lrlex_rules.specs.Text.{is_empty}
+use Rattle.lrlex_parser.specs.Text.{is_empty}
 use Rattle.lrlex_report.specs.PatternClasses.{at_beginning, from_first, is_operation}
 use Rattle.lrlex_report.specs.declared.warnings.pattern_classes.Part.{Part}
 use Rattle.lrlex_report.specs.declared.warnings.pattern_classes.Part.TheVariants.{Beginning, Outside, Bracket, Caret, Hyphens, Inside, Member, Range, Operated}

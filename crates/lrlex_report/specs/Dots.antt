@@ -1,7 +1,7 @@
 -- A dot that takes all that follows: `.*` or `.+`, outside classes of characters, without the `?` that makes it lazy.
 use Rattle.std.specs.Prelude.{ℕ, Bool, false, not, ◌&&◌, ◌||◌, ◌==◌, List, [], ◌∷◌, slice_index, codes}
 use Rattle.std.specs.Str.{byte}
-use Rattle.lrlex_rules.specs.Text.{begins_with, is_empty}
+use Rattle.lrlex_parser.specs.Text.{begins_with, is_empty}
 use Rattle.lrlex_report.specs.PatternClasses.{at_beginning, from_first}
 use Rattle.lrlex_report.specs.declared.warnings.pattern_classes.Context.{Context}
 

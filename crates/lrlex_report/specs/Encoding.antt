@@ -3,7 +3,7 @@ use Rattle.std.specs.Prelude.{◌≡◌, ℕ, ◌==◌, ◌&&◌, true, List, []
 use Rattle.std.specs.Fmt.{digits}
 use Rattle.std.specs.Str.{IsValidUpTo}
 use Rattle.lrlex_base.specs.Spans.{span}
-use Rattle.lrlex_rules.specs.Text.{begins_with}
+use Rattle.lrlex_parser.specs.Text.{begins_with}
 use Rattle.lrlex_report.specs.PlaceTexts.{place_text}
 
 -- `not UTF-8, byte 0xFF at offset 17`

@@ -5,14 +5,14 @@ use Rattle.std.specs.Str.{chars, encode_utf8_all}
 use Rattle.lrlex_base.specs.Classes.{is_blank, is_line_sep}
 use Rattle.lrlex_base.specs.Spans.{Span, span, as_span, at_place}
 use Rattle.lrlex_base.specs.declared.spans.Span.{Span as TheSpan}
-use Rattle.lrlex_rules.specs.Declaration.{first_word}
-use Rattle.lrlex_rules.specs.Escape.{first_char}
-use Rattle.lrlex_rules.specs.LexBuildError.{fault_kind, fault_spans}
-use Rattle.lrlex_rules.specs.RuleLine.{is_greater}
-use Rattle.lrlex_rules.specs.Text.{is_empty, trim_end}
-use Rattle.lrlex_rules.specs.declared.faults.LexErrorKind.{LexErrorKind}
-use Rattle.lrlex_rules.specs.declared.faults.LexErrorKind.TheVariants.{UnknownStartState, DuplicateStartState, InvalidStartStateName, DuplicateName, RegexError, VerbatimNotSupported}
-use Rattle.lrlex_rules.specs.declared.faults.LexBuildError.{LexBuildError}
+use Rattle.lrlex_parser.specs.Declaration.{first_word}
+use Rattle.lrlex_parser.specs.Escape.{first_char}
+use Rattle.lrlex_parser.specs.LexBuildError.{fault_kind, fault_spans}
+use Rattle.lrlex_parser.specs.RuleLine.{is_greater}
+use Rattle.lrlex_parser.specs.Text.{is_empty, trim_end}
+use Rattle.lrlex_parser.specs.declared.faults.LexErrorKind.{LexErrorKind}
+use Rattle.lrlex_parser.specs.declared.faults.LexErrorKind.TheVariants.{UnknownStartState, DuplicateStartState, InvalidStartStateName, DuplicateName, RegexError, VerbatimNotSupported}
+use Rattle.lrlex_parser.specs.declared.faults.LexBuildError.{LexBuildError}
 use Rattle.lrlex_report.specs.PlaceTexts.{nearest}
 
 -- the text up to the end of its first line, as rule files have lines

@@ -3,11 +3,11 @@ use Rattle.std.specs.Prelude.{◌≡◌, ℕ, List, [], ◌∷◌, ◌++◌, cod
 use Rattle.std.specs.Str.{chars}
 use Rattle.lrlex_base.specs.Spans.{as_span, span_start, span_end}
 use Rattle.lrlex_base.specs.declared.spans.Span.{Span}
-use Rattle.lrlex_rules.specs.LexBuildError.{message, kind_text, fault_kind, fault_spans}
-use Rattle.lrlex_rules.specs.Text.{is_empty}
-use Rattle.lrlex_rules.specs.declared.faults.LexErrorKind.{LexErrorKind}
-use Rattle.lrlex_rules.specs.declared.faults.LexErrorKind.TheVariants.{PrematureEnd, RoutinesNotSupported, UnknownDeclaration, MissingSpace, InvalidName, UnknownStartState, DuplicateStartState, InvalidStartState, InvalidStartStateName, DuplicateName, RegexError, VerbatimNotSupported, TooManyRules}
-use Rattle.lrlex_rules.specs.declared.faults.LexBuildError.{LexBuildError}
+use Rattle.lrlex_parser.specs.LexBuildError.{message, kind_text, fault_kind, fault_spans}
+use Rattle.lrlex_parser.specs.Text.{is_empty}
+use Rattle.lrlex_parser.specs.declared.faults.LexErrorKind.{LexErrorKind}
+use Rattle.lrlex_parser.specs.declared.faults.LexErrorKind.TheVariants.{PrematureEnd, RoutinesNotSupported, UnknownDeclaration, MissingSpace, InvalidName, UnknownStartState, DuplicateStartState, InvalidStartState, InvalidStartStateName, DuplicateName, RegexError, VerbatimNotSupported, TooManyRules}
+use Rattle.lrlex_parser.specs.declared.faults.LexBuildError.{LexBuildError}
 use Rattle.lrlex_report.specs.Carets.{shown_line, shown_rest}
 use Rattle.lrlex_report.specs.FaultRanges.{told_span}
 use Rattle.lrlex_report.specs.Listed.{unknown_name}

@@ -3,9 +3,9 @@ use Rattle.std.specs.Prelude.{ℕ, Bool, true, not, ◌&&◌, ◌||◌, ◌==◌
 use Rattle.std.specs.List.{list_any, before_first}
 use Rattle.std.specs.Str.{byte}
 use Rattle.lrlex_base.specs.Classes.{is_white_space}
-use Rattle.lrlex_rules.specs.Declaration.{ends_section}
-use Rattle.lrlex_rules.specs.RuleLine.{is_greater, listed_names}
-use Rattle.lrlex_rules.specs.Text.{Piece, piece, cut, begins_with, is_empty, same_text, trim_text}
+use Rattle.lrlex_parser.specs.Declaration.{ends_section}
+use Rattle.lrlex_parser.specs.RuleLine.{is_greater, listed_names}
+use Rattle.lrlex_parser.specs.Text.{Piece, piece, cut, begins_with, is_empty, same_text, trim_text}
 use Rattle.lrlex_report.specs.FaultRanges.{first_bytes}
 use Rattle.lrlex_report.specs.Notes.{begins_list, line_from}
 

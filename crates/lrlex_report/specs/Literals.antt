@@ -2,8 +2,8 @@
 use Rattle.std.specs.Prelude.{ℕ, Bool, false, not, ◌&&◌, ◌+◌, ◌-◌, ◌==◌, nat_lt, Option, Some, None, List, [], ◌∷◌, length, slice_index, take, drop, codes}
 use Rattle.std.specs.List.{list_all, list_any, position}
 use Rattle.std.specs.Str.{byte}
-use Rattle.lrlex_rules.specs.Escape.{is_one_of}
-use Rattle.lrlex_rules.specs.Text.{is_empty}
+use Rattle.lrlex_parser.specs.Escape.{is_one_of}
+use Rattle.lrlex_parser.specs.Text.{is_empty}
 use Rattle.lrlex_report.specs.FaultRanges.{before_blank}
 use Rattle.lrlex_report.specs.PatternClasses.{at_beginning, from_first}
 use Rattle.lrlex_report.specs.declared.warnings.pattern_classes.Context.{Context}

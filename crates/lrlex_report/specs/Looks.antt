@@ -1,8 +1,8 @@
 -- What in a pattern looks at what is beside its match. Such a pattern has no table.
 use Rattle.std.specs.Prelude.{ℕ, ◌==◌, Bool, true, false, not, ◌&&◌, ◌||◌, if◌then◌else◌, List, [], ◌∷◌, slice_index}
 use Rattle.std.specs.Str.{byte}
-use Rattle.lrlex_rules.specs.Escape.{is_backslash}
-use Rattle.lrlex_rules.specs.Text.{is_empty}
+use Rattle.lrlex_parser.specs.Escape.{is_backslash}
+use Rattle.lrlex_parser.specs.Text.{is_empty}
 use Rattle.lrlex_report.specs.PatternClasses.{at_beginning, from_first}
 use Rattle.lrlex_report.specs.declared.warnings.pattern_classes.Part.{Part}
 use Rattle.lrlex_report.specs.declared.warnings.pattern_classes.Part.TheVariants.{Beginning, Outside, Bracket, Caret, Hyphens, Inside, Member, Range, Operated}

@@ -4,11 +4,11 @@ use Rattle.std.specs.Char.{is_ascii_alphabetic}
 use Rattle.std.specs.List.{list_any}
 use Rattle.std.specs.Str.{byte}
 use Rattle.lrlex_base.specs.Classes.{is_blank}
-use Rattle.lrlex_rules.specs.LexBuildError.{fault_kind, fault_spans}
-use Rattle.lrlex_rules.specs.Text.{is_empty, begins_with, same_text, trim_end}
-use Rattle.lrlex_rules.specs.declared.faults.LexErrorKind.{LexErrorKind}
-use Rattle.lrlex_rules.specs.declared.faults.LexErrorKind.TheVariants.{PrematureEnd, UnknownDeclaration, MissingSpace, InvalidName, UnknownStartState, InvalidStartState, InvalidStartStateName, RegexError, RoutinesNotSupported, VerbatimNotSupported}
-use Rattle.lrlex_rules.specs.declared.faults.LexBuildError.{LexBuildError}
+use Rattle.lrlex_parser.specs.LexBuildError.{fault_kind, fault_spans}
+use Rattle.lrlex_parser.specs.Text.{is_empty, begins_with, same_text, trim_end}
+use Rattle.lrlex_parser.specs.declared.faults.LexErrorKind.{LexErrorKind}
+use Rattle.lrlex_parser.specs.declared.faults.LexErrorKind.TheVariants.{PrematureEnd, UnknownDeclaration, MissingSpace, InvalidName, UnknownStartState, InvalidStartState, InvalidStartStateName, RegexError, RoutinesNotSupported, VerbatimNotSupported}
+use Rattle.lrlex_parser.specs.declared.faults.LexBuildError.{LexBuildError}
 use Rattle.lrlex_report.specs.Encoding.{mark_note}
 use Rattle.lrlex_report.specs.FaultRanges.{first_line, source_in, told_span}
 use Rattle.lrlex_report.specs.PatternNotes.{braces_note, class_note, escape_note, number_note, operator_note, quotes_note, pattern_of}

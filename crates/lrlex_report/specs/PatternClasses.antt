@@ -2,7 +2,7 @@
 -- `[:alpha:]`, is read as a class of its bytes, since it ends at the same `]`.
 use Rattle.std.specs.Prelude.{ℕ, suc, ◌-◌, Bool, false, ◌&&◌, ◌||◌, ◌==◌, if◌then◌else◌, List, [], ◌∷◌}
 use Rattle.std.specs.Str.{byte}
-use Rattle.lrlex_rules.specs.Escape.{is_backslash}
+use Rattle.lrlex_parser.specs.Escape.{is_backslash}
 use Rattle.lrlex_report.specs.declared.warnings.pattern_classes.Part.{Part}
 use Rattle.lrlex_report.specs.declared.warnings.pattern_classes.Part.TheVariants.{Beginning, Outside, Bracket, Caret, Hyphens, Inside, Member, Range, Operated}
 use Rattle.lrlex_report.specs.declared.warnings.pattern_classes.Context.{Context}

@@ -3,9 +3,9 @@ use Rattle.std.specs.Prelude.{ℕ, Bool, false, not, ◌&&◌, ◌||◌, ◌==�
 use Rattle.std.specs.Char.{is_ascii_alphabetic}
 use Rattle.std.specs.List.{list_all, list_any, before_first}
 use Rattle.std.specs.Str.{byte}
-use Rattle.lrlex_rules.specs.Escape.{ends_in_escape, is_backslash, is_one_of}
-use Rattle.lrlex_rules.specs.RuleLine.{after_angles}
-use Rattle.lrlex_rules.specs.Text.{begins_with, is_empty, trim_end}
+use Rattle.lrlex_parser.specs.Escape.{ends_in_escape, is_backslash, is_one_of}
+use Rattle.lrlex_parser.specs.RuleLine.{after_angles}
+use Rattle.lrlex_parser.specs.Text.{begins_with, is_empty, trim_end}
 use Rattle.lrlex_report.specs.ClassOperators.{has_class_operator}
 use Rattle.lrlex_report.specs.FaultRanges.{before_blank, source_in}
 use Rattle.lrlex_report.specs.Literals.{is_double}

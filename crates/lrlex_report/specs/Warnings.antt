@@ -7,14 +7,13 @@ use Rattle.lrlex_base.specs.Classes.{is_line_sep}
 use Rattle.lrlex_base.specs.Spans.{Span, span, as_span, Fits}
 use Rattle.lrlex_rules.specs.Definition.{Definition, Rule}
 use Rattle.lrlex_rules.specs.declared.states.StartState.{StartState}
-use Rattle.lrlex_rules.specs.Escape.{is_backslash, begins_escape}
-use Rattle.lrlex_rules.specs.RuleLine.{target_name}
+use Rattle.lrlex_parser.specs.Escape.{is_backslash, begins_escape}
+use Rattle.lrlex_parser.specs.RuleLine.{target_name}
 use Rattle.lrlex_rules.specs.RuleParts.{RuleParts, as_rule, as_state}
-use Rattle.lrlex_rules.specs.Text.{is_empty, begins_with, same_text, trim_end, drop_trailing}
+use Rattle.lrlex_parser.specs.Text.{is_empty, begins_with, same_text, trim_end, drop_trailing}
 use Rattle.lrlex.specs.Active.{active_places, is_state, lists_none}
 use Rattle.lrlex.specs.Never.{NeverWinsAnywhere, WinsAtNoRow, enters, is_active_somewhere, is_asked_somewhere}
-use Rattle.lrlex.specs.Views.{definition_by}
-use Rattle.lrlex.specs.declared.definition.rule_table.RuleTable.{RuleTable}
+use Rattle.lrlex.specs.Views.{RuleTable, definition_by}
 use Rattle.lrlex_report.specs.Alternatives.{loses_part}
 use Rattle.lrlex_report.specs.ClassNames.{has_unknown_class}
 use Rattle.lrlex_report.specs.ClassOperators.{has_class_operator}

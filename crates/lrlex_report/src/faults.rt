@@ -1,6 +1,6 @@
 //! The errors of a rule text, as people read them.
 ghost use Rattle.std.specs.Prelude.{◌≡◌, ◌++◌, IfOk, OnOk, string_bytes};
-ghost use Rattle.lrlex_rules.specs.LexBuildError.{fault_kind, fault_spans};
+ghost use Rattle.lrlex_parser.specs.LexBuildError.{fault_kind, fault_spans};
 ghost use Rattle.lrlex_report.specs.FaultTexts.{IsMessageOf, shown_name, unknown_part, at_each, fault_name, first_text, places_text, IsFaultMessage, IsFaultText, AreFaultTexts};
 
 use crate::carets::push_rest;
@@ -9,7 +9,7 @@ use crate::notes::fault_note;
 use crate::places::Source;
 use crate::ranges::told_span;
 use lrlex_base::{Span, Spanned};
-use lrlex_rules::{LexBuildError, LexErrorKind};
+use lrlex_parser::{LexBuildError, LexErrorKind};
 use std::alloc::{AllocError, Global};
 use std::fmt::Write;
 

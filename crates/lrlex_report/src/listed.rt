@@ -2,8 +2,8 @@
 ghost use Rattle.std.specs.Prelude.{◌≡◌, ◌∷◌, ◌+◌, ◌<◌, ℕ, length, IfSome};
 ghost use Rattle.std.specs.Option.{option_copied};
 ghost use Rattle.lrlex_base.specs.Classes.{is_white_space};
-ghost use Rattle.lrlex_rules.specs.RuleLine.{listed_names, names_left};
-ghost use Rattle.lrlex_rules.specs.Text.{cut, piece, pieces_left, trim_start, trim_text};
+ghost use Rattle.lrlex_parser.specs.RuleLine.{listed_names, names_left};
+ghost use Rattle.lrlex_parser.specs.Text.{cut, piece, pieces_left, trim_start, trim_text};
 ghost use Rattle.lrlex_report.specs.Listed.{declares, is_declared, undeclared, before_angle, after_less, has_few, names_in, unknown_name};
 
 use crate::notes::{begins_list, text_from};

@@ -2,7 +2,7 @@
 ghost use Rattle.std.specs.Prelude.{◌≡◌, slice_index};
 ghost use Rattle.std.specs.List.{list_any};
 ghost use Rattle.lrlex_base.specs.Classes.{is_blank};
-ghost use Rattle.lrlex_rules.specs.Text.{trim_end};
+ghost use Rattle.lrlex_parser.specs.Text.{trim_end};
 ghost use Rattle.lrlex_report.specs.Notes.{text_from, or_note, comment_note, option_note, code_note, is_word_start, ends_rule, is_definition, definition_note, flex_note, declaration_note, bar_note, is_action, action_note, word_note, name_note, begins_list, list_note, end_note, undeclared_note, state_note, space_note, pattern_note, kind_note, fault_note};
 
 use crate::encoding::mark_note;
@@ -12,7 +12,7 @@ use crate::pattern_notes::{
 use crate::places::nearest;
 use crate::ranges::{first_line, source_in, told_span, trim_end};
 use crate::warnings::patterns::{ends_in, source_of};
-use lrlex_rules::{LexBuildError, LexErrorKind};
+use lrlex_parser::{LexBuildError, LexErrorKind};
 
 /// The text from a place on.
 pub(crate) fn text_from(rules: &str, at: usize) -> &str

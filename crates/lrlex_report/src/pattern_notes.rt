@@ -1,6 +1,6 @@
 //! What the message of a pattern that `regex` refuses ends with: the mistake that it usually comes of, and what to write.
 ghost use Rattle.std.specs.Prelude.{◌≡◌};
-ghost use Rattle.lrlex_rules.specs.Escape.{ends_in_escape};
+ghost use Rattle.lrlex_parser.specs.Escape.{ends_in_escape};
 ghost use Rattle.lrlex_report.specs.PatternNotes.{pattern_of, escape_note, is_braced_number, has_braced_number, number_note, class_note, begins_name, has_braced_name, braces_note, is_operator, are_operators, are_some_operators, ends_operators, quotes_operators, quotes_note, repeats_nothing, operator_note};
 
 use crate::ranges::{before_blank, source_in, trim_end};

@@ -1,14 +1,14 @@
 //! What an editor underlines of a fault.
 ghost use Rattle.std.specs.Prelude.{◌≡◌, ◌+◌, ◌≤◌, IsCharBoundary, drop, length, take};
 ghost use Rattle.lrlex_base.specs.Spans.{Fits, as_span, span_end, span_start};
-ghost use Rattle.lrlex_rules.specs.Declaration.{first_word};
-ghost use Rattle.lrlex_rules.specs.LexBuildError.{fault_spans};
-ghost use Rattle.lrlex_rules.specs.Text.{trim_end};
+ghost use Rattle.lrlex_parser.specs.Declaration.{first_word};
+ghost use Rattle.lrlex_parser.specs.LexBuildError.{fault_spans};
+ghost use Rattle.lrlex_parser.specs.Text.{trim_end};
 ghost use Rattle.lrlex_report.specs.FaultRanges.{first_line, first_bytes, through_angle, before_blank, source_in, wrong_part, or_first_char, told_span, fault_range};
 
 use crate::places::nearest;
 use lrlex_base::{Span, Spanned, is_blank, is_line_sep, is_white_space};
-use lrlex_rules::{LexBuildError, LexErrorKind};
+use lrlex_parser::{LexBuildError, LexErrorKind};
 
 /// The text up to the end of its first line.
 pub(crate) fn first_line(text: &str) -> &str

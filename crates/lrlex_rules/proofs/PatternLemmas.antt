@@ -1,4 +1,5 @@
 -- A compiled rule gives what its text is read as.
+use Rattle.std.specs.Prelude.{Result, Ok, Err, IfOk}
 use Rattle.std.proofs.Common.{◌≡◌, ℕ, ◌≤◌, List, length, Option, None, Some, IsSomeAnd, subst}
 use Rattle.std.specs.Option.{option_map_or}
 use Rattle.std.specs.Str.{chars}
@@ -33,3 +34,7 @@ source_alike re config source is read under =
     record { at = λ hay bytes k i. ∥∥₁_elim read (outcomes_prop _ _) (λ h. (as_read re h).at hay bytes k i) } in
     subst (λ o. SameCaptures (regex_pattern re) (pattern_read o source)) under
     (subst (λ s. SameCaptures (regex_pattern re) (pattern_read (regex_config re) s)) is here)
+
+pub if_ok : {T E : Type 0} {P Q : T → Type 0} (r : Result T E) → ((x : T) → P x → Q x) → IfOk r P → IfOk r Q
+if_ok (Ok x) f h = f x h
+if_ok (Err e) f h = tt

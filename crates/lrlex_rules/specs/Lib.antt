@@ -1,26 +1,15 @@
--- what a rule text says
+-- what a definition says
 pub mod Definition
 pub mod Flags
 pub mod WrappedPattern
-pub mod Text
-pub mod Event
-pub mod Declaration
-pub mod RuleLine
-pub mod Escape
-pub mod Outcome
-pub mod AllFaults
-pub mod DefinitionLaws
 -- what a rule's pattern matches
 pub use Rattle.lrlex_matching.specs.Matching
 pub mod Patterns
 pub mod Matchers
 -- what contracts see of the program's types
 pub mod RuleParts
-pub mod LexErrorKind
-pub mod LexBuildError
-pub mod LexBuildResult
--- what the functions inside the crate promise each other
-pub mod Names
-pub mod Duplicates
-pub mod LexParser
-pub mod Survey
+pub mod Kinds
+-- which rules are active in a state, and ids by name
+pub mod Active
+pub mod RuleLists
+pub mod Ids

@@ -1,4 +1,5 @@
 ghost use Rattle.std.specs.Prelude.{◌≡◌};
+ghost use Rattle.lrlex_rules.specs.Flags.{allows_comments, has_posix_escapes, resolved};
 
 use regex_syntax::{Config, Flags};
 
@@ -67,7 +68,7 @@ pub const DEFAULT_LEX_FLAGS: LexFlags = LexFlags {
 const MOST_NESTED: u32 = 1_000;
 
 impl LexFlags {
-    ghost use Rattle.lrlex_rules.specs.Flags.{config_of, nest_limit_of, has_posix_escapes, allows_comments, resolved};
+    ghost use Rattle.lrlex_rules.specs.Flags.{config_of, nest_limit_of};
 
     /// How deep a pattern may nest.
     fn nesting(&self) -> u32
@@ -95,34 +96,34 @@ impl LexFlags {
             nest_limit: self.nesting(),
         }
     }
+}
 
-    /// Whether escapes are POSIX lex's.
-    pub(crate) fn has_posix_escapes(&self) -> bool
-        ensures { result ≡ has_posix_escapes self.now }
-    {
-        self.posix_escapes.unwrap_or(false)
-    }
+/// Whether escapes are POSIX lex's.
+pub fn has_posix_escapes(flags: &LexFlags) -> bool
+    ensures { result ≡ has_posix_escapes flags.now }
+{
+    flags.posix_escapes.unwrap_or(false)
+}
 
-    /// Whether a line may be a comment.
-    pub(crate) fn allows_comments(&self) -> bool
-        ensures { result ≡ allows_comments self.now }
-    {
-        self.allow_wholeline_comments.unwrap_or(false)
-    }
+/// Whether a line may be a comment.
+pub fn allows_comments(flags: &LexFlags) -> bool
+    ensures { result ≡ allows_comments flags.now }
+{
+    flags.allow_wholeline_comments.unwrap_or(false)
+}
 
-    /// The flags as they are used: each unset one that has a default is set to it, and a nest limit that is set is at most 1,000.
-    pub(crate) fn resolved(&self) -> LexFlags
-        ensures { result ≡ resolved self.now }
-    {
-        let config = self.config();
-        LexFlags {
-            dot_matches_new_line: Some(config.flags.dot_matches_new_line),
-            multi_line: Some(config.flags.multi_line),
-            octal: Some(config.octal),
-            posix_escapes: Some(self.has_posix_escapes()),
-            allow_wholeline_comments: Some(self.allows_comments()),
-            nest_limit: self.nest_limit.map(|limit| limit.min(MOST_NESTED)),
-            ..*self
-        }
+/// The flags as they are used: each unset one that has a default is set to it, and a nest limit that is set is at most 1,000.
+pub fn resolved(flags: &LexFlags) -> LexFlags
+    ensures { result ≡ resolved flags.now }
+{
+    let config = flags.config();
+    LexFlags {
+        dot_matches_new_line: Some(config.flags.dot_matches_new_line),
+        multi_line: Some(config.flags.multi_line),
+        octal: Some(config.octal),
+        posix_escapes: Some(has_posix_escapes(flags)),
+        allow_wholeline_comments: Some(allows_comments(flags)),
+        nest_limit: flags.nest_limit.map(|limit| limit.min(MOST_NESTED)),
+        ..*flags
     }
 }

@@ -1,13 +1,14 @@
 ghost use Rattle.std.specs.Prelude.{◌≡◌, IfOk};
-ghost use Rattle.lrlex_rules.specs.LexBuildResult.{IsAnswer, AreOwnRefusals, AreAllFaults, BeginAsRead, as_faults};
+ghost use Rattle.lrlex_parser.specs.LexBuildResult.{IsAnswer, AreOwnRefusals, AreAllFaults, BeginAsRead, as_faults};
 
-use crate::definition::lookups::{first_named, first_with_id};
 use crate::definition::non_streaming::LRNonStreamingLexerDef;
-use crate::definition::rule_table::{RuleTable, usual_budget};
+use crate::definition::read_table::read_table;
 use lrlex_base::{Id, LexerTypes, Span};
+use lrlex_definition::{RuleTable, usual_budget};
+use lrlex_parser::{LexBuildError, LexBuildResult, all_faults};
 use lrlex_rules::{
-    DEFAULT_LEX_FLAGS, LexBuildError, LexBuildResult, LexFlags, Rule, StartState,
-    UNSPECIFIED_LEX_FLAGS, all_faults,
+    DEFAULT_LEX_FLAGS, LexFlags, Rule, StartState, UNSPECIFIED_LEX_FLAGS, first_named,
+    first_with_id,
 };
 use lrlex_table::Budget;
 use std::alloc::{AllocError, Global};
@@ -21,11 +22,11 @@ pub trait LexerDef<L: LexerTypes>: Sized {
     ghost use Rattle.std.specs.Slice.Iter.{iter_rest};
     ghost use Rattle.lrlex_rules.specs.declared.states.StartState.{StartState};
     ghost use Rattle.lrlex_rules.specs.Definition.{Definition};
-    ghost use Rattle.lrlex_rules.specs.LexBuildResult.{IsAnswer, AreOwnRefusals};
-    ghost use Rattle.lrlex_rules.specs.LexBuildError.{IsPlaced};
-    ghost use Rattle.lrlex_rules.specs.DefinitionLaws.{IsLawful};
+    ghost use Rattle.lrlex_parser.specs.LexBuildResult.{IsAnswer, AreOwnRefusals};
+    ghost use Rattle.lrlex_parser.specs.LexBuildError.{IsPlaced};
+    ghost use Rattle.lrlex_parser.specs.DefinitionLaws.{IsLawful};
     ghost use Rattle.lrlex_rules.specs.RuleParts.{RuleParts, as_rule};
-    ghost use Rattle.lrlex.specs.Ids.{IsMadeOf, rule_with_id, rule_named, ids_of, with_own_id, with_ids, is_lacking, is_unused, is_unused_at, HoldsNames, HoldsTexts, HoldsPlaces};
+    ghost use Rattle.lrlex_rules.specs.Ids.{IsMadeOf, rule_with_id, rule_named, ids_of, with_own_id, with_ids, is_lacking, is_unused, is_unused_at, HoldsNames, HoldsTexts, HoldsPlaces};
 
     // What it says.
     ghost said: { Self → Definition };
@@ -136,10 +137,10 @@ pub trait LexerDef<L: LexerTypes>: Sized {
 
 impl<L: LexerTypes> LexerDef<L> for LRNonStreamingLexerDef<L> {
     ghost use Rattle.std.specs.Prelude.{◌≡◌, ◌≤◌, true, IfOk, IfErr, All};
-    ghost use Rattle.lrlex_rules.specs.LexBuildError.{IsPlaced};
-    ghost use Rattle.lrlex_rules.specs.DefinitionLaws.{IsLawful};
-    ghost use Rattle.lrlex.specs.Active.{is_state};
-    ghost use Rattle.lrlex.specs.Ids.{IsMadeOf};
+    ghost use Rattle.lrlex_parser.specs.LexBuildError.{IsPlaced};
+    ghost use Rattle.lrlex_parser.specs.DefinitionLaws.{IsLawful};
+    ghost use Rattle.lrlex_rules.specs.Active.{is_state};
+    ghost use Rattle.lrlex_rules.specs.Ids.{IsMadeOf};
     ghost use Rattle.lrlex.specs.Views.{definition_of, definition_rows, definition_rules, definition_states};
 
     ghost said = { definition_of L.StorageT.number };
@@ -236,9 +237,9 @@ impl<L: LexerTypes> LexerDef<L> for LRNonStreamingLexerDef<L> {
 
 impl<L: LexerTypes> LRNonStreamingLexerDef<L> {
     ghost use Rattle.std.specs.Prelude.{◌≤◌, true, IfErr, All};
-    ghost use Rattle.lrlex_rules.specs.LexBuildError.{IsPlaced};
-    ghost use Rattle.lrlex_rules.specs.DefinitionLaws.{IsLawful};
-    ghost use Rattle.lrlex.specs.Active.{is_state};
+    ghost use Rattle.lrlex_parser.specs.LexBuildError.{IsPlaced};
+    ghost use Rattle.lrlex_parser.specs.DefinitionLaws.{IsLawful};
+    ghost use Rattle.lrlex_rules.specs.Active.{is_state};
     ghost use Rattle.lrlex.specs.Views.{definition_of, definition_rows, definition_rules};
 
     /// Reads a rule text with these flags. The inner `Err` has the faults of the text up to the first that is neither a duplicate nor
@@ -301,7 +302,7 @@ impl<L: LexerTypes> LRNonStreamingLexerDef<L> {
         ensures within { IfOk result (λ built. IfOk built
             (λ d. definition_rows d ≤ budget.rows)) }
     {
-        match RuleTable::read(alloc, text, flags, budget)? {
+        match read_table(alloc, text, flags, budget)? {
             Ok(table) => Ok(Ok(LRNonStreamingLexerDef { table })),
             Err(faults) => Ok(Err(faults)),
         }

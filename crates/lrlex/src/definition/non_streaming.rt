@@ -1,12 +1,8 @@
 ghost use Rattle.std.specs.Prelude.{◌≡◌, ◌<◌, ◌≤◌};
 
-use crate::definition::names::name_of;
-use crate::definition::rule_table::RuleTable;
-use crate::definition::state_tables::{
-    count_of_asked, count_of_rows, count_of_tables, most_tables,
-};
 use lrlex_base::LexerTypes;
-use lrlex_rules::LexFlags;
+use lrlex_definition::{RuleTable, count_of_asked, count_of_rows, count_of_tables, most_tables};
+use lrlex_rules::{LexFlags, name_of};
 use lrlex_table::Budget;
 use std::alloc::{AllocError, Global};
 
@@ -19,9 +15,9 @@ pub struct LRNonStreamingLexerDef<L: LexerTypes> {
 impl<L: LexerTypes> LRNonStreamingLexerDef<L> {
     ghost use Rattle.lrlex.specs.Views.{definition_of, definition_rows, definition_tables};
     ghost use Rattle.std.specs.Prelude.{Some, option_map, min, IfOk, ◌-◌, ◌^◌};
-    ghost use Rattle.lrlex.specs.StateTables.{count_of_tables, count_of_asked, most_tables};
+    ghost use Rattle.lrlex_definition.specs.StateTables.{count_of_tables, count_of_asked, most_tables};
     ghost use Rattle.lrlex_table.specs.Linear.{count_of_rows, most_cells};
-    ghost use Rattle.lrlex.specs.Ids.{name_of};
+    ghost use Rattle.lrlex_rules.specs.Ids.{name_of};
 
     /// This definition with tables that cost no more than the budget. They and their chain hold at most its rows, the chain
     /// one for each 256 cells. Under a budget of nothing each rule is matched by `regex`. No answer changes. `new_with_budget` makes

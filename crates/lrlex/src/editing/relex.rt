@@ -1,5 +1,5 @@
 ghost use Rattle.std.specs.Prelude.{◌≡◌, ◌≢◌, ℕ, ◌+◌, ◌-◌, ◌<◌, ◌≤◌, ◌^◌, true, false, max, All, ◌++◌, length, map, drop, take, IfOk, OnOk, OnErr};
-ghost use Rattle.lrlex.specs.Active.{is_state};
+ghost use Rattle.lrlex_rules.specs.Active.{is_state};
 ghost use Rattle.lrlex_base.specs.Spans.{span_start, span_end, as_span, Fits};
 ghost use Rattle.lrlex_base.specs.Edits.{edited};
 ghost use Rattle.lrlex.specs.Tiling.{rebased};
@@ -14,11 +14,11 @@ ghost use Rattle.lrlex.specs.Searches.{asks_by};
 ghost use Rattle.lrlex.specs.LexRun.{IsRunOf, HasItemLaws};
 ghost use Rattle.lrlex.specs.Changes.{HasChanged};
 ghost use Rattle.lrlex.specs.Relex.{AreCountsOf, WasChanged, WasRelexed};
-ghost use Rattle.lrlex.specs.Views.{definition_by, definition_of, items_by, item_of};
+ghost use Rattle.lrlex_definition.specs.RuleTable.{definition_by};
+ghost use Rattle.lrlex.specs.Views.{definition_of, items_by, item_of};
 ghost use Rattle.lrlex.specs.Work.{HasLinearRecut, HasLinearWork, IsLinearIn};
 ghost use Rattle.lrlex.specs.Progress.{HasRecut, HasSame, IsEditOf, HasReplacedTail, HasReplacedMiddle, TellsMeeting};
 
-use crate::definition::rule_table::RuleTable;
 use crate::editing::changes::{Change, Changed};
 use crate::editing::restart::{append_raised, count_up_to, last_safe, resume};
 use crate::errors::LRLexError;
@@ -28,6 +28,7 @@ use crate::lexing::winner::Searcher;
 use lrlex_base::{Edit, LexError, Lexeme, LexerTypes, Numbered, Span};
 use lrlex_boundaries::Boundaries;
 use lrlex_boundaries::room::splice;
+use lrlex_definition::RuleTable;
 use std::alloc::{AllocError, Global};
 
 /// The item, once what was at `from` is at `to`.

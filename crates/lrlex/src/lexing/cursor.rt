@@ -1,15 +1,15 @@
 //! Where a scanner stands.
 ghost use Rattle.std.specs.Prelude.{◌≡◌, ◌≤◌, true, IfOk, IfSome};
-ghost use Rattle.lrlex.specs.Active.{is_state};
+ghost use Rattle.lrlex_rules.specs.Active.{is_state};
 ghost use Rattle.lrlex.specs.Scanner.{IsCursorOf, IsStand, at_front, scanned_by, sought_at, standing};
-ghost use Rattle.lrlex.specs.Views.{definition_by};
+ghost use Rattle.lrlex_definition.specs.RuleTable.{definition_by};
 ghost use Rattle.lrlex.specs.Work.{most_cells_by};
 
-use crate::definition::rule_table::{RuleTable, StateRules};
 use crate::lexing::stack::{reset, top_of};
 use crate::lexing::winner::{Searcher, Tile};
 use lrlex_base::Numbered;
 use lrlex_boundaries::room::copied;
+use lrlex_definition::{RuleTable, StateRules};
 use std::alloc::{AllocError, Global};
 
 /// What wins at a place, where it was looked for.

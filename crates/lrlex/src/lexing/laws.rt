@@ -11,7 +11,7 @@ ghost use Rattle.lrlex.specs.Moves.{items_from};
 ghost use Rattle.lrlex.specs.Reach.{IsLexed, IsRun};
 ghost use Rattle.lrlex.specs.ItemLaws.{HaveLaws};
 ghost use Rattle.lrlex_positions.specs.Columns.{units};
-ghost use Rattle.lrlex.specs.Active.{is_state};
+ghost use Rattle.lrlex_rules.specs.Active.{is_state};
 ghost use Rattle.lrlex.specs.Scanner.{AreScanned, IsStep, Scanned, after_step, at_front};
 ghost use Rattle.lrlex.specs.Tiling.{End as TheEnd, Tile as TheTile};
 ghost use Rattle.lrlex.specs.declared.lexing.scanner.ScannedTile.{ScannedTile};

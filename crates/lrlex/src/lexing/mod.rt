@@ -1,6 +1,5 @@
 //! Lexing: at each place the longest match wins, on a tie the earliest rule, under a stack of start states.
 pub(crate) mod cursor;
-pub(crate) mod entering;
 pub(crate) mod laws;
 pub(crate) mod plain;
 pub(crate) mod run;

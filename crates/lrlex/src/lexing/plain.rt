@@ -3,16 +3,15 @@ ghost use Rattle.std.specs.Prelude.{◌≡◌, ℕ, ◌+◌, ◌^◌, ◌<◌, �
 ghost use Rattle.lrlex_table.specs.Ahead.{begin_at};
 ghost use Rattle.lrlex_table.specs.Chain.{end_of, row_of};
 ghost use Rattle.lrlex.specs.Tiling.{lexeme_of};
-ghost use Rattle.lrlex.specs.Searcher.{AreOf};
+ghost use Rattle.lrlex_definition.specs.RuleTable.{AreOf};
 ghost use Rattle.lrlex.specs.Plain.{AllArePlain, HasEnteredAll, HasTakenMany, IsRunningIn, lexemes_of};
 ghost use Rattle.lrlex.specs.Views.{item_of};
 
-use crate::definition::row_kinds::RowKind;
-use crate::definition::rule_table::{RuleTable, StateRules};
 use crate::errors::LRLexError;
 use crate::lexing::step::Progress;
 use crate::lexing::winner::Searcher;
 use lrlex_base::{Lexeme, Numbered};
+use lrlex_definition::{RowKind, RuleTable, StateRules};
 use lrlex_table::MatchesAhead;
 use std::alloc::AllocError;
 use std::mem;

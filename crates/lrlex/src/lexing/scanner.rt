@@ -3,18 +3,18 @@ ghost use Rattle.std.specs.Prelude.{◌≡◌, ◌≤◌, OnErr, IfOk, IfSome, o
 ghost use Rattle.lrlex_rules.specs.RuleParts.{state_number};
 ghost use Rattle.lrlex.specs.Errors.{error_parts};
 ghost use Rattle.lrlex.specs.Scanner.{HasGivenStep, IsCursorOf, IsPlaceOf, IsStep, after_step, at_front, end_error, standing, top_state};
-ghost use Rattle.lrlex.specs.Views.{definition_by, definition_of};
+ghost use Rattle.lrlex_definition.specs.RuleTable.{definition_by};
+ghost use Rattle.lrlex.specs.Views.{definition_of};
 ghost use Rattle.lrlex.specs.Work.{most_cells_by, most_cells_of};
 
 use crate::definition::non_streaming::LRNonStreamingLexerDef;
-use crate::definition::row_kinds::RowKind;
-use crate::definition::rule_table::RuleTable;
 use crate::errors::LRLexError;
 use crate::lexing::cursor::{Cursor, ScanPlace, cursor_at, cursor_of};
 use crate::lexing::scanning::{seek, take_sought, take_tile};
 use crate::lexing::stack::top_of;
 use crate::lexing::winner::Tile;
 use lrlex_base::{LexerTypes, Numbered, Span};
+use lrlex_definition::{RowKind, RuleTable};
 use lrlex_rules::StartStateId;
 use std::alloc::{AllocError, Global};
 use std::marker::Model;

@@ -3,14 +3,13 @@ ghost use Rattle.std.specs.Prelude.{◌≡◌, ◌+◌, ◌≤◌, max, None, So
 ghost use Rattle.lrlex.specs.Scanner.{HasGivenStep, IsCursorOf, IsSought, sought_at, sought_to};
 ghost use Rattle.lrlex.specs.Work.{won_bytes};
 
-use crate::definition::active::{lacks_id, lexeme_id};
-use crate::definition::rule_table::RuleTable;
 use crate::lexing::cursor::{Cursor, Sought};
 use crate::lexing::scanner::{ScanEnd, ScannedTile, Step};
 use crate::lexing::stack::{step, top_of};
 use crate::lexing::winner::Tile;
 use lrlex_base::{Numbered, Span};
-use lrlex_rules::StartStateId;
+use lrlex_definition::RuleTable;
+use lrlex_rules::{StartStateId, lacks_id, lexeme_id};
 use std::alloc::{AllocError, Global};
 
 /// Takes what won at the cursor's place in the state that is on top, whatever its rule is.

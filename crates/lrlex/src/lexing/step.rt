@@ -3,12 +3,13 @@ ghost use Rattle.lrlex.specs.Tiling.{Error, stack_after, lexeme_of};
 ghost use Rattle.lrlex_boundaries.specs.Entries.{AreEntries};
 ghost use Rattle.lrlex_boundaries.specs.Boundaries.{last_entries};
 ghost use Rattle.lrlex.specs.Lookahead.{capped};
-ghost use Rattle.lrlex.specs.Searcher.{AreOf, IsSearcherOf};
-ghost use Rattle.lrlex.specs.Views.{definition_by, item_of, items_by};
+ghost use Rattle.lrlex_definition.specs.RuleTable.{AreOf};
+ghost use Rattle.lrlex.specs.Searcher.{IsSearcherOf};
+ghost use Rattle.lrlex_definition.specs.RuleTable.{definition_by};
+ghost use Rattle.lrlex.specs.Views.{item_of, items_by};
 ghost use Rattle.lrlex.specs.Work.{HasGoneOn, HasWorked};
 ghost use Rattle.lrlex.specs.Progress.{Front, HasEntered, HasTakenStep, IsUnderWay};
 
-use crate::definition::rule_table::{RuleTable, StateRules};
 use crate::errors::LRLexError;
 use crate::lexing::stack::top_of;
 use crate::lexing::taking::take_scan;
@@ -16,6 +17,7 @@ use crate::lexing::winner::{Scan, Searcher, Tile};
 use lrlex_base::{Lexeme, Numbered, Span};
 use lrlex_boundaries::Boundaries;
 use lrlex_boundaries::room::append;
+use lrlex_definition::{RuleTable, StateRules};
 use lrlex_rules::StartStateId;
 use std::alloc::{AllocError, Global};
 

@@ -4,18 +4,17 @@ ghost use Rattle.lrlex.specs.Tiling.{top};
 ghost use Rattle.lrlex_boundaries.specs.Entries.{plain, AreEntries};
 ghost use Rattle.lrlex_boundaries.specs.Boundaries.{last_entries};
 ghost use Rattle.lrlex.specs.Searcher.{HasAsked, IsScanOf};
-ghost use Rattle.lrlex.specs.Views.{definition_by};
+ghost use Rattle.lrlex_definition.specs.RuleTable.{definition_by};
 ghost use Rattle.lrlex.specs.Work.{won_bytes};
 ghost use Rattle.lrlex.specs.Progress.{Front, HasEntered, HasTakenStep, IsUnderWay};
 
-use crate::definition::active::{lacks_id, lexeme_id};
-use crate::definition::rule_table::RuleTable;
 use crate::lexing::stack::step;
 use crate::lexing::step::{Progress, capped, push_error, push_lexeme};
 use crate::lexing::winner::Scan;
 use lrlex_base::{Lexeme, Numbered};
 use lrlex_boundaries::room::append;
-use lrlex_rules::Rule;
+use lrlex_definition::RuleTable;
+use lrlex_rules::{Rule, lacks_id, lexeme_id};
 use std::alloc::AllocError;
 
 /// Enters the next boundary: moves the stack by the rule's target. The tiles looked `lookahead` bytes past its place.

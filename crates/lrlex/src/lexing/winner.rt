@@ -3,16 +3,16 @@ ghost use Rattle.std.specs.Prelude.{◌≡◌, ℕ, length, slice_index, [], max
 ghost use Rattle.lrlex_rules.specs.Matchers.{AreMatchers};
 ghost use Rattle.lrlex_table.specs.Linear.{HasWorkedTo};
 ghost use Rattle.lrlex_table.specs.Ahead.{IsNextAt};
-ghost use Rattle.lrlex.specs.Active.{rule_at};
-ghost use Rattle.lrlex.specs.Kinds.{IsPlain};
-ghost use Rattle.lrlex.specs.RowKinds.{own_kind};
-ghost use Rattle.lrlex.specs.Searcher.{AreOf, AreFoundAt, HasAsked, IsFoundAt, IsSearcherOf, IsScanOf, tile_of};
-ghost use Rattle.lrlex.specs.Views.{definition_by};
+ghost use Rattle.lrlex_rules.specs.Active.{rule_at};
+ghost use Rattle.lrlex_rules.specs.Kinds.{IsPlain};
+ghost use Rattle.lrlex_definition.specs.RowKinds.{own_kind};
+ghost use Rattle.lrlex_definition.specs.RuleTable.{AreOf};
+ghost use Rattle.lrlex.specs.Searcher.{AreFoundAt, HasAsked, IsFoundAt, IsSearcherOf, IsScanOf, tile_of};
+ghost use Rattle.lrlex_definition.specs.RuleTable.{definition_by};
 ghost use Rattle.lrlex.specs.Work.{HasWorked, IsLinearIn, won_bytes};
 
-use crate::definition::row_kinds::RowKind;
-use crate::definition::rule_table::{RuleTable, StateRules};
 use lrlex_base::Numbered;
+use lrlex_definition::{RowKind, RuleTable, StateRules};
 use lrlex_rules::{empty_matchers, match_rule};
 use lrlex_table::{DeadEnds, MatchAhead, MatchesAhead};
 use regex::Matcher;

@@ -1,5 +1,3 @@
-//! What is read of a text that is lexed: the lexer with its items, spans, pieces, lines and columns.
+//! What is read of a text that is lexed: the lexer with its items, spans and places, and pieces.
 pub(crate) mod lexer;
-pub(crate) mod line_cursor;
 pub(crate) mod pieces;
-pub(crate) mod positions;

@@ -1,16 +1,17 @@
 //! The whole text as it was cut.
 ghost use Rattle.std.specs.Prelude.{ℕ, ◌≡◌, ◌+◌, ◌<◌, ◌≤◌, true, List, IfOk, IsCharBoundary, drop, length, slice_range, vec_len};
-ghost use Rattle.lrlex.specs.Active.{is_state};
-ghost use Rattle.lrlex.specs.Searcher.{AreOf, IsSearcherOf};
+ghost use Rattle.lrlex_rules.specs.Active.{is_state};
+ghost use Rattle.lrlex_definition.specs.RuleTable.{AreOf};
+ghost use Rattle.lrlex.specs.Searcher.{IsSearcherOf};
 ghost use Rattle.lrlex_boundaries.specs.Boundaries.{Boundary, boundary_at};
 ghost use Rattle.lrlex_rules.specs.Definition.{Definition};
 ghost use Rattle.lrlex.specs.Pieces.{IsPiece, AreTilesOfRun, ArePieces, ArePiecesIn, ArePiecesOfRun, joined};
 ghost use Rattle.lrlex.specs.declared.reading.pieces.Piece.{Piece as ThePiece};
 ghost use Rattle.lrlex.specs.Reach.{IsLexed, IsRun};
 ghost use Rattle.lrlex.specs.Tiling.{Item, Wins};
-ghost use Rattle.lrlex.specs.Views.{definition_by, definition_of};
+ghost use Rattle.lrlex_definition.specs.RuleTable.{definition_by};
+ghost use Rattle.lrlex.specs.Views.{definition_of};
 
-use crate::definition::rule_table::{RuleTable, StateRules};
 use crate::editing::restart::count_up_to;
 use crate::errors::LRLexError;
 use crate::lexing::run::LexRun;
@@ -18,6 +19,7 @@ use crate::lexing::stack::top_of;
 use crate::lexing::winner::{Searcher, Tile};
 use lrlex_base::{LexerTypes, Numbered, Span};
 use lrlex_boundaries::Boundaries;
+use lrlex_definition::{RuleTable, StateRules};
 use std::alloc::{AllocError, Global};
 
 /// A tile of a text.

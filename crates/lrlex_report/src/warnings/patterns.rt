@@ -1,6 +1,6 @@
 //! A rule's pattern as the text has it, and what in a pattern is hardly meant.
 ghost use Rattle.std.specs.Prelude.{◌≡◌, ◌+◌, ◌≤◌, false, IsCharBoundary, length, take};
-ghost use Rattle.lrlex_rules.specs.RuleLine.{target_name};
+ghost use Rattle.lrlex_parser.specs.RuleLine.{target_name};
 ghost use Rattle.lrlex_report.specs.Warnings.{whole_lines_of, line_start, source_of, is_state_name_of, ends_in, goes_on, is_target_of, ends_in_target, begins_blank, is_unmeant, has_unmeant, are_flags, after_flags, in_group, ungrouped};
 
 use crate::ranges::{before_blank, first_bytes, trim_end};

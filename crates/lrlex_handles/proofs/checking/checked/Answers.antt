@@ -1,5 +1,5 @@
 use Rattle.std.proofs.Common.{subst}
-use Rattle.lrlex_rules.specs.LexBuildResult.{IsAnswer}
+use Rattle.lrlex_parser.specs.LexBuildResult.{IsAnswer}
 use Rattle.lrlex.specs.Views.{definition_of}
 use Rattle.lrlex_handles.specs.Settings.{flags_by}
 use Rattle.lrlex_handles.proofs.checking.checked.Goals as goal

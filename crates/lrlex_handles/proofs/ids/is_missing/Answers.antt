@@ -1,7 +1,7 @@
 use Rattle.std.proofs.Common.{not, sym, ap, ◌∙◌}
 use Rattle.lrlex_rules.specs.RuleParts.{as_rule}
 use Rattle.lrlex.specs.Ids.{is_named}
-use Rattle.lrlex.proofs.ViewLemmas.{list_any-map}
+use Rattle.lrlex_rules.proofs.ViewLemmas.{list_any-map}
 use Rattle.lrlex_handles.proofs.ids.is_missing.Goals as goal
 
 pub returns : goal.returns

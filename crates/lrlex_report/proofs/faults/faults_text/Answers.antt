@@ -1,6 +1,6 @@
 use Rattle.std.proofs.Common.{◌≡◌, ◌∷◌, [], ◌++◌, ◌+◌, ◌<◌, ◌∙◌, List, ℕ, sym, ap, subst, string_bytes, take, length, arith}
 use Rattle.std.proofs.lemmas.List.{take_more}
-use Rattle.lrlex_rules.specs.declared.faults.LexBuildError.{LexBuildError}
+use Rattle.lrlex_parser.specs.declared.faults.LexBuildError.{LexBuildError}
 use Rattle.lrlex_report.specs.FaultTexts.{AreFaultTexts}
 use Rattle.lrlex_report.proofs.FaultLemmas.{AreFaultTexts_more}
 use Rattle.lrlex_report.proofs.faults.faults_text.Goals as goal

@@ -2,7 +2,7 @@
 use Rattle.std.proofs.Common.{◌≡◌, ℕ, ◌+◌, ◌≤◌, List, length, IfSome}
 use Rattle.std.specs.Option.{option_copied, option_map_or}
 use Rattle.lrlex_base.specs.Classes.{is_white_space}
-use Rattle.lrlex_rules.specs.Text.{cut, piece, pieces_left}
+use Rattle.lrlex_parser.specs.Text.{cut, piece, pieces_left}
 use Rattle.lrlex_report.specs.Listed.{declares}
 use Rattle.lrlex_report.proofs.listed.declares.Given as goal
 

@@ -1,5 +1,5 @@
 use Rattle.std.proofs.Common.{lit<}
-use Rattle.lrlex_rules.proofs.Lists.{names_first, names_lone}
+use Rattle.lrlex_parser.proofs.Lists.{names_first, names_lone}
 use Rattle.lrlex_report.proofs.listed.next_listed.Goals as goal
 
 pub returns-in-Some-clause-names : goal.returns-in-Some-clause-names

@@ -1,7 +1,7 @@
 use Rattle.std.proofs.Common.{rules}
 use Rattle.std.proofs.lemmas.List.Sorted.{answers_always}
 use Rattle.lrlex_base.specs.Classes.{is_white_space}
-use Rattle.lrlex_rules.proofs.Cuts.{split_once_some, split_once_none, split_once_shorter}
+use Rattle.lrlex_parser.proofs.Cuts.{split_once_some, split_once_none, split_once_shorter}
 use Rattle.lrlex_report.proofs.listed.next_word.Goals as goal
 
 pub returns-in-Some-clause-pieces : goal.returns-in-Some-clause-pieces

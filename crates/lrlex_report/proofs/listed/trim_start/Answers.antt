@@ -1,7 +1,7 @@
 use Rattle.std.proofs.Common.{rules}
 use Rattle.std.proofs.lemmas.List.Sorted.{answers_always}
 use Rattle.lrlex_base.specs.Classes.{is_white_space}
-use Rattle.lrlex_rules.proofs.Trims.{trim_start_matches_closure}
+use Rattle.lrlex_parser.proofs.Trims.{trim_start_matches_closure}
 use Rattle.lrlex_report.proofs.listed.trim_start.Goals as goal
 
 pub returns : goal.returns

@@ -1,7 +1,7 @@
 -- The first undeclared name of what is left is that of the list.
 use Rattle.std.proofs.Common.{◌≡◌, ℕ, ◌+◌, List, length}
 use Rattle.std.specs.Option.{option_copied, option_map_or}
-use Rattle.lrlex_rules.specs.RuleLine.{listed_names, names_left}
+use Rattle.lrlex_parser.specs.RuleLine.{listed_names, names_left}
 use Rattle.lrlex_report.specs.Listed.{undeclared}
 use Rattle.lrlex_report.proofs.listed.undeclared.Given as goal
 

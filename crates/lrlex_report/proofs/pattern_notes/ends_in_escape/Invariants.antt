@@ -1,5 +1,5 @@
 use Rattle.std.proofs.Common.{◌≡◌, take}
-use Rattle.lrlex_rules.specs.Escape.{ends_in_escape}
+use Rattle.lrlex_parser.specs.Escape.{ends_in_escape}
 use Rattle.lrlex_report.proofs.pattern_notes.ends_in_escape.Given as goal
 
 -- as far as the loop has come

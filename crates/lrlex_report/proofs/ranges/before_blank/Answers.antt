@@ -1,7 +1,7 @@
 use Rattle.std.proofs.Common.{rules, refl}
 use Rattle.std.proofs.lemmas.List.Sorted.{answers_always}
 use Rattle.lrlex_base.specs.Classes.{is_blank}
-use Rattle.lrlex_rules.proofs.Cuts.{rsplit_once_some, rsplit_once_none, blank_ascii}
+use Rattle.lrlex_parser.proofs.Cuts.{rsplit_once_some, rsplit_once_none, blank_ascii}
 use Rattle.lrlex_report.proofs.ranges.before_blank.Goals as goal
 
 pub returns-in-Some-clause-value : goal.returns-in-Some-clause-value

@@ -1,7 +1,7 @@
 use Rattle.std.proofs.Common.{◌++◌, ◌∙◌, [], List, ℕ, ap, refl, sym}
 use Rattle.std.proofs.lemmas.Str.{IsCharBoundary-start}
-use Rattle.lrlex_rules.specs.Escape.{first_char}
-use Rattle.lrlex_rules.proofs.Fronts.{next_behind, seam_after}
+use Rattle.lrlex_parser.specs.Escape.{first_char}
+use Rattle.lrlex_parser.proofs.Fronts.{next_behind, seam_after}
 use Rattle.lrlex_report.proofs.ranges.or_first_char.Goals as goal
 
 pub split_at-requires : goal.split_at-requires

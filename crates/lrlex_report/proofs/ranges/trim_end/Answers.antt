@@ -1,7 +1,7 @@
 use Rattle.std.proofs.Common.{rules}
 use Rattle.std.proofs.lemmas.List.Sorted.{answers_always}
 use Rattle.lrlex_base.specs.Classes.{is_white_space}
-use Rattle.lrlex_rules.proofs.Trims.{trim_end_matches_closure}
+use Rattle.lrlex_parser.proofs.Trims.{trim_end_matches_closure}
 use Rattle.lrlex_report.proofs.ranges.trim_end.Goals as goal
 
 pub returns-clause-value : goal.returns-clause-value

@@ -4,8 +4,9 @@ use Rattle.lrlex_base.specs.Edits.{edited}
 use Rattle.lrlex_base.specs.Spans.{as_span, span}
 use Rattle.lrlex.specs.Changes.{HasChanged}
 use Rattle.lrlex.specs.Progress.{IsEditOf}
-use Rattle.lrlex.specs.Views.{definition_by, items_by}
-use Rattle.lrlex.specs.Nearest.{FitsAt}
+use Rattle.lrlex_definition.specs.RuleTable.{definition_by}
+use Rattle.lrlex.specs.Views.{items_by}
+use Rattle.lrlex_positions.specs.Nearest.{FitsAt}
 use Rattle.lrlex.proofs.DocumentLemmas.{edited_back, edited_fits, span_fits}
 use Rattle.lrlex.proofs.editing.document.edit_in_place.Goals as goal
 

@@ -3,12 +3,13 @@ use Rattle.std.proofs.Common.{◌≡◌, ◌^◌, ◌<◌, ◌≤◌, ◌++◌, 
 use Rattle.lrlex_table.specs.Reach.{IsText}
 use Rattle.lrlex_table.proofs.ByteLemmas.{are_bytes}
 use Rattle.lrlex.specs.Searches.{IsLastSafe}
-use Rattle.lrlex.specs.Searcher.{AreOf}
+use Rattle.lrlex_definition.specs.RuleTable.{AreOf}
 use Rattle.lrlex_boundaries.specs.Boundaries.{boundary_at}
 use Rattle.lrlex_boundaries.specs.Entries.{plain, AreEntries}
 use Rattle.lrlex.specs.Lookahead.{IsSafe, items_before}
 use Rattle.lrlex.specs.Moves.{begins_before}
-use Rattle.lrlex.specs.Views.{definition_by, items_by}
+use Rattle.lrlex_definition.specs.RuleTable.{definition_by}
+use Rattle.lrlex.specs.Views.{items_by}
 use Rattle.lrlex.specs.Work.{HasWorked}
 use Rattle.lrlex.proofs.RecutLemmas.{new_len, old_lexed, old_looks, old_sorted, some_old, old_first_safe, old_order, front, whole, none_cut, one_cut, cut_met, cut_stopped, cut_ended}
 use Rattle.lrlex.proofs.LinearLemmas.{linear_to_end}

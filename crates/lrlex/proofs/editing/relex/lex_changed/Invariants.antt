@@ -1,6 +1,7 @@
 use Rattle.std.proofs.Common.{ℕ, ◌+◌, ◌-◌, ◌<◌, ◌≤◌, max, length}
 use Rattle.lrlex_boundaries.specs.Boundaries.{boundary_at}
-use Rattle.lrlex.specs.Searcher.{AreOf, IsSearcherOf}
+use Rattle.lrlex_definition.specs.RuleTable.{AreOf}
+use Rattle.lrlex.specs.Searcher.{IsSearcherOf}
 use Rattle.lrlex.specs.Work.{HasWorked}
 use Rattle.lrlex.proofs.RecutLemmas.{AreCut}
 use Rattle.lrlex.proofs.editing.relex.lex_changed.Given as goal

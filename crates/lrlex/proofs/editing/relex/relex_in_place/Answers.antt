@@ -1,9 +1,9 @@
 use Rattle.std.proofs.Common.{◌≡◌, ◌^◌, ◌<◌, ◌≤◌, ◌-◌, true, length, drop, sym, ap, ap₂, subst, ◌∙◌, arith}
 use Rattle.std.proofs.lemmas.Option.{none-some}
 use Rattle.std.proofs.lemmas.Bool.{true≢false}
-use Rattle.lrlex.specs.Active.{is_state}
+use Rattle.lrlex_rules.specs.Active.{is_state}
 use Rattle.lrlex.specs.Progress.{HasRecut, HasReplacedTail, HasReplacedMiddle}
-use Rattle.lrlex.specs.Views.{definition_by}
+use Rattle.lrlex_definition.specs.RuleTable.{definition_by}
 use Rattle.lrlex.proofs.RecutLemmas.{old_looks, old_order, old_sorted}
 use Rattle.lrlex.proofs.InPlaceLemmas.{stateless_run, stateless_looks, stateless_counts, met_within, met_last, met_items, met_bounds, between_run, between_looks, between_counts, behind_run, behind_looks, behind_counts, between_recut, behind_recut}
 use Rattle.lrlex_base.specs.Spans.{as_span}

@@ -6,10 +6,11 @@ use Rattle.lrlex_boundaries.specs.Boundaries.{Boundary}
 use Rattle.lrlex.specs.Changes.{HasChanged}
 use Rattle.lrlex.specs.Progress.{IsEditOf}
 use Rattle.lrlex.specs.Tiling.{Item}
-use Rattle.lrlex.specs.Views.{definition_by, items_by}
+use Rattle.lrlex_definition.specs.RuleTable.{definition_by}
+use Rattle.lrlex.specs.Views.{items_by}
 use Rattle.lrlex.specs.declared.editing.changes.Changed.{Changed}
 use Rattle.lrlex.specs.declared.errors.LRLexError.{LRLexError}
-use Rattle.lrlex.specs.declared.definition.rule_table.RuleTable.{RuleTable}
+use Rattle.lrlex_definition.specs.declared.rule_table.RuleTable.{RuleTable}
 use Rattle.lrlex.proofs.LinearLemmas.{linear_again}
 use Rattle.lrlex.proofs.editing.relex.relexed.Goals as goal
 

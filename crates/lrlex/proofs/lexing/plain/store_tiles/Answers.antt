@@ -4,10 +4,10 @@ use Rattle.std.proofs.lemmas.Bool.{cases_lt}
 use Rattle.lrlex_table.specs.Ahead.{begin_at}
 use Rattle.lrlex_table.specs.Chain.{end_of, row_of}
 use Rattle.lrlex.specs.Plain.{AllArePlain, id_at, lexemes_of}
-use Rattle.lrlex.specs.RowKinds.{own_kind}
+use Rattle.lrlex_definition.specs.RowKinds.{own_kind}
 use Rattle.lrlex.specs.Tiling.{Item, lexeme_of}
 use Rattle.lrlex.specs.Views.{item_of}
-use Rattle.lrlex.specs.declared.definition.row_kinds.RowKind.{RowKind}
+use Rattle.lrlex_definition.specs.declared.row_kinds.RowKind.{RowKind}
 use Rattle.lrlex.proofs.ManyLemmas.{end_read, kind_read}
 use Rattle.lrlex.proofs.PlainLemmas.{gives_own}
 use Rattle.lrlex.proofs.lexing.plain.store_tiles.Goals as goal

@@ -3,7 +3,7 @@ use Rattle.lrlex_table.specs.Chain.{end_of, row_of}
 use Rattle.lrlex_table.proofs.LinearLemmas.{linear_later}
 use Rattle.lrlex.specs.Plain.{AllArePlain, lexemes_of}
 use Rattle.lrlex.specs.Searcher.{AreFoundAt}
-use Rattle.lrlex.specs.StateTables.{most_tables}
+use Rattle.lrlex_definition.specs.StateTables.{most_tables}
 use Rattle.lrlex.specs.Views.{items_by}
 use Rattle.lrlex.proofs.ManyLemmas.{many_bytes, many_within, taken_many}
 use Rattle.lrlex.proofs.lexing.plain.take_plain.Goals as goal

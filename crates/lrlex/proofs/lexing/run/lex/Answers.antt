@@ -3,12 +3,13 @@ use Rattle.std.proofs.lemmas.Str.{IsCharBoundary-start}
 use Rattle.lrlex.specs.Tiling.{Done}
 use Rattle.lrlex.specs.Lookahead.{LooksAhead}
 use Rattle.lrlex.specs.Reach.{IsRun, searches}
-use Rattle.lrlex.specs.Searcher.{AreOf}
+use Rattle.lrlex_definition.specs.RuleTable.{AreOf}
 use Rattle.lrlex.specs.Progress.{no_front}
-use Rattle.lrlex.specs.Views.{definition_by, items_by}
+use Rattle.lrlex_definition.specs.RuleTable.{definition_by}
+use Rattle.lrlex.specs.Views.{items_by}
 use Rattle.lrlex.proofs.BegunLemmas.{begun, begun_looking}
 use Rattle.lrlex_boundaries.specs.Entries.{plain, AreEntries}
-use Rattle.lrlex.specs.Active.{is_state}
+use Rattle.lrlex_rules.specs.Active.{is_state}
 use Rattle.lrlex.specs.Tiling.{top}
 use Rattle.lrlex.proofs.ReachLemmas.{entries_now, top_is_state, ended, nothing_left, asked_now, few_searches, run_of, length_now}
 use Rattle.lrlex.specs.Searches.{asks_by}

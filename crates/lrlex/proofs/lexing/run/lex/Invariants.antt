@@ -1,9 +1,11 @@
 use Rattle.std.proofs.Common.{◌≡◌, ◌-◌, length, slice_range, IsCharBoundary}
 use Rattle.lrlex.specs.Reach.{Reached}
 use Rattle.lrlex.specs.Lookahead.{HasLooked}
-use Rattle.lrlex.specs.Searcher.{AreOf, IsSearcherOf}
+use Rattle.lrlex_definition.specs.RuleTable.{AreOf}
+use Rattle.lrlex.specs.Searcher.{IsSearcherOf}
 use Rattle.lrlex.specs.Searches.{asks_by}
-use Rattle.lrlex.specs.Views.{definition_by, items_by}
+use Rattle.lrlex_definition.specs.RuleTable.{definition_by}
+use Rattle.lrlex.specs.Views.{items_by}
 use Rattle.lrlex.specs.Work.{HasWorked}
 use Rattle.lrlex.proofs.lexing.run.lex.Given as goal
 

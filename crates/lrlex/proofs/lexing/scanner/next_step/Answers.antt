@@ -4,17 +4,18 @@ use Rattle.std.proofs.lemmas.Str.{IsCharBoundary-from_rest}
 use Rattle.regex_hir.specs.Text.{is_some_and}
 use Rattle.lrlex_base.specs.Spans.{span}
 use Rattle.lrlex_boundaries.specs.Entries.{plain}
-use Rattle.lrlex.specs.Active.{is_state, rule_at}
+use Rattle.lrlex_rules.specs.Active.{is_state, rule_at}
 use Rattle.lrlex.specs.Scanner.{IsSought, Scanned, sought_at, sought_to}
-use Rattle.lrlex.specs.RowKinds.{own_kind}
+use Rattle.lrlex_definition.specs.RowKinds.{own_kind}
 use Rattle.lrlex.specs.Searcher.{IsFoundAt, tile_of}
-use Rattle.lrlex.specs.StateTables.{most_tables}
+use Rattle.lrlex_definition.specs.StateTables.{most_tables}
 use Rattle.lrlex.specs.Tiling.{Tile, Wins, top}
-use Rattle.lrlex.specs.Views.{definition_by}
+use Rattle.lrlex_definition.specs.RuleTable.{definition_by}
 use Rattle.lrlex.specs.Work.{HasWorked, most_cells_by}
 use Rattle.lrlex_table.proofs.LinearLemmas.{linear_later}
 use Rattle.lrlex.proofs.FoundLemmas.{found_sought, none_sought, sought_before}
-use Rattle.lrlex.proofs.KindLemmas.{no_target_of, stays}
+use Rattle.lrlex_definition.proofs.KindLemmas.{no_target_of}
+use Rattle.lrlex.proofs.PlainLemmas.{stays}
 use Rattle.lrlex.proofs.lexing.scanner.next_step.Goals as goal
 
 pub returns-then-kind : goal.returns-then-kind

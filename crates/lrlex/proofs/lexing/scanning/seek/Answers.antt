@@ -2,7 +2,7 @@ use Rattle.std.proofs.Common.{◌≡◌, ◌+◌, ◌<◌, ◌≤◌, IfSome, Is
 use Rattle.std.specs.Prelude.{max}
 use Rattle.lrlex.specs.Scanner.{IsSought, sought_at, sought_to}
 use Rattle.lrlex.specs.Tiling.{IsStuck, Wins}
-use Rattle.lrlex.specs.Views.{definition_by}
+use Rattle.lrlex_definition.specs.RuleTable.{definition_by}
 use Rattle.lrlex.specs.Work.{HasWorked, won_bytes}
 use Rattle.lrlex.proofs.FoundLemmas.{just_sought}
 use Rattle.lrlex.proofs.lexing.scanning.seek.Goals as goal

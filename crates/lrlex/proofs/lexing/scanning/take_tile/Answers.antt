@@ -4,16 +4,16 @@ use Rattle.std.proofs.lemmas.Str.{IsCharBoundary-from_rest}
 use Rattle.lrlex_base.specs.Spans.{span}
 use Rattle.lrlex_boundaries.specs.Entries.{plain, AreEntries}
 use Rattle.lrlex_rules.specs.Definition.{Rule}
-use Rattle.lrlex.specs.Active.{is_state, lacks_id, lacks_target, lexeme_id, rule_at}
+use Rattle.lrlex_rules.specs.Active.{is_state, lacks_id, lacks_target, lexeme_id, rule_at}
 use Rattle.lrlex.specs.Scanner.{IsSought, Scanned, sought_at, sought_to}
-use Rattle.lrlex.specs.StateTables.{most_tables}
+use Rattle.lrlex_definition.specs.StateTables.{most_tables}
 use Rattle.lrlex.specs.Tiling.{IsStuck, Tile, stack_after, top}
-use Rattle.lrlex.specs.Views.{definition_by}
+use Rattle.lrlex_definition.specs.RuleTable.{definition_by}
 use Rattle.lrlex.specs.Work.{HasWorked, most_cells_by}
 use Rattle.lrlex_table.proofs.LinearLemmas.{linear_later}
 use Rattle.lrlex.proofs.FoundLemmas.{none_sought, sought_before}
 use Rattle.lrlex.proofs.ReachLemmas.{AreStates, IsSound, something_left, sound_after, top_is_state, wins_at}
-use Rattle.lrlex.proofs.ViewLemmas.{rule_read}
+use Rattle.lrlex_definition.proofs.Parted.{rule_read}
 use Rattle.lrlex.proofs.lexing.scanning.take_tile.Goals as goal
 
 pub returns-in_default : goal.returns-in_default

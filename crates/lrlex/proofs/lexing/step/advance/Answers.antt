@@ -2,18 +2,19 @@ use Rattle.std.proofs.Common.{◌≡◌, ◌+◌, ◌-◌, ◌^◌, ◌<◌, opt
 use Rattle.std.proofs.lemmas.List.{length-map}
 use Rattle.regex_hir.specs.Text.{is_some_and}
 use Rattle.lrlex_rules.specs.RuleParts.{as_rule}
-use Rattle.lrlex.specs.Active.{is_state, rule_at}
+use Rattle.lrlex_rules.specs.Active.{is_state, rule_at}
 use Rattle.lrlex.specs.Lookahead.{IsDecided, capped}
-use Rattle.lrlex.specs.RowKinds.{own_kind}
+use Rattle.lrlex_definition.specs.RowKinds.{own_kind}
 use Rattle.lrlex.specs.Searcher.{IsFoundAt, tile_of}
-use Rattle.lrlex.specs.Searches.{untabled_count}
+use Rattle.lrlex_definition.specs.RuleTable.{untabled_count}
 use Rattle.lrlex.specs.Tiling.{Tile, Wins, IsTaken, lexeme_of, stack_after, top}
 use Rattle.lrlex_boundaries.specs.Entries.{plain}
-use Rattle.lrlex.specs.Views.{definition_by, items_by}
+use Rattle.lrlex_definition.specs.RuleTable.{definition_by}
+use Rattle.lrlex.specs.Views.{items_by}
 use Rattle.lrlex.specs.Work.{won_bytes}
 use Rattle.lrlex.proofs.AdvanceLemmas.{advanced, searched}
 use Rattle.lrlex.proofs.FrontLemmas.{last_behind}
-use Rattle.lrlex.proofs.KindLemmas.{no_target_of}
+use Rattle.lrlex_definition.proofs.KindLemmas.{no_target_of}
 use Rattle.lrlex.proofs.ReachLemmas.{entries_now, last_now, room_for, searches-few}
 use Rattle.lrlex_table.proofs.LinearLemmas.{linear_later}
 use Rattle.lrlex.proofs.LinearLemmas.{gone_on, won_within}

@@ -1,11 +1,12 @@
 use Rattle.std.proofs.Common.{◌≡◌, ◌+◌, ◌<◌, ◌≤◌, List, [], ◌∷◌, ◌++◌, None, true≢false, length, drop, refl, sym, ap, ◌∙◌, subst, arith, append_assoc}
 use Rattle.lrlex_rules.specs.Definition.{Rule}
-use Rattle.lrlex.specs.Active.{active_count, lacks_id, lacks_target, lexeme_id}
+use Rattle.lrlex_rules.specs.Active.{active_count, lacks_id, lacks_target, lexeme_id}
 use Rattle.lrlex.specs.Searcher.{HasAsked}
 use Rattle.lrlex.specs.Tiling.{Tile, Item, Error, top, IsTaken, stack_after, lexeme_of, tile_items, NoMatch, NoId, NoTarget}
 use Rattle.lrlex_boundaries.specs.Entries.{plain}
-use Rattle.lrlex.specs.Views.{definition_by, items_by}
-use Rattle.lrlex.proofs.ViewLemmas.{rule_read}
+use Rattle.lrlex_definition.specs.RuleTable.{definition_by}
+use Rattle.lrlex.specs.Views.{items_by}
+use Rattle.lrlex_definition.proofs.Parted.{rule_read}
 use Rattle.lrlex.proofs.ReachLemmas.{ended, entries_now, last_now, wins_at, something_left}
 use Rattle.lrlex.specs.Lookahead.{IsDecided, capped}
 use Rattle.lrlex.proofs.AdvanceLemmas.{advanced, searched}

@@ -1,7 +1,7 @@
 use Rattle.std.proofs.Common.{◌≡◌, ℕ, ◌+◌, max}
-use Rattle.lrlex.specs.Views.{definition_by}
+use Rattle.lrlex_definition.specs.RuleTable.{definition_by}
 use Rattle.lrlex_rules.specs.Matchers.{AreMatchers}
-use Rattle.lrlex.specs.StateTables.{patterns_on}
+use Rattle.lrlex_definition.specs.StateTables.{patterns_on}
 use Rattle.lrlex_table.specs.Tables.{IsBestAmong}
 use Rattle.lrlex.specs.Work.{HasWorked}
 use Rattle.lrlex.proofs.TableLemmas.{looked_at}

@@ -4,13 +4,13 @@ use Rattle.std.proofs.lemmas.Option.{slice_get_within}
 use Rattle.std.proofs.lemmas.Str.{IsCharBoundary-from_rest}
 use Rattle.lrlex_table.specs.Reach.{IsText}
 use Rattle.lrlex_table.proofs.ByteLemmas.{are_bytes}
-use Rattle.lrlex.specs.Active.{is_state}
-use Rattle.lrlex.specs.Searcher.{AreOf}
+use Rattle.lrlex_rules.specs.Active.{is_state}
+use Rattle.lrlex_definition.specs.RuleTable.{AreOf}
 use Rattle.lrlex_boundaries.specs.Boundaries.{no_boundary, boundary_at}
 use Rattle.lrlex.specs.Pieces.{IsPiece}
 use Rattle.lrlex_boundaries.specs.Entries.{plain, AreEntries}
 use Rattle.lrlex.specs.Tiling.{Tile, Wins, top}
-use Rattle.lrlex.specs.Views.{definition_by}
+use Rattle.lrlex_definition.specs.RuleTable.{definition_by}
 use Rattle.lrlex.proofs.PieceLemmas.{tile_at, between_characters, next_place, top_at, won_at, wins_there, row_and_next}
 use Rattle.lrlex.proofs.reading.pieces.pieces_between.Goals as goal
 

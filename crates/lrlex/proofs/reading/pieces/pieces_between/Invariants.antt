@@ -1,10 +1,11 @@
 use Rattle.std.proofs.Common.{◌≡◌, ℕ, ◌+◌, List, Some, length, slice_get, IsCharBoundary}
-use Rattle.lrlex.specs.Searcher.{AreOf, IsSearcherOf}
+use Rattle.lrlex_definition.specs.RuleTable.{AreOf}
+use Rattle.lrlex.specs.Searcher.{IsSearcherOf}
 use Rattle.lrlex_boundaries.specs.Boundaries.{boundary_at}
 use Rattle.lrlex.specs.Pieces.{IsPiece}
 use Rattle.lrlex.specs.Reach.{IsLexed}
 use Rattle.lrlex.specs.Tiling.{Item, Tile}
-use Rattle.lrlex.specs.Views.{definition_by}
+use Rattle.lrlex_definition.specs.RuleTable.{definition_by}
 use Rattle.lrlex.specs.declared.reading.pieces.Piece.{Piece}
 use Rattle.lrlex.proofs.reading.pieces.pieces_between.Given as goal
 

@@ -2,9 +2,9 @@
 use Rattle.std.proofs.Common.{◌≡◌, ◌-◌, true, sym, ◌∙◌, arith}
 use Rattle.lrlex_table.specs.Reach.{IsText}
 use Rattle.lrlex_table.proofs.ByteLemmas.{are_bytes}
-use Rattle.lrlex.specs.Active.{is_state}
+use Rattle.lrlex_rules.specs.Active.{is_state}
 use Rattle.lrlex.specs.Pieces.{ArePiecesIn}
-use Rattle.lrlex.specs.Views.{definition_by}
+use Rattle.lrlex_definition.specs.RuleTable.{definition_by}
 use Rattle.lrlex.proofs.KnownLemmas.{sorted}
 use Rattle.lrlex.proofs.PeakLemmas.{tiles_are}
 use Rattle.lrlex.proofs.PieceLemmas.{some_up_to, low_and_high, exactly_these, of_both}

@@ -1,8 +1,8 @@
 use Rattle.std.proofs.Common.{◌≡◌, true, true≢false, length, slice_get, zero-add, sym, ap, ◌∙◌, subst, arith}
-use Rattle.lrlex.specs.Active.{is_state}
+use Rattle.lrlex_rules.specs.Active.{is_state}
 use Rattle.lrlex_boundaries.specs.Boundaries.{boundary_at}
 use Rattle.lrlex.specs.Pieces.{IsPiece, ArePieces}
-use Rattle.lrlex.specs.Views.{definition_by}
+use Rattle.lrlex_definition.specs.RuleTable.{definition_by}
 use Rattle.lrlex.proofs.PeakLemmas.{tiles_are}
 use Rattle.lrlex.proofs.PieceLemmas.{of_both}
 use Rattle.lrlex.proofs.reading.pieces.pieces_of.Goals as goal

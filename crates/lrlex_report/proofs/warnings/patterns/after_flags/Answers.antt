@@ -1,5 +1,5 @@
 use Rattle.std.proofs.Common.{eqb, refl, lit<}
-use Rattle.lrlex_rules.proofs.Angles.{none_before}
+use Rattle.lrlex_parser.proofs.Angles.{none_before}
 use Rattle.lrlex_report.proofs.warnings.patterns.after_flags.Goals as goal
 
 pub returns-in-None : goal.returns-in-None

@@ -1,7 +1,7 @@
 use Rattle.std.proofs.Common.{◌≡◌, ◌≤◌, ℕ, false, rules, refl, arith, sym, ne_eqb}
 use Rattle.std.proofs.lemmas.List.Sorted.{answers_always}
 use Rattle.lrlex_report.specs.Warnings.{is_less}
-use Rattle.lrlex_rules.proofs.Cuts.{rsplit_once_some, rsplit_once_none}
+use Rattle.lrlex_parser.proofs.Cuts.{rsplit_once_some, rsplit_once_none}
 use Rattle.lrlex_report.proofs.warnings.patterns.ends_in_target.Goals as goal
 
 less_ascii : (c : ℕ) → 128 ≤ c → is_less c ≡ false

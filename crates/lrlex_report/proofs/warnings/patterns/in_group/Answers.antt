@@ -1,6 +1,6 @@
 use Rattle.std.proofs.Common.{None, lit<, refl}
 use Rattle.std.proofs.lemmas.Str.Pattern.{strip_prefix_char}
-use Rattle.lrlex_rules.proofs.Angles.{begins_no}
+use Rattle.lrlex_parser.proofs.Angles.{begins_no}
 use Rattle.lrlex_report.proofs.warnings.patterns.in_group.Goals as goal
 
 pub returns-in-None : goal.returns-in-None

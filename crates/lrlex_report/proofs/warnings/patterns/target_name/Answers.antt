@@ -1,6 +1,6 @@
 use Rattle.std.proofs.Common.{lit<, None}
 use Rattle.std.proofs.lemmas.Str.Pattern.{strip_prefix_char}
-use Rattle.lrlex_rules.proofs.Angles.{no_operation}
+use Rattle.lrlex_parser.proofs.Angles.{no_operation}
 use Rattle.lrlex_report.proofs.warnings.patterns.target_name.Goals as goal
 
 pub returns : goal.returns

@@ -2,7 +2,7 @@ use Rattle.std.proofs.Common.{rules}
 use Rattle.std.specs.Prelude.{not}
 use Rattle.std.proofs.lemmas.List.Sorted.{answers_always}
 use Rattle.lrlex_base.specs.Classes.{is_line_sep}
-use Rattle.lrlex_rules.proofs.Trims.{trim_end_matches_closure}
+use Rattle.lrlex_parser.proofs.Trims.{trim_end_matches_closure}
 use Rattle.lrlex_report.proofs.warnings.patterns.whole_lines.Goals as goal
 
 pub returns-clause-value : goal.returns-clause-value

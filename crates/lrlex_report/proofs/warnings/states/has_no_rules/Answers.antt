@@ -1,6 +1,6 @@
 use Rattle.std.proofs.Common.{◌≡◌, ◌∙◌, ℕ, Bool, true, false, List, [], ap, refl}
 use Rattle.std.specs.Prelude.{◌||◌, not}
-use Rattle.lrlex_rules.specs.Text.{is_empty}
+use Rattle.lrlex_parser.specs.Text.{is_empty}
 use Rattle.lrlex_report.proofs.warnings.states.has_no_rules.Goals as goal
 
 empty_where : (b : Bool) (xs ys : List ℕ) → (b ≡ true → xs ≡ ys) → (b ≡ false → xs ≡ []) → is_empty xs ≡ (not b || is_empty ys)

@@ -5,7 +5,7 @@ use Rattle.regex.specs.Patterns.{Re, SameCaptures}
 use Rattle.lrlex_rules.specs.RuleParts.{as_rule}
 use Rattle.lrlex_rules.specs.Patterns.{pattern_of, pattern_read}
 use Rattle.lrlex_rules.specs.WrappedPattern.{wrapped}
-use Rattle.lrlex_rules.proofs.Lists.{if_ok}
+use Rattle.lrlex_rules.proofs.PatternLemmas.{if_ok}
 use Rattle.lrlex_rules.proofs.PatternLemmas.{source_alike}
 use Rattle.lrlex_rules.proofs.rules.Rule.matcher.Goals as goal
 

@@ -1,5 +1,5 @@
 use Rattle.std.proofs.Common.{sym, subst}
-use Rattle.lrlex.specs.Ids.{HaveDistinctIds}
+use Rattle.lrlex_rules.specs.Ids.{HaveDistinctIds}
 use Rattle.lrlex.proofs.definition.non_streaming.LRNonStreamingLexerDef.name_of.Goals as goal
 
 pub name_of-requires : goal.name_of-requires

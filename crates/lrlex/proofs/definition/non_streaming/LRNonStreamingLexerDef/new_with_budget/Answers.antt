@@ -1,6 +1,6 @@
 use Rattle.std.proofs.Common.{subst}
-use Rattle.lrlex_rules.specs.LexBuildResult.{IsAnswer}
-use Rattle.lrlex.specs.Views.{definition_by}
+use Rattle.lrlex_parser.specs.LexBuildResult.{IsAnswer}
+use Rattle.lrlex_definition.specs.RuleTable.{definition_by}
 use Rattle.lrlex.proofs.definition.non_streaming.LRNonStreamingLexerDef.new_with_budget.Goals as goal
 
 pub returns-in-Ok-clause-answer : goal.returns-in-Ok-clause-answer

@@ -1,7 +1,8 @@
 use Rattle.std.proofs.Common.{OnOk, ap, subst}
 use Rattle.std.specs.String.{string_bytes}
 use Rattle.lrlex.specs.Changes.{HasChanged}
-use Rattle.lrlex.specs.Views.{definition_by, items_by}
+use Rattle.lrlex_definition.specs.RuleTable.{definition_by}
+use Rattle.lrlex.specs.Views.{items_by}
 use Rattle.lrlex_base.specs.Spans.{span}
 use Rattle.lrlex.specs.LexRun.{Run}
 use Rattle.lrlex.proofs.DocumentLemmas.{edited_counts, edited_laws, edited_linear, still_lexed}

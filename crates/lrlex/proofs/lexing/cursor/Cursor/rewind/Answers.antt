@@ -3,10 +3,10 @@ use Rattle.std.specs.Prelude.{option_copied}
 use Rattle.std.proofs.lemmas.Str.{IsCharBoundary-start}
 use Rattle.lrlex_boundaries.specs.Entries.{plain, AreEntries}
 use Rattle.lrlex_rules.specs.Matchers.{AreMatchers}
-use Rattle.lrlex.specs.Searcher.{AreOf}
-use Rattle.lrlex.specs.StateTables.{most_tables}
+use Rattle.lrlex_definition.specs.RuleTable.{AreOf}
+use Rattle.lrlex_definition.specs.StateTables.{most_tables}
 use Rattle.lrlex.specs.Tiling.{top}
-use Rattle.lrlex.specs.Views.{definition_by}
+use Rattle.lrlex_definition.specs.RuleTable.{definition_by}
 use Rattle.lrlex.proofs.EntryLemmas.{entries-one}
 use Rattle.lrlex.proofs.ReachLemmas.{AreStates, one_state}
 use Rattle.lrlex.proofs.lexing.cursor.Cursor.rewind.Goals as goal

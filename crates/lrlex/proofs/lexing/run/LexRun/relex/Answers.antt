@@ -5,7 +5,8 @@ use Rattle.lrlex.specs.Changes.{HasChanged}
 use Rattle.lrlex.specs.Progress.{IsEditOf}
 use Rattle.lrlex.specs.Searches.{asks_by}
 use Rattle.lrlex.specs.LexRun.{Run}
-use Rattle.lrlex.specs.Views.{definition_by, items_by}
+use Rattle.lrlex_definition.specs.RuleTable.{definition_by}
+use Rattle.lrlex.specs.Views.{items_by}
 use Rattle.lrlex.proofs.InPlaceLemmas.{counts_moved}
 use Rattle.lrlex.proofs.ItemLemmas.{have_laws}
 use Rattle.lrlex.proofs.lexing.run.LexRun.relex.Goals as goal

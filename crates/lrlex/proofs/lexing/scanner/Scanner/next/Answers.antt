@@ -1,5 +1,5 @@
 use Rattle.std.proofs.Common.{◌≡◌, false, None, IfOk, sym, ap, ◌∙◌, subst}
-use Rattle.lrlex.specs.Active.{is_state}
+use Rattle.lrlex_rules.specs.Active.{is_state}
 use Rattle.lrlex.specs.Scanner.{IsStep, Scanned, scanned, scanned_by}
 use Rattle.lrlex.proofs.lexing.scanner.Scanner.next.Goals as goal
 use Rattle.lrlex.proofs.lexing.scanner.Scanner.next.Goals.{in-Some, in-None}

@@ -1,7 +1,7 @@
 use Rattle.std.proofs.Common.{◌∙◌, length, drop, sym, ap, subst, arith}
 use Rattle.std.specs.Prelude.{option_copied}
 use Rattle.lrlex_rules.specs.Matchers.{AreMatchers}
-use Rattle.lrlex.proofs.ViewLemmas.{taken_back}
+use Rattle.lrlex_rules.proofs.ViewLemmas.{taken_back}
 use Rattle.lrlex.proofs.lexing.winner.Searcher.winner.Goals as goal
 
 pub winner_with_search-requires-clause-held : goal.winner_with_search-requires-clause-held

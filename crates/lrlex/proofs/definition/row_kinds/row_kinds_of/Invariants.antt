@@ -1,6 +1,0 @@
-use Rattle.std.proofs.Common.{◌≡◌, length, map}
-use Rattle.lrlex.proofs.RowKindLemmas.{AreSet}
-use Rattle.lrlex.proofs.definition.row_kinds.row_kinds_of.Given as goal
-
-abbrev pub invariant-names : goal.invariant-names
-invariant-names g l = (length l.rows.items ≡ l.row) × AreSet l.rules (map (λ v. v.items) l.lists) l.names l.row l.rows.items

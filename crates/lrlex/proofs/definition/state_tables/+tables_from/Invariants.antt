@@ -1,6 +1,0 @@
-use Rattle.std.proofs.Common.{◌-◌}
-use Rattle.lrlex.proofs.definition.state_tables.+tables_from.Given as goal
-
-abbrev pub decreases-tables_from : goal.decreases-tables_from
-decreases-tables_from g l =
-    l.to - l.from

@@ -1,6 +1,0 @@
-use Rattle.std.proofs.Common.{◌≡◌, take}
-use Rattle.lrlex.specs.StateTables.{most_tables}
-use Rattle.lrlex.proofs.definition.state_tables.most_tables.Given as goal
-
-abbrev pub invariant-lists : goal.invariant-lists
-invariant-lists l = l.most ≡ most_tables (take l.of_list-index l.lists)

@@ -1,8 +1,0 @@
-use Rattle.std.proofs.lemmas.Str.{IsCharBoundary-start}
-use Rattle.lrlex.proofs.LineCursorLemmas.{first}
-use Rattle.lrlex.proofs.reading.line_cursor.LineCursor.new.Goals as goal
-
-pub invariant_of-result : goal.invariant_of-result
-invariant_of-result c =
-    let begin = IsCharBoundary-start c.args.text.now c.utf8.text in
-    (begin, (begin, (first c.args.text.now, tt)))

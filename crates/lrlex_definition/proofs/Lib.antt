@@ -1,0 +1,6 @@
+pub mod KindLemmas
+pub mod MarkLemmas
+pub mod MostLemmas
+pub mod Parted
+pub mod RowKindLemmas
+pub mod ServedLemmas

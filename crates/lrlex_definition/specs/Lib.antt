@@ -1,0 +1,4 @@
+pub mod RuleTable
+pub mod Somewhere
+pub mod StateTables
+pub mod RowKinds
