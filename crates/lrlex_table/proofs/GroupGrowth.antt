@@ -4,7 +4,7 @@ use Rattle.std.proofs.lemmas.Bool.{cases_lt, cases_eq}
 use Rattle.std.proofs.lemmas.List.{get_or_past, get_or_append_left, get_or_push, length_push, map-append}
 use Rattle.std.proofs.lemmas.List.Elements.{All-nil}
 use Rattle.lrlex_table.specs.Tables.{AreRising}
-use Rattle.lrlex_table.specs.Group.{step_row, step_all, first_among, all_starts, ArePastStart, patterns_of, lives_at, IsGroupCell, IsGroupCellOf, IsPartialGroup, IsGrouping, HasLives}
+use Rattle.lrlex_table.specs.Group.{step_row, step_all, first_among, all_starts, ArePastStart, patterns_of, live_rows_at, IsGroupCell, IsGroupCellOf, IsPartialGroup, IsGrouping, HasLiveRows}
 use Rattle.lrlex_table.proofs.PartLemmas.{rising_wider, rising_push}
 
 -- ---- the patterns of a row rise
@@ -28,14 +28,14 @@ rising_starts sa (suc n) =
     (subst (λ hi. AreRising 0 hi (patterns_of (all_starts sa n) ++ n ∷ [])) more (rising_push 0 n (patterns_of (all_starts sa n)) (rising_starts sa n)))
 
 -- what holds of each row, and of one more
-each_pushed : (P : List (ℕ × ℕ) → Type 0) (rows : List (List (ℕ × ℕ))) (lives : List (ℕ × ℕ)) (r : ℕ) → P (lives_at rows r) → P lives → P (lives_at (rows ++ lives ∷ []) r)
-each_pushed P rows lives r old one =
-    let len = length_push rows lives in
+each_pushed : (P : List (ℕ × ℕ) → Type 0) (rows : List (List (ℕ × ℕ))) (live_rows : List (ℕ × ℕ)) (r : ℕ) → P (live_rows_at rows r) → P live_rows → P (live_rows_at (rows ++ live_rows ∷ []) r)
+each_pushed P rows live_rows r old one =
+    let len = length_push rows live_rows in
     elim (cases_lt r (length rows)) [
-      | inl lt ↦ subst P (sym (get_or_append_left rows (lives ∷ []) [] r lt)) old
+      | inl lt ↦ subst P (sym (get_or_append_left rows (live_rows ∷ []) [] r lt)) old
       | inr ge ↦ elim (cases_eq r (length rows)) [
-        | inl at ↦ subst P (sym (get_or_push rows lives [] r (sym at))) one
-        | inr past ↦ subst P (get_or_past rows r [] ge ∙ sym (get_or_past (rows ++ lives ∷ []) r [] (omega arith))) old
+        | inl at ↦ subst P (sym (get_or_push rows live_rows [] r (sym at))) one
+        | inr past ↦ subst P (get_or_past rows r [] ge ∙ sym (get_or_past (rows ++ live_rows ∷ []) r [] (omega arith))) old
       ]
     ]
 
@@ -46,17 +46,17 @@ module _ (n : ℕ) (na : ℕ → List ℕ) (wa : ℕ → List (Option ℕ)) (sa 
   Group = IsPartialGroup n na wa sa
 
   -- with one more row
-  pub partial_group_push : (rows : List (List (ℕ × ℕ))) (next : List ℕ) (wins : List (Option ℕ)) (lives : List (ℕ × ℕ)) → Group rows next wins →
-      ArePastStart sa lives → AreRising 0 n (patterns_of lives) → Group (rows ++ lives ∷ []) next wins
-  partial_group_push rows next wins lives built past rises =
-      let len = length_push rows lives in
-      let same : (r : ℕ) → r < length rows → lives_at (rows ++ lives ∷ []) r ≡ lives_at rows r = λ r lt. get_or_append_left rows (lives ∷ []) [] r lt in
+  pub partial_group_push : (rows : List (List (ℕ × ℕ))) (next : List ℕ) (wins : List (Option ℕ)) (live_rows : List (ℕ × ℕ)) → Group rows next wins →
+      ArePastStart sa live_rows → AreRising 0 n (patterns_of live_rows) → Group (rows ++ live_rows ∷ []) next wins
+  partial_group_push rows next wins live_rows built past rises =
+      let len = length_push rows live_rows in
+      let same : (r : ℕ) → r < length rows → live_rows_at (rows ++ live_rows ∷ []) r ≡ live_rows_at rows r = λ r lt. get_or_append_left rows (live_rows ∷ []) [] r lt in
       record {
         some = omega (arith, built.some);
         nothing = same 0 (omega (arith, built.some)) ∙ built.nothing;
         first = same 1 (omega (arith, built.some)) ∙ built.first;
-        apart = λ r far. each_pushed (ArePastStart sa) rows lives r (built.apart r far) past;
-        rising = λ r. each_pushed (λ ls. AreRising 0 n (patterns_of ls)) rows lives r (built.rising r) rises;
+        apart = λ r far. each_pushed (ArePastStart sa) rows live_rows r (built.apart r far) past;
+        rising = λ r. each_pushed (λ ls. AreRising 0 n (patterns_of ls)) rows live_rows r (built.rising r) rises;
         wide = built.wide;
         below = omega (arith, built.below);
         fresh = built.fresh;
@@ -72,7 +72,7 @@ module _ (n : ℕ) (na : ℕ → List ℕ) (wa : ℕ → List (Option ℕ)) (sa 
 
   -- the end of a row
   pub partial_group_end : (rows : List (List (ℕ × ℕ))) (next : List ℕ) (wins : List (Option ℕ)) (w : Option ℕ) → Group rows next wins →
-      length next ≡ length wins * 256 → length wins < length rows → w ≡ first_among wa (lives_at rows (length wins)) → Group rows next (wins ++ w ∷ [])
+      length next ≡ length wins * 256 → length wins < length rows → w ≡ first_among wa (live_rows_at rows (length wins)) → Group rows next (wins ++ w ∷ [])
   partial_group_end rows next wins w built len room is =
       let more = length_push wins w in
       record {
@@ -89,14 +89,14 @@ module _ (n : ℕ) (na : ℕ → List ℕ) (wa : ℕ → List (Option ℕ)) (sa 
           | inl low ↦ get_or_append_left wins (w ∷ []) None r low ∙ built.wins_are r low
           | inr high ↦
               let e : length wins ≡ r = omega arith in
-              get_or_push wins w None r e ∙ is ∙ ap (λ i. first_among wa (lives_at rows i)) e
+              get_or_push wins w None r e ∙ is ∙ ap (λ i. first_among wa (live_rows_at rows i)) e
         ];
         cells = built.cells;
       }
 
   -- with one more cell
   pub partial_group_cell : (rows : List (List (ℕ × ℕ))) (next : List ℕ) (wins : List (Option ℕ)) (r b v : ℕ) → Group rows next wins → length wins ≡ r + 1 →
-      length next ≡ r * 256 + b → b < 256 → v ≢ 1 → IsGroupCell na rows (lives_at rows r) b v → Group rows (next ++ v ∷ []) wins
+      length next ≡ r * 256 + b → b < 256 → v ≢ 1 → IsGroupCell na rows (live_rows_at rows r) b v → Group rows (next ++ v ∷ []) wins
   partial_group_cell rows next wins r b v built made at small other cell =
       let more = length_push next v in
       record {
@@ -124,12 +124,12 @@ module _ (n : ℕ) (na : ℕ → List ℕ) (wa : ℕ → List (Option ℕ)) (sa 
         wins_are = built.wins_are;
         cells = λ s c tiny lt. elim (cases_lt (s * 256 + c) (length next)) [
           | inl low ↦
-              subst (IsGroupCell na rows (lives_at rows s) c) (sym (get_or_append_left next (v ∷ []) 0 (s * 256 + c) low)) (built.cells s c tiny low)
+              subst (IsGroupCell na rows (live_rows_at rows s) c) (sym (get_or_append_left next (v ∷ []) 0 (s * 256 + c) low)) (built.cells s c tiny low)
           | inr high ↦
               let row : r ≡ s = omega arith in
               let byte : b ≡ c = omega arith in
-              subst (IsGroupCell na rows (lives_at rows s) c) (sym (get_or_push next v 0 (s * 256 + c) (omega arith)))
-              (subst (λ i. IsGroupCell na rows (lives_at rows s) i v) byte (subst (λ i. IsGroupCell na rows (lives_at rows i) b v) row cell))
+              subst (IsGroupCell na rows (live_rows_at rows s) c) (sym (get_or_push next v 0 (s * 256 + c) (omega arith)))
+              (subst (λ i. IsGroupCell na rows (live_rows_at rows s) i v) byte (subst (λ i. IsGroupCell na rows (live_rows_at rows i) b v) row cell))
         ];
       }
 
@@ -137,12 +137,12 @@ module _ (n : ℕ) (na : ℕ → List ℕ) (wa : ℕ → List (Option ℕ)) (sa 
   Grouping = IsGrouping n na wa sa
 
   -- where the row goes on a byte may be a row of its own
-  pub grouping_grows : (old new : List (List (ℕ × ℕ))) (next : List ℕ) (wins : List (Option ℕ)) (row byte : ℕ) (lives to : List (ℕ × ℕ)) (v : ℕ) →
-      Grouping old next wins row byte lives → to ≡ step_all na lives byte → ArePastStart sa to → HasLives old new to v → Grouping new next wins row byte lives
-  grouping_grows old new next wins row byte lives to v f steps past has =
+  pub grouping_grows : (old new : List (List (ℕ × ℕ))) (next : List ℕ) (wins : List (Option ℕ)) (row byte : ℕ) (live_rows to : List (ℕ × ℕ)) (v : ℕ) →
+      Grouping old next wins row byte live_rows → to ≡ step_all na live_rows byte → ArePastStart sa to → HasLiveRows old new to v → Grouping new next wins row byte live_rows
+  grouping_grows old new next wins row byte live_rows to v f steps past has =
       let rises : AreRising 0 n (patterns_of to) =
       subst (λ ls. AreRising 0 n (patterns_of ls)) (sym steps)
-      (rising_step na 0 n lives byte (subst (λ ls. AreRising 0 n (patterns_of ls)) f.are (f.built.rising row))) in
+      (rising_step na 0 n live_rows byte (subst (λ ls. AreRising 0 n (patterns_of ls)) f.are (f.built.rising row))) in
       record {
         built = elim has.grows [
           | inl e ↦ subst (λ rows. Group rows next wins) (sym e) f.built
@@ -155,18 +155,18 @@ module _ (n : ℕ) (na : ℕ → List ℕ) (wa : ℕ → List (Option ℕ)) (sa 
         made = f.made;
         at = f.at;
         are = elim has.grows [
-          | inl e ↦ ap (λ rows. lives_at rows row) e ∙ f.are
-          | inr more ↦ ap (λ rows. lives_at rows row) more ∙ get_or_append_left old (to ∷ []) [] row f.within ∙ f.are
+          | inl e ↦ ap (λ rows. live_rows_at rows row) e ∙ f.are
+          | inr more ↦ ap (λ rows. live_rows_at rows row) more ∙ get_or_append_left old (to ∷ []) [] row f.within ∙ f.are
         ];
       }
 
-  pub cell_of_lives : (old new : List (List (ℕ × ℕ))) (lives to : List (ℕ × ℕ)) (byte v : ℕ) → HasLives old new to v → to ≡ step_all na lives byte →
-      IsGroupCellOf na new lives byte v
-  cell_of_lives old new lives to byte v has steps = (has.other, (has.within, has.is ∙ steps))
+  pub cell_of_live_rows : (old new : List (List (ℕ × ℕ))) (live_rows to : List (ℕ × ℕ)) (byte v : ℕ) → HasLiveRows old new to v → to ≡ step_all na live_rows byte →
+      IsGroupCellOf na new live_rows byte v
+  cell_of_live_rows old new live_rows to byte v has steps = (has.other, (has.within, has.is ∙ steps))
 
-  pub grouping_push : (rows : List (List (ℕ × ℕ))) (next : List ℕ) (wins : List (Option ℕ)) (row byte : ℕ) (lives : List (ℕ × ℕ)) (v : ℕ) →
-      Grouping rows next wins row byte lives → IsGroupCellOf na rows lives byte v → byte < 256 → Grouping rows (next ++ v ∷ []) wins row (byte + 1) lives
-  grouping_push rows next wins row byte lives v f cell small = record {
+  pub grouping_push : (rows : List (List (ℕ × ℕ))) (next : List ℕ) (wins : List (Option ℕ)) (row byte : ℕ) (live_rows : List (ℕ × ℕ)) (v : ℕ) →
+      Grouping rows next wins row byte live_rows → IsGroupCellOf na rows live_rows byte v → byte < 256 → Grouping rows (next ++ v ∷ []) wins row (byte + 1) live_rows
+  grouping_push rows next wins row byte live_rows v f cell small = record {
     built = partial_group_cell rows next wins row byte v f.built f.made f.at small cell.0 (subst (λ ls. IsGroupCell na rows ls byte v) (sym f.are) cell.1);
     within = f.within;
     made = f.made;
@@ -175,21 +175,21 @@ module _ (n : ℕ) (na : ℕ → List ℕ) (wa : ℕ → List (Option ℕ)) (sa 
   }
 
   -- a run of cells that all go to v
-  pub grouping_run : (rows : List (List (ℕ × ℕ))) (next : List ℕ) (wins : List (Option ℕ)) (row byte : ℕ) (lives : List (ℕ × ℕ)) (v k : ℕ) →
-      Grouping rows next wins row byte lives → ((c : ℕ) → byte ≤ c → c < byte + k → IsGroupCellOf na rows lives c v) → byte + k ≤ 256 →
-      Grouping rows (next ++ replicate k v) wins row (byte + k) lives
-  grouping_run rows next wins row byte lives v zero f cells le =
-      subst (λ l. Grouping rows l wins row (byte + 0) lives) (sym (append-nil next)) (subst (λ i. Grouping rows next wins row i lives) (omega arith) f)
-  grouping_run rows next wins row byte lives v (suc k) f cells le =
-      let one = grouping_push rows next wins row byte lives v f (cells byte (omega arith) (omega arith)) (omega arith) in
-      let rest = grouping_run rows (next ++ v ∷ []) wins row (byte + 1) lives v k one (λ c ge lt. cells c (omega arith) (omega arith)) (omega arith) in
-      subst (λ l. Grouping rows l wins row (byte + suc k) lives) (append_assoc next (v ∷ []) (replicate k v))
-      (subst (λ i. Grouping rows ((next ++ v ∷ []) ++ replicate k v) wins row i lives) (omega arith) rest)
+  pub grouping_run : (rows : List (List (ℕ × ℕ))) (next : List ℕ) (wins : List (Option ℕ)) (row byte : ℕ) (live_rows : List (ℕ × ℕ)) (v k : ℕ) →
+      Grouping rows next wins row byte live_rows → ((c : ℕ) → byte ≤ c → c < byte + k → IsGroupCellOf na rows live_rows c v) → byte + k ≤ 256 →
+      Grouping rows (next ++ replicate k v) wins row (byte + k) live_rows
+  grouping_run rows next wins row byte live_rows v zero f cells le =
+      subst (λ l. Grouping rows l wins row (byte + 0) live_rows) (sym (append-nil next)) (subst (λ i. Grouping rows next wins row i live_rows) (omega arith) f)
+  grouping_run rows next wins row byte live_rows v (suc k) f cells le =
+      let one = grouping_push rows next wins row byte live_rows v f (cells byte (omega arith) (omega arith)) (omega arith) in
+      let rest = grouping_run rows (next ++ v ∷ []) wins row (byte + 1) live_rows v k one (λ c ge lt. cells c (omega arith) (omega arith)) (omega arith) in
+      subst (λ l. Grouping rows l wins row (byte + suc k) live_rows) (append_assoc next (v ∷ []) (replicate k v))
+      (subst (λ i. Grouping rows ((next ++ v ∷ []) ++ replicate k v) wins row i live_rows) (omega arith) rest)
 
-  pub grouping_starts : (rows : List (List (ℕ × ℕ))) (next : List ℕ) (wins : List (Option ℕ)) (row : ℕ) (lives : List (ℕ × ℕ)) (w : Option ℕ) → Group rows next wins →
-      row < length rows → length wins ≡ row → length next ≡ row * 256 → lives_at rows row ≡ lives → w ≡ first_among wa lives → Grouping rows next (wins ++ w ∷ []) row 0 lives
-  grouping_starts rows next wins row lives w built room made at are is = record {
-    built = partial_group_end rows next wins w built (omega arith) (omega arith) (is ∙ ap (first_among wa) (sym (ap (lives_at rows) made ∙ are)));
+  pub grouping_starts : (rows : List (List (ℕ × ℕ))) (next : List ℕ) (wins : List (Option ℕ)) (row : ℕ) (live_rows : List (ℕ × ℕ)) (w : Option ℕ) → Group rows next wins →
+      row < length rows → length wins ≡ row → length next ≡ row * 256 → live_rows_at rows row ≡ live_rows → w ≡ first_among wa live_rows → Grouping rows next (wins ++ w ∷ []) row 0 live_rows
+  grouping_starts rows next wins row live_rows w built room made at are is = record {
+    built = partial_group_end rows next wins w built (omega arith) (omega arith) (is ∙ ap (first_among wa) (sym (ap (live_rows_at rows) made ∙ are)));
     within = room;
     made = omega (arith, length_push wins w);
     at = omega arith;
@@ -224,12 +224,12 @@ module _ (n : ℕ) (na : ℕ → List ℕ) (wa : ℕ → List (Option ℕ)) (sa 
       none_past : ArePastStart sa []
       none_past = All-nil (λ (l : ℕ × ℕ). l.1 ≢ sa l.0)
 
-      far : (r : ℕ) → r ≢ 1 → ArePastStart sa (lives_at ([] ∷ all_starts sa n ∷ []) r)
+      far : (r : ℕ) → r ≢ 1 → ArePastStart sa (live_rows_at ([] ∷ all_starts sa n ∷ []) r)
       far zero other = none_past
       far (suc zero) other = absurd (other (omega arith))
       far (suc (suc r)) other = subst (ArePastStart sa) (sym (past_all r)) none_past
 
-      rise : (r : ℕ) → AreRising 0 n (patterns_of (lives_at ([] ∷ all_starts sa n ∷ []) r))
+      rise : (r : ℕ) → AreRising 0 n (patterns_of (live_rows_at ([] ∷ all_starts sa n ∷ []) r))
       rise zero = omega arith
       rise (suc zero) = rising_starts sa n
       rise (suc (suc r)) = subst (λ ls. AreRising 0 n (patterns_of ls)) (sym (past_all r)) (omega arith)

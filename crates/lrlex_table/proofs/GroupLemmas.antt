@@ -10,7 +10,7 @@ use Rattle.regex_dfa.specs.Moves.{MovesForward}
 use Rattle.regex.specs.Patterns.{Re}
 use Rattle.lrlex_table.specs.Table.{next_of, IsFirstMatch, IsAt, IsTableOn, Measures, pattern_at, Serves, IsTableOf}
 use Rattle.lrlex_table.specs.Tables.{AreRising, AreCached}
-use Rattle.lrlex_table.specs.Group.{row_among, step_row, live_before, step_all, first_among, all_starts, ArePastStart, patterns_of, lives_at, IsPartialGroup, cached_table, cached_at, nexts_of, wins_of, start_of, nexts_in, wins_in, start_in, AreTabled}
+use Rattle.lrlex_table.specs.Group.{row_among, step_row, live_before, step_all, first_among, all_starts, ArePastStart, patterns_of, live_rows_at, IsPartialGroup, cached_table, cached_at, nexts_of, wins_of, start_of, nexts_in, wins_in, start_in, AreTabled}
 use Rattle.lrlex_table.specs.declared.cached_table.CachedTable.{CachedTable}
 use Rattle.lrlex_table.specs.declared.table.Table.{Table}
 use Rattle.lrlex_table.proofs.MovesLemmas.{moves_none}
@@ -247,7 +247,7 @@ module _ (n : ℕ) (na : ℕ → List ℕ) (wa : ℕ → List (Option ℕ)) (sa 
     (begun : (k : ℕ) → k < n → sa k ≢ 0) (quiet : (k : ℕ) → k < n → slice_index_or (wa k) 0 None ≡ None) where
   -- the row of pattern k at row r
   abbrev row_of : ℕ → ℕ → ℕ
-  row_of k r = row_among (lives_at rows r) k
+  row_of k r = row_among (live_rows_at rows r) k
 
   row_dead : (k : ℕ) → row_of k 0 ≡ 0
   row_dead k = ap (λ ls. row_among ls k) built.nothing
@@ -264,7 +264,7 @@ module _ (n : ℕ) (na : ℕ → List ℕ) (wa : ℕ → List (Option ℕ)) (sa 
   row_after k r (Some b) byte = elim (cases_lt r (length rows)) [
     | inl lt ↦
         let small = byte b refl in
-        ap (λ ls. row_among ls k) (built.cells r b small (omega arith)).1 ∙ among_step na 0 n (lives_at rows r) b k (built.rising r)
+        ap (λ ls. row_among ls k) (built.cells r b small (omega arith)).1 ∙ among_step na 0 n (live_rows_at rows r) b k (built.rising r)
     | inr past ↦
         ap (row_of k) (next_past next (length rows) r (Some b) (omega arith) past) ∙ row_dead k
         ∙ sym (ap (λ x. step_row (na k) x (Some b)) (row_past k r past))
@@ -274,7 +274,7 @@ module _ (n : ℕ) (na : ℕ → List ℕ) (wa : ℕ → List (Option ℕ)) (sa 
   row_is_at k r j lt at = elim (cases_eq r 1) [
     | inl one ↦ (λ e. at.0 one, λ e. ap (row_of k) one ∙ row_first k lt)
     | inr other ↦ (
-      λ e. absurd (past_start sa (lives_at rows r) k (begun k lt) (built.apart r other) e),
+      λ e. absurd (past_start sa (live_rows_at rows r) k (begun k lt) (built.apart r other) e),
       λ e. absurd (other (at.1 e)),
     )
   ]
@@ -341,9 +341,9 @@ module _ (n : ℕ) (na : ℕ → List ℕ) (wa : ℕ → List (Option ℕ)) (sa 
       wins_all r = elim (cases_lt r (length rows)) [
         | inl lt ↦
             subst (IsFirstMatch n (λ k. matched_by k (cases_lt k n) (row_of k r))) (sym (built.wins_are r (omega arith)))
-            (first_as n (λ k. won wa k (row_of k r)) (λ k. matched_by k (cases_lt k n) (row_of k r)) (first_among wa (lives_at rows r))
+            (first_as n (λ k. won wa k (row_of k r)) (λ k. matched_by k (cases_lt k n) (row_of k r)) (first_among wa (live_rows_at rows r))
             (λ k within. matched_won k (cases_lt k n) (row_of k r) within)
-            (first_is wa 0 n (lives_at rows r) (built.rising r) (λ k within. ap is_some (quiet k within))))
+            (first_is wa 0 n (live_rows_at rows r) (built.rising r) (λ k within. ap is_some (quiet k within))))
         | inr past ↦
             subst (IsFirstMatch n (λ k. matched_by k (cases_lt k n) (row_of k r))) (sym (get_or_past wins r None (omega arith)))
             (λ k within. ap (matched_by k (cases_lt k n)) (row_past k r past) ∙ matched_dead k (cases_lt k n))

@@ -77,59 +77,59 @@ all_starts start (suc n) = all_starts start n ++ (n, start n) ∷ []
 
 -- none of these rows is the first of its table
 abbrev pub ArePastStart : (ℕ → ℕ) → List (ℕ × ℕ) → Type 0
-ArePastStart start lives = All (λ l. l.1 ≢ start l.0) lives
+ArePastStart start live_rows = All (λ l. l.1 ≢ start l.0) live_rows
 
 -- the patterns whose rows these are
 abbrev pub patterns_of : List (ℕ × ℕ) → List ℕ
-patterns_of lives = map (λ l. l.0) lives
+patterns_of live_rows = map (λ l. l.0) live_rows
 
-abbrev pub lives_at : List (List (ℕ × ℕ)) → ℕ → List (ℕ × ℕ)
-lives_at rows r = slice_index_or rows r []
+abbrev pub live_rows_at : List (List (ℕ × ℕ)) → ℕ → List (ℕ × ℕ)
+live_rows_at rows r = slice_index_or rows r []
 
 -- on the byte, these rows go to those that row v stands for
 abbrev pub IsGroupCell : (ℕ → List ℕ) → List (List (ℕ × ℕ)) → List (ℕ × ℕ) → ℕ → ℕ → Type 0
-IsGroupCell next rows lives b v = (v < length rows) × (lives_at rows v ≡ step_all next lives b)
+IsGroupCell next rows live_rows b v = (v < length rows) × (live_rows_at rows v ≡ step_all next live_rows b)
 
 -- the rows and cells that were made so far are those of the tables of n patterns
 pub record IsPartialGroup (n : ℕ) (na : ℕ → List ℕ) (wa : ℕ → List (Option ℕ)) (sa : ℕ → ℕ) (rows : List (List (ℕ × ℕ))) (next : List ℕ) (wins : List (Option ℕ)) : Type 0 where
   pub some : 2 ≤ length rows
-  pub nothing : lives_at rows 0 ≡ []
-  pub first : lives_at rows 1 ≡ all_starts sa n
-  pub apart : (r : ℕ) → r ≢ 1 → ArePastStart sa (lives_at rows r)
-  pub rising : (r : ℕ) → AreRising 0 n (patterns_of (lives_at rows r))
+  pub nothing : live_rows_at rows 0 ≡ []
+  pub first : live_rows_at rows 1 ≡ all_starts sa n
+  pub apart : (r : ℕ) → r ≢ 1 → ArePastStart sa (live_rows_at rows r)
+  pub rising : (r : ℕ) → AreRising 0 n (patterns_of (live_rows_at rows r))
   pub wide : length next ≤ length wins * 256
   pub below : length wins ≤ length rows
   pub fresh : (i : ℕ) → slice_index_or next i 0 ≢ 1
   pub inside : (i : ℕ) → slice_index_or next i 0 < length rows
-  pub wins_are : (r : ℕ) → r < length wins → slice_index_or wins r None ≡ first_among wa (lives_at rows r)
-  pub cells : (r b : ℕ) → b < 256 → r * 256 + b < length next → IsGroupCell na rows (lives_at rows r) b (slice_index_or next (r * 256 + b) 0)
+  pub wins_are : (r : ℕ) → r < length wins → slice_index_or wins r None ≡ first_among wa (live_rows_at rows r)
+  pub cells : (r b : ℕ) → b < 256 → r * 256 + b < length next → IsGroupCell na rows (live_rows_at rows r) b (slice_index_or next (r * 256 + b) 0)
 
 -- the rows stay, and v is one that stands for these, and not row 1
-pub record HasLives (old new : List (List (ℕ × ℕ))) (lives : List (ℕ × ℕ)) (v : ℕ) : Type 0 where
-  pub grows : (new ≡ old) ⊎ (new ≡ old ++ lives ∷ [])
+pub record HasLiveRows (old new : List (List (ℕ × ℕ))) (live_rows : List (ℕ × ℕ)) (v : ℕ) : Type 0 where
+  pub grows : (new ≡ old) ⊎ (new ≡ old ++ live_rows ∷ [])
   pub other : v ≢ 1
   pub within : v < length new
-  pub is : lives_at new v ≡ lives
+  pub is : live_rows_at new v ≡ live_rows
 
 -- on the byte, these rows go to those that row v stands for, which is not row 1
 abbrev pub IsGroupCellOf : (ℕ → List ℕ) → List (List (ℕ × ℕ)) → List (ℕ × ℕ) → ℕ → ℕ → Type 0
-IsGroupCellOf next rows lives b v = (v ≢ 1) × IsGroupCell next rows lives b v
+IsGroupCellOf next rows live_rows b v = (v ≢ 1) × IsGroupCell next rows live_rows b v
 
 -- the row that stands for these has its cells below this byte
-pub record IsGrouping (n : ℕ) (na : ℕ → List ℕ) (wa : ℕ → List (Option ℕ)) (sa : ℕ → ℕ) (rows : List (List (ℕ × ℕ))) (next : List ℕ) (wins : List (Option ℕ)) (row byte : ℕ) (lives : List (ℕ × ℕ)) : Type 0 where
+pub record IsGrouping (n : ℕ) (na : ℕ → List ℕ) (wa : ℕ → List (Option ℕ)) (sa : ℕ → ℕ) (rows : List (List (ℕ × ℕ))) (next : List ℕ) (wins : List (Option ℕ)) (row byte : ℕ) (live_rows : List (ℕ × ℕ)) : Type 0 where
   pub built : IsPartialGroup n na wa sa rows next wins
   pub within : row < length rows
   pub made : length wins ≡ row + 1
   pub at : length next ≡ row * 256 + byte
-  pub are : lives_at rows row ≡ lives
+  pub are : live_rows_at rows row ≡ live_rows
 
 -- what the rows of the builder stand for
-abbrev pub lives_of : Vec (Vec (ℕ × ℕ) Global) Global → List (List (ℕ × ℕ))
-lives_of rows = map (λ v. v.items) rows.items
+abbrev pub live_rows_of : Vec (Vec (ℕ × ℕ) Global) Global → List (List (ℕ × ℕ))
+live_rows_of rows = map (λ v. v.items) rows.items
 
 -- the rows of the old builder stay in the new one, where row v stands for these, and isn't row 1
-abbrev pub HasLivesOf : GroupBuilder → GroupBuilder → List (ℕ × ℕ) → ℕ → Type 0
-HasLivesOf old new = HasLives (lives_of old.rows) (lives_of new.rows)
+abbrev pub HasLiveRowsOf : GroupBuilder → GroupBuilder → List (ℕ × ℕ) → ℕ → Type 0
+HasLiveRowsOf old new = HasLiveRows (live_rows_of old.rows) (live_rows_of new.rows)
 
 -- each of the patterns has a table
 abbrev pub AreTabled : List CachedTable → List ℕ → Type 0
@@ -148,7 +148,7 @@ pub record IsGroupBelow (cache : List CachedTable) (places : List ℕ) (g : Grou
   -- each pattern has a table
   pub tabled : AreTabled cache places
   -- rows and cells are those of these tables
-  pub built : IsPartialGroupOf cache places (lives_of g.rows) g.next.items g.wins.items
+  pub built : IsPartialGroupOf cache places (live_rows_of g.rows) g.next.items g.wins.items
   -- there are so many rows
   pub rows : n ≤ vec_len g.rows
   -- for each of them it is noted which pattern matches there

@@ -6,17 +6,17 @@ ghost use Rattle.lrlex_table.specs.Table.{IsTableOf};
 ghost use Rattle.lrlex_table.specs.Tables.{AreCached};
 ghost use Rattle.lrlex_table.specs.Rows.{table_rows};
 ghost use Rattle.lrlex_table.specs.ProductBuilder.{AreEqualCells};
-ghost use Rattle.lrlex_table.specs.Group.{table_in, nexts_in, wins_in, start_in, step_row, step_all, first_among, all_starts, ArePastStart, AreTabled, lives_of, lives_at, HasLivesOf, IsGroupBelow};
+ghost use Rattle.lrlex_table.specs.Group.{table_in, nexts_in, wins_in, start_in, step_row, step_all, first_among, all_starts, ArePastStart, AreTabled, live_rows_of, live_rows_at, HasLiveRowsOf, IsGroupBelow};
 
 use crate::budget::Budget;
 use crate::cached_table::CachedTable;
-use crate::index::{Index, hash_of_lives};
+use crate::index::{Index, hash_of_live_rows};
 use crate::marking::marked_table;
 use crate::table::{START, Table};
 use std::alloc::{AllocError, Global};
 
 /// What it costs to go on from a row of one of the tables, in the budget's units of work.
-const WORK_OF_A_LIVE: usize = 300;
+const WORK_OF_A_LIVE_ROW: usize = 300;
 
 /// A pattern of the group, and a row of its table that isn't dead.
 pub type Live = (u16, u16);
@@ -87,17 +87,17 @@ fn run_of(cache: &[CachedTable], places: &[usize], live: Live, byte: usize, to: 
 }
 
 /// The first byte after this one for which one of the rows may go elsewhere than for this one, or 256.
-fn run_end(cache: &[CachedTable], places: &[usize], lives: &[Live], byte: usize) -> usize
+fn run_end(cache: &[CachedTable], places: &[usize], live_rows: &[Live], byte: usize) -> usize
     requires { byte < 256 }
     ensures past { byte < result }
     ensures within { result ≤ 256 }
     ensures same { (c : ℕ) → byte ≤ c → c < result →
-        step_all (nexts_in cache.now places.now) lives.now c
-        ≡ step_all (nexts_in cache.now places.now) lives.now byte }
+        step_all (nexts_in cache.now places.now) live_rows.now c
+        ≡ step_all (nexts_in cache.now places.now) live_rows.now byte }
 {
     let mut end = 256usize;
-    'lives: for at in 0..lives.len() {
-        end = run_of(cache, places, lives[at], byte, end);
+    'live_rows: for at in 0..live_rows.len() {
+        end = run_of(cache, places, live_rows[at], byte, end);
     }
     end
 }
@@ -106,18 +106,18 @@ fn run_end(cache: &[CachedTable], places: &[usize], lives: &[Live], byte: usize)
 fn step_all(
     cache: &[CachedTable],
     places: &[usize],
-    lives: &[Live],
+    live_rows: &[Live],
     byte: u8,
     next: &mut Vec<Live>,
 ) -> Result<bool, AllocError>
     ensures next { IfOk result (λ t. IsTrue t →
-        next.new.items ≡ step_all (nexts_in cache.now places.now) lives.now byte) }
+        next.new.items ≡ step_all (nexts_in cache.now places.now) live_rows.now byte) }
     ensures past { IfOk result (λ t. IsTrue t →
         ArePastStart (start_in cache.now places.now) next.new.items) }
 {
     next.clear();
-    'lives: for at in 0..lives.len() {
-        let (pattern, row) = lives[at];
+    'live_rows: for at in 0..live_rows.len() {
+        let (pattern, row) = live_rows[at];
         let Some(table) = table_in(cache, places, pattern) else {
             return Ok(false)
         };
@@ -148,12 +148,12 @@ fn wins_at(cache: &[CachedTable], places: &[usize], live: Live) -> bool
 }
 
 /// The first of the patterns that match at their rows.
-fn first_among(cache: &[CachedTable], places: &[usize], lives: &[Live]) -> Option<u16>
-    ensures { result ≡ first_among (wins_in cache.now places.now) lives.now }
+fn first_among(cache: &[CachedTable], places: &[usize], live_rows: &[Live]) -> Option<u16>
+    ensures { result ≡ first_among (wins_in cache.now places.now) live_rows.now }
 {
-    'lives: for at in 0..lives.len() {
-        if wins_at(cache, places, lives[at]) {
-            return Some(lives[at].0);
+    'live_rows: for at in 0..live_rows.len() {
+        if wins_at(cache, places, live_rows[at]) {
+            return Some(live_rows[at].0);
         }
     }
     None
@@ -166,7 +166,7 @@ fn are_same(a: &[Live], b: &[Live]) -> bool
     if a.len() != b.len() {
         return false;
     }
-    'lives: for at in 0..a.len() {
+    'live_rows: for at in 0..a.len() {
         if a[at].0 != b[at].0 || a[at].1 != b[at].1 {
             return false;
         }
@@ -213,7 +213,7 @@ impl GroupBuilder {
         rows.push(Vec::new(alloc))?;
         rows.push(starts)?;
         let mut index = Index::new(alloc)?;
-        index.add(0, hash_of_lives(&[]));
+        index.add(0, hash_of_live_rows(&[]));
         Ok(Some(GroupBuilder {
             rows,
             next: Vec::new(alloc),
@@ -223,15 +223,15 @@ impl GroupBuilder {
     }
 
     /// The row that stands for these, other than `START`, where the index has it.
-    fn find(&self, lives: &[Live], hash: u32) -> Option<u16>
+    fn find(&self, live_rows: &[Live], hash: u32) -> Option<u16>
         ensures other { IfSome result (λ v. v ≢ 1) }
         ensures within { IfSome result (λ v. v < vec_len self.now.rows) }
-        ensures is { IfSome result (λ v. lives_at (lives_of self.now.rows) v ≡ lives.now) }
+        ensures is { IfSome result (λ v. live_rows_at (live_rows_of self.now.rows) v ≡ live_rows.now) }
     {
         for probe in 0..self.index.len() {
             if let Some(row) = self.index.candidate(hash, probe)?
                 && let Some(found) = self.rows.get(row as usize)
-                && are_same(found, lives)
+                && are_same(found, live_rows)
             {
                 return Some(row);
             }
@@ -244,15 +244,15 @@ impl GroupBuilder {
     fn intern(
         &mut self,
         alloc: Global,
-        lives: &[Live],
+        live_rows: &[Live],
         most: u16,
     ) -> Result<Option<u16>, AllocError>
-        ensures row { IfOk result (λ o. IfSome o (HasLivesOf self.old self.new lives.now)) }
+        ensures row { IfOk result (λ o. IfSome o (HasLiveRowsOf self.old self.new live_rows.now)) }
         ensures next { self.new.next ≡ self.old.next }
         ensures wins { self.new.wins ≡ self.old.wins }
     {
-        let hash = hash_of_lives(lives);
-        if let Some(row) = self.find(lives, hash) {
+        let hash = hash_of_live_rows(live_rows);
+        if let Some(row) = self.find(live_rows, hash) {
             return Ok(Some(row));
         }
         if self.rows.len() >= most as usize {
@@ -262,12 +262,12 @@ impl GroupBuilder {
         if row == START {
             return Ok(None);
         }
-        self.rows.push(Vec::from_slice(alloc, lives)?)?;
+        self.rows.push(Vec::from_slice(alloc, live_rows)?)?;
         self.index.add(row, hash);
         Ok(Some(row))
     }
 
-    /// Adds the cells of a row. False past `most` rows.
+    /// Adds the cells of a row. False past `most` rows, and where a step goes back to the first row of a pattern's table.
     #[inline(never)]
     fn fill(
         &mut self,
@@ -282,14 +282,14 @@ impl GroupBuilder {
         ensures filled { IfOk result (λ t.
             IsTrue t → IsGroupBelow cache.now places.now self.new (row + 1)) }
     {
-        let lives = Vec::from_slice(alloc, self.rows[row as usize].as_slice())?;
-        let win = first_among(cache, places, &lives);
+        let live_rows = Vec::from_slice(alloc, self.rows[row as usize].as_slice())?;
+        let win = first_among(cache, places, &live_rows);
         self.wins.push(win)?;
         let mut next = Vec::new(alloc);
         let mut byte = 0usize;
         'bytes: while byte < 256 {
-            let end = run_end(cache, places, &lives, byte);
-            if !step_all(cache, places, &lives, byte as u8, &mut next)? {
+            let end = run_end(cache, places, &live_rows, byte);
+            if !step_all(cache, places, &live_rows, byte as u8, &mut next)? {
                 return Ok(false);
             }
             let found = self.intern(alloc, &next, most)?;
@@ -301,9 +301,9 @@ impl GroupBuilder {
     }
 
     /// How many rows of tables the row stands for.
-    fn lives(&self, row: u16) -> usize {
+    fn count_of_live(&self, row: u16) -> usize {
         match self.rows.get(row as usize) {
-            Some(lives) => lives.len(),
+            Some(live_rows) => live_rows.len(),
             None => 0,
         }
     }
@@ -325,17 +325,17 @@ impl GroupBuilder {
             IsTrue t → vec_len self.new.wins + budget.new.rows ≤ budget.old.rows) }
         ensures less { budget.new.rows ≤ budget.old.rows }
     {
-        let mut lives = 0usize;
+        let mut live_rows = 0usize;
         'rows: for row in 0..most {
             if row as usize == self.rows.len() {
                 return Ok(true);
             }
-            let more = self.lives(row);
-            lives = lives.saturating_add(more);
-            if !budget.pay_row() || !budget.pay_work(more.saturating_mul(WORK_OF_A_LIVE)) {
+            let more = self.count_of_live(row);
+            live_rows = live_rows.saturating_add(more);
+            if !budget.pay_row() || !budget.pay_work(more.saturating_mul(WORK_OF_A_LIVE_ROW)) {
                 return Ok(false);
             }
-            if lives / 2 > most as usize {
+            if live_rows / 2 > most as usize {
                 return Ok(false);
             }
             if !self.fill(alloc, cache, places, row, most)? {

@@ -1,6 +1,6 @@
 use Rattle.std.proofs.Common.{◌≡◌, take}
 use Rattle.lrlex_table.proofs.group.are_same.Given as goal
 
-abbrev pub invariant-lives : goal.invariant-lives
-invariant-lives l =
+abbrev pub invariant-live_rows : goal.invariant-live_rows
+invariant-live_rows l =
     take l.at l.a ≡ take l.at l.b

@@ -6,14 +6,14 @@ use Rattle.lrlex_table.proofs.group.first_among.Goals as goal
 
 pub returns-then-wins_at : goal.returns-then-wins_at
 returns-then-wins_at c =
-    sym (first_found (wins_in c.args.cache.now c.args.places.now) c.args.lives.now c.lives.at (0, 0) c.lives-test.true c.lives.invariant
+    sym (first_found (wins_in c.args.cache.now c.args.places.now) c.args.live_rows.now c.live_rows.at (0, 0) c.live_rows-test.true c.live_rows.invariant
     (sym c.wins_at.ensures ∙ c.if-wins_at.true))
 
-pub lives-preserved : goal.lives-preserved
-lives-preserved c =
-    first_more (wins_in c.args.cache.now c.args.places.now) c.args.lives.now c.lives.at (0, 0) c.lives-test.true c.lives.invariant
+pub live_rows-preserved : goal.live_rows-preserved
+live_rows-preserved c =
+    first_more (wins_in c.args.cache.now c.args.places.now) c.args.live_rows.now c.live_rows.at (0, 0) c.live_rows-test.true c.live_rows.invariant
     (sym c.wins_at.ensures ∙ c.if-wins_at.false)
 
 pub returns : goal.returns
 returns c =
-    sym c.lives.invariant ∙ ap (first_among (wins_in c.args.cache.now c.args.places.now)) (take_all c.lives.at c.args.lives.now c.lives-test.false)
+    sym c.live_rows.invariant ∙ ap (first_among (wins_in c.args.cache.now c.args.places.now)) (take_all c.live_rows.at c.args.live_rows.now c.live_rows-test.false)
