@@ -9,7 +9,7 @@ use Rattle.lrlex.specs.Lookahead.{IsDecided, capped}
 use Rattle.lrlex.specs.Progress.{Front, HasAdvanced, HasSearched, IsUnderWay}
 use Rattle.lrlex.specs.Reach.{Reached}
 use Rattle.lrlex_definition.specs.RuleTable.{untabled_count}
-use Rattle.lrlex.specs.Tiling.{Tile, IsTaken, stack_past, tile_items, top}
+use Rattle.lrlex_rules.specs.Tiling.{Tile, IsTaken, stack_past, tile_items, top}
 use Rattle.lrlex_definition.specs.RuleTable.{definition_by}
 use Rattle.lrlex.specs.Views.{items_by}
 use Rattle.lrlex_definition.specs.declared.rule_table.RuleTable.{RuleTable}

@@ -7,7 +7,7 @@ use Rattle.lrlex_boundaries.specs.Boundaries.{Boundary}
 use Rattle.lrlex.specs.Reach.{Reached}
 use Rattle.lrlex.specs.Lookahead.{HasLooked}
 use Rattle.lrlex.specs.Views.{items_by}
-use Rattle.lrlex.specs.declared.errors.LRLexError.{LRLexError}
+use Rattle.lrlex_rules.specs.declared.errors.LRLexError.{LRLexError}
 use Rattle.lrlex.proofs.LookaheadLemmas.{looked_start}
 use Rattle.lrlex.proofs.ReachLemmas.{Reached-none}
 

@@ -14,13 +14,13 @@ use Rattle.lrlex.specs.Changes.{IsChange, HasChanged, change, none_of, moved_pas
 use Rattle.lrlex.specs.Moves.{IsMovable, items_from}
 use Rattle.lrlex.specs.Progress.{HasRecut, HasMet, IsEditOf, HasReplacedTail, HasReplacedMiddle, front_of}
 use Rattle.lrlex.specs.Reach.{IsLexed, Reached}
-use Rattle.lrlex.specs.Tiling.{Item, Lexeme, Error, IsTiling, boundaries, rebased}
+use Rattle.lrlex_rules.specs.Tiling.{Item, Lexeme, Error, IsTiling, boundaries, rebased}
 use Rattle.lrlex_definition.specs.RuleTable.{definition_by}
 use Rattle.lrlex.specs.Views.{item_of, items_by}
 use Rattle.lrlex_boundaries.specs.Boundaries.{Boundary, boundary_at, place_and_stack, no_boundary}
 use Rattle.lrlex_boundaries.specs.Entries.{plain}
 use Rattle.lrlex.specs.declared.editing.changes.Change.{Change}
-use Rattle.lrlex.specs.declared.errors.LRLexError.{LRLexError}
+use Rattle.lrlex_rules.specs.declared.errors.LRLexError.{LRLexError}
 use Rattle.lrlex_definition.specs.declared.rule_table.RuleTable.{RuleTable}
 use Rattle.lrlex.specs.declared.editing.relex.Recut.{Recut}
 use Rattle.lrlex.proofs.DecidedLemmas.{decided_safe}

@@ -4,8 +4,8 @@ use Rattle.std.specs.List.{sum_by}
 use Rattle.std.proofs.lemmas.List.Sums.{count_by-le-length, sum_by-cons}
 use Rattle.lrlex_rules.specs.Definition.{Definition}
 use Rattle.lrlex_rules.specs.Active.{is_active, active_count}
-use Rattle.lrlex.specs.Tiling.{top, stack_past, boundaries, asked_at}
-use Rattle.lrlex.specs.Tiling.{Tile}
+use Rattle.lrlex_rules.specs.Tiling.{top, stack_past, boundaries, asked_at}
+use Rattle.lrlex_rules.specs.Tiling.{Tile}
 
 pub active_count-le : (d : Definition) (q : ℕ) → active_count d q ≤ length d.rules
 unfolding active_count

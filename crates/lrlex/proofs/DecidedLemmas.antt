@@ -14,13 +14,13 @@ use Rattle.lrlex_table.specs.Table.{IsLongest, NoneMatches}
 use Rattle.lrlex_table.specs.Reach.{IsText, BeginsAlike, IsDecidedBy}
 use Rattle.lrlex_table.proofs.PrefixLemmas.{alike_less, alike_len}
 use Rattle.lrlex_rules.specs.Active.{is_state, active_places}
-use Rattle.lrlex.specs.Tiling.{Item, Wins, top}
+use Rattle.lrlex_rules.specs.Tiling.{Item, Wins, top}
 use Rattle.lrlex_boundaries.specs.Entries.{plain}
 use Rattle.lrlex_boundaries.specs.Boundaries.{Boundary, no_boundary, boundary_at}
 use Rattle.lrlex.specs.Reach.{IsLexed}
 use Rattle.lrlex.specs.Lookahead.{IsDecided, IsDecidedAt, AreDecided, LooksAhead, IsSafe}
-use Rattle.lrlex.proofs.TilingLemmas.{one_len, one_rule, stuck_or_wins}
-use Rattle.lrlex.proofs.TableLemmas.{patterns_at, longest_wins, none_stuck, looked_at, looked_all, longest_of, none_of}
+use Rattle.lrlex_rules.proofs.TilingLemmas.{one_len, one_rule, stuck_or_wins}
+use Rattle.lrlex_definition.proofs.TableLemmas.{patterns_at, longest_wins, none_stuck, looked_at, looked_all, longest_of, none_of}
 use Rattle.lrlex.proofs.ResumeLemmas.{alike_from, kept_up_to, taken_old, taken_new, tile}
 
 pub decided_prop : (d : Definition) (q : ℕ) (text : List ℕ) (reach : ℕ) → IsProp (IsDecided d q text reach)

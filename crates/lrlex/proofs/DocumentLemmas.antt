@@ -21,7 +21,7 @@ use Rattle.lrlex.specs.Relex.{AreCountsOf}
 use Rattle.lrlex_definition.specs.RuleTable.{definition_by}
 use Rattle.lrlex.specs.Views.{items_by}
 use Rattle.lrlex.specs.Work.{IsLinearIn}
-use Rattle.lrlex.specs.declared.errors.LRLexError.{LRLexError}
+use Rattle.lrlex_rules.specs.declared.errors.LRLexError.{LRLexError}
 use Rattle.lrlex_definition.specs.declared.rule_table.RuleTable.{RuleTable}
 use Rattle.lrlex.specs.declared.editing.document.LexedText.{LexedText}
 use Rattle.lrlex.proofs.InPlaceLemmas.{counts_moved}

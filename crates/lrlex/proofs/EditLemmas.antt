@@ -3,10 +3,10 @@ use Rattle.std.proofs.Common.{◌≡◌, ℕ, zero, suc, ◌+◌, ◌-◌, ◌�
 use Rattle.std.proofs.lemmas.Option.{none-some, same_Some}
 use Rattle.std.proofs.lemmas.List.{drop-drop, drop_at, length-take-le}
 use Rattle.lrlex_rules.specs.Definition.{Definition}
-use Rattle.lrlex.specs.Tiling.{Item, Lexeme, Error, End, stack_past, tile_items, items, boundaries, moved, rebased, lexemes}
+use Rattle.lrlex_rules.specs.Tiling.{Item, Lexeme, Error, End, stack_past, tile_items, items, boundaries, moved, rebased, lexemes}
 use Rattle.lrlex_base.specs.Spans.{span}
 use Rattle.lrlex_base.specs.Edits.{edited}
-use Rattle.lrlex.specs.Tiling.{Tile}
+use Rattle.lrlex_rules.specs.Tiling.{Tile}
 use Rattle.lrlex.proofs.TailLemmas.{items_moved}
 
 -- what follows an edit is what followed the part that it replaced

@@ -1,6 +1,6 @@
 -- What a change of the last entry does to the plain stack.
 use Rattle.std.proofs.Math.Seq.{take-append_seam}
-use Rattle.lrlex.specs.Tiling.{top, or_initial}
+use Rattle.lrlex_rules.specs.Tiling.{top, or_initial}
 use Rattle.std.proofs.lemmas.Bool.{cond-true, cond-false, eqb-true, ne_eqb}
 use Rattle.std.proofs.lemmas.Option.{same_Some, none-some}
 use Rattle.std.proofs.lemmas.List.{get_or_at}

@@ -22,7 +22,7 @@ use Rattle.lrlex_definition.specs.RuleTable.{AreOf}
 use Rattle.lrlex.specs.Searcher.{IsFoundAt, IsSearcherOf, tile_of}
 use Rattle.lrlex_rules.specs.RuleLists.{list_in}
 use Rattle.lrlex_definition.specs.StateTables.{pattern_in, patterns_on}
-use Rattle.lrlex.specs.Tiling.{Wins}
+use Rattle.lrlex_rules.specs.Tiling.{Wins}
 use Rattle.lrlex_definition.specs.RuleTable.{definition_by}
 use Rattle.lrlex_definition.specs.declared.row_kinds.RowKind.{RowKind}
 use Rattle.lrlex_definition.specs.declared.rule_table.RuleTable.{RuleTable}
@@ -32,8 +32,8 @@ use Rattle.lrlex.specs.declared.lexing.winner.Searcher.{Searcher}
 use Rattle.lrlex.specs.declared.lexing.winner.Tile.{Tile}
 use Rattle.lrlex.proofs.DecidedLemmas.{decided_look}
 use Rattle.lrlex_definition.proofs.RowKindLemmas.{the_chain, row_list, row_rule, row_plain}
-use Rattle.lrlex.proofs.TableLemmas.{active_within, looked_at, told_some, told_bytes, best_wins}
-use Rattle.lrlex.proofs.TilingLemmas.{one_len}
+use Rattle.lrlex_definition.proofs.TableLemmas.{active_within, looked_at, told_some, told_bytes, best_wins}
+use Rattle.lrlex_rules.proofs.TilingLemmas.{one_len}
 
 -- what was got from a list stands in it
 pub got : {X : Type 0} (xs : List X) (i : ℕ) (o : Option (Bor X)) (x : X) → option_copied o ≡ Some x → is_some o ≡ nat_lt i (length xs) → ((d : X) → unwrap_or (option_copied o) d ≡ get_or xs i d) → slice_get xs i ≡ Some x

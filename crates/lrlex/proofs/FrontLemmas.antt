@@ -1,7 +1,7 @@
 -- What stands in front of what a run has found.
 use Rattle.std.proofs.Common.{◌≡◌, ℕ, suc, ◌-◌, ◌<◌, List, [], ◌∷◌, ◌++◌, length, refl, sym, ap, ◌∙◌, arith, append_assoc, length-append}
 use Rattle.lrlex_rules.specs.Definition.{Definition}
-use Rattle.lrlex.specs.Tiling.{Item}
+use Rattle.lrlex_rules.specs.Tiling.{Item}
 use Rattle.lrlex.specs.Reach.{Reached}
 use Rattle.lrlex_boundaries.specs.Boundaries.{Boundary, boundary_at, last_entries}
 use Rattle.lrlex.proofs.ReachLemmas.{length_now}

@@ -8,7 +8,7 @@ use Rattle.lrlex_base.specs.Edits.{edited}
 use Rattle.lrlex_rules.specs.Definition.{Definition}
 use Rattle.lrlex_table.specs.Reach.{IsText}
 use Rattle.lrlex_rules.specs.Active.{is_state}
-use Rattle.lrlex.specs.Tiling.{Item}
+use Rattle.lrlex_rules.specs.Tiling.{Item}
 use Rattle.lrlex_boundaries.specs.Boundaries.{Boundary, no_boundary, boundary_at}
 use Rattle.lrlex.specs.Moves.{begins_before}
 use Rattle.lrlex.specs.Reach.{IsLexed}

@@ -16,13 +16,13 @@ use Rattle.lrlex_boundaries.specs.Moves.{IsMovableBoundary, moved_boundary}
 use Rattle.lrlex.specs.Moves.{IsMovable, items_from}
 use Rattle.lrlex.specs.Reach.{IsLexed, IsRun}
 use Rattle.lrlex.specs.Relex.{AreCountsOf}
-use Rattle.lrlex.specs.Tiling.{Item, Item-set, rebased}
+use Rattle.lrlex_rules.specs.Tiling.{Item, Item-set, rebased}
 use Rattle.lrlex.specs.Progress.{HasRecut, HasMet, IsEditOf, HasReplacedTail, HasReplacedMiddle, front_of}
 use Rattle.lrlex_definition.specs.RuleTable.{definition_by}
 use Rattle.lrlex.specs.Views.{item_of, items_by}
 use Rattle.lrlex.specs.Changes.{change}
 use Rattle.lrlex.specs.Work.{HasLinearRecut, IsLinearIn}
-use Rattle.lrlex.specs.declared.errors.LRLexError.{LRLexError}
+use Rattle.lrlex_rules.specs.declared.errors.LRLexError.{LRLexError}
 use Rattle.lrlex_definition.specs.declared.rule_table.RuleTable.{RuleTable}
 use Rattle.lrlex.specs.declared.editing.relex.Recut.{Recut}
 use Rattle.lrlex.proofs.LookaheadLemmas.{looks_known}

@@ -16,12 +16,12 @@ use Rattle.lrlex_matching.specs.Matching.{match_length}
 use Rattle.lrlex_matching.proofs.ForCallers.{length_cuts}
 use Rattle.lrlex_rules.specs.Patterns.{pattern_of}
 use Rattle.lrlex_rules.specs.Active.{is_active, is_state, taken_by, taken_by_any, no_rule, rule_at, lexeme_id, lacks_id}
-use Rattle.lrlex.specs.Tiling.{Tile, Item, Item-set, Lexeme, Error, Wins, IsWinner, top, End, Done, NoMatch, NoId, NoTarget, IsEnd, stack_past, IsTiling, lexeme_of, tile_items, end_items, items}
+use Rattle.lrlex_rules.specs.Tiling.{Tile, Item, Item-set, Lexeme, Error, Wins, IsWinner, top, End, Done, NoMatch, NoId, NoTarget, IsEnd, stack_past, IsTiling, lexeme_of, tile_items, end_items, items}
 use Rattle.lrlex_boundaries.specs.Boundaries.{Boundary}
 use Rattle.lrlex.specs.Reach.{IsLexed, IsRun}
 use Rattle.lrlex.specs.ItemLaws.{is_error, HasItsLength, FitsText, HasNamedRule, EndsBefore, GoesOn, last_end, tile_texts, total_len, StopsAt, IsUnnamed, IsUnnamedBetween, IsUnnamedBefore, AreItemsOf, CoverText, HaveLaws}
 use Rattle.lrlex.proofs.KnownLemmas.{known}
-use Rattle.lrlex.proofs.TilingLemmas.{Wins-le}
+use Rattle.lrlex_rules.proofs.TilingLemmas.{Wins-le}
 
 -- ---- a winner ends between characters
 

@@ -6,14 +6,14 @@ use Rattle.std.proofs.Math.Logic.{∥∥₁_elim}
 use Rattle.std.proofs.lemmas.List.{drop-drop, length-drop, get_or-map, length-map}
 use Rattle.lrlex_rules.specs.Definition.{Definition}
 use Rattle.lrlex_rules.specs.Active.{is_state}
-use Rattle.lrlex.specs.Tiling.{Item, Item-set, End, IsTiling, stack_past, items, boundaries}
+use Rattle.lrlex_rules.specs.Tiling.{Item, Item-set, End, IsTiling, stack_past, items, boundaries}
 use Rattle.lrlex_boundaries.specs.Entries.{Differ, AreEntries}
 use Rattle.lrlex_boundaries.specs.Boundaries.{Boundary, place_and_stack, no_boundary, boundary_at}
 use Rattle.lrlex_boundaries.specs.Moves.{AreSorted}
 use Rattle.lrlex.specs.Reach.{IsLexed, IsRun}
-use Rattle.lrlex.specs.Tiling.{Tile}
-use Rattle.lrlex.proofs.BestLemmas.{HasTiling, a_tiling}
-use Rattle.lrlex.proofs.TilingLemmas.{one_tiling, only_one, Wins-le}
+use Rattle.lrlex_rules.specs.Tiling.{Tile}
+use Rattle.lrlex_rules.proofs.BestLemmas.{HasTiling, a_tiling}
+use Rattle.lrlex_rules.proofs.TilingLemmas.{one_tiling, only_one, Wins-le}
 use Rattle.lrlex.proofs.WithinLemmas.{bounds_within}
 
 pub Differ-prop : (rs : List (ℕ × ℕ)) → IsProp (Differ rs)

@@ -1,6 +1,5 @@
 pub mod RecutLemmas
 pub mod BegunLemmas
-pub mod BestLemmas
 pub mod ChangeLemmas
 pub mod CountLemmas
 pub mod EditLemmas
@@ -11,16 +10,12 @@ pub mod MeetLemmas
 pub mod PeakLemmas
 pub mod ReachLemmas
 pub mod EntryLemmas
-pub mod ScanLemmas
 pub mod ScannerLemmas
 pub mod ScannedRuns
 pub mod StepsLemmas
 pub mod SpliceLemmas
 pub mod TailLemmas
-pub mod TilingLemmas
 pub mod WithinLemmas
-pub mod TableLemmas
-pub mod NeverLemmas
 pub mod NeverRunLemmas
 pub mod ResumeLemmas
 pub mod DecidedLemmas

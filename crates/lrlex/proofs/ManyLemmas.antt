@@ -21,7 +21,7 @@ use Rattle.lrlex_definition.specs.RowKinds.{own_kind}
 use Rattle.lrlex.specs.Searcher.{AreFoundAt, IsFoundAt, IsSearcherOf, tile_of}
 use Rattle.lrlex.specs.Searches.{asks_by}
 use Rattle.lrlex_definition.specs.RuleTable.{untabled_count}
-use Rattle.lrlex.specs.Tiling.{Item, Tile, IsTaken, Wins, lexeme_of, stack_past, tile_items, top}
+use Rattle.lrlex_rules.specs.Tiling.{Item, Tile, IsTaken, Wins, lexeme_of, stack_past, tile_items, top}
 use Rattle.lrlex_definition.specs.RuleTable.{definition_by}
 use Rattle.lrlex.specs.Views.{items_by}
 use Rattle.lrlex_definition.specs.declared.row_kinds.RowKind.{RowKind}

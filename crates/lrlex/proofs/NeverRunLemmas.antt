@@ -13,9 +13,9 @@ use Rattle.lrlex_rules.specs.Patterns.{pattern_of}
 use Rattle.lrlex_matching.specs.Matching.{match_length}
 use Rattle.lrlex_table.specs.Reach.{IsText}
 use Rattle.lrlex_rules.specs.Active.{is_state, is_active, rule_at, no_rule, taken_by, taken_by_any}
-use Rattle.lrlex.specs.Never.{NeverWinsAnywhere, EndsByOther, HasNoTileOf, LacksState, puts, enters}
+use Rattle.lrlex_definition.specs.Never.{NeverWinsAnywhere, EndsByOther, HasNoTileOf, LacksState, puts, enters}
 use Rattle.lrlex_definition.specs.Somewhere.{is_active_somewhere}
-use Rattle.lrlex.specs.Tiling.{Wins, Tile, End, Done, NoMatch, NoId, NoTarget, IsEnd, IsTiling, top, or_initial, stack_after, stack_past, boundaries}
+use Rattle.lrlex_rules.specs.Tiling.{Wins, Tile, End, Done, NoMatch, NoId, NoTarget, IsEnd, IsTiling, top, or_initial, stack_after, stack_past, boundaries}
 use Rattle.lrlex.proofs.ItemLemmas.{Wins-cut}
 use Rattle.lrlex.proofs.ReachLemmas.{AreStates, one_state, sound_after, top_is_state}
 use Rattle.lrlex.proofs.ResumeLemmas.{text_from}

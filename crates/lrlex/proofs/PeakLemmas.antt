@@ -4,14 +4,14 @@ use Rattle.std.proofs.lemmas.List.Elements.{All-head, All-tail}
 use Rattle.std.proofs.lemmas.List.{length-map}
 use Rattle.lrlex_rules.specs.Definition.{Definition}
 use Rattle.lrlex_rules.specs.Active.{rule_at}
-use Rattle.lrlex.specs.Tiling.{Item, top, or_initial, stack_after, stack_past, boundaries}
+use Rattle.lrlex_rules.specs.Tiling.{Item, top, or_initial, stack_after, stack_past, boundaries}
 use Rattle.lrlex_boundaries.specs.Entries.{AreEntries, entry_count}
 use Rattle.lrlex_boundaries.specs.Boundaries.{Boundary, place_and_stack, most_entries, most_entry_count}
 use Rattle.lrlex.specs.Reach.{IsLexed}
 use Rattle.lrlex.specs.Peaks.{pushes_other, pushes}
 use Rattle.lrlex_rules.specs.declared.states.StartStateOperation.{StartStateOperation}
 use Rattle.lrlex_rules.specs.declared.states.StartStateOperation.TheVariants.{ReplaceStack, Push, Pop}
-use Rattle.lrlex.specs.Tiling.{Tile}
+use Rattle.lrlex_rules.specs.Tiling.{Tile}
 use Rattle.lrlex.proofs.EntryLemmas.{entry_count-plain, top-last}
 
 pub most-plain : (ms : List Boundary) → All (λ m. AreEntries m.entries) ms → most_entries ms ≡ most_entry_count (map place_and_stack ms)

@@ -13,7 +13,7 @@ use Rattle.lrlex.specs.ItemLaws.{total_len}
 use Rattle.lrlex.specs.LexRun.{end_of}
 use Rattle.lrlex.specs.Pieces.{IsPiece, AreTiles, AreTilesOfRun, ArePieces, ArePiecesOfRun, joined, lexemes_of}
 use Rattle.lrlex.specs.Reach.{IsLexed, IsRun}
-use Rattle.lrlex.specs.Tiling.{Item, Tile, End, stack_past, lexeme_of, tile_items, end_items, items, boundaries}
+use Rattle.lrlex_rules.specs.Tiling.{Item, Tile, End, stack_past, lexeme_of, tile_items, end_items, items, boundaries}
 use Rattle.lrlex.specs.declared.reading.pieces.Piece.{Piece}
 use Rattle.lrlex.proofs.PeakLemmas.{tiles_are}
 

@@ -12,13 +12,13 @@ use Rattle.lrlex.specs.Pieces.{IsPiece, HasByteIn}
 use Rattle.lrlex_boundaries.specs.Moves.{AreSorted}
 use Rattle.lrlex.specs.Reach.{IsLexed}
 use Rattle.lrlex_boundaries.specs.Entries.{plain}
-use Rattle.lrlex.specs.Tiling.{Item, Tile, Wins, top, stack_past}
+use Rattle.lrlex_rules.specs.Tiling.{Item, Tile, Wins, top, stack_past}
 use Rattle.lrlex.specs.declared.reading.pieces.Piece.{Piece}
 use Rattle.lrlex.proofs.ItemLemmas.{Wins-cut}
 use Rattle.lrlex.proofs.PeakLemmas.{tiles_are}
 use Rattle.lrlex.proofs.ReachLemmas.{AreStates, one_state, sound_after, top_is_state}
 use Rattle.lrlex.proofs.ResumeLemmas.{tile, tile_is, taken_old, next_boundary, first_boundary}
-use Rattle.lrlex.proofs.TilingLemmas.{one_winner}
+use Rattle.lrlex_rules.proofs.TilingLemmas.{one_winner}
 
 module _ (d : Definition) (text : List ℕ) (found : List Item) (bounds : List Boundary) (h : IsLexed d text found bounds) (is : IsText text) (initial : is_state d 0 ≡ true) where
   -- the tile at boundary k

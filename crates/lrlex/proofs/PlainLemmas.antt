@@ -2,7 +2,7 @@
 use Rattle.std.proofs.Common.{◌≡◌, ℕ, Bool, true, false, List, [], ◌∷◌, ◌++◌, length, take, Option, Some, None, option_map, if◌then◌else◌, refl, sym, ap, ◌∙◌, arith, length-append}
 use Rattle.std.proofs.lemmas.List.{take_at}
 use Rattle.lrlex_rules.specs.declared.states.StartStateOperation.{StartStateOperation}
-use Rattle.lrlex.specs.Tiling.{stack_after}
+use Rattle.lrlex_rules.specs.Tiling.{stack_after}
 
 -- what is left where one was put behind and the last one taken away
 pub taken_away : {A : Type 0} (xs ys : List A) (x y : A) → xs ++ x ∷ [] ≡ ys ++ y ∷ [] → ys ≡ xs

@@ -3,7 +3,7 @@ use Rattle.std.proofs.Common.{◌≡◌, ℕ, suc, ◌+◌, ◌-◌, ◌<◌, �
 use Rattle.std.proofs.lemmas.Bool.{cases_lt, ltb-true, lt-ltb}
 use Rattle.std.proofs.lemmas.List.{append-nil, append_assoc, length-append, length-map, length-take-le, length-drop, map-append, map-set, take_all, drop_all, take_at, drop_at, take-append-drop, get_or-map, get_or-append_right, get_or-drop, set-append_right}
 use Rattle.std.proofs.lemmas.List.Edits.{map_over_more}
-use Rattle.lrlex.specs.Tiling.{Item, Lexeme, Error, rebased}
+use Rattle.lrlex_rules.specs.Tiling.{Item, Lexeme, Error, rebased}
 use Rattle.lrlex_boundaries.specs.Boundaries.{Boundary, boundary_at}
 use Rattle.lrlex_boundaries.specs.Moves.{AreSorted}
 use Rattle.lrlex.specs.Moves.{begins_before}

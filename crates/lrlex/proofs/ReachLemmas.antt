@@ -9,15 +9,15 @@ use Rattle.std.proofs.lemmas.Bool.{cond-true, lt-ltb}
 use Rattle.std.proofs.Math.Nat.{mul-le-mul_right}
 use Rattle.lrlex_rules.specs.Definition.{Definition}
 use Rattle.lrlex_rules.specs.Active.{active_count, is_state, rule_at}
-use Rattle.lrlex.specs.Tiling.{Item, Error, top, Wins, End, IsTaken, IsEnd, IsWinner, stack_past, stack_after, or_initial, IsTiling, tile_items, end_items, items, boundaries, asked_at}
+use Rattle.lrlex_rules.specs.Tiling.{Item, Error, top, Wins, End, IsTaken, IsEnd, IsWinner, stack_past, stack_after, or_initial, IsTiling, tile_items, end_items, items, boundaries, asked_at}
 use Rattle.lrlex_boundaries.specs.Entries.{plain, AreEntries}
 use Rattle.lrlex_boundaries.specs.Boundaries.{Boundary, place_and_stack, no_boundary, boundary_at, last_entries}
 use Rattle.lrlex.specs.Reach.{Reached, IsLexed, IsRun, searches}
-use Rattle.lrlex.specs.Tiling.{Tile}
+use Rattle.lrlex_rules.specs.Tiling.{Tile}
 use Rattle.lrlex_rules.specs.declared.states.StartStateOperation.{StartStateOperation}
 use Rattle.lrlex_rules.specs.declared.states.StartStateOperation.TheVariants.{ReplaceStack, Push, Pop}
 use Rattle.lrlex.proofs.EntryLemmas.{entries-one}
-use Rattle.lrlex.proofs.TilingLemmas.{only_one}
+use Rattle.lrlex_rules.proofs.TilingLemmas.{only_one}
 use Rattle.lrlex.proofs.CountLemmas.{asked_at-le}
 
 abbrev pub AreStates : Definition → List ℕ → Type 0

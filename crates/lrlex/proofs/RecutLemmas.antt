@@ -21,12 +21,12 @@ use Rattle.lrlex_boundaries.specs.Moves.{AreSorted, Meets}
 use Rattle.lrlex.specs.Moves.{begins_before}
 use Rattle.lrlex.specs.Reach.{IsLexed, Reached, searches}
 use Rattle.lrlex.specs.Relex.{AreCountsOf}
-use Rattle.lrlex.specs.Tiling.{Done, Item, asked_at, top}
+use Rattle.lrlex_rules.specs.Tiling.{Done, Item, asked_at, top}
 use Rattle.lrlex.specs.Progress.{HasAdvanced, HasRecut, HasEnded, HasMet, IsEditOf, IsUnderWay, StandsAt, Front, front_of}
 use Rattle.lrlex_definition.specs.RuleTable.{definition_by}
 use Rattle.lrlex.specs.Views.{items_by}
 use Rattle.lrlex.specs.Work.{IsLinearIn}
-use Rattle.lrlex.specs.declared.errors.LRLexError.{LRLexError}
+use Rattle.lrlex_rules.specs.declared.errors.LRLexError.{LRLexError}
 use Rattle.lrlex_definition.specs.declared.rule_table.RuleTable.{RuleTable}
 use Rattle.lrlex.specs.declared.lexing.step.Progress.{Progress}
 use Rattle.lrlex.proofs.LookaheadLemmas.{looks_known}

@@ -1,14 +1,14 @@
 -- A text is cut in one way from each stack, and what follows a boundary is what the rest of the text gives.
 use Rattle.std.proofs.Common.{◌≡◌, ℕ, ◌+◌, List, [], ◌∷◌, map, drop, Some, slice_get, sym, ap, ◌∙◌, arith}
 use Rattle.lrlex_rules.specs.Definition.{Definition}
-use Rattle.lrlex.specs.Tiling.{Item, IsTiling, HasOneTiling, items, moved}
+use Rattle.lrlex_rules.specs.Tiling.{Item, IsTiling, HasOneTiling, items, moved}
 use Rattle.lrlex_boundaries.specs.Entries.{plain}
 use Rattle.lrlex_boundaries.specs.Boundaries.{Boundary}
 use Rattle.lrlex.specs.Moves.{items_from}
 use Rattle.lrlex.specs.Reach.{IsLexed}
-use Rattle.lrlex.proofs.TilingLemmas.{one_tiling}
+use Rattle.lrlex_rules.proofs.TilingLemmas.{one_tiling}
 use Rattle.lrlex.proofs.TailLemmas.{tail_tiling, items_moved}
-use Rattle.lrlex.proofs.BestLemmas.{a_tiling}
+use Rattle.lrlex_rules.proofs.BestLemmas.{a_tiling}
 use Rattle.lrlex.proofs.SpliceLemmas.{AtBoundary, at_bound, tail_items}
 
 pub one_way : (d : Definition) (text stack : List ℕ) → HasOneTiling d text stack

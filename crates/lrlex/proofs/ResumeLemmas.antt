@@ -10,21 +10,21 @@ use Rattle.lrlex_base.specs.Edits.{edited}
 use Rattle.lrlex_rules.specs.Definition.{Definition}
 use Rattle.lrlex_table.specs.Reach.{IsText}
 use Rattle.lrlex_rules.specs.Active.{is_state}
-use Rattle.lrlex.specs.Tiling.{Tile, Item, End, top, IsTaken, stack_past, IsTiling, tile_items, items, lexemes, boundaries}
+use Rattle.lrlex_rules.specs.Tiling.{Tile, Item, End, top, IsTaken, stack_past, IsTiling, tile_items, items, lexemes, boundaries}
 use Rattle.lrlex_boundaries.specs.Entries.{plain, AreEntries}
 use Rattle.lrlex_boundaries.specs.Boundaries.{Boundary, place_and_stack, no_boundary, boundary_at}
 use Rattle.lrlex.specs.Moves.{begins_before}
 use Rattle.lrlex.specs.Reach.{Reached, IsLexed}
 use Rattle.lrlex.specs.Lookahead.{IsDecidedAt, AreDecided, items_before, GoesOn, BeginAlike}
-use Rattle.lrlex.proofs.TilingLemmas.{Wins-le}
+use Rattle.lrlex_rules.proofs.TilingLemmas.{Wins-le}
 use Rattle.lrlex.proofs.TailLemmas.{tail_tiling}
-use Rattle.lrlex.proofs.BestLemmas.{a_tiling}
+use Rattle.lrlex_rules.proofs.BestLemmas.{a_tiling}
 use Rattle.lrlex.proofs.PeakLemmas.{tiles_are}
 use Rattle.lrlex.proofs.WithinLemmas.{AreBefore, AreFrom, IsParted, tail_from}
 use Rattle.lrlex.proofs.ItemLemmas.{Wins-cut}
 use Rattle.lrlex.proofs.SpliceLemmas.{boundaries_tail, AtBoundary, at_bound, parted}
 use Rattle.lrlex.proofs.ReachLemmas.{AreStates, one_state, Reached-more, bounds_now, length_now}
-use Rattle.lrlex.proofs.ScanLemmas.{slice_get-drop}
+use Rattle.lrlex_rules.proofs.ScanLemmas.{slice_get-drop}
 
 -- ---- texts that begin alike
 

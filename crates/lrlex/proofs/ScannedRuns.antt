@@ -11,12 +11,12 @@ use Rattle.lrlex_rules.specs.Active.{is_state, rule_at}
 use Rattle.lrlex.specs.LexRun.{end_of, end_state_of}
 use Rattle.lrlex.specs.Reach.{IsLexed, IsRun}
 use Rattle.lrlex.specs.Scanner.{AreScanned, IsTileAt, Scanned, at_front, left, past, top_state}
-use Rattle.lrlex.specs.Tiling.{Item, Error, Tile, End, IsEnd, IsTaken, tile_items, end_items, items, boundaries, stack_after, stack_past, top}
+use Rattle.lrlex_rules.specs.Tiling.{Item, Error, Tile, End, IsEnd, IsTaken, tile_items, end_items, items, boundaries, stack_after, stack_past, top}
 use Rattle.lrlex.specs.declared.lexing.scanner.ScannedTile.{ScannedTile}
 use Rattle.lrlex.proofs.EntryLemmas.{are-entries_of, entries_of, plain-entries_of}
 use Rattle.lrlex.proofs.ReachLemmas.{run_of, stateless_of}
 use Rattle.lrlex.proofs.ScannerLemmas.{scanned_front, scanned_more}
-use Rattle.lrlex.proofs.TilingLemmas.{only_one}
+use Rattle.lrlex_rules.proofs.TilingLemmas.{only_one}
 
 -- ---- on its way
 

@@ -9,10 +9,10 @@ use Rattle.lrlex_boundaries.specs.Boundaries.{Boundary}
 use Rattle.lrlex_rules.specs.Active.{is_state, lacks_id, rule_at}
 use Rattle.lrlex.specs.Reach.{IsLexed}
 use Rattle.lrlex.specs.Scanner.{AreScanned, EndsBy, IsTileAt, Scanned, at_front, left, past}
-use Rattle.lrlex.specs.Tiling.{Item, Tile, End, Done, NoMatch, IsEnd, IsTaken, IsTiling, items, stack_after, stack_past, top}
-use Rattle.lrlex.specs.Tiling.{NoId as LacksId, NoTarget as LacksTarget}
+use Rattle.lrlex_rules.specs.Tiling.{Item, Tile, End, Done, NoMatch, IsEnd, IsTaken, IsTiling, items, stack_after, stack_past, top}
+use Rattle.lrlex_rules.specs.Tiling.{NoId as LacksId, NoTarget as LacksTarget}
 use Rattle.lrlex.specs.declared.lexing.scanner.ScannedTile.{ScannedTile}
-use Rattle.lrlex.proofs.TilingLemmas.{Wins-le}
+use Rattle.lrlex_rules.proofs.TilingLemmas.{Wins-le}
 use Rattle.lrlex.specs.declared.lexing.scanner.ScanEnd.{ScanEnd}
 use Rattle.lrlex.specs.declared.lexing.scanner.ScanEnd.TheVariants.{NoId, NoState}
 use Rattle.lrlex.specs.declared.lexing.scanner.ScanEnd.TheVariants.{Done as IsDone, NoMatch as HasNoMatch, NoTarget as HasNoTarget}

@@ -9,7 +9,7 @@ use Rattle.std.proofs.lemmas.Slice.Eq.{bytes_eq-Decides}
 use Rattle.lrlex_rules.specs.Definition.{Definition}
 use Rattle.lrlex_rules.specs.RuleParts.{as_state}
 use Rattle.lrlex_table.specs.declared.tables.Tables.{Tables}
-use Rattle.lrlex.specs.Tiling.{Item, top}
+use Rattle.lrlex_rules.specs.Tiling.{Item, top}
 use Rattle.lrlex_boundaries.specs.Entries.{plain}
 use Rattle.lrlex_boundaries.specs.Boundaries.{Boundary, place_and_stack, no_boundary, boundary_at}
 use Rattle.lrlex_boundaries.specs.Moves.{Meets}

@@ -5,14 +5,14 @@ use Rattle.std.proofs.lemmas.Option.{none-some, same_Some, slice_get-map}
 use Rattle.std.proofs.lemmas.List.{map-append, drop-map}
 use Rattle.std.proofs.lemmas.List.Elements.{All-append, All-map, All-drop}
 use Rattle.lrlex_rules.specs.Definition.{Definition}
-use Rattle.lrlex.specs.Tiling.{Item, End, stack_past, IsTiling, items, boundaries, rebased, lexemes}
+use Rattle.lrlex_rules.specs.Tiling.{Item, End, stack_past, IsTiling, items, boundaries, rebased, lexemes}
 use Rattle.lrlex_boundaries.specs.Entries.{plain, AreEntries}
 use Rattle.lrlex_boundaries.specs.Boundaries.{Boundary, place_and_stack}
 use Rattle.lrlex_boundaries.specs.Moves.{moved_boundary}
 use Rattle.lrlex.specs.Moves.{begins_before, items_from}
 use Rattle.lrlex.specs.Reach.{Reached, IsLexed}
-use Rattle.lrlex.specs.Tiling.{Tile}
-use Rattle.lrlex.proofs.TilingLemmas.{only_one}
+use Rattle.lrlex_rules.specs.Tiling.{Tile}
+use Rattle.lrlex_rules.proofs.TilingLemmas.{only_one}
 use Rattle.lrlex.proofs.TailLemmas.{tail_tiling}
 use Rattle.lrlex.proofs.EditLemmas.{items_tail, items_rebased}
 use Rattle.lrlex.proofs.ReachLemmas.{bounds_now}

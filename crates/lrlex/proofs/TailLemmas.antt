@@ -4,8 +4,8 @@ use Rattle.std.proofs.lemmas.Option.{none-some, same_Some}
 use Rattle.std.proofs.lemmas.List.{drop-drop, map-append}
 use Rattle.lrlex_rules.specs.Definition.{Definition}
 use Rattle.lrlex_rules.specs.Active.{rule_at, lexeme_id}
-use Rattle.lrlex.specs.Tiling.{Tile}
-use Rattle.lrlex.specs.Tiling.{Item, Error, End, Done, NoMatch, NoId, NoTarget, stack_past, IsTiling, lexeme_of, tile_items, end_items, items, boundaries, moved}
+use Rattle.lrlex_rules.specs.Tiling.{Tile}
+use Rattle.lrlex_rules.specs.Tiling.{Item, Error, End, Done, NoMatch, NoId, NoTarget, stack_past, IsTiling, lexeme_of, tile_items, end_items, items, boundaries, moved}
 
 pub tail_tiling : (d : Definition) (text : List ℕ) (place : ℕ) (stack : List ℕ) (ts : List Tile) (e : End) (k : ℕ) (p : ℕ) (s : List ℕ) →
     IsTiling d (drop place text) stack ts e → slice_get (boundaries d place stack ts) k ≡ Some (p, s) →

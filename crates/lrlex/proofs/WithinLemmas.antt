@@ -7,9 +7,9 @@ use Rattle.std.proofs.lemmas.List.{drop-drop, length-drop, length-map, get_or-ma
 use Rattle.std.proofs.lemmas.List.Elements.{All-append, All-cons, All-nil, All-weaker, All-push, All-head, All-tail}
 use Rattle.lrlex_rules.specs.Definition.{Definition}
 use Rattle.lrlex_rules.specs.Active.{rule_at, lexeme_id}
-use Rattle.lrlex.specs.Tiling.{Item, Lexeme, Error, Tile, End, Done, NoMatch, NoId, NoTarget, stack_past, IsTiling, lexeme_of, tile_items, items, boundaries, lexemes}
+use Rattle.lrlex_rules.specs.Tiling.{Item, Lexeme, Error, Tile, End, Done, NoMatch, NoId, NoTarget, stack_past, IsTiling, lexeme_of, tile_items, items, boundaries, lexemes}
 use Rattle.lrlex.specs.Moves.{IsMovable, begins_before, items_from}
-use Rattle.lrlex.proofs.TilingLemmas.{Wins-le}
+use Rattle.lrlex_rules.proofs.TilingLemmas.{Wins-le}
 use Rattle.lrlex.proofs.TailLemmas.{tail_tiling}
 
 -- ---- all that follows a boundary stands within the text

@@ -4,7 +4,7 @@ use Rattle.lrlex_base.specs.Spans.{Span}
 use Rattle.lrlex_rules.specs.Definition.{Definition}
 use Rattle.lrlex_boundaries.specs.Boundaries.{Boundary}
 use Rattle.lrlex.specs.Reach.{IsLexed}
-use Rattle.lrlex.specs.Tiling.{Item, rebased}
+use Rattle.lrlex_rules.specs.Tiling.{Item, rebased}
 use Rattle.lrlex.specs.declared.editing.changes.Change.{Change}
 use Rattle.lrlex.specs.declared.editing.changes.Changed.{Changed}
 

@@ -17,7 +17,7 @@ use Rattle.lrlex.specs.Views.{items_by}
 use Rattle.lrlex.specs.Work.{HasLinearRecut}
 use Rattle.lrlex_boundaries.specs.Boundaries.{Boundary}
 use Rattle.lrlex_positions.specs.Lines.{AreLinesOf}
-use Rattle.lrlex.specs.declared.errors.LRLexError.{LRLexError}
+use Rattle.lrlex_rules.specs.declared.errors.LRLexError.{LRLexError}
 use Rattle.lrlex.specs.declared.definition.non_streaming.LRNonStreamingLexerDef.{LRNonStreamingLexerDef}
 use Rattle.lrlex_definition.specs.declared.rule_table.RuleTable.{RuleTable}
 use Rattle.lrlex.specs.declared.editing.document.LexedText.{LexedText}

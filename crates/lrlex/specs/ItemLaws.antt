@@ -5,7 +5,7 @@ use Rattle.lrlex_rules.specs.Definition.{Definition, Rule}
 use Rattle.lrlex_rules.specs.Active.{rule_at}
 use Rattle.lrlex_boundaries.specs.Boundaries.{Boundary}
 use Rattle.lrlex.specs.Reach.{IsLexed}
-use Rattle.lrlex.specs.Tiling.{Tile, Item, Lexeme, Error}
+use Rattle.lrlex_rules.specs.Tiling.{Tile, Item, Lexeme, Error}
 
 abbrev pub is_error : Item → Bool
 is_error (Lexeme id start len faulty) = false

@@ -5,10 +5,10 @@ use Rattle.lrlex_boundaries.specs.Boundaries.{Boundary, boundary_at, last_entrie
 use Rattle.lrlex_boundaries.specs.Entries.{plain}
 use Rattle.lrlex.specs.ItemLaws.{HaveLaws}
 use Rattle.lrlex.specs.Reach.{IsRun}
-use Rattle.lrlex.specs.Tiling.{top}
+use Rattle.lrlex_rules.specs.Tiling.{top}
 use Rattle.lrlex.specs.Views.{definition_of, items_by}
 use Rattle.lrlex.specs.declared.editing.changes.Changed.{Changed}
-use Rattle.lrlex.specs.declared.errors.LRLexError.{LRLexError}
+use Rattle.lrlex_rules.specs.declared.errors.LRLexError.{LRLexError}
 use Rattle.lrlex.specs.declared.definition.non_streaming.LRNonStreamingLexerDef.{LRNonStreamingLexerDef}
 
 -- The definition that a run went by, its text, what it gave, its boundaries, for each of them how many bytes past its place

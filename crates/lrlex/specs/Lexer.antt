@@ -1,6 +1,6 @@
 -- What contracts see of a lexer that has its whole text.
 use Rattle.std.specs.Prelude.{ℕ, List, Result}
-use Rattle.lrlex.specs.declared.errors.LRLexError.{LRLexError}
+use Rattle.lrlex_rules.specs.declared.errors.LRLexError.{LRLexError}
 
 -- its items, in order, and the text that they were found in
 pub record Held (X : Type 0) : Type 0 where

@@ -2,7 +2,7 @@
 use Rattle.std.specs.Prelude.{◌≡◌, ℕ, ◌+◌, ◌-◌, ◌<◌, ◌≤◌, min, List, All, [], ◌∷◌, length, map, drop, take, slice_index, if◌then◌else◌, IsCharBoundary}
 use Rattle.lrlex_rules.specs.Definition.{Definition}
 use Rattle.lrlex_table.specs.Reach.{IsText, BeginsAlike}
-use Rattle.lrlex.specs.Tiling.{Item, Tile, Wins, top}
+use Rattle.lrlex_rules.specs.Tiling.{Item, Tile, Wins, top}
 use Rattle.lrlex_boundaries.specs.Entries.{plain}
 use Rattle.lrlex_boundaries.specs.Boundaries.{Boundary, place_and_stack, boundary_at}
 use Rattle.lrlex.specs.Moves.{begins_before}

@@ -1,7 +1,7 @@
 -- What moves where after an edit: items, and with the words of the crate below, passed on for callers, boundaries.
 use Rattle.std.specs.Prelude.{ℕ, ◌+◌, ◌^◌, ◌<◌, ◌≤◌, Bool, List, [], ◌∷◌, nat_lt, if◌then◌else◌}
 pub use Rattle.lrlex_boundaries.specs.Moves.{moved_boundary, IsMovableBoundary, Meets, AreSorted}
-use Rattle.lrlex.specs.Tiling.{Item, Lexeme, Error}
+use Rattle.lrlex_rules.specs.Tiling.{Item, Lexeme, Error}
 
 -- the item stands from p on, and fits the numbers once what stood at p stands at q
 abbrev pub IsMovable : ℕ → ℕ → Item → Type 0

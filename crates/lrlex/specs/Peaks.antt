@@ -2,10 +2,10 @@
 use Rattle.std.specs.Prelude.{ℕ, ◌+◌, ◌==◌, if◌then◌else◌, List, [], ◌∷◌, Option, None, Some}
 use Rattle.lrlex_rules.specs.Definition.{Definition}
 use Rattle.lrlex_rules.specs.Active.{rule_at}
-use Rattle.lrlex.specs.Tiling.{top, stack_past}
+use Rattle.lrlex_rules.specs.Tiling.{top, stack_past}
 use Rattle.lrlex_rules.specs.declared.states.StartStateOperation.{StartStateOperation}
 use Rattle.lrlex_rules.specs.declared.states.StartStateOperation.TheVariants.{ReplaceStack, Push, Pop}
-use Rattle.lrlex.specs.Tiling.{Tile}
+use Rattle.lrlex_rules.specs.Tiling.{Tile}
 
 -- 1 where the target pushes a state other than the top
 abbrev pub pushes_other : List ℕ → Option (ℕ × StartStateOperation) → ℕ

@@ -7,7 +7,7 @@ use Rattle.lrlex_rules.specs.Active.{is_state, rule_at, lexeme_id}
 use Rattle.lrlex_boundaries.specs.Boundaries.{Boundary, boundary_at}
 use Rattle.lrlex.specs.LexRun.{end_of}
 use Rattle.lrlex.specs.Reach.{IsLexed}
-use Rattle.lrlex.specs.Tiling.{Item, Tile, end_items, lexeme_of}
+use Rattle.lrlex_rules.specs.Tiling.{Item, Tile, end_items, lexeme_of}
 use Rattle.lrlex.specs.declared.reading.pieces.Piece.{Piece}
 
 -- the piece is this tile, which begins at the place

@@ -11,7 +11,7 @@ use Rattle.lrlex.specs.Progress.{IsUnderWay, no_front}
 use Rattle.lrlex_definition.specs.RowKinds.{own_kind}
 use Rattle.lrlex.specs.Searcher.{IsSearcherOf}
 use Rattle.lrlex.specs.Searches.{asks_by}
-use Rattle.lrlex.specs.Tiling.{Item, lexeme_of, top}
+use Rattle.lrlex_rules.specs.Tiling.{Item, lexeme_of, top}
 use Rattle.lrlex_definition.specs.RuleTable.{definition_by}
 use Rattle.lrlex.specs.Work.{HasWorked}
 use Rattle.lrlex_definition.specs.declared.row_kinds.RowKind.{RowKind}

@@ -17,10 +17,10 @@ use Rattle.lrlex.specs.Changes.{all_new}
 use Rattle.lrlex.specs.Relex.{AreCountsOf}
 use Rattle.lrlex_boundaries.specs.Entries.{AreEntries, plain}
 use Rattle.lrlex.specs.Work.{IsLinearIn}
-use Rattle.lrlex.specs.Tiling.{Item, rebased, stack_after, top}
+use Rattle.lrlex_rules.specs.Tiling.{Item, rebased, stack_after, top}
 use Rattle.lrlex_definition.specs.RuleTable.{definition_by}
 use Rattle.lrlex.specs.Views.{items_by}
-use Rattle.lrlex.specs.declared.errors.LRLexError.{LRLexError}
+use Rattle.lrlex_rules.specs.declared.errors.LRLexError.{LRLexError}
 use Rattle.lrlex_definition.specs.declared.rule_table.RuleTable.{RuleTable}
 use Rattle.lrlex.specs.declared.lexing.step.Progress.{Progress}
 use Rattle.lrlex.specs.declared.editing.relex.Recut.{Recut}

@@ -3,10 +3,10 @@ use Rattle.std.specs.Prelude.{◌≡◌, ℕ, ◌+◌, ◌<◌, ◌≤◌, true,
 use Rattle.std.specs.List.{sum_by}
 use Rattle.lrlex_rules.specs.Definition.{Definition}
 use Rattle.lrlex_rules.specs.Active.{is_state}
-use Rattle.lrlex.specs.Tiling.{Item, Error, End, IsTiling, items, boundaries, asked_at}
+use Rattle.lrlex_rules.specs.Tiling.{Item, Error, End, IsTiling, items, boundaries, asked_at}
 use Rattle.lrlex_boundaries.specs.Entries.{plain, AreEntries}
 use Rattle.lrlex_boundaries.specs.Boundaries.{Boundary, place_and_stack}
-use Rattle.lrlex.specs.Tiling.{Tile}
+use Rattle.lrlex_rules.specs.Tiling.{Tile}
 
 -- From the beginning, the tiles in `cut` lead to this place and stack, and give these items and boundaries.
 pub record Reached (d : Definition) (text : List ℕ) (place : ℕ) (stack : List (ℕ × ℕ)) (found : List Item) (bounds : List Boundary) (asked : ℕ) : Type 0 where

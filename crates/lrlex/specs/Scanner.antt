@@ -9,7 +9,7 @@ use Rattle.lrlex_rules.specs.declared.states.StartStateId.{StartStateId}
 use Rattle.lrlex_rules.specs.Active.{is_state, lexeme_id, lacks_id, rule_at}
 use Rattle.lrlex_definition.specs.RuleTable.{AreOf}
 use Rattle.lrlex.specs.Searcher.{IsSearcherOf}
-use Rattle.lrlex.specs.Tiling.{Tile, End, Done, NoMatch, NoTarget, IsEnd, IsStuck, IsTaken, IsTiling, IsWinner, Wins, stack_after, top}
+use Rattle.lrlex_rules.specs.Tiling.{Tile, End, Done, NoMatch, NoTarget, IsEnd, IsStuck, IsTaken, IsTiling, IsWinner, Wins, stack_after, top}
 use Rattle.lrlex_definition.specs.RuleTable.{definition_by}
 use Rattle.lrlex.specs.Work.{HasWorked, most_cells_by, won_bytes}
 use Rattle.lrlex_definition.specs.declared.rule_table.RuleTable.{RuleTable}

@@ -7,7 +7,7 @@ use Rattle.lrlex_table.specs.declared.marks.Mark.{Mark}
 use Rattle.lrlex_rules.specs.Active.{active_count, rule_at}
 use Rattle.lrlex_rules.specs.Kinds.{IsPlain}
 use Rattle.lrlex.specs.Lookahead.{IsDecided}
-use Rattle.lrlex.specs.Tiling.{IsStuck, Wins}
+use Rattle.lrlex_rules.specs.Tiling.{IsStuck, Wins}
 use Rattle.lrlex_rules.specs.Matchers.{AreMatchers}
 use Rattle.lrlex_definition.specs.RowKinds.{own_kind}
 use Rattle.lrlex_definition.specs.RuleTable.{definition_by, untabled_count}

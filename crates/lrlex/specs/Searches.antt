@@ -1,7 +1,7 @@
 -- How many searches a run makes: only rules that the tables of a state leave out are searched for.
 use Rattle.std.specs.Prelude.{◌≡◌, ℕ, ◌+◌, ◌-◌, ◌<◌, ◌⊎◌, ◌==◌, min, List, length, map, slice_range, nat_lt, if◌then◌else◌}
 use Rattle.std.specs.List.{sum_by}
-use Rattle.lrlex.specs.Tiling.{top}
+use Rattle.lrlex_rules.specs.Tiling.{top}
 use Rattle.lrlex_boundaries.specs.Boundaries.{Boundary, place_and_stack}
 use Rattle.lrlex_boundaries.specs.Moves.{Meets}
 use Rattle.lrlex.specs.Lookahead.{IsSafe}

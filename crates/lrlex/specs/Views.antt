@@ -8,8 +8,8 @@ use Rattle.lrlex_table.specs.declared.tables.Tables.{Tables}
 use Rattle.lrlex_definition.specs.StateTables.{chains_rows}
 use Rattle.lrlex.specs.Errors.{lex_error_span, lex_error_state}
 use Rattle.lrlex_rules.specs.RuleParts.{RuleParts, state_number}
-use Rattle.lrlex.specs.Tiling.{Item, Lexeme, Error}
-use Rattle.lrlex.specs.declared.errors.LRLexError.{LRLexError}
+use Rattle.lrlex_rules.specs.Tiling.{Item, Lexeme, Error}
+use Rattle.lrlex_rules.specs.declared.errors.LRLexError.{LRLexError}
 use Rattle.lrlex_rules.specs.declared.states.StartState as start
 use Rattle.lrlex.specs.declared.definition.non_streaming.LRNonStreamingLexerDef.{LRNonStreamingLexerDef}
 pub use Rattle.lrlex_definition.specs.RuleTable.{definition_by}

@@ -3,7 +3,6 @@
 
 mod definition;
 mod editing;
-mod errors;
 mod lexing;
 mod reading;
 
@@ -13,7 +12,6 @@ pub use crate::definition::non_streaming::LRNonStreamingLexerDef;
 pub use crate::editing::changes::{Change, Changed};
 pub use crate::editing::document::{Document, EditError, LexedText};
 pub use crate::editing::restart::{ahead_laws, decided_laws, resume_laws};
-pub use crate::errors::LRLexError;
 pub use crate::lexing::cursor::ScanPlace;
 pub use crate::lexing::laws::{item_laws, run_laws, scan_laws, tiling_laws, utf16_laws};
 pub use crate::lexing::run::LexRun;
@@ -25,10 +23,11 @@ pub use lrlex_base::{
     DefaultLexeme, Edit, Id, Items, LexError, Lexeme, Lexer, LexerTypes, NewlineCache,
     NonStreamingLexer, Span, Spanned, SpansKind,
 };
+pub use lrlex_definition::RuleTable;
 pub use lrlex_parser::{LexBuildError, LexBuildResult, LexErrorKind, line_laws};
 pub use lrlex_positions::{LineCursor, PositionEncoding};
 pub use lrlex_rules::{
-    DEFAULT_LEX_FLAGS, LexFlags, Rule, StartState, StartStateId, StartStateOperation,
+    DEFAULT_LEX_FLAGS, LRLexError, LexFlags, Rule, StartState, StartStateId, StartStateOperation,
     UNSPECIFIED_LEX_FLAGS, flag_laws, operation_laws,
 };
 pub use lrlex_table::Budget;

@@ -1,19 +1,8 @@
--- A command with one argument more, and what a last call adds.
-use Rattle.std.proofs.Common.{◌≡◌, ◌∙◌, ap, refl, true, List, Result, IfOk}
-use Rattle.std.proofs.lemmas.Result.{IfOk-weaker}
-use Rattle.clap.specs.Words.{App, HasMatchesOf, Rule, Text, app_of, found_of, is_simple, matches_of, rows_of, with_rule}
-use Rattle.clap.specs.declared.builder.command.Command.{Command}
+-- What the command finds.
+use Rattle.std.proofs.Common.{◌≡◌, ◌∙◌, ap, refl, true, List}
+use Rattle.clap.specs.Words.{App, HasMatchesOf, Text, found_of, is_simple, matches_of, rows_of}
 use Rattle.clap.specs.declared.parser.matches.ArgMatches.{ArgMatches}
 use Rattle.lrlex_cli.specs.Command.{command, given}
-
--- one argument more, on equal commands
-pub one_more : (a b c : App) (r : Rule) → c ≡ with_rule b r → b ≡ a → c ≡ with_rule a r
-one_more a b c r e before = e ∙ ap (λ (x : App). with_rule x r) before
-
--- one argument more by the last call, whose result is not yet known to be `Ok`
-pub last_more : {E : Type 0} (a b : App) (r : Rule) (last : Result Command E) → b ≡ a
-    → IfOk last (λ c. app_of c ≡ with_rule b r) → IfOk last (λ c. app_of c ≡ with_rule a r)
-last_more a b r last before h = IfOk-weaker last _ _ (λ c e. one_more a b (app_of c) r e before) h
 
 -- the command is simple
 simple : is_simple command ≡ true

@@ -20,7 +20,7 @@ use Rattle.lrlex.specs.Tiling.{Item, Lexeme, Error, Tile, End, IsTaken, IsTiling
 use Rattle.lrlex.specs.declared.lexing.scanner.ScannedTile.{ScannedTile}
 use Rattle.lrlex.specs.declared.lexing.scanner.Step.TheVariants.{Tile as Found}
 use Rattle.lrlex.proofs.ItemLemmas.{have_laws}
-use Rattle.lrlex.proofs.TilingLemmas.{one_winner}
+use Rattle.lrlex_rules.proofs.TilingLemmas.{one_winner}
 use Rattle.lrlex_cli.specs.Lines.{line, lines}
 use Rattle.lrlex_cli.specs.Scanning.{Finds, IsErrorAt, IsFirstPass, WritesRun, last_lexeme, lexeme_by, stop_line}
 use Rattle.lrlex_cli.specs.Writing.{AppendsFront, Writes, WritesUpTo}

@@ -100,11 +100,11 @@ fn write_lexed<L: LexerTypes<LexErrorT = LRLexError>, W: Write>(
     let mut waiting = Vec::with_capacity(alloc, ROOM)?;
     let mut scanner = definition.scanner(alloc, input)?;
     let first = first_pass(alloc, &mut scanner)?;
-    let written = second_pass::<L, W>(
+    let written = second_pass::<L::StorageT, W>(
         alloc,
         &mut scanner,
         first,
-        definition,
+        definition.rule_table(),
         input,
         &mut waiting,
         out,
@@ -129,7 +129,13 @@ fn write_relexed<L: LexerTypes<LexErrorT = LRLexError>, W: Write>(
     let lexed = definition.run(alloc, old)?.relex(alloc, edit, new)?;
     let mut waiting = Vec::with_capacity(alloc, ROOM)?;
     let items = lexed.items();
-    let written = write_lines::<L, W>(out, &mut waiting, definition, new, items);
+    let written = write_lines::<L::StorageT, L::LexemeT, W>(
+        out,
+        &mut waiting,
+        definition.rule_table(),
+        new,
+        items,
+    );
     ending(written, has_error(items))
 }
 

@@ -4,15 +4,15 @@ ghost use Rattle.lrlex_base.specs.Spans.{Fits, span_end, span_start};
 ghost use Rattle.lrlex.specs.Errors.{stop_text};
 ghost use Rattle.lrlex.specs.ItemLaws.{FitsText};
 ghost use Rattle.lrlex.specs.Tiling.{Lexeme};
-ghost use Rattle.lrlex.specs.Views.{definition_of, item_of};
+ghost use Rattle.lrlex.specs.Views.{definition_by, item_of};
 ghost use Rattle.lrlex_cli.specs.Lines.{line, lines};
 ghost use Rattle.lrlex_cli.specs.Scanning.{last_lexeme, lexeme_by, stop_line};
 ghost use Rattle.lrlex_cli.specs.Writing.{Passes, Writes};
 
 use crate::messages::STOPPED_AT;
 use crate::writing::{flush, pass, pass_both};
-use lrlex::{LRLexError, LRNonStreamingLexerDef, ScannedTile};
-use lrlex_base::{LexError, Lexeme, LexerTypes, Span};
+use lrlex::{LRLexError, RuleTable, ScannedTile};
+use lrlex_base::{LexError, Lexeme, Numbered, Span};
 use std::io;
 use std::io::Write;
 
@@ -68,21 +68,21 @@ fn pass_named<W: Write>(
 
 /// Passes on the line of the lexeme with this id and these bytes of the text.
 #[inline(always)]
-fn pass_lexeme<L: LexerTypes, W: Write>(
+fn pass_lexeme<S: Numbered, W: Write>(
     out: &mut W,
     waiting: &mut Vec<u8>,
-    definition: &LRNonStreamingLexerDef<L>,
+    table: &RuleTable<S>,
     text: &str,
-    id: L::StorageT,
+    id: S,
     span: Span,
 ) -> io::Result<()>
     requires { Fits text.now span }
     ensures { Passes (W.contents out.old) (W.contents out.new) result
-        (waiting.old.items ++ line (definition_of L.StorageT.number definition.now).rules text.now
-        (Lexeme (L.StorageT.number id) (span_start span) (span_end span - span_start span) false))
+        (waiting.old.items ++ line (definition_by S.number table.now).rules text.now
+        (Lexeme (S.number id) (span_start span) (span_end span - span_start span) false))
         waiting.new.items }
 {
-    let name = definition.name_of(id).unwrap_or("");
+    let name = table.name_of(id).unwrap_or("");
     pass_named(out, waiting, name, &text[span.start()..span.end()])
 }
 
@@ -98,89 +98,82 @@ fn pass_error<W: Write>(out: &mut W, waiting: &mut Vec<u8>, at: usize) -> io::Re
 }
 
 /// Passes on the line of an item of a text. The item fits the text.
-fn pass_line<L: LexerTypes, W: Write>(
+fn pass_line<S: Numbered, X: Lexeme<S>, W: Write>(
     out: &mut W,
     waiting: &mut Vec<u8>,
-    definition: &LRNonStreamingLexerDef<L>,
+    table: &RuleTable<S>,
     text: &str,
-    item: &Result<L::LexemeT, LRLexError>,
+    item: &Result<X, LRLexError>,
 ) -> io::Result<()>
-    requires { FitsText text.now (item_of L.StorageT.number L.LexemeT.seen item.now) }
+    requires { FitsText text.now (item_of S.number X.seen item.now) }
     ensures { Passes (W.contents out.old) (W.contents out.new) result
-        (waiting.old.items ++ line (definition_of L.StorageT.number definition.now).rules text.now
-        (item_of L.StorageT.number L.LexemeT.seen item.now)) waiting.new.items }
+        (waiting.old.items ++ line (definition_by S.number table.now).rules text.now
+        (item_of S.number X.seen item.now)) waiting.new.items }
 {
     match item {
         Ok(lexeme) => {
-            pass_lexeme::<L, W>(
-                out,
-                waiting,
-                definition,
-                text,
-                lexeme.tok_id(),
-                lexeme.span(),
-            )
+            pass_lexeme::<S, W>(out, waiting, table, text, lexeme.tok_id(), lexeme.span())
         }
         Err(error) => pass_error(out, waiting, error.span().start()),
     }
 }
 
 /// Writes the lines of the items of a text. The items fit the text. No bytes wait before, and none behind. No memory is asked for.
-pub(crate) fn write_lines<L: LexerTypes, W: Write>(
+pub(crate) fn write_lines<S: Numbered, X: Lexeme<S>, W: Write>(
     out: &mut W,
     waiting: &mut Vec<u8>,
-    definition: &LRNonStreamingLexerDef<L>,
+    table: &RuleTable<S>,
     text: &str,
-    items: &[Result<L::LexemeT, LRLexError>],
+    items: &[Result<X, LRLexError>],
 ) -> io::Result<()>
-    requires fit { All (λ item. FitsText text.now (item_of L.StorageT.number L.LexemeT.seen item))
+    requires fit { All (λ item. FitsText text.now (item_of S.number X.seen item))
         items.now }
     requires none { waiting.old.items ≡ [] }
     ensures { Writes (W.contents out.old) (W.contents out.new) result
-        (lines (definition_of L.StorageT.number definition.now).rules text.now
-        (map (item_of L.StorageT.number L.LexemeT.seen) items.now)) }
+        (lines (definition_by S.number table.now).rules text.now
+        (map (item_of S.number X.seen) items.now)) }
 {
     for item in items {
-        pass_line::<L, W>(out, waiting, definition, text, item)?;
+        pass_line::<S, X, W>(out, waiting, table, text, item)?;
     }
     flush(out, waiting)
 }
 
 /// Passes on the line of a tile's lexeme, if it gives one. The lexeme fits the text.
 #[inline(always)]
-pub(crate) fn pass_tile<L: LexerTypes, W: Write>(
+pub(crate) fn pass_tile<S: Numbered, W: Write>(
     out: &mut W,
     waiting: &mut Vec<u8>,
-    definition: &LRNonStreamingLexerDef<L>,
+    table: &RuleTable<S>,
     text: &str,
-    tile: ScannedTile<L::StorageT>,
+    tile: ScannedTile<S>,
 ) -> io::Result<()>
-    requires { All (FitsText text.now) (lexeme_by L.StorageT.number tile) }
+    requires { All (FitsText text.now) (lexeme_by S.number tile) }
     ensures { Passes (W.contents out.old) (W.contents out.new) result
-        (waiting.old.items ++ lines (definition_of L.StorageT.number definition.now).rules text.now
-        (lexeme_by L.StorageT.number tile)) waiting.new.items }
+        (waiting.old.items ++ lines (definition_by S.number table.now).rules text.now
+        (lexeme_by S.number tile)) waiting.new.items }
 {
     match tile.id {
-        Some(id) => pass_lexeme::<L, W>(out, waiting, definition, text, id, tile.span),
+        Some(id) => pass_lexeme::<S, W>(out, waiting, table, text, id, tile.span),
         None => Ok(()),
     }
 }
 
 /// Passes on the line of the lexeme of a tile that may be there. The lexeme fits the text.
-fn pass_last<L: LexerTypes, W: Write>(
+fn pass_last<S: Numbered, W: Write>(
     out: &mut W,
     waiting: &mut Vec<u8>,
-    definition: &LRNonStreamingLexerDef<L>,
+    table: &RuleTable<S>,
     text: &str,
-    last: Option<ScannedTile<L::StorageT>>,
+    last: Option<ScannedTile<S>>,
 ) -> io::Result<()>
-    requires { All (FitsText text.now) (last_lexeme L.StorageT.number last) }
+    requires { All (FitsText text.now) (last_lexeme S.number last) }
     ensures { Passes (W.contents out.old) (W.contents out.new) result
-        (waiting.old.items ++ lines (definition_of L.StorageT.number definition.now).rules text.now
-        (last_lexeme L.StorageT.number last)) waiting.new.items }
+        (waiting.old.items ++ lines (definition_by S.number table.now).rules text.now
+        (last_lexeme S.number last)) waiting.new.items }
 {
     match last {
-        Some(tile) => pass_tile::<L, W>(out, waiting, definition, text, tile),
+        Some(tile) => pass_tile::<S, W>(out, waiting, table, text, tile),
         None => Ok(()),
     }
 }
@@ -198,20 +191,20 @@ fn pass_stop<W: Write>(out: &mut W, waiting: &mut Vec<u8>, error: Option<usize>)
 
 /// Writes the bytes that wait, and then the lines of what comes with the end: of a last tile's lexeme, and of an error at a byte.
 /// The lexeme fits the text.
-pub(crate) fn write_end<L: LexerTypes, W: Write>(
+pub(crate) fn write_end<S: Numbered, W: Write>(
     out: &mut W,
     waiting: &mut Vec<u8>,
-    definition: &LRNonStreamingLexerDef<L>,
+    table: &RuleTable<S>,
     text: &str,
-    last: Option<ScannedTile<L::StorageT>>,
+    last: Option<ScannedTile<S>>,
     error: Option<usize>,
 ) -> io::Result<()>
-    requires { All (FitsText text.now) (last_lexeme L.StorageT.number last) }
+    requires { All (FitsText text.now) (last_lexeme S.number last) }
     ensures { Writes (W.contents out.old) (W.contents out.new) result (waiting.old.items
-        ++ (lines (definition_of L.StorageT.number definition.now).rules text.now
-        (last_lexeme L.StorageT.number last) ++ stop_line error)) }
+        ++ (lines (definition_by S.number table.now).rules text.now
+        (last_lexeme S.number last) ++ stop_line error)) }
 {
-    pass_last::<L, W>(out, waiting, definition, text, last)?;
+    pass_last::<S, W>(out, waiting, table, text, last)?;
     pass_stop(out, waiting, error)?;
     flush(out, waiting)
 }

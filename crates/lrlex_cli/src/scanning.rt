@@ -3,12 +3,12 @@ ghost use Rattle.std.specs.Prelude.{◌≡◌, ◌+◌, ◌<◌, [], true, IfOk,
 ghost use Rattle.lrlex.specs.Active.{is_state};
 ghost use Rattle.lrlex.specs.Scanner.{IsAtFront, IsStep, past};
 ghost use Rattle.lrlex.specs.declared.lexing.scanner.Step.TheVariants.{Tile};
-ghost use Rattle.lrlex.specs.Views.{definition_of};
+ghost use Rattle.lrlex.specs.Views.{definition_by};
 ghost use Rattle.lrlex_cli.specs.Scanning.{IsFirstPass, WritesRun, error_place, last_tile, lexeme_by};
 
 use crate::lines::{pass_tile, write_end};
-use lrlex::{LRLexError, LRNonStreamingLexerDef, ScanEnd, ScannedTile, Scanner, Step};
-use lrlex_base::{LexerTypes, Numbered};
+use lrlex::{RuleTable, ScanEnd, ScannedTile, Scanner, Step};
+use lrlex_base::Numbered;
 use std::alloc::{AllocError, Global};
 use std::io;
 use std::io::{ErrorKind, Write};
@@ -105,29 +105,29 @@ fn next_tile<S: Numbered>(
 
 /// Takes the scanner of a first pass back to the front and over its text again, and writes the line of each item. No bytes wait
 /// before, and none behind.
-pub(crate) fn second_pass<L: LexerTypes<LexErrorT = LRLexError>, W: Write>(
+pub(crate) fn second_pass<S: Numbered, W: Write>(
     alloc: Global,
-    scanner: &mut Scanner<'_, '_, L::StorageT>,
-    first: FirstPass<L::StorageT>,
-    definition: &LRNonStreamingLexerDef<L>,
+    scanner: &mut Scanner<'_, '_, S>,
+    first: FirstPass<S>,
+    table: &RuleTable<S>,
     text: &str,
     waiting: &mut Vec<u8>,
     out: &mut W,
 ) -> io::Result<()>
-    requires definition { scanner.old.definition ≡ definition_of L.StorageT.number definition.now }
+    requires definition { scanner.old.definition ≡ definition_by S.number table.now }
     requires text { scanner.old.text ≡ text.now }
-    requires found { IsFirstPass L.StorageT.number (definition_of L.StorageT.number definition.now)
+    requires found { IsFirstPass S.number (definition_by S.number table.now)
         text.now first }
     requires none { waiting.old.items ≡ [] }
-    ensures { WritesRun (definition_of L.StorageT.number definition.now) text.now
+    ensures { WritesRun (definition_by S.number table.now) text.now
         (is_some first.error) (W.contents out.old) (W.contents out.new) result }
 {
     scanner.rewind();
     let mut left = first.lexemes;
     while left > 0 {
         let tile = next_tile(alloc, scanner)?;
-        pass_tile::<L, W>(out, waiting, definition, text, tile)?;
+        pass_tile::<S, W>(out, waiting, table, text, tile)?;
         left -= lexemes_of(tile);
     }
-    write_end::<L, W>(out, waiting, definition, text, first.last, first.error)
+    write_end::<S, W>(out, waiting, table, text, first.last, first.error)
 }

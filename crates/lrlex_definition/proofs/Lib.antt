@@ -4,3 +4,5 @@ pub mod MostLemmas
 pub mod Parted
 pub mod RowKindLemmas
 pub mod ServedLemmas
+pub mod TableLemmas
+pub mod NeverLemmas

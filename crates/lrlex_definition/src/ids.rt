@@ -1,18 +1,28 @@
-//! Token ids of the rules of a table, by name.
-ghost use Rattle.std.specs.Prelude.{◌≡◌, map, IfOk, OnErr, OnOk};
-ghost use Rattle.lrlex_rules.specs.Ids.{ids_of, is_lacking, is_unused, is_unused_at, with_own_id, HoldsNames, HoldsPlaces, HoldsTexts};
+//! Token ids of the rules of a table, by name, and names by id.
+ghost use Rattle.std.specs.Prelude.{◌≡◌, map, option_map, IfOk, OnErr, OnOk};
+ghost use Rattle.lrlex_rules.specs.Ids.{ids_of, is_lacking, is_unused, is_unused_at, name_of, with_own_id, HoldsNames, HoldsPlaces, HoldsTexts};
 ghost use Rattle.lrlex_rules.specs.RuleParts.{as_rule};
 
 use crate::row_kinds::set_row_kinds;
 use crate::rule_table::RuleTable;
 use lrlex_base::{Numbered, Span};
 use lrlex_rules::{
-    have_own_ids, names_without_id, names_without_rule, places_without_id, take_ids,
+    have_own_ids, name_of, names_without_id, names_without_rule, places_without_id, take_ids,
 };
 use std::alloc::{AllocError, Global};
 use std::collections::{HashMap, HashSet};
 
 impl<S: Numbered> RuleTable<S> {
+    /// The name of the first rule that has a name and this id: what a lexeme with the id is called. Where each id is its
+    /// rule's place, as in a definition that was read, in constant time; else in time linear in the rules.
+    #[inline(always)]
+    pub fn name_of(&self, id: S) -> Option<&str>
+        ensures { option_map (λ t. t.now) result
+            ≡ name_of (map (as_rule S.number) self.now.rules.items) (S.number id) }
+    {
+        name_of(&self.rules, self.own_ids, id)
+    }
+
     /// Gives each named rule the map's id for its name, or none.
     fn take_ids<'a>(&mut self, ids: &HashMap<&'a str, S>)
         ensures rules { map (as_rule S.number) self.new.rules.items

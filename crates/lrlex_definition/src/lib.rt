@@ -3,6 +3,7 @@
 
 mod followers;
 mod ids;
+mod never;
 mod row_kinds;
 mod rule_table;
 mod somewhere;

@@ -13,7 +13,7 @@ use Rattle.lrlex.specs.LexRun.{end_of, end_state_of}
 use Rattle.lrlex.specs.Pieces.{ArePieces, ArePiecesIn}
 use Rattle.lrlex.specs.Reach.{IsRun}
 use Rattle.lrlex.specs.Tiling.{Item, Lexeme, Error}
-use Rattle.lrlex.specs.declared.errors.LRLexError.{LRLexError}
+use Rattle.lrlex_rules.specs.declared.errors.LRLexError.{LRLexError}
 use Rattle.lrlex.specs.declared.reading.pieces.Piece as cut
 use Rattle.lrlex_handles.specs.Buffers.{filled, put_token, piece_by}
 use Rattle.lrlex_handles.specs.declared.structs.Lexed.{Lexed}

@@ -43,7 +43,7 @@ fn report_by(
 {
     let run = definition.run(alloc, text)?;
     match error_in(run.items()) {
-        Some(error) => Ok(Some(stop_text_in(alloc, definition, file, text, error)?)),
+        Some(error) => Ok(Some(stop_text_in(alloc, definition.rule_table(), file, text, error)?)),
         None => Ok(None),
     }
 }

@@ -70,7 +70,7 @@ fn warnings_by(
     ensures { IfOk result (AreWarningsIn definition.now.table rules.now out.old out.new) }
 {
     let newlines = NewlineCache::from_str(alloc, rules)?;
-    let warnings = warnings_of(alloc, rules, definition)?;
+    let warnings = warnings_of(alloc, rules, definition.rule_table())?;
     copy_warnings(&newlines, rules, &warnings, out);
     Ok(warnings.len())
 }
@@ -135,7 +135,7 @@ fn report_by(
     ensures { IfOk result (λ shown.
         IsWarningReport definition.now.table file.now rules.now (string_bytes shown)) }
 {
-    let warnings = warnings_of(alloc, rules, definition)?;
+    let warnings = warnings_of(alloc, rules, definition.rule_table())?;
     warnings_text(alloc, file, rules, &warnings)
 }
 

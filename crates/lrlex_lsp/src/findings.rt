@@ -68,7 +68,7 @@ fn push_warnings(
     definition: &Definition,
     allowed: &[WarningKind],
 ) -> Result<(), AllocError> {
-    for warning in &warnings_of(alloc, rules, definition)? {
+    for warning in &warnings_of(alloc, rules, definition.rule_table())? {
         if !allowed.contains(&warning.kind()) {
             push_warning(report, warning)?;
         }
@@ -129,7 +129,7 @@ fn push_stop(
     error: &LRLexError,
 ) -> Result<(), AllocError> {
     let text = document.text();
-    let message = stop_message_in(alloc, document.definition(), text, error)?;
+    let message = stop_message_in(alloc, document.definition().rule_table(), text, error)?;
     report.push(Finding {
         weight: Weight::Fault,
         span: with_next(text, error.span()),

@@ -4,8 +4,8 @@ use Rattle.std.specs.Option.{option_and_then}
 use Rattle.lrlex_base.specs.Spans.{as_span, span_start}
 use Rattle.lrlex_rules.specs.RuleParts.{as_state, state_number}
 use Rattle.lrlex_rules.specs.declared.states.StartState.{StartState}
-use Rattle.lrlex.specs.Errors.{lex_error_span, lex_error_state}
-use Rattle.lrlex.specs.declared.errors.LRLexError.{LRLexError}
+use Rattle.lrlex_rules.specs.Errors.{lex_error_span, lex_error_state}
+use Rattle.lrlex_rules.specs.declared.errors.LRLexError.{LRLexError}
 use Rattle.lrlex_report.specs.Encoding.{mark_note}
 use Rattle.lrlex_report.specs.PlaceTexts.{nearest, place_text}
 use Rattle.lrlex_report.specs.Reasons.{reason, char_at}

@@ -11,9 +11,10 @@ use Rattle.lrlex_parser.specs.Escape.{is_backslash, begins_escape}
 use Rattle.lrlex_parser.specs.RuleLine.{target_name}
 use Rattle.lrlex_rules.specs.RuleParts.{RuleParts, as_rule, as_state}
 use Rattle.lrlex_parser.specs.Text.{is_empty, begins_with, same_text, trim_end, drop_trailing}
-use Rattle.lrlex.specs.Active.{active_places, is_state, lists_none}
-use Rattle.lrlex.specs.Never.{NeverWinsAnywhere, WinsAtNoRow, enters, is_active_somewhere, is_asked_somewhere}
-use Rattle.lrlex.specs.Views.{RuleTable, definition_by}
+use Rattle.lrlex_rules.specs.Active.{active_places, is_state, lists_none}
+use Rattle.lrlex_definition.specs.Never.{NeverWinsAnywhere, WinsAtNoRow, enters, is_active_somewhere, is_asked_somewhere}
+use Rattle.lrlex_definition.specs.RuleTable.{definition_by}
+use Rattle.lrlex_definition.specs.declared.rule_table.RuleTable.{RuleTable}
 use Rattle.lrlex_report.specs.Alternatives.{loses_part}
 use Rattle.lrlex_report.specs.ClassNames.{has_unknown_class}
 use Rattle.lrlex_report.specs.ClassOperators.{has_class_operator}

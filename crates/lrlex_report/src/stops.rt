@@ -3,13 +3,14 @@ ghost use Rattle.std.specs.Prelude.{◌≡◌, ◌==◌, None, IfOk, find, optio
 ghost use Rattle.std.specs.Option.{option_copied};
 ghost use Rattle.std.specs.Slice.Iter.{iter_rest};
 ghost use Rattle.lrlex_rules.specs.RuleParts.{as_state};
-ghost use Rattle.lrlex.specs.Views.{definition_states};
 ghost use Rattle.lrlex_report.specs.StopTexts.{state_name, error_state, stop_message, stop_text, name_in};
 
 use crate::encoding::mark_note;
 use crate::places::{nearest, place_text};
 use crate::reasons::{char_at, reason};
-use lrlex::{LRLexError, LRNonStreamingLexerDef, LexError, LexerDef, LexerTypes, StartState};
+use lrlex_base::{LexError, Numbered};
+use lrlex_definition::RuleTable;
+use lrlex_rules::{LRLexError, StartState};
 use std::alloc::{AllocError, Global};
 use std::slice::Iter;
 
@@ -90,46 +91,43 @@ fn state_name(states: Iter<'_, StartState>, id: usize) -> Option<&str>
 }
 
 /// The name of the start state in which no rule matched; `None` for `INITIAL`, and where lexing stopped for another reason.
-fn name_in<'d, L: LexerTypes>(
-    definition: &'d LRNonStreamingLexerDef<L>,
-    error: &LRLexError,
-) -> Option<&'d str>
-    ensures { option_map (λ t. t.now) result ≡ name_in (definition_states definition.now)
+fn name_in<'t, S: Numbered>(table: &'t RuleTable<S>, error: &LRLexError) -> Option<&'t str>
+    ensures { option_map (λ t. t.now) result ≡ name_in table.now.start_states.items
         error.now }
 {
     match error_state(error) {
-        Some(id) => state_name(definition.iter_start_states(), id),
+        Some(id) => state_name(table.start_states.iter(), id),
         None => None,
     }
 }
 
 /// Why lexing an input by a definition stopped, in one line, without its place: the character at which no rule matched, or the
 /// text's end. If that was in a start state other than `INITIAL`, the message names that state.
-pub fn stop_message_in<L: LexerTypes>(
+pub fn stop_message_in<S: Numbered>(
     alloc: Global,
-    definition: &LRNonStreamingLexerDef<L>,
+    table: &RuleTable<S>,
     input: &str,
     error: &LRLexError,
 ) -> Result<String, AllocError>
     ensures { IfOk result (λ said. string_bytes said
         ≡ stop_message input.now error.now
-        (name_in (definition_states definition.now) error.now)) }
+        (name_in table.now.start_states.items error.now)) }
 {
-    stop_message(alloc, input, error, name_in(definition, error))
+    stop_message(alloc, input, error, name_in(table, error))
 }
 
 /// The error that stopped lexing an input by a definition, as people read it: `FILE:L:C: MESSAGE`, then the line with its number,
 /// then a caret under the place. If no rule matched in a start state other than `INITIAL`, the message names that state.
-pub fn stop_text_in<L: LexerTypes>(
+pub fn stop_text_in<S: Numbered>(
     alloc: Global,
-    definition: &LRNonStreamingLexerDef<L>,
+    table: &RuleTable<S>,
     file: &str,
     input: &str,
     error: &LRLexError,
 ) -> Result<String, AllocError>
     ensures { IfOk result (λ shown. string_bytes shown
         ≡ stop_text file.now input.now error.now
-        (name_in (definition_states definition.now) error.now)) }
+        (name_in table.now.start_states.items error.now)) }
 {
-    shown_stop(alloc, file, input, error, name_in(definition, error))
+    shown_stop(alloc, file, input, error, name_in(table, error))
 }

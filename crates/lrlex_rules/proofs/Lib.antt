@@ -8,3 +8,6 @@ pub mod NameLemmas
 pub mod NotedLemmas
 pub mod PlaceLemmas
 pub mod ViewLemmas
+pub mod TilingLemmas
+pub mod BestLemmas
+pub mod ScanLemmas

@@ -13,3 +13,6 @@ pub mod Kinds
 pub mod Active
 pub mod RuleLists
 pub mod Ids
+-- how a text is lexed
+pub mod Tiling
+pub mod Errors

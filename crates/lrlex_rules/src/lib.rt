@@ -1,8 +1,10 @@
-//! Rules, start states and flags: which rules are active in a state, ids by name, how much of a text a rule matches.
+//! Rules, start states and flags: which rules are active in a state, ids by name, how much of a text a rule matches, and the error
+//! that stops lexing.
 #![tactic(auto)]
 
 mod active;
 mod active_lists;
+mod errors;
 mod flags;
 mod ids;
 mod kinds;
@@ -15,6 +17,7 @@ mod states;
 
 pub use crate::active::{are_placed, has_state, lacks_id, lexeme_id, position_of};
 pub use crate::active_lists::lists_for;
+pub use crate::errors::LRLexError;
 pub use crate::flags::{
     DEFAULT_LEX_FLAGS, LexFlags, UNSPECIFIED_LEX_FLAGS, allows_comments, has_posix_escapes,
     resolved,

@@ -1,17 +1,16 @@
 //! `--allow KIND`: the kinds of warnings that aren't shown.
+use crate::adding::{Kind, Word};
 use crate::output::say;
-use clap::{Arg, ArgAction, ArgMatches};
+use clap::ArgMatches;
 use lrlex_report::WarningKind;
-use std::alloc::{AllocError, Global};
+use std::alloc::AllocError;
 
 /// What leaves out the warnings of a kind.
-pub fn allow<'a>(alloc: Global) -> Arg<'a> {
-    Arg::new(alloc, "allow")
-        .long("allow")
-        .value_name("KIND")
-        .help("Leaves out the warnings of this kind, which check names in brackets")
-        .action(ArgAction::Append)
-}
+pub static ALLOW: [Word; 1] = [(
+    "allow",
+    Kind::Values("KIND"),
+    "Leaves out the warnings of this kind, which check names in brackets",
+)];
 
 /// The kinds that the words allow. None where a word is no kind, which is reported.
 pub fn allowed_of(

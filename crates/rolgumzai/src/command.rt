@@ -1,139 +1,130 @@
 //! The words of the command line.
-use crate::allowed::allow;
+use crate::adding::{Kind, Made, Word, with_command, with_words};
+use crate::allowed::ALLOW;
 use crate::flags::with_flags;
-use crate::mapped::map;
-use clap::{Arg, ArgAction, Command};
-use std::alloc::{AllocError, Global};
+use crate::mapped::MAP;
+use clap::Command;
+use std::alloc::Global;
 
-/// A word that has to be there.
-fn needed<'a>(alloc: Global, name: &'a str, shown: &'a str, help: &'a str) -> Arg<'a> {
-    Arg::new(alloc, name)
-        .value_name(shown)
-        .help(help)
-        .required(true)
-}
+/// The words of `check`.
+static CHECK: [Word; 3] = [
+    (
+        "json",
+        Kind::Switch,
+        "Prints each finding as a line of JSON",
+    ),
+    (
+        "deny-warnings",
+        Kind::Switch,
+        "Makes the status 1 where a file has a warning",
+    ),
+    ("rules", Kind::Rest("RULES"), "The rule files"),
+];
 
-/// A switch.
-fn switch<'a>(alloc: Global, name: &'a str, help: &'a str) -> Arg<'a> {
-    Arg::new(alloc, name)
-        .long(name)
-        .help(help)
-        .action(ArgAction::SetTrue)
-}
+/// The words of `tokens`.
+static TOKENS: [Word; 3] = [
+    ("json", Kind::Switch, "Prints each token as a line of JSON"),
+    ("rules", Kind::Needed("RULES"), "The rule file"),
+    ("input", Kind::Needed("INPUT"), "The text to lex"),
+];
 
-/// Adds the path of a rule file, that of an input, and the flags.
-fn with_files<'a>(
-    alloc: Global,
-    command: Command<'a>,
-    input: &'a str,
-) -> Result<Command<'a>, AllocError> {
-    let command = command.arg(needed(alloc, "rules", "RULES", "The rule file"))?;
-    let command = command.arg(needed(alloc, "input", "INPUT", input))?;
-    with_flags(alloc, command)
-}
+/// The words of `highlight`.
+static HIGHLIGHT: [Word; 3] = [
+    (
+        "html",
+        Kind::Switch,
+        "Writes a page of HTML, and no text for a terminal",
+    ),
+    ("rules", Kind::Needed("RULES"), "The rule file"),
+    ("input", Kind::Needed("INPUT"), "The text to show"),
+];
+
+/// The words of `explain`.
+static EXPLAIN: [Word; 3] = [
+    ("rules", Kind::Needed("RULES"), "The rule file"),
+    ("input", Kind::Needed("INPUT"), "The text to lex"),
+    (
+        "place",
+        Kind::Needed("PLACE"),
+        "A place of the text: LINE:COLUMN, or a byte from 0, as tokens prints them",
+    ),
+];
+
+/// The words of `lsp`.
+static LSP: [Word; 2] = [
+    (
+        "rules",
+        Kind::Value("FILE"),
+        "The rule file that all texts but rule files are lexed by",
+    ),
+    (
+        "stdio",
+        Kind::Switch,
+        "Has no effect: clients give it to servers of this kind",
+    ),
+];
 
 /// What shows the faults of rule files.
-fn check<'a>(alloc: Global) -> Result<Command<'a>, AllocError> {
+fn check<'a>(alloc: Global) -> Made<'a> {
     let command = Command::new(alloc, "check")
         .about("Shows what is wrong with rule files")
         .after_help(
             "Each fault is shown with its place, its line and carets. The status is 1 where a file has one. A file without faults may \
             have warnings.",
-        )
-        .arg(switch(alloc, "json", "Prints each finding as a line of JSON"))?
-        .arg(switch(
-            alloc,
-            "deny-warnings",
-            "Makes the status 1 where a file has a warning",
-        ))?
-        .arg(allow(alloc))?
-        .arg(
-            needed(alloc, "rules", "RULES", "The rule files")
-                .action(ArgAction::Append)
-                .num_args(1..),
-        )?;
-    with_flags(alloc, command)
+        );
+    let command = with_words(alloc, Ok(command), &CHECK);
+    with_flags(alloc, with_words(alloc, command, &ALLOW))
 }
 
 /// What prints tokens.
-fn tokens<'a>(alloc: Global) -> Result<Command<'a>, AllocError> {
+fn tokens<'a>(alloc: Global) -> Made<'a> {
     let command = Command::new(alloc, "tokens")
         .about("Prints the tokens of a text, one on a line")
         .after_help(
             "A line is LINE:COLUMN START..END NAME TEXT. Line and column count characters from 1, START and END bytes from 0. \
             TEXT is in quotes, with the escapes of JSON. Where lexing stops, or the text ends within a start state, standard error \
             says so.",
-        )
-        .arg(switch(alloc, "json", "Prints each token as a line of JSON"))?;
-    with_files(alloc, command, "The text to lex")
+        );
+    with_flags(alloc, with_words(alloc, Ok(command), &TOKENS))
 }
 
 /// What colours a text.
-fn highlight<'a>(alloc: Global) -> Result<Command<'a>, AllocError> {
+fn highlight<'a>(alloc: Global) -> Made<'a> {
     let command = Command::new(alloc, "highlight")
         .about("Shows a text in colours, by the pieces into which the rules cut it")
         .after_help(
             "What no --map names is guessed by the rule's name and by the text, as a rule IF that matches if is a keyword.",
-        )
-        .arg(switch(
-            alloc,
-            "html",
-            "Writes a page of HTML, and no text for a terminal",
-        ))?
-        .arg(map(alloc))?;
-    with_files(alloc, command, "The text to show")
+        );
+    let command = with_words(alloc, Ok(command), &HIGHLIGHT);
+    with_flags(alloc, with_words(alloc, command, &MAP))
 }
 
 /// What says why a token is what it is.
-fn explain<'a>(alloc: Global) -> Result<Command<'a>, AllocError> {
-    let place = needed(
-        alloc,
-        "place",
-        "PLACE",
-        "A place of the text: LINE:COLUMN, or a byte from 0, as tokens prints them",
-    );
+fn explain<'a>(alloc: Global) -> Made<'a> {
     let command = Command::new(alloc, "explain")
         .about("Says which rule wins at a place of a text, and why")
         .after_help(
             "It shows the piece at this place, the start states on the stack, each rule that is active there, and how many bytes \
             it matches.",
         );
-    with_files(alloc, command, "The text to lex")?.arg(place)
+    with_flags(alloc, with_words(alloc, Ok(command), &EXPLAIN))
 }
 
 /// What serves an editor.
-fn lsp<'a>(alloc: Global) -> Result<Command<'a>, AllocError> {
-    let rules = Arg::new(alloc, "rules")
-        .long("rules")
-        .value_name("FILE")
-        .help("The rule file that all texts but rule files are lexed by");
+fn lsp<'a>(alloc: Global) -> Made<'a> {
     let command = Command::new(alloc, "lsp")
         .about("Serves an editor by the Language Server Protocol, over standard input and output")
         .after_help(
             "It shows the faults of rule files while they are typed. With --rules it also colours other texts, and shows where \
             lexing them stops. The status is 1 where the client goes without shutting it down.",
-        )
-        .arg(rules)?
-        .arg(map(alloc))?
-        .arg(allow(alloc))?
-        .arg(switch(
-            alloc,
-            "stdio",
-            "Has no effect: clients give it to servers of this kind",
-        ))?;
-    with_flags(alloc, command)
-}
-
-/// Adds a command to the one, if memory was there for it.
-fn with<'a>(
-    command: Command<'a>,
-    added: Result<Command<'a>, AllocError>,
-) -> Result<Command<'a>, AllocError> {
-    command.subcommand(added?)
+        );
+    let command = with_words(alloc, Ok(command), &LSP);
+    let command = with_words(alloc, command, &MAP);
+    with_flags(alloc, with_words(alloc, command, &ALLOW))
 }
 
 /// The command, which takes the name of a command and then its words.
-pub fn command<'a>(alloc: Global) -> Result<Command<'a>, AllocError> {
+pub fn command<'a>(alloc: Global) -> Made<'a> {
     let command = Command::new(alloc, "rolgumzai")
         .about("Checks rule files, and shows how texts are lexed by them.")
         .version("0.1.0")
@@ -143,9 +134,9 @@ pub fn command<'a>(alloc: Global) -> Result<Command<'a>, AllocError> {
         )
         .subcommand_required(true)
         .arg_required_else_help(true);
-    let command = with(command, check(alloc))?;
-    let command = with(command, tokens(alloc))?;
-    let command = with(command, highlight(alloc))?;
-    let command = with(command, explain(alloc))?;
-    with(command, lsp(alloc))
+    let command = with_command(Ok(command), check(alloc));
+    let command = with_command(command, tokens(alloc));
+    let command = with_command(command, highlight(alloc));
+    let command = with_command(command, explain(alloc));
+    with_command(command, lsp(alloc))
 }

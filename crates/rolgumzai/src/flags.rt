@@ -1,7 +1,8 @@
 //! The flags of a lexer, as words: those that `lrlex` takes.
+use crate::adding::Made;
 use clap::{Arg, ArgMatches, Command, value_parser};
 use lrlex::LexFlags;
-use std::alloc::{AllocError, Global};
+use std::alloc::Global;
 
 /// An option, and what it does.
 struct Flag {
@@ -77,7 +78,7 @@ fn option<'a>(alloc: Global, flag: &'a Flag, shown: &'a str) -> Arg<'a> {
 }
 
 /// Adds the options of one truth value.
-fn with_truths(alloc: Global, mut command: Command<'_>) -> Result<Command<'_>, AllocError> {
+fn with_truths(alloc: Global, mut command: Command<'_>) -> Made<'_> {
     for flag in &TRUTHS {
         let truth = option(alloc, flag, "BOOL").value_parser(value_parser!(bool));
         command = command.arg(truth)?;
@@ -86,7 +87,7 @@ fn with_truths(alloc: Global, mut command: Command<'_>) -> Result<Command<'_>, A
 }
 
 /// Adds the options of a number.
-fn with_limits(alloc: Global, mut command: Command<'_>) -> Result<Command<'_>, AllocError> {
+fn with_limits(alloc: Global, mut command: Command<'_>) -> Made<'_> {
     for flag in &SIZES {
         let size = option(alloc, flag, "BYTES").value_parser(value_parser!(usize));
         command = command.arg(size)?;
@@ -96,8 +97,8 @@ fn with_limits(alloc: Global, mut command: Command<'_>) -> Result<Command<'_>, A
 }
 
 /// Adds the options of all flags.
-pub fn with_flags(alloc: Global, command: Command<'_>) -> Result<Command<'_>, AllocError> {
-    with_limits(alloc, with_truths(alloc, command)?)
+pub fn with_flags(alloc: Global, command: Made<'_>) -> Made<'_> {
+    with_limits(alloc, with_truths(alloc, command?)?)
 }
 
 /// The truth value of an option.

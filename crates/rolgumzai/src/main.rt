@@ -5,6 +5,7 @@
 //! where the words are refused, a file can't be read, or memory or standard output fails.
 #![tactic(auto)]
 
+mod adding;
 mod allowed;
 mod check;
 mod command;

@@ -1,18 +1,13 @@
 //! `--map NAME=TOKENTYPE`: what the pieces of rules are shown as.
-use clap::{Arg, ArgAction};
+use crate::adding::{Kind, Word};
 use lrlex_lsp::is_token_type;
-use std::alloc::Global;
 
 /// What the pieces of a rule are shown as.
-pub fn map<'a>(alloc: Global) -> Arg<'a> {
-    Arg::new(alloc, "map")
-        .long("map")
-        .value_name("NAME=TOKENTYPE")
-        .help(
-            "Shows the tokens of rule NAME as this token type of the Language Server Protocol, or as plain text where none is given",
-        )
-        .action(ArgAction::Append)
-}
+pub static MAP: [Word; 1] = [(
+    "map",
+    Kind::Values("NAME=TOKENTYPE"),
+    "Shows the tokens of rule NAME as this token type of the Language Server Protocol, or as plain text where none is given",
+)];
 
 /// The name and the token type of a word: what is before its last `=`, since a name may have one, and what is after it, perhaps
 /// nothing. Why the word is refused, if it is.

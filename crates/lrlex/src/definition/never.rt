@@ -1,33 +1,17 @@
 //! Which rules may win, and which are active.
-ghost use Rattle.std.specs.Prelude.{◌≡◌, ◌≢◌, ◌<◌, ◌==◌, ◌||◌, ℕ, List, All, [], ◌∷◌, true, false, length, IfOk, slice_index_or};
+ghost use Rattle.std.specs.Prelude.{◌≡◌, ◌≢◌, ◌<◌, ℕ, List, All, [], ◌∷◌, true, false, length, IfOk, slice_index_or};
 ghost use Rattle.std.specs.List.{list_any};
 ghost use Rattle.lrlex_rules.specs.Definition.{Definition};
 ghost use Rattle.lrlex_table.specs.Reach.{IsText};
-ghost use Rattle.lrlex_table.specs.Tables.{is_among};
 ghost use Rattle.lrlex_rules.specs.Active.{active_places, is_state};
-ghost use Rattle.lrlex.specs.Never.{NeverWinsAnywhere, HasNoTileOf, LacksState, WinsAtNoRow, enters};
-ghost use Rattle.lrlex_definition.specs.Somewhere.{is_active_somewhere, is_asked_somewhere, stands_at};
-ghost use Rattle.lrlex.specs.Tiling.{Tile, End, IsTiling, boundaries};
-ghost use Rattle.lrlex_definition.specs.RuleTable.{definition_by};
+ghost use Rattle.lrlex_definition.specs.Never.{NeverWinsAnywhere, HasNoTileOf, LacksState, WinsAtNoRow, enters};
+ghost use Rattle.lrlex_definition.specs.Somewhere.{is_active_somewhere, is_asked_somewhere};
+ghost use Rattle.lrlex_rules.specs.Tiling.{Tile, End, IsTiling, boundaries};
 ghost use Rattle.lrlex.specs.Views.{definition_of};
 
 use crate::definition::non_streaming::LRNonStreamingLexerDef;
-use lrlex_base::{LexerTypes, Numbered};
-use lrlex_definition::RuleTable;
-use lrlex_table::may_win_in;
+use lrlex_base::LexerTypes;
 use std::alloc::{AllocError, Global};
-
-/// For each rule, by its place, whether it may win in some start state. False where it wins no text in any.
-fn may_win<S: Numbered>(table: &RuleTable<S>, alloc: Global) -> Result<Vec<bool>, AllocError>
-    ensures never { IfOk result (λ may. (k : ℕ) → slice_index_or may.items k true ≡ false →
-        NeverWinsAnywhere (definition_by S.number table.now) k) }
-    ensures struck { IfOk result (λ may. (k : ℕ) → WinsAtNoRow table.now k →
-        slice_index_or may.items k false ≡ false) }
-    ensures each { IfOk result (λ may. length may.items ≡ length table.now.rules.items) }
-{
-    let may_win = may_win_in(alloc, &table.tables, &table.lists, table.rules.len())?;
-    Ok(may_win)
-}
 
 impl<L: LexerTypes> LRNonStreamingLexerDef<L> {
     /// For each rule, by its place, whether it may win in some start state.
@@ -43,7 +27,7 @@ impl<L: LexerTypes> LRNonStreamingLexerDef<L> {
         ensures each { IfOk result (λ may.
             length may.items ≡ length (definition_of L.StorageT.number self.now).rules) }
     {
-        may_win(&self.table, alloc)
+        self.table.may_win(alloc)
     }
 
     /// For each rule, by its place, whether it is active in some start state. A rule that was passed to `from_rules` may be

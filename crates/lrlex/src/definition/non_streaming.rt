@@ -2,7 +2,7 @@ ghost use Rattle.std.specs.Prelude.{◌≡◌, ◌<◌, ◌≤◌};
 
 use lrlex_base::LexerTypes;
 use lrlex_definition::{RuleTable, count_of_asked, count_of_rows, count_of_tables, most_tables};
-use lrlex_rules::{LexFlags, name_of};
+use lrlex_rules::LexFlags;
 use lrlex_table::Budget;
 use std::alloc::{AllocError, Global};
 
@@ -37,7 +37,7 @@ impl<L: LexerTypes> LRNonStreamingLexerDef<L> {
         ensures { option_map (λ t. t.now) result
             ≡ name_of (definition_of L.StorageT.number self.now).rules (L.StorageT.number id) }
     {
-        name_of(&self.table.rules, self.table.own_ids, id)
+        self.table.name_of(id)
     }
 
     /// How many tables the start states have: states with the same rules share theirs.
@@ -80,6 +80,13 @@ impl<L: LexerTypes> LRNonStreamingLexerDef<L> {
             → result ≡ count_of_asked (definition_tables self.now) }
     {
         count_of_asked(self.table.tables.as_slice())
+    }
+
+    /// The rules with the tables of their start states: all that reports ask of a definition (`lrlex_report`).
+    pub fn rule_table(&self) -> &RuleTable<L::StorageT>
+        ensures { result.now ≡ self.now.table }
+    {
+        &self.table
     }
 
     /// The flags of the rule text, with their defaults.

@@ -28,14 +28,13 @@ ghost use Rattle.lrlex.specs.declared.editing.document.EditError.TheVariants.{Do
 use crate::definition::non_streaming::LRNonStreamingLexerDef;
 use crate::editing::changes::Changed;
 use crate::editing::relex::relex_in_place;
-use crate::errors::LRLexError;
 use crate::lexing::run::{Lexed, end_of, end_state_of, lex};
 use crate::reading::pieces::{Piece, pieces_in, pieces_of};
 use lrlex_base::{Edit, Lexeme, LexerTypes, NewlineCache, Numbered, Span};
 use lrlex_boundaries::entered_by;
 use lrlex_definition::RuleTable;
 use lrlex_positions::{Lines, PositionEncoding, offset_at, place_of, position_at, text_of};
-use lrlex_rules::StartStateId;
+use lrlex_rules::{LRLexError, StartStateId};
 use std::alloc::{AllocError, Global};
 use std::error::Error;
 use std::fmt;
@@ -251,7 +250,7 @@ impl<'lexer, L: LexerTypes<LexErrorT = LRLexError>> Model for Document<'lexer, L
     ghost use Rattle.regex_hir.specs.contracts.hir.Hir as hir;
     ghost use Rattle.lrlex.specs.Document.{IsLexedBy};
     ghost use Rattle.lrlex.specs.LexRun.{Run};
-    ghost use Rattle.lrlex.specs.declared.errors.LRLexError.{LRLexError};
+    ghost use Rattle.lrlex_rules.specs.declared.errors.LRLexError.{LRLexError};
     ghost use Rattle.lrlex.specs.declared.definition.non_streaming.LRNonStreamingLexerDef.{LRNonStreamingLexerDef};
 
     ghost Value = { Run (LRNonStreamingLexerDef L L.LexemeT L.StorageT LRLexError L.StorageT.FromStrRadixErr L.StorageT.Error) L.LexemeT };

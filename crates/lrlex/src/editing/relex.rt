@@ -2,7 +2,7 @@ ghost use Rattle.std.specs.Prelude.{◌≡◌, ◌≢◌, ℕ, ◌+◌, ◌-◌,
 ghost use Rattle.lrlex_rules.specs.Active.{is_state};
 ghost use Rattle.lrlex_base.specs.Spans.{span_start, span_end, as_span, Fits};
 ghost use Rattle.lrlex_base.specs.Edits.{edited};
-ghost use Rattle.lrlex.specs.Tiling.{rebased};
+ghost use Rattle.lrlex_rules.specs.Tiling.{rebased};
 ghost use Rattle.lrlex_boundaries.specs.Boundaries.{boundary_at, last_entries};
 ghost use Rattle.std.specs.List.Sorted.{IsPartitionedBy};
 ghost use Rattle.lrlex_boundaries.specs.Moves.{IsMovableBoundary, AreSorted};
@@ -21,7 +21,6 @@ ghost use Rattle.lrlex.specs.Progress.{HasRecut, HasSame, IsEditOf, HasReplacedT
 
 use crate::editing::changes::{Change, Changed};
 use crate::editing::restart::{append_raised, count_up_to, last_safe, resume};
-use crate::errors::LRLexError;
 use crate::lexing::run::{LexRun, Lexed};
 use crate::lexing::step::{Progress, advance};
 use crate::lexing::winner::Searcher;
@@ -29,6 +28,7 @@ use lrlex_base::{Edit, LexError, Lexeme, LexerTypes, Numbered, Span};
 use lrlex_boundaries::Boundaries;
 use lrlex_boundaries::room::splice;
 use lrlex_definition::RuleTable;
+use lrlex_rules::LRLexError;
 use std::alloc::{AllocError, Global};
 
 /// The item, once what was at `from` is at `to`.

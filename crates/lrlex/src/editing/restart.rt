@@ -4,7 +4,7 @@ ghost use Rattle.lrlex_base.specs.Edits.{edited};
 ghost use Rattle.lrlex_rules.specs.Definition.{Definition};
 ghost use Rattle.lrlex_table.specs.Reach.{IsText};
 ghost use Rattle.lrlex_rules.specs.Active.{is_state};
-ghost use Rattle.lrlex.specs.Tiling.{Item};
+ghost use Rattle.lrlex_rules.specs.Tiling.{Item};
 ghost use Rattle.lrlex_boundaries.specs.Boundaries.{Boundary, boundary_at};
 ghost use Rattle.lrlex.specs.Reach.{IsLexed};
 ghost use Rattle.lrlex.specs.Lookahead.{IsDecided, IsDecidedAt, AreDecided, LooksAhead, IsSafe, GoesOn, BeginAlike, AreRaised};

@@ -2,16 +2,16 @@
 ghost use Rattle.std.specs.Prelude.{◌≡◌, ℕ, ◌+◌, ◌^◌, ◌<◌, ◌≤◌, ◌++◌, length, map, Some, None, vec_len, vec_capacity, slice_get, if◌then◌else◌, OnOk};
 ghost use Rattle.lrlex_table.specs.Ahead.{begin_at};
 ghost use Rattle.lrlex_table.specs.Chain.{end_of, row_of};
-ghost use Rattle.lrlex.specs.Tiling.{lexeme_of};
+ghost use Rattle.lrlex_rules.specs.Tiling.{lexeme_of};
 ghost use Rattle.lrlex_definition.specs.RuleTable.{AreOf};
 ghost use Rattle.lrlex.specs.Plain.{AllArePlain, HasEnteredAll, HasTakenMany, IsRunningIn, lexemes_of};
 ghost use Rattle.lrlex.specs.Views.{item_of};
 
-use crate::errors::LRLexError;
 use crate::lexing::step::Progress;
 use crate::lexing::winner::Searcher;
 use lrlex_base::{Lexeme, Numbered};
 use lrlex_definition::{RowKind, RuleTable, StateRules};
+use lrlex_rules::LRLexError;
 use lrlex_table::MatchesAhead;
 use std::alloc::AllocError;
 use std::mem;

@@ -17,7 +17,6 @@ ghost use Rattle.lrlex.specs.Progress.{HasFinished};
 
 use crate::definition::non_streaming::LRNonStreamingLexerDef;
 use crate::editing::changes::Changed;
-use crate::errors::LRLexError;
 use crate::lexing::plain::{Pace, take_ahead};
 use crate::lexing::stack::top_of;
 use crate::lexing::step::{Progress, advance, begin, push_error};
@@ -26,7 +25,7 @@ use lrlex_base::{Lexeme, LexerTypes, Numbered};
 use lrlex_boundaries::room::copied;
 use lrlex_boundaries::{Boundaries, entered_by};
 use lrlex_definition::RuleTable;
-use lrlex_rules::StartStateId;
+use lrlex_rules::{LRLexError, StartStateId};
 use std::alloc::{AllocError, Global};
 use std::marker::Model;
 
@@ -45,7 +44,7 @@ impl<'lexer, 'input, L: LexerTypes<LexErrorT = LRLexError>> Model for LexRun<'le
     ghost use Rattle.lrlex.specs.Lookahead.{LooksAhead};
     ghost use Rattle.lrlex.specs.Views.{definition_of, items_by};
     ghost use Rattle.lrlex.specs.LexRun.{Run};
-    ghost use Rattle.lrlex.specs.declared.errors.LRLexError.{LRLexError};
+    ghost use Rattle.lrlex_rules.specs.declared.errors.LRLexError.{LRLexError};
     ghost use Rattle.lrlex.specs.declared.definition.non_streaming.LRNonStreamingLexerDef.{LRNonStreamingLexerDef};
 
     ghost Value = { Run (LRNonStreamingLexerDef L L.LexemeT L.StorageT LRLexError L.StorageT.FromStrRadixErr L.StorageT.Error) L.LexemeT };

@@ -8,14 +8,13 @@ ghost use Rattle.lrlex.specs.Views.{definition_of};
 ghost use Rattle.lrlex.specs.Work.{most_cells_by, most_cells_of};
 
 use crate::definition::non_streaming::LRNonStreamingLexerDef;
-use crate::errors::LRLexError;
 use crate::lexing::cursor::{Cursor, ScanPlace, cursor_at, cursor_of};
 use crate::lexing::scanning::{seek, take_sought, take_tile};
 use crate::lexing::stack::top_of;
 use crate::lexing::winner::Tile;
 use lrlex_base::{LexerTypes, Numbered, Span};
 use lrlex_definition::{RowKind, RuleTable};
-use lrlex_rules::StartStateId;
+use lrlex_rules::{LRLexError, StartStateId};
 use std::alloc::{AllocError, Global};
 use std::marker::Model;
 

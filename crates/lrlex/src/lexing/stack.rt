@@ -1,5 +1,5 @@
 ghost use Rattle.std.specs.Prelude.{◌≡◌, ◌+◌, ◌-◌, ◌^◌, ◌<◌, [], ◌∷◌, ◌++◌, length, take, IfOk, OnErr};
-ghost use Rattle.lrlex.specs.Tiling.{top, or_initial, stack_after};
+ghost use Rattle.lrlex_rules.specs.Tiling.{top, or_initial, stack_after};
 ghost use Rattle.lrlex_boundaries.specs.Entries.{plain, AreEntries, Stay};
 
 use lrlex_rules::StartStateOperation;
@@ -57,7 +57,7 @@ fn pop_state(entries: &mut Vec<(usize, usize)>) -> Result<usize, AllocError>
 }
 
 /// Moves the stack by a rule's target, and answers how many entries from the bottom stay.
-#[tactic(auto, unfolding(crate::specs::Tiling::stack_after))]
+#[tactic(auto, unfolding(lrlex_rules::specs::Tiling::stack_after))]
 #[inline(never)]
 pub(crate) fn step(
     entries: &mut Vec<(usize, usize)>,

@@ -1,5 +1,5 @@
 ghost use Rattle.std.specs.Prelude.{◌≡◌, ℕ, ◌+◌, ◌-◌, ◌^◌, ◌<◌, true, [], ◌∷◌, ◌++◌, length, map, max, None, option_map, IfOk, OnOk};
-ghost use Rattle.lrlex.specs.Tiling.{Error, stack_after, lexeme_of};
+ghost use Rattle.lrlex_rules.specs.Tiling.{Error, stack_after, lexeme_of};
 ghost use Rattle.lrlex_boundaries.specs.Entries.{AreEntries};
 ghost use Rattle.lrlex_boundaries.specs.Boundaries.{last_entries};
 ghost use Rattle.lrlex.specs.Lookahead.{capped};
@@ -10,7 +10,6 @@ ghost use Rattle.lrlex.specs.Views.{item_of, items_by};
 ghost use Rattle.lrlex.specs.Work.{HasGoneOn, HasWorked};
 ghost use Rattle.lrlex.specs.Progress.{Front, HasEntered, HasTakenStep, IsUnderWay};
 
-use crate::errors::LRLexError;
 use crate::lexing::stack::top_of;
 use crate::lexing::taking::take_scan;
 use crate::lexing::winner::{Scan, Searcher, Tile};
@@ -18,7 +17,7 @@ use lrlex_base::{Lexeme, Numbered, Span};
 use lrlex_boundaries::Boundaries;
 use lrlex_boundaries::room::append;
 use lrlex_definition::{RuleTable, StateRules};
-use lrlex_rules::StartStateId;
+use lrlex_rules::{LRLexError, StartStateId};
 use std::alloc::{AllocError, Global};
 
 /// What a run has found so far. Its last boundary is its place with its stack.
@@ -125,7 +124,7 @@ pub(crate) fn capped(lookahead: usize) -> u8
 
 /// Enters the next boundary, with the same stack, behind a tile of so many bytes. The byte behind it decided it.
 #[inline(always)]
-#[tactic(auto, unfolding(crate::specs::Tiling::stack_after))]
+#[tactic(auto, unfolding(lrlex_rules::specs::Tiling::stack_after))]
 fn stay<X: Copy>(progress: &mut Progress<X>, len: usize) -> Result<(), AllocError>
     requires place { progress.old.place + len < 2 ^ 64 }
     requires entries { AreEntries progress.old.stack.items }

@@ -1,6 +1,6 @@
 //! A run takes what won at its place, whatever its rule is.
 ghost use Rattle.std.specs.Prelude.{◌≡◌, ◌+◌, ◌^◌, ◌<◌, max, true, false, length, drop, vec_len, IfOk, IfSome, OnOk, IsCharBoundary};
-ghost use Rattle.lrlex.specs.Tiling.{top};
+ghost use Rattle.lrlex_rules.specs.Tiling.{top};
 ghost use Rattle.lrlex_boundaries.specs.Entries.{plain, AreEntries};
 ghost use Rattle.lrlex_boundaries.specs.Boundaries.{last_entries};
 ghost use Rattle.lrlex.specs.Searcher.{HasAsked, IsScanOf};
@@ -19,7 +19,7 @@ use std::alloc::AllocError;
 
 /// Enters the next boundary: moves the stack by the rule's target. The tiles looked `lookahead` bytes past its place.
 #[inline(always)]
-#[tactic(auto, unfolding(crate::specs::Tiling::stack_after))]
+#[tactic(auto, unfolding(lrlex_rules::specs::Tiling::stack_after))]
 fn push_boundary<S, X: Copy>(
     progress: &mut Progress<X>,
     rule: &Rule<S>,

@@ -11,10 +11,10 @@ ghost use Rattle.lrlex_positions.specs.Positions.{position_of, IsLastUpTo};
 ghost use Rattle.lrlex.specs.Views.{definition_of, items_by};
 
 use crate::definition::non_streaming::LRNonStreamingLexerDef;
-use crate::errors::LRLexError;
 use crate::lexing::run::LexRun;
 use lrlex_base::{Items, Lexer, LexerTypes, NewlineCache, NonStreamingLexer, Span};
 use lrlex_positions::{Lines, PositionEncoding, offset_at, place_of, position_at, text_of};
+use lrlex_rules::LRLexError;
 use std::alloc::{AllocError, Global};
 use std::marker::{Model, PhantomData};
 

@@ -8,18 +8,18 @@ ghost use Rattle.lrlex_rules.specs.Definition.{Definition};
 ghost use Rattle.lrlex.specs.Pieces.{IsPiece, AreTilesOfRun, ArePieces, ArePiecesIn, ArePiecesOfRun, joined};
 ghost use Rattle.lrlex.specs.declared.reading.pieces.Piece.{Piece as ThePiece};
 ghost use Rattle.lrlex.specs.Reach.{IsLexed, IsRun};
-ghost use Rattle.lrlex.specs.Tiling.{Item, Wins};
+ghost use Rattle.lrlex_rules.specs.Tiling.{Item, Wins};
 ghost use Rattle.lrlex_definition.specs.RuleTable.{definition_by};
 ghost use Rattle.lrlex.specs.Views.{definition_of};
 
 use crate::editing::restart::count_up_to;
-use crate::errors::LRLexError;
 use crate::lexing::run::LexRun;
 use crate::lexing::stack::top_of;
 use crate::lexing::winner::{Searcher, Tile};
 use lrlex_base::{LexerTypes, Numbered, Span};
 use lrlex_boundaries::Boundaries;
 use lrlex_definition::{RuleTable, StateRules};
+use lrlex_rules::LRLexError;
 use std::alloc::{AllocError, Global};
 
 /// A tile of a text.

@@ -33,7 +33,7 @@ pub fn stop(
     match definition.run(alloc, text)?.items().last() {
         Some(Err(error)) => Ok(Some(Diagnostic {
             range: error.span(),
-            message: stop_message_in(alloc, definition, text, error)?,
+            message: stop_message_in(alloc, definition.rule_table(), text, error)?,
         })),
         _ => Ok(None),
     }

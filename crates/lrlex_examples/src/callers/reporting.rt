@@ -8,10 +8,13 @@ use std::str;
 pub fn complaints(alloc: Global, rules: &str, input: &str) -> Result<String, AllocError> {
     match LRNonStreamingLexerDef::<DefaultLexerTypes<u32>>::from_str(alloc, rules)? {
         Err(faults) => faults_text(alloc, "tokens.l", rules, &faults),
-        Ok(definition) => match definition.run(alloc, input)?.items().last() {
-            Some(Err(error)) => stop_text_in(alloc, &definition, "input.txt", input, error),
-            _ => Ok(String::new(alloc)),
-        },
+        Ok(definition) => {
+            let table = definition.rule_table();
+            match definition.run(alloc, input)?.items().last() {
+                Some(Err(error)) => stop_text_in(alloc, table, "input.txt", input, error),
+                _ => Ok(String::new(alloc)),
+            }
+        }
     }
 }
 
@@ -29,6 +32,6 @@ pub fn advice(alloc: Global, rules: &str) -> Result<String, AllocError> {
     let Ok(definition) = built else {
         return Ok(String::new(alloc));
     };
-    let warnings = warnings_of(alloc, rules, &definition)?;
+    let warnings = warnings_of(alloc, rules, definition.rule_table())?;
     warnings_text(alloc, "tokens.l", rules, &warnings)
 }

@@ -2,7 +2,8 @@
 ghost use Rattle.std.specs.Prelude.{◌≡◌, IfOk, false, slice_index_or};
 ghost use Rattle.lrlex_report.specs.Warnings.{AreAnswers, as_answered, known_of};
 
-use lrlex::{LRNonStreamingLexerDef, LexerTypes};
+use lrlex_base::Numbered;
+use lrlex_definition::RuleTable;
 use std::alloc::{AllocError, Global};
 
 /// What a definition answers of a rule.
@@ -33,17 +34,17 @@ fn is_marked(marks: &[bool], place: usize) -> bool
 
 impl Answers {
     /// What the definition answers.
-    pub(crate) fn of<L: LexerTypes>(
+    pub(crate) fn of<S: Numbered>(
         alloc: Global,
-        definition: &LRNonStreamingLexerDef<L>,
+        table: &RuleTable<S>,
     ) -> Result<Answers, AllocError>
         ensures { IfOk result (λ a.
-            AreAnswers L.StorageT.number definition.now.table (as_answered a)) }
+            AreAnswers S.number table.now (as_answered a)) }
     {
         Ok(Answers {
-            may_win: definition.may_win(alloc)?,
-            is_active: definition.active_somewhere(alloc)?,
-            is_asked: definition.asked_somewhere(alloc)?,
+            may_win: table.may_win(alloc)?,
+            is_active: table.active_somewhere(alloc)?,
+            is_asked: table.asked_somewhere(alloc)?,
         })
     }
 

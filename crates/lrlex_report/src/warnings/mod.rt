@@ -20,64 +20,65 @@ use crate::warnings::answers::Answers;
 use crate::warnings::kinds::Warning;
 use crate::warnings::rules::push_rule;
 use crate::warnings::states::push_state;
-use lrlex::{LRNonStreamingLexerDef, LexerDef, LexerTypes};
+use lrlex_base::Numbered;
+use lrlex_definition::RuleTable;
 use std::alloc::{AllocError, Global};
 
 /// Adds the warnings of all start states.
-fn push_states<L: LexerTypes>(
+fn push_states<S: Numbered>(
     told: &mut Vec<Warning>,
-    definition: &LRNonStreamingLexerDef<L>,
+    table: &RuleTable<S>,
     rules: &str,
 ) -> Result<(), AllocError>
     ensures told { OnOk result (map as_told told.new.items ≡ map as_told told.old.items
-        ++ states_warnings L.StorageT.number definition.now.table rules.now) }
+        ++ states_warnings S.number table.now rules.now) }
     ensures fit { All (SpanFits rules.now) told.old.items
         → OnOk result (All (SpanFits rules.now) told.new.items) }
 {
-    let states = definition.iter_start_states().as_slice();
+    let states = table.start_states.as_slice();
     for state in states {
-        push_state(told, definition, rules, state)?;
+        push_state(told, table, rules, state)?;
     }
     Ok(())
 }
 
 /// Adds the warnings of the rule at a place.
-fn push_place<L: LexerTypes>(
+fn push_place<S: Numbered>(
     told: &mut Vec<Warning>,
-    definition: &LRNonStreamingLexerDef<L>,
+    table: &RuleTable<S>,
     rules: &str,
     answers: &Answers,
     place: usize,
 ) -> Result<(), AllocError>
     ensures told { OnOk result (map as_told told.new.items ≡ map as_told told.old.items
-        ++ warnings_at L.StorageT.number definition.now.table (as_answered answers.now)
+        ++ warnings_at S.number table.now (as_answered answers.now)
         rules.now place) }
     ensures fit { All (SpanFits rules.now) told.old.items
         → OnOk result (All (SpanFits rules.now) told.new.items) }
 {
-    let states = definition.iter_start_states().as_slice();
-    match definition.get_rule(place) {
+    let states = table.start_states.as_slice();
+    match table.rules.get(place) {
         Some(rule) => push_rule(told, answers.at(place), states, rules, rule),
         None => Ok(()),
     }
 }
 
 /// Adds the warnings of all rules.
-fn push_rules<L: LexerTypes>(
+fn push_rules<S: Numbered>(
     told: &mut Vec<Warning>,
-    definition: &LRNonStreamingLexerDef<L>,
+    table: &RuleTable<S>,
     rules: &str,
     answers: &Answers,
 ) -> Result<(), AllocError>
     ensures told { OnOk result (map as_told told.new.items ≡ map as_told told.old.items
-        ++ rules_warnings L.StorageT.number definition.now.table (as_answered answers.now)
+        ++ rules_warnings S.number table.now (as_answered answers.now)
         rules.now) }
     ensures fit { All (SpanFits rules.now) told.old.items
         → OnOk result (All (SpanFits rules.now) told.new.items) }
 {
-    let count = definition.rules().len();
+    let count = table.rules.len();
     'rules: for place in 0..count {
-        push_place(told, definition, rules, answers, place)?;
+        push_place(told, table, rules, answers, place)?;
     }
     Ok(())
 }
@@ -86,19 +87,19 @@ fn push_rules<L: LexerTypes>(
 /// state, then those of each rule, in order.
 ///
 /// The span of a rule's warning is its pattern with its list of start states, that of a start state's is its name. `rules` is the
-/// text that the definition was read from. With another text the nearest places are told.
-pub fn warnings_of<L: LexerTypes>(
+/// text that the definition was read from, and `table` its rule table. With another text the nearest places are told.
+pub fn warnings_of<S: Numbered>(
     alloc: Global,
     rules: &str,
-    definition: &LRNonStreamingLexerDef<L>,
+    table: &RuleTable<S>,
 ) -> Result<Vec<Warning>, AllocError>
-    ensures told { IfOk result (λ told. AreWarnings L.StorageT.number definition.now.table rules.now
+    ensures told { IfOk result (λ told. AreWarnings S.number table.now rules.now
         (map as_told told.items)) }
     ensures fit { IfOk result (λ told. All (SpanFits rules.now) told.items) }
 {
-    let answers = Answers::of(alloc, definition)?;
+    let answers = Answers::of(alloc, table)?;
     let mut told = Vec::new(alloc);
-    push_states(&mut told, definition, rules)?;
-    push_rules(&mut told, definition, rules, &answers)?;
+    push_states(&mut told, table, rules)?;
+    push_rules(&mut told, table, rules, &answers)?;
     Ok(told)
 }

@@ -4,8 +4,8 @@ ghost use Rattle.lrlex_parser.specs.RuleLine.{target_name};
 ghost use Rattle.lrlex_report.specs.Warnings.{whole_lines_of, line_start, source_of, is_state_name_of, ends_in, goes_on, is_target_of, ends_in_target, begins_blank, is_unmeant, has_unmeant, are_flags, after_flags, in_group, ungrouped};
 
 use crate::ranges::{before_blank, first_bytes, trim_end};
-use lrlex::StartState;
 use lrlex_base::is_line_sep;
+use lrlex_rules::StartState;
 
 /// The text up to its last line separator, and with it.
 fn whole_lines(text: &str) -> &str

@@ -1,6 +1,6 @@
 //! The warnings of a rule.
 ghost use Rattle.std.specs.Prelude.{◌≡◌, ◌++◌, All, OnOk, map};
-ghost use Rattle.lrlex.specs.Active.{lists_none};
+ghost use Rattle.lrlex_rules.specs.Active.{lists_none};
 ghost use Rattle.lrlex_rules.specs.RuleParts.{as_rule};
 ghost use Rattle.lrlex_report.specs.Warnings.{as_told, SpanFits, never_wins, has_no_table_but_looks, has_no_table, has_blank_after_states, loses_escape, has_escape_after_states, loses_alternative, has_name_in_pattern, quotes_part, quotes_text, loses_caret, takes_all, rule_warnings};
 
@@ -13,8 +13,8 @@ use crate::warnings::kinds::{Warning, WarningKind, push_all};
 use crate::warnings::literals::{ends_in_name, has_quoted_part, is_bare, is_quoted};
 use crate::warnings::looks::looks_around;
 use crate::warnings::patterns::{begins_blank, ends_in_target, has_unmeant, source_of, ungrouped};
-use lrlex::{Rule, StartState};
 use lrlex_base::{Numbered, Span};
+use lrlex_rules::{Rule, StartState};
 use std::alloc::AllocError;
 
 /// Whether the rule is active, and never wins.

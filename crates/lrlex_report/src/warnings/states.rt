@@ -2,14 +2,15 @@
 ghost use Rattle.std.specs.Prelude.{◌≡◌, ◌++◌, All, OnOk, map};
 ghost use Rattle.lrlex_base.specs.Spans.{Fits, as_span};
 ghost use Rattle.lrlex_rules.specs.RuleParts.{as_rule};
-ghost use Rattle.lrlex.specs.Never.{enters};
-ghost use Rattle.lrlex.specs.Views.{definition_of};
+ghost use Rattle.lrlex_definition.specs.Never.{enters};
+ghost use Rattle.lrlex_definition.specs.RuleTable.{definition_by};
 ghost use Rattle.lrlex_report.specs.Warnings.{as_told, SpanFits, is_entered, is_never_entered, has_no_rules, near_span, state_warnings};
 
 use crate::places::nearest;
 use crate::warnings::kinds::{Warning, WarningKind, push_all};
-use lrlex::{LRNonStreamingLexerDef, LexerDef, LexerTypes, Rule, StartState, StartStateOperation};
 use lrlex_base::{Numbered, Span};
+use lrlex_definition::RuleTable;
+use lrlex_rules::{Rule, StartState, StartStateOperation};
 use std::alloc::AllocError;
 
 /// Whether the rule enters the state with this id.
@@ -38,10 +39,10 @@ fn is_never_entered<S: Numbered>(rules: &[Rule<S>], id: usize) -> bool
 }
 
 /// Whether no rule is active in the state with this id.
-fn has_no_rules<L: LexerTypes>(definition: &LRNonStreamingLexerDef<L>, id: usize) -> bool
-    ensures { result ≡ has_no_rules (definition_of L.StorageT.number definition.now) id }
+fn has_no_rules<S: Numbered>(table: &RuleTable<S>, id: usize) -> bool
+    ensures { result ≡ has_no_rules (definition_by S.number table.now) id }
 {
-    definition.active_rules(id).is_empty()
+    table.active_rules(id).is_empty()
 }
 
 /// The nearest part of a text.
@@ -54,15 +55,15 @@ fn near_span(rules: &str, span: Span) -> Span
     Span::new(start, start.max(end))
 }
 
-/// Adds the warnings of a start state of a definition.
-pub(crate) fn push_state<L: LexerTypes>(
+/// Adds the warnings of a start state.
+pub(crate) fn push_state<S: Numbered>(
     told: &mut Vec<Warning>,
-    definition: &LRNonStreamingLexerDef<L>,
+    table: &RuleTable<S>,
     rules: &str,
     state: &StartState,
 ) -> Result<(), AllocError>
     ensures told { OnOk result (map as_told told.new.items ≡ map as_told told.old.items
-        ++ state_warnings L.StorageT.number definition.now.table rules.now state.now) }
+        ++ state_warnings S.number table.now rules.now state.now) }
     ensures fit { All (SpanFits rules.now) told.old.items
         → OnOk result (All (SpanFits rules.now) told.new.items) }
 {
@@ -70,9 +71,9 @@ pub(crate) fn push_state<L: LexerTypes>(
     let tests = [
         (
             WarningKind::NeverEntered,
-            is_never_entered(definition.rules(), id),
+            is_never_entered(table.rules.as_slice(), id),
         ),
-        (WarningKind::NoRules, has_no_rules(definition, id)),
+        (WarningKind::NoRules, has_no_rules(table, id)),
     ];
     push_all(told, &tests, near_span(rules, state.name_span()))
 }

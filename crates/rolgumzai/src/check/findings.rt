@@ -20,7 +20,7 @@ impl Findings {
         allowed: &[WarningKind],
     ) -> Result<Findings, AllocError> {
         if let Ok(definition) = Definition::new_with_options(alloc, text, flags)? {
-            let mut warnings = warnings_of(alloc, text, &definition)?;
+            let mut warnings = warnings_of(alloc, text, definition.rule_table())?;
             warnings.retain(|warning| !allowed.contains(&warning.kind()));
             return Ok(Findings::Warnings(warnings));
         }

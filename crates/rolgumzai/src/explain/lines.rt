@@ -72,7 +72,13 @@ fn found_text(
     match found {
         Found::Piece(piece) => winner_text(alloc, rules, input, piece, active),
         Found::Stop(error) => {
-            stop_text_in(alloc, rules.definition, input.file, input.text, error)
+            stop_text_in(
+                alloc,
+                rules.definition.rule_table(),
+                input.file,
+                input.text,
+                error,
+            )
         }
         Found::End => {
             let end = Span::new(input.text.len(), input.text.len());

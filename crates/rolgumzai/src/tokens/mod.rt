@@ -31,7 +31,7 @@ fn write_tokens<'a>(rt: &HostRuntime, run: &Run<'a, 'a>, is_json: bool) -> io::R
 fn end_text(alloc: Global, run: &Run<'_, '_>, file: &str) -> Result<(String, u8), AllocError> {
     let (definition, input) = (run.definition(), run.text());
     if let Some(error) = stop_of(run) {
-        let shown = stop_text_in(alloc, definition, file, input, &error)?;
+        let shown = stop_text_in(alloc, definition.rule_table(), file, input, &error)?;
         return Ok((shown, FAULTY));
     }
     let shown = match ending_of(run) {

@@ -17,4 +17,4 @@ returns g c =
     let old = g.W.Write.contents c.args.out.now in
     let new = g.W.Write.contents c.write_lines-written.new.out in
     items_end g.L.StorageT.Id.number g.L.LexemeT.Lexeme.seen (definition_of g.L.StorageT.Id.number c.args.definition.now) c.args.new.now c.items-items.result.now c.in_ok-lexed.lexed.items c.in_ok-lexed.lexed.boundaries
-    c.has_error.result old new _ c.ending.result c.items-items.ensures run c.has_error.ensures c.write_lines-written.ensures (λ text h. c.ending.ensures old new text h)
+    c.has_error.result old new _ c.ending.result c.items-items.ensures run c.has_error.ensures (rw c.rule_table.ensures at c.write_lines-written.ensures) (λ text h. c.ending.ensures old new text h)

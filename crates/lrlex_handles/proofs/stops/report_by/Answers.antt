@@ -15,7 +15,7 @@ returns-in-Some c =
       run = c.in_ok-run.ensures.run;
       error = c.in-Some.error.now;
       last = last_seen (item_of (λ n. n) lexeme_seen) r.items ∙ ap (λ o. option_map (item_of (λ n. n) lexeme_seen) o) (ap (λ xs. slice_get xs (length xs - 1)) (sym c.items.ensures) ∙ c.in-Some.ensures.found);
-      shown-is = c.in_ok-stop_text_in-in-Some.ensures;
+      shown-is = rw c.rule_table.ensures at c.in_ok-stop_text_in-in-Some.ensures;
     }
 
 pub returns : goal.returns

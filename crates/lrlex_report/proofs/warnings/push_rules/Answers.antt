@@ -20,5 +20,6 @@ rules-preserved g c = record {
 
 pub returns-clause-told : goal.returns-clause-told
 returns-clause-told g c =
-    let same : c.rules.place ≡ length c.rules-count.result.now = omega (arith, c.rules-test.false, c.rules.auto.place-end) in
-    all_places _ _ _ c.rules.place _ c.rules.invariant.told (same ∙ ap length c.rules-count.ensures)
+    let rules = c.args.table.now.rules in
+    let same : c.rules.place ≡ length rules.items = omega (arith, c.rules-test.false, c.rules.auto.place-end, c.len-count.ensures, rules.ok.0) in
+    all_places _ _ _ c.rules.place _ c.rules.invariant.told same

@@ -1,6 +1,6 @@
 use Rattle.std.proofs.Common.{◌-◌, drop, sym, ap, ◌∙◌, subst, arith}
 use Rattle.std.proofs.lemmas.List.{length-map, length-drop}
-use Rattle.lrlex.specs.Tiling.{rebased}
+use Rattle.lrlex_rules.specs.Tiling.{rebased}
 use Rattle.lrlex.specs.Moves.{IsMovable}
 use Rattle.lrlex.specs.Views.{item_of}
 use Rattle.lrlex.proofs.PutLemmas.{all_stay, move_none, move_all, move_at, move_one}

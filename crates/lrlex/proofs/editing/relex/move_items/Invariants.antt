@@ -1,5 +1,5 @@
 use Rattle.std.proofs.Common.{◌≡◌, map}
-use Rattle.lrlex.specs.Tiling.{rebased}
+use Rattle.lrlex_rules.specs.Tiling.{rebased}
 use Rattle.lrlex.specs.Views.{item_of}
 use Rattle.lrlex.proofs.PutLemmas.{moved_up_to}
 use Rattle.lrlex.proofs.editing.relex.move_items.Given as goal

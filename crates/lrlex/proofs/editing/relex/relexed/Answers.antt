@@ -5,11 +5,11 @@ use Rattle.lrlex_base.specs.declared.spans.Span.{Span}
 use Rattle.lrlex_boundaries.specs.Boundaries.{Boundary}
 use Rattle.lrlex.specs.Changes.{HasChanged}
 use Rattle.lrlex.specs.Progress.{IsEditOf}
-use Rattle.lrlex.specs.Tiling.{Item}
+use Rattle.lrlex_rules.specs.Tiling.{Item}
 use Rattle.lrlex_definition.specs.RuleTable.{definition_by}
 use Rattle.lrlex.specs.Views.{items_by}
 use Rattle.lrlex.specs.declared.editing.changes.Changed.{Changed}
-use Rattle.lrlex.specs.declared.errors.LRLexError.{LRLexError}
+use Rattle.lrlex_rules.specs.declared.errors.LRLexError.{LRLexError}
 use Rattle.lrlex_definition.specs.declared.rule_table.RuleTable.{RuleTable}
 use Rattle.lrlex.proofs.LinearLemmas.{linear_again}
 use Rattle.lrlex.proofs.editing.relex.relexed.Goals as goal

@@ -1,5 +1,5 @@
 use Rattle.std.proofs.Common.{◌≡◌, ◌+◌, ◌≤◌, All, ◌++◌, length, map, take, drop, sym, ap, ap₂, ◌∙◌, subst, arith}
-use Rattle.lrlex.specs.Tiling.{rebased}
+use Rattle.lrlex_rules.specs.Tiling.{rebased}
 use Rattle.lrlex_boundaries.specs.Boundaries.{boundary_at}
 use Rattle.lrlex.specs.Moves.{IsMovable, items_from}
 use Rattle.lrlex.specs.Lookahead.{AreRaised, items_before}

@@ -1,7 +1,7 @@
 use Rattle.std.proofs.Common.{◌≡◌, length, sym, ap, ◌∙◌, subst, arith}
 use Rattle.lrlex_boundaries.specs.Entries.{plain, AreEntries}
 use Rattle.lrlex_definition.specs.RuleTable.{AreOf}
-use Rattle.lrlex.specs.Tiling.{top}
+use Rattle.lrlex_rules.specs.Tiling.{top}
 use Rattle.lrlex_definition.specs.RuleTable.{definition_by}
 use Rattle.lrlex.proofs.ReachLemmas.{AreStates}
 use Rattle.lrlex.proofs.lexing.cursor.cursor_at.Goals as goal

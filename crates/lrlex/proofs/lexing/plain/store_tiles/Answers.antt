@@ -5,7 +5,7 @@ use Rattle.lrlex_table.specs.Ahead.{begin_at}
 use Rattle.lrlex_table.specs.Chain.{end_of, row_of}
 use Rattle.lrlex.specs.Plain.{AllArePlain, id_at, lexemes_of}
 use Rattle.lrlex_definition.specs.RowKinds.{own_kind}
-use Rattle.lrlex.specs.Tiling.{Item, lexeme_of}
+use Rattle.lrlex_rules.specs.Tiling.{Item, lexeme_of}
 use Rattle.lrlex.specs.Views.{item_of}
 use Rattle.lrlex_definition.specs.declared.row_kinds.RowKind.{RowKind}
 use Rattle.lrlex.proofs.ManyLemmas.{end_read, kind_read}

@@ -1,6 +1,6 @@
 use Rattle.std.proofs.Common.{◌≡◌, ◌-◌, ◌<◌, ◌≤◌, true, false, length, sym, ap, ◌∙◌, subst, arith, append-nil, IsCharBoundary}
 use Rattle.std.proofs.lemmas.Str.{IsCharBoundary-start}
-use Rattle.lrlex.specs.Tiling.{Done}
+use Rattle.lrlex_rules.specs.Tiling.{Done}
 use Rattle.lrlex.specs.Lookahead.{LooksAhead}
 use Rattle.lrlex.specs.Reach.{IsRun, searches}
 use Rattle.lrlex_definition.specs.RuleTable.{AreOf}
@@ -10,7 +10,7 @@ use Rattle.lrlex.specs.Views.{items_by}
 use Rattle.lrlex.proofs.BegunLemmas.{begun, begun_looking}
 use Rattle.lrlex_boundaries.specs.Entries.{plain, AreEntries}
 use Rattle.lrlex_rules.specs.Active.{is_state}
-use Rattle.lrlex.specs.Tiling.{top}
+use Rattle.lrlex_rules.specs.Tiling.{top}
 use Rattle.lrlex.proofs.ReachLemmas.{entries_now, top_is_state, ended, nothing_left, asked_now, few_searches, run_of, length_now}
 use Rattle.lrlex.specs.Searches.{asks_by}
 use Rattle.lrlex.proofs.SearchLemmas.{asks_nowhere, more_asked, all_asked, next_asked}

@@ -1,5 +1,5 @@
 use Rattle.std.proofs.Common.{[], ◌∷◌, ◌++◌, None, ap, ◌∙◌}
-use Rattle.lrlex.specs.Tiling.{Error}
+use Rattle.lrlex_rules.specs.Tiling.{Error}
 use Rattle.lrlex.specs.Views.{items_by}
 use Rattle.lrlex.proofs.LookaheadLemmas.{looks_none}
 use Rattle.lrlex.proofs.ReachLemmas.{stateless_of}

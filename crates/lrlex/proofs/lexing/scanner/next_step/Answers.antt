@@ -9,7 +9,7 @@ use Rattle.lrlex.specs.Scanner.{IsSought, Scanned, sought_at, sought_to}
 use Rattle.lrlex_definition.specs.RowKinds.{own_kind}
 use Rattle.lrlex.specs.Searcher.{IsFoundAt, tile_of}
 use Rattle.lrlex_definition.specs.StateTables.{most_tables}
-use Rattle.lrlex.specs.Tiling.{Tile, Wins, top}
+use Rattle.lrlex_rules.specs.Tiling.{Tile, Wins, top}
 use Rattle.lrlex_definition.specs.RuleTable.{definition_by}
 use Rattle.lrlex.specs.Work.{HasWorked, most_cells_by}
 use Rattle.lrlex_table.proofs.LinearLemmas.{linear_later}

@@ -1,7 +1,7 @@
 use Rattle.std.proofs.Common.{◌≡◌, ◌+◌, ◌<◌, ◌≤◌, IfSome, IsCharBoundary, MatchOption, Some, drop, vec_len, sym, subst, arith}
 use Rattle.std.specs.Prelude.{max}
 use Rattle.lrlex.specs.Scanner.{IsSought, sought_at, sought_to}
-use Rattle.lrlex.specs.Tiling.{IsStuck, Wins}
+use Rattle.lrlex_rules.specs.Tiling.{IsStuck, Wins}
 use Rattle.lrlex_definition.specs.RuleTable.{definition_by}
 use Rattle.lrlex.specs.Work.{HasWorked, won_bytes}
 use Rattle.lrlex.proofs.FoundLemmas.{just_sought}

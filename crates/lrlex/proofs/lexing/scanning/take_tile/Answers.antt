@@ -7,7 +7,7 @@ use Rattle.lrlex_rules.specs.Definition.{Rule}
 use Rattle.lrlex_rules.specs.Active.{is_state, lacks_id, lacks_target, lexeme_id, rule_at}
 use Rattle.lrlex.specs.Scanner.{IsSought, Scanned, sought_at, sought_to}
 use Rattle.lrlex_definition.specs.StateTables.{most_tables}
-use Rattle.lrlex.specs.Tiling.{IsStuck, Tile, stack_after, top}
+use Rattle.lrlex_rules.specs.Tiling.{IsStuck, Tile, stack_after, top}
 use Rattle.lrlex_definition.specs.RuleTable.{definition_by}
 use Rattle.lrlex.specs.Work.{HasWorked, most_cells_by}
 use Rattle.lrlex_table.proofs.LinearLemmas.{linear_later}

@@ -7,7 +7,7 @@ use Rattle.lrlex.specs.Lookahead.{IsDecided, capped}
 use Rattle.lrlex_definition.specs.RowKinds.{own_kind}
 use Rattle.lrlex.specs.Searcher.{IsFoundAt, tile_of}
 use Rattle.lrlex_definition.specs.RuleTable.{untabled_count}
-use Rattle.lrlex.specs.Tiling.{Tile, Wins, IsTaken, lexeme_of, stack_after, top}
+use Rattle.lrlex_rules.specs.Tiling.{Tile, Wins, IsTaken, lexeme_of, stack_after, top}
 use Rattle.lrlex_boundaries.specs.Entries.{plain}
 use Rattle.lrlex_definition.specs.RuleTable.{definition_by}
 use Rattle.lrlex.specs.Views.{items_by}

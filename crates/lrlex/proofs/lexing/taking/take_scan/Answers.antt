@@ -2,7 +2,7 @@ use Rattle.std.proofs.Common.{◌≡◌, ◌+◌, ◌<◌, ◌≤◌, List, [], 
 use Rattle.lrlex_rules.specs.Definition.{Rule}
 use Rattle.lrlex_rules.specs.Active.{active_count, lacks_id, lacks_target, lexeme_id}
 use Rattle.lrlex.specs.Searcher.{HasAsked}
-use Rattle.lrlex.specs.Tiling.{Tile, Item, Error, top, IsTaken, stack_after, lexeme_of, tile_items, NoMatch, NoId, NoTarget}
+use Rattle.lrlex_rules.specs.Tiling.{Tile, Item, Error, top, IsTaken, stack_after, lexeme_of, tile_items, NoMatch, NoId, NoTarget}
 use Rattle.lrlex_boundaries.specs.Entries.{plain}
 use Rattle.lrlex_definition.specs.RuleTable.{definition_by}
 use Rattle.lrlex.specs.Views.{items_by}

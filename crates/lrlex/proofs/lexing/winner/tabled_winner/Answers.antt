@@ -3,11 +3,11 @@ use Rattle.std.proofs.lemmas.List.{length-map}
 use Rattle.lrlex_rules.specs.RuleParts.{as_rule}
 use Rattle.lrlex_definition.specs.StateTables.{pattern_in}
 use Rattle.lrlex_rules.specs.Active.{is_active}
-use Rattle.lrlex.specs.Tiling.{Wins}
+use Rattle.lrlex_rules.specs.Tiling.{Wins}
 use Rattle.lrlex_definition.specs.RuleTable.{definition_by}
 use Rattle.lrlex_rules.proofs.PlaceLemmas.{all_places}
 use Rattle.lrlex.proofs.DecidedLemmas.{decided_look}
-use Rattle.lrlex.proofs.TableLemmas.{active_within, told_none, told_some, told_bytes, best_wins, best_stuck}
+use Rattle.lrlex_definition.proofs.TableLemmas.{active_within, told_none, told_some, told_bytes, best_wins, best_stuck}
 use Rattle.lrlex_table.specs.Tables.{len_of}
 use Rattle.lrlex_definition.specs.StateTables.{most_tables}
 use Rattle.lrlex_definition.proofs.MostLemmas.{few_tables}

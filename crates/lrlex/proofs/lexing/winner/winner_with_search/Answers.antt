@@ -7,15 +7,15 @@ use Rattle.lrlex_table.specs.Tables.{IsBestAmong, len_of}
 use Rattle.lrlex_rules.specs.Matchers.{IsMatcherOf}
 use Rattle.lrlex_definition.specs.StateTables.{patterns_on, pattern_in}
 use Rattle.lrlex_rules.specs.Active.{is_active}
-use Rattle.lrlex.specs.Tiling.{Wins}
+use Rattle.lrlex_rules.specs.Tiling.{Wins}
 use Rattle.lrlex_definition.specs.RuleTable.{definition_by}
 use Rattle.lrlex.specs.declared.lexing.winner.Tile.{Tile}
 use Rattle.lrlex.proofs.CountLemmas.{active_count-le}
 use Rattle.lrlex_rules.proofs.PlaceLemmas.{all_places}
-use Rattle.lrlex.proofs.ScanLemmas.{length-places_of}
+use Rattle.lrlex_rules.proofs.ScanLemmas.{length-places_of}
 use Rattle.lrlex_rules.proofs.MatcherLemmas.{matcher_at, matchers_set}
 use Rattle.lrlex.proofs.DecidedLemmas.{decided_whole}
-use Rattle.lrlex.proofs.TableLemmas.{active_within, looked_at, looked_more, other_within, others_few, told_none, told_some, best_kept, best_taken, best_wins, best_stuck, asked_is}
+use Rattle.lrlex_definition.proofs.TableLemmas.{active_within, looked_at, looked_more, other_within, others_few, told_none, told_some, best_kept, best_taken, best_wins, best_stuck, asked_is}
 use Rattle.lrlex_definition.proofs.ServedLemmas.{pattern_here}
 use Rattle.lrlex_definition.specs.StateTables.{most_tables}
 use Rattle.lrlex_table.proofs.LinearLemmas.{linear_later}

@@ -4,7 +4,7 @@ use Rattle.lrlex_rules.specs.Matchers.{AreMatchers}
 use Rattle.lrlex_definition.specs.StateTables.{patterns_on}
 use Rattle.lrlex_table.specs.Tables.{IsBestAmong}
 use Rattle.lrlex.specs.Work.{HasWorked}
-use Rattle.lrlex.proofs.TableLemmas.{looked_at}
+use Rattle.lrlex_definition.proofs.TableLemmas.{looked_at}
 use Rattle.lrlex.proofs.lexing.winner.winner_with_search.Given as goal
 
 abbrev pub invariant-others : goal.invariant-others

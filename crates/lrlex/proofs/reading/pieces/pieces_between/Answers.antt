@@ -9,7 +9,7 @@ use Rattle.lrlex_definition.specs.RuleTable.{AreOf}
 use Rattle.lrlex_boundaries.specs.Boundaries.{no_boundary, boundary_at}
 use Rattle.lrlex.specs.Pieces.{IsPiece}
 use Rattle.lrlex_boundaries.specs.Entries.{plain, AreEntries}
-use Rattle.lrlex.specs.Tiling.{Tile, Wins, top}
+use Rattle.lrlex_rules.specs.Tiling.{Tile, Wins, top}
 use Rattle.lrlex_definition.specs.RuleTable.{definition_by}
 use Rattle.lrlex.proofs.PieceLemmas.{tile_at, between_characters, next_place, top_at, won_at, wins_there, row_and_next}
 use Rattle.lrlex.proofs.reading.pieces.pieces_between.Goals as goal

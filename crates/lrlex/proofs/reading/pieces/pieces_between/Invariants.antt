@@ -4,7 +4,7 @@ use Rattle.lrlex.specs.Searcher.{IsSearcherOf}
 use Rattle.lrlex_boundaries.specs.Boundaries.{boundary_at}
 use Rattle.lrlex.specs.Pieces.{IsPiece}
 use Rattle.lrlex.specs.Reach.{IsLexed}
-use Rattle.lrlex.specs.Tiling.{Item, Tile}
+use Rattle.lrlex_rules.specs.Tiling.{Item, Tile}
 use Rattle.lrlex_definition.specs.RuleTable.{definition_by}
 use Rattle.lrlex.specs.declared.reading.pieces.Piece.{Piece}
 use Rattle.lrlex.proofs.reading.pieces.pieces_between.Given as goal

@@ -5,7 +5,7 @@ use Rattle.lrlex_boundaries.specs.Entries.{plain, AreEntries}
 use Rattle.lrlex_rules.specs.Matchers.{AreMatchers}
 use Rattle.lrlex_definition.specs.RuleTable.{AreOf}
 use Rattle.lrlex_definition.specs.StateTables.{most_tables}
-use Rattle.lrlex.specs.Tiling.{top}
+use Rattle.lrlex_rules.specs.Tiling.{top}
 use Rattle.lrlex_definition.specs.RuleTable.{definition_by}
 use Rattle.lrlex.proofs.EntryLemmas.{entries-one}
 use Rattle.lrlex.proofs.ReachLemmas.{AreStates, one_state}

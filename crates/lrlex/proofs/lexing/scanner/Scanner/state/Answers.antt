@@ -2,7 +2,7 @@ use Rattle.std.proofs.Common.{◌≡◌, ap, sym, subst, ◌∙◌}
 use Rattle.lrlex_boundaries.specs.Entries.{AreEntries, plain}
 use Rattle.lrlex_rules.specs.RuleParts.{state_number}
 use Rattle.lrlex.specs.Scanner.{Scanned, scanned, scanned_by, top_state}
-use Rattle.lrlex.specs.Tiling.{top}
+use Rattle.lrlex_rules.specs.Tiling.{top}
 use Rattle.lrlex.proofs.ScannedRuns.{on_top}
 use Rattle.lrlex.proofs.lexing.scanner.Scanner.state.Goals as goal
 

@@ -16,16 +16,16 @@ use Rattle.lrlex_table.specs.Table.{pattern_at, IsLongest, NoneMatches}
 use Rattle.lrlex_table.specs.Reach.{IsText}
 use Rattle.lrlex_table.specs.Never.{NeverWins, AreTablesOn, NeverWinsIn}
 use Rattle.lrlex_rules.specs.Active.{active_places}
-use Rattle.lrlex.specs.Never.{NeverWinsAnywhere}
+use Rattle.lrlex_definition.specs.Never.{NeverWinsAnywhere}
 use Rattle.lrlex_rules.specs.RuleLists.{list_in}
 use Rattle.lrlex_definition.specs.StateTables.{pattern_in, patterns_on}
-use Rattle.lrlex.specs.Tiling.{Wins}
+use Rattle.lrlex_rules.specs.Tiling.{Wins}
 use Rattle.lrlex_definition.specs.RuleTable.{definition_by}
 use Rattle.lrlex_definition.specs.declared.rule_table.RuleTable.{RuleTable}
 use Rattle.lrlex_rules.proofs.PlaceLemmas.{active_places-by}
-use Rattle.lrlex.proofs.TableLemmas.{longest_wins, none_stuck}
+use Rattle.lrlex_definition.proofs.TableLemmas.{longest_wins, none_stuck}
 use Rattle.lrlex_definition.proofs.ServedLemmas.{active_at, patterns_by, first_place}
-use Rattle.lrlex.proofs.TilingLemmas.{stuck_or_wins, one_rule}
+use Rattle.lrlex_rules.proofs.TilingLemmas.{stuck_or_wins, one_rule}
 use Rattle.lrlex_rules.proofs.ViewLemmas.{position_within, list_any-map}
 
 -- ---- of some patterns one is the longest, unless none matches

@@ -27,9 +27,9 @@ use Rattle.lrlex_rules.specs.RuleLists.{list_in}
 use Rattle.lrlex_definition.specs.StateTables.{pattern_in, patterns_on, AreServed}
 use Rattle.lrlex_rules.specs.Active.{is_active, active_places, taken, taken_by_any, rule_at, no_rule}
 use Rattle.lrlex_rules.specs.Ids.{with_own_id}
-use Rattle.lrlex.specs.Tiling.{Wins, IsStuck}
-use Rattle.lrlex.proofs.BestLemmas.{Wins-of_IsBest, IsStuck-of_IsBest}
-use Rattle.lrlex.proofs.ScanLemmas.{IsScanned, IsScanned-none, IsScanned-kept, IsScanned-taken, scanned_all, passes, place_within}
+use Rattle.lrlex_rules.specs.Tiling.{Wins, IsStuck}
+use Rattle.lrlex_rules.proofs.BestLemmas.{Wins-of_IsBest, IsStuck-of_IsBest}
+use Rattle.lrlex_rules.proofs.ScanLemmas.{IsScanned, IsScanned-none, IsScanned-kept, IsScanned-taken, scanned_all, passes, place_within}
 use Rattle.lrlex_rules.proofs.ViewLemmas.{taken_active, position_within, item_at, position_some, position_none, rule_at_place}
 use Rattle.lrlex_rules.proofs.PlaceLemmas.{active_places-by}
 

@@ -5,8 +5,8 @@ use Rattle.lrlex_rules.specs.Definition.{Definition, Rule}
 use Rattle.lrlex_matching.proofs.ForCallers.{length_within}
 use Rattle.lrlex_rules.specs.Patterns.{pattern_of}
 use Rattle.lrlex_rules.specs.Active.{is_active, taken_by, taken_by_any, rule_at, lacks_id, lacks_target}
-use Rattle.lrlex.specs.Tiling.{Tile}
-use Rattle.lrlex.specs.Tiling.{Wins, IsStuck, top, End, Done, NoMatch, NoId, NoTarget, IsWinner, IsEnd, IsTaken, stack_past, IsTiling}
+use Rattle.lrlex_rules.specs.Tiling.{Tile}
+use Rattle.lrlex_rules.specs.Tiling.{Wins, IsStuck, top, End, Done, NoMatch, NoId, NoTarget, IsWinner, IsEnd, IsTaken, stack_past, IsTiling}
 
 -- ---- a winner ends within the text
 

@@ -1,7 +1,7 @@
 ghost use Rattle.std.specs.Prelude.{◌≡◌, Some, None};
 
+use crate::states::StartStateId;
 use lrlex_base::{LexError, Span};
-use lrlex_rules::StartStateId;
 use std::error::Error;
 use std::fmt;
 
@@ -13,7 +13,7 @@ pub struct LRLexError {
 }
 
 impl LRLexError {
-    ghost use Rattle.lrlex.specs.Errors.{lex_error_span, lex_error_state};
+    ghost use Rattle.lrlex_rules.specs.Errors.{lex_error_span, lex_error_state};
 
     /// An error at this place.
     pub fn new(span: Span) -> LRLexError
@@ -46,7 +46,7 @@ impl LRLexError {
 }
 
 impl LexError for LRLexError {
-    ghost use Rattle.lrlex.specs.Errors.{lex_error_span};
+    ghost use Rattle.lrlex_rules.specs.Errors.{lex_error_span};
 
     ghost error_span = { lex_error_span };
 
@@ -58,7 +58,7 @@ impl LexError for LRLexError {
 impl fmt::Display for LRLexError {
     ghost use Rattle.std.specs.Prelude.{Some};
     ghost use Rattle.lrlex_base.specs.Spans.{span_start};
-    ghost use Rattle.lrlex.specs.Errors.{lex_error_span, stop_text};
+    ghost use Rattle.lrlex_rules.specs.Errors.{lex_error_span, stop_text};
 
     ghost output = { λ e. Some (stop_text (span_start (lex_error_span e))) };
 

@@ -5,8 +5,8 @@ use Rattle.std.proofs.lemmas.Option.{slice_get_past}
 use Rattle.std.proofs.lemmas.List.{length-drop}
 use Rattle.lrlex_rules.specs.Definition.{Definition}
 use Rattle.lrlex_rules.specs.Active.{taken_by_any, taken, rule_at, lacks_id, lacks_target}
-use Rattle.lrlex.specs.Tiling.{Tile}
-use Rattle.lrlex.specs.Tiling.{Wins, IsStuck, top, End, Done, NoMatch, NoId, NoTarget, stack_past, IsTiling}
+use Rattle.lrlex_rules.specs.Tiling.{Tile}
+use Rattle.lrlex_rules.specs.Tiling.{Wins, IsStuck, top, End, Done, NoMatch, NoId, NoTarget, stack_past, IsTiling}
 
 -- Of the first m rules none takes more than n bytes, and where that is not 0, rule k is the first that takes n.
 pub record IsBest (d : Definition) (q : ℕ) (text : List ℕ) (m k n : ℕ) : Type 0 where

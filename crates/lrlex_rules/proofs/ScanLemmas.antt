@@ -6,7 +6,7 @@ use Rattle.std.proofs.lemmas.Option.{slice_get_within}
 use Rattle.regex_hir.specs.Text.{is_some_and}
 use Rattle.lrlex_rules.specs.Definition.{Definition, Rule}
 use Rattle.lrlex_rules.specs.Active.{is_active, active_count, active_places, places_from, taken, taken_by_any}
-use Rattle.lrlex.proofs.BestLemmas.{IsBest, IsBest-none, IsBest-kept, IsBest-taken, IsBest-skip}
+use Rattle.lrlex_rules.proofs.BestLemmas.{IsBest, IsBest-none, IsBest-kept, IsBest-taken, IsBest-skip}
 use Rattle.lrlex_rules.proofs.PlaceLemmas.{IsNext, next_place, no_place, length-places}
 use Rattle.lrlex_rules.proofs.ViewLemmas.{taken_inactive}
 

@@ -8,7 +8,7 @@ use Rattle.lrlex_rules.specs.declared.states.StartStateOperation.TheVariants.{Po
 use Rattle.lrlex_table.specs.Reach.{IsText}
 use Rattle.lrlex_table.specs.Never.{WinsNowhereIn}
 use Rattle.lrlex_rules.specs.Active.{is_state}
-use Rattle.lrlex.specs.Tiling.{Wins, Tile, End, NoTarget}
+use Rattle.lrlex_rules.specs.Tiling.{Wins, Tile, End, NoTarget}
 use Rattle.lrlex_definition.specs.declared.rule_table.RuleTable.{RuleTable}
 unfoldable pub use Rattle.lrlex_definition.specs.Somewhere.{is_active_somewhere}
 pub use Rattle.lrlex_definition.specs.Somewhere.{is_asked_somewhere}
