@@ -1,14 +1,11 @@
 -- Lexing in linear time.
-use Rattle.std.proofs.Common.{◌≡◌, ℕ, zero, suc, ◌+◌, ◌-◌, ◌<◌, ◌≤◌, max, Bool, true, List, [], ◌∷◌, ◌++◌, length, drop, Option, Some, None, is_some, Result, Ok, Err, IfOk, IfSome, IsCharBoundary, vec_len, slice_get, refl, sym, ap, ◌∙◌, arith, length-drop}
+use Rattle.std.proofs.Common.{◌≡◌, ℕ, ◌+◌, ◌-◌, ◌<◌, ◌≤◌, max, Bool, true, List, length, drop, Option, Some, None, Result, Ok, Err, IfOk, IfSome, IsCharBoundary, vec_len, sym, arith, length-drop}
 use Rattle.std.proofs.Props.{props}
-use Rattle.std.proofs.lemmas.Bool.{true≢false}
-use Rattle.std.proofs.lemmas.Option.{same_Some}
 use Rattle.std.proofs.Math.Nat.{mul-le-mul_left}
 use Rattle.std.proofs.Math.Logic.{∥∥₁_elim}
 use Rattle.lrlex_table.specs.Linear.{HasWorkedTo, count_of_rows, most_cells}
 use Rattle.lrlex_table.proofs.LinearLemmas.{linear_later}
 use Rattle.lrlex_table.specs.declared.dead_ends.DeadEnds.{DeadEnds}
-use Rattle.lrlex_table.specs.declared.tables.Tables.{Tables}
 use Rattle.lrlex_definition.specs.StateTables.{most_tables}
 use Rattle.lrlex_boundaries.specs.Boundaries.{Boundary, boundary_at}
 use Rattle.lrlex.specs.Scanner.{IsSought, sought_to}

@@ -33,7 +33,7 @@ abbrev pub lexed_boundaries : {X : Type 0} → LexedText X → List Boundary
 lexed_boundaries t = t.lexed.boundaries
 
 -- all that a document of it shows, by the definition that it was lexed by
-abbrev pub shown_by : {L X S E P Q : Type 0} → LRNonStreamingLexerDef L X S E P Q → LexedText X → Run (LRNonStreamingLexerDef L X S E P Q) X
+abbrev pub shown_by : {L X S E : Type 0} → LRNonStreamingLexerDef L X S E → LexedText X → Run (LRNonStreamingLexerDef L X S E) X
 shown_by d t = record {
   definition = d;
   text = lexed_bytes t;

@@ -26,11 +26,11 @@ pub record Run (D X : Type 0) : Type 0 where
   pub changed : Changed
 
 -- it is the run of this definition on this text
-abbrev pub IsRunOf : {L X S E P Q : Type 0} → (S → ℕ) → (X → LexemeParts S) → LRNonStreamingLexerDef L X S E P Q → List ℕ → Run (LRNonStreamingLexerDef L X S E P Q) X → Type 0
+abbrev pub IsRunOf : {L X S E : Type 0} → (S → ℕ) → (X → LexemeParts S) → LRNonStreamingLexerDef L X S E → List ℕ → Run (LRNonStreamingLexerDef L X S E) X → Type 0
 IsRunOf number seen d text r = IsRun (definition_of number d) text (items_by number seen r.items) r.boundaries
 
 -- and so its items have the laws of the items of each run
-abbrev pub HasItemLaws : {L X S E P Q : Type 0} → (S → ℕ) → (X → LexemeParts S) → LRNonStreamingLexerDef L X S E P Q → List ℕ → Run (LRNonStreamingLexerDef L X S E P Q) X → Type 0
+abbrev pub HasItemLaws : {L X S E : Type 0} → (S → ℕ) → (X → LexemeParts S) → LRNonStreamingLexerDef L X S E → List ℕ → Run (LRNonStreamingLexerDef L X S E) X → Type 0
 HasItemLaws number seen d text r = HaveLaws (definition_of number d) text (items_by number seen r.items) r.boundaries
 
 -- the place up to which a text with these boundaries was lexed: that of the last one, and 0 without one

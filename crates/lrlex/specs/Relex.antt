@@ -27,10 +27,10 @@ pub record AreCountsOf (d : Definition) (searched : List Boundary → ℕ) (old 
   pub exact : is_state d 0 ≡ true → WasRecut searched old new ahead removed.start removed.end (length put) many recut
 
 -- the counts of a run of the text after an edit
-abbrev pub WasRelexed : {L X S E P Q : Type 0} → (S → ℕ) → List Boundary → List ℕ → Span → List ℕ → Run (LRNonStreamingLexerDef L X S E P Q) X → Type 0
+abbrev pub WasRelexed : {L X S E : Type 0} → (S → ℕ) → List Boundary → List ℕ → Span → List ℕ → Run (LRNonStreamingLexerDef L X S E) X → Type 0
 WasRelexed number old ahead removed put r = AreCountsOf (definition_of number r.definition) (asks r.definition r.text) old ahead removed put r.text r.boundaries r.asked r.recut
 
 -- what an edit changed, of a document or a run that was this before
-abbrev pub WasChanged : {L X S E P Q : Type 0} → (S → ℕ) → (X → LexemeParts S) → Span → List ℕ → (old new : Run (LRNonStreamingLexerDef L X S E P Q) X) → Type 0
+abbrev pub WasChanged : {L X S E : Type 0} → (S → ℕ) → (X → LexemeParts S) → Span → List ℕ → (old new : Run (LRNonStreamingLexerDef L X S E) X) → Type 0
 WasChanged number seen removed put old new =
     HasChanged (definition_of number new.definition) old.text new.text removed put (items_by number seen old.items) (items_by number seen new.items) old.boundaries new.boundaries new.changed new.recut

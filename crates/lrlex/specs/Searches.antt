@@ -1,5 +1,5 @@
 -- How many searches a run makes: only rules that the tables of a state leave out are searched for.
-use Rattle.std.specs.Prelude.{◌≡◌, ℕ, ◌+◌, ◌-◌, ◌<◌, ◌⊎◌, ◌==◌, min, List, length, map, slice_range, nat_lt, if◌then◌else◌}
+use Rattle.std.specs.Prelude.{◌≡◌, ℕ, ◌+◌, ◌-◌, ◌<◌, ◌⊎◌, min, List, length, map, slice_range, nat_lt, if◌then◌else◌}
 use Rattle.std.specs.List.{sum_by}
 use Rattle.lrlex_rules.specs.Tiling.{top}
 use Rattle.lrlex_boundaries.specs.Boundaries.{Boundary, place_and_stack}
@@ -18,7 +18,7 @@ abbrev pub asks_by : {S : Type 0} → RuleTable S → List ℕ → List Boundary
 asks_by d text bounds = sum_by (asks_at d (length text)) (map place_and_stack bounds)
 
 -- those of a definition
-abbrev pub asks : {L X S E P Q : Type 0} → LRNonStreamingLexerDef L X S E P Q → List ℕ → List Boundary → ℕ
+abbrev pub asks : {L X S E : Type 0} → LRNonStreamingLexerDef L X S E → List ℕ → List Boundary → ℕ
 asks d text bounds = asks_by d.table text bounds
 
 -- the last boundary that is safe for an edit from `low` on

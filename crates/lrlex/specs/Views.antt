@@ -16,22 +16,22 @@ pub use Rattle.lrlex_definition.specs.RuleTable.{definition_by}
 pub use Rattle.lrlex_definition.specs.declared.rule_table.RuleTable.{RuleTable}
 
 -- a definition: what its table says
-abbrev pub definition_of : {L X S E P Q : Type 0} → (S → ℕ) → LRNonStreamingLexerDef L X S E P Q → Definition
+abbrev pub definition_of : {L X S E : Type 0} → (S → ℕ) → LRNonStreamingLexerDef L X S E → Definition
 definition_of number d = definition_by number d.table
 
 -- its rules and its start states, as the program has them
-abbrev pub definition_rules : {L X S E P Q : Type 0} → LRNonStreamingLexerDef L X S E P Q → List (RuleParts S)
+abbrev pub definition_rules : {L X S E : Type 0} → LRNonStreamingLexerDef L X S E → List (RuleParts S)
 definition_rules d = d.table.rules.items
 
-abbrev pub definition_states : {L X S E P Q : Type 0} → LRNonStreamingLexerDef L X S E P Q → List start.StartState
+abbrev pub definition_states : {L X S E : Type 0} → LRNonStreamingLexerDef L X S E → List start.StartState
 definition_states d = d.table.start_states.items
 
 -- the tables of each list of rules that are active in a state
-abbrev pub definition_tables : {L X S E P Q : Type 0} → LRNonStreamingLexerDef L X S E P Q → List Tables
+abbrev pub definition_tables : {L X S E : Type 0} → LRNonStreamingLexerDef L X S E → List Tables
 definition_tables d = d.table.tables.items
 
 -- how many rows its tables and their chain hold, as a budget counts them
-abbrev pub definition_rows : {L X S E P Q : Type 0} → LRNonStreamingLexerDef L X S E P Q → ℕ
+abbrev pub definition_rows : {L X S E : Type 0} → LRNonStreamingLexerDef L X S E → ℕ
 definition_rows d = held.rows_held d.table.tables.items + chains_rows d.table.chains.items
 
 -- an item of the program, by the number that an id stands for and what can be seen of a lexeme

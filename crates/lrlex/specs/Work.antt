@@ -34,11 +34,11 @@ abbrev pub most_cells_by : {S : Type 0} → RuleTable S → List ℕ → ℕ
 most_cells_by d text = most_cells (most_tables d.tables.items) (length text) (count_of_rows d.tables.items) (length text)
 
 -- the same by a definition
-abbrev pub most_cells_of : {L X S E P Q : Type 0} → LRNonStreamingLexerDef L X S E P Q → List ℕ → ℕ
+abbrev pub most_cells_of : {L X S E : Type 0} → LRNonStreamingLexerDef L X S E → List ℕ → ℕ
 most_cells_of d text = most_cells_by d.table text
 
 -- a count of cells is linear in the text, by a definition
-abbrev pub HasLinearWork : {L X S E P Q : Type 0} → LRNonStreamingLexerDef L X S E P Q → List ℕ → Option ℕ → Type 0
+abbrev pub HasLinearWork : {L X S E : Type 0} → LRNonStreamingLexerDef L X S E → List ℕ → Option ℕ → Type 0
 HasLinearWork d text looked = IsLinearIn d.table text (length text) looked
 
 -- An edit's count of cells is linear in the bytes that it cut anew: those from the first tile that came up to the first behind them

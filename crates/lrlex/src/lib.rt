@@ -21,7 +21,7 @@ pub use crate::reading::lexer::LRNonStreamingLexer;
 pub use crate::reading::pieces::{Piece, piece_laws};
 pub use lrlex_base::{
     DefaultLexeme, Edit, Id, Items, LexError, Lexeme, Lexer, LexerTypes, NewlineCache,
-    NonStreamingLexer, Span, Spanned, SpansKind,
+    NonStreamingLexer, Numbered, Span, Spanned, SpansKind,
 };
 pub use lrlex_definition::RuleTable;
 pub use lrlex_parser::{LexBuildError, LexBuildResult, LexErrorKind, line_laws};

@@ -1,13 +1,14 @@
 ghost use Rattle.std.specs.Prelude.{◌<◌, ◌+◌, ◌^◌};
 
-use crate::ids::Id;
 use crate::lexemes::{LexError, Lexeme};
 use crate::lexers::LexerTypes;
+use crate::numbered::Numbered;
 use crate::spans::Span;
 use std::alloc::AllocError;
 use std::error::Error;
 use std::fmt;
-use std::fmt::Debug;
+use std::fmt::{Debug, Display};
+use std::hash::Hash;
 use std::marker::PhantomData;
 
 /// The usual lexeme. It is printed as `DefaultLexeme[S..E]`, S and E being the offsets of its two ends.
@@ -33,7 +34,7 @@ impl<StorageT: Copy> Clone for DefaultLexeme<StorageT> {
     }
 }
 
-impl<StorageT: Id> Lexeme<StorageT> for DefaultLexeme<StorageT> {
+impl<StorageT: Numbered + Debug + Eq + Hash> Lexeme<StorageT> for DefaultLexeme<StorageT> {
     ghost use Rattle.lrlex_base.specs.Lexemes.{lexeme_seen};
 
     ghost seen = { lexeme_seen };
@@ -82,7 +83,7 @@ impl<StorageT> fmt::Display for DefaultLexeme<StorageT> {
     }
 }
 
-impl<StorageT: Id> Error for DefaultLexeme<StorageT> {}
+impl<StorageT: Numbered + Debug> Error for DefaultLexeme<StorageT> {}
 
 /// The usual types of a lexer: `DefaultLexeme` over the id type `T`, and the error type `E`.
 #[derive(Clone, Debug, Drop)]
@@ -90,7 +91,8 @@ pub struct DefaultLexerTypes<T = u32, E = ()> {
     phantom: PhantomData<(T, E)>,
 }
 
-impl<T: Id, E: LexError + Copy> LexerTypes for DefaultLexerTypes<T, E> {
+impl<T: Numbered + Debug + Display + Eq + Hash, E: LexError + Copy> LexerTypes
+    for DefaultLexerTypes<T, E> {
     type LexemeT = DefaultLexeme<T>;
 
     type StorageT = T;

@@ -2,15 +2,18 @@ ghost use Rattle.std.specs.Prelude.{◌≡◌, ℕ, List, slice_range};
 ghost use Rattle.lrlex_base.specs.Spans.{span_start, span_end, as_span, Fits};
 ghost use Rattle.lrlex_base.specs.Places.{place_of, whole_lines};
 
-use crate::ids::Id;
 use crate::lexemes::{LexError, Lexeme};
+use crate::numbered::Numbered;
 use crate::spans::Span;
+use std::fmt::{Debug, Display};
+use std::hash::Hash;
 
-/// The types that a lexer works with: its lexemes, the ids in them, and its error.
+/// The types that a lexer works with: its lexemes, the ids in them, and its error. Of an id it asks what lexing needs. Code that
+/// calculates with ids adds the bound `L::StorageT: Id`.
 pub trait LexerTypes {
     type LexemeT: Lexeme<Self::StorageT>;
 
-    type StorageT: Id;
+    type StorageT: Numbered + Debug + Display + Eq + Hash;
 
     type LexErrorT: LexError + Copy;
 }

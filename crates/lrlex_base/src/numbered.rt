@@ -1,9 +1,7 @@
-ghost use Rattle.std.specs.Prelude.{◌≡◌, ◌<◌, ◌≤◌, ◌^◌, ◌↔◌, ℕ, IfSome, IsNone, IsTrue};
-
-use crate::ids::Id;
+ghost use Rattle.std.specs.Prelude.{◌≡◌, ◌<◌, ◌≤◌, ◌-◌, ◌^◌, ◌↔◌, ℕ, IfSome, IsNone, IsTrue};
 
 /// A value with a number, as each id is. Code that passes ids on, or makes them from a count, needs this bound alone: `Id` brings
-/// about forty traits.
+/// about forty traits, among them those of `num_traits`.
 pub trait Numbered: Copy {
     // The value's number.
     ghost number: { Self → ℕ };
@@ -29,22 +27,122 @@ pub trait Numbered: Copy {
     ghost same_law: { (a b : Self) → number a ≡ number b → a ≡ b };
 }
 
-impl<S: Id> Numbered for S {
-    ghost number = { S.number };
+impl Numbered for u8 {
+    ghost number = { λ x. x };
 
-    ghost greatest = { S.greatest };
+    ghost greatest = { 2 ^ 8 - 1 };
 
-    fn of_count(n: usize) -> Option<S> {
-        S::from_count(n)
+    fn of_count(n: usize) -> Option<u8> {
+        u8::try_from(n).ok()
     }
 
-    fn is(self, other: S) -> bool {
+    fn is(self, other: u8) -> bool {
         self == other
     }
 
     fn as_count(self) -> Option<usize> {
-        self.to_count()
+        Some(self as usize)
     }
 
-    ghost same_law = { S.same_law };
+    ghost same_law = { λ a b e. e };
+}
+
+impl Numbered for u16 {
+    ghost number = { λ x. x };
+
+    ghost greatest = { 2 ^ 16 - 1 };
+
+    fn of_count(n: usize) -> Option<u16> {
+        u16::try_from(n).ok()
+    }
+
+    fn is(self, other: u16) -> bool {
+        self == other
+    }
+
+    fn as_count(self) -> Option<usize> {
+        Some(self as usize)
+    }
+
+    ghost same_law = { λ a b e. e };
+}
+
+impl Numbered for u32 {
+    ghost number = { λ x. x };
+
+    ghost greatest = { 2 ^ 32 - 1 };
+
+    fn of_count(n: usize) -> Option<u32> {
+        u32::try_from(n).ok()
+    }
+
+    fn is(self, other: u32) -> bool {
+        self == other
+    }
+
+    fn as_count(self) -> Option<usize> {
+        Some(self as usize)
+    }
+
+    ghost same_law = { λ a b e. e };
+}
+
+impl Numbered for u64 {
+    ghost number = { λ x. x };
+
+    ghost greatest = { 2 ^ 64 - 1 };
+
+    fn of_count(n: usize) -> Option<u64> {
+        Some(n as u64)
+    }
+
+    fn is(self, other: u64) -> bool {
+        self == other
+    }
+
+    fn as_count(self) -> Option<usize> {
+        Some(self as usize)
+    }
+
+    ghost same_law = { λ a b e. e };
+}
+
+impl Numbered for u128 {
+    ghost number = { λ x. x };
+
+    ghost greatest = { 2 ^ 128 - 1 };
+
+    fn of_count(n: usize) -> Option<u128> {
+        Some(n as u128)
+    }
+
+    fn is(self, other: u128) -> bool {
+        self == other
+    }
+
+    fn as_count(self) -> Option<usize> {
+        usize::try_from(self).ok()
+    }
+
+    ghost same_law = { λ a b e. e };
+}
+
+impl Numbered for usize {
+    ghost number = { λ x. x };
+
+    ghost greatest = { 2 ^ 64 - 1 };
+
+    fn of_count(n: usize) -> Option<usize> {
+        Some(n)
+    }
+
+    fn is(self, other: usize) -> bool {
+        self == other
+    }
+
+    fn as_count(self) -> Option<usize> {
+        Some(self)
+    }
+
+    ghost same_law = { λ a b e. e };
 }

@@ -2,7 +2,7 @@
 ghost use Rattle.lrlex_base.specs.Places.{AreBreaksOf};
 
 use lrlex_base::{
-    DefaultLexeme, DefaultLexerTypes, Items, LexError, Lexeme, Lexer, NewlineCache,
+    DefaultLexeme, DefaultLexerTypes, Id, Items, LexError, Lexeme, Lexer, LexerTypes, NewlineCache,
     NonStreamingLexer, Span,
 };
 use std::alloc::Global;
@@ -125,4 +125,18 @@ fn words_have_texts_lines_and_columns(rt: HostRuntime) {
         }
     }
     assert!(rt; words.next().is_none());
+}
+
+// The id after this one, by code over any lexer's types: for this it adds the bound `Id`.
+fn id_after<L: LexerTypes>(id: L::StorageT) -> Option<L::StorageT>
+where
+    L::StorageT: Id,
+{
+    L::StorageT::from_count(id.to_count()?.checked_add(1)?)
+}
+
+#[test]
+fn code_over_any_types_calculates_with_ids(rt: HostRuntime) {
+    assert!(rt; id_after::<DefaultLexerTypes<u8, Stop>>(254) == Some(255));
+    assert!(rt; id_after::<DefaultLexerTypes<u8, Stop>>(255).is_none());
 }

@@ -5,11 +5,13 @@ use lrlex_examples::callers::lending::lexed_and_replaced;
 use lrlex_examples::callers::lexing::{lexer_after, words};
 use lrlex_examples::callers::marking::{Diagnostic, faults, stop};
 use lrlex_examples::callers::reporting::complaints_of_file;
+use lrlex_replay::cases::edits::edits_of;
+use lrlex_replay::cases::facts::{tell_no_items, tell_report, tell_words};
+use lrlex_replay::cases::reading::{
+    Change, Trouble, change_of, file_of, list_at, span_of, text_at,
+};
+use lrlex_replay::cases::told::Told;
 use lrlex_replay::{Definition, Edited, tell_change, tell_lexed};
-use lrlex_replay_cases::edits::edits_of;
-use lrlex_replay_cases::facts::{tell_no_items, tell_report, tell_words};
-use lrlex_replay_cases::reading::{Change, Trouble, change_of, file_of, list_at, span_of, text_at};
-use lrlex_replay_cases::told::Told;
 use serde_json::Value;
 use std::alloc::{AllocError, Global};
 
@@ -55,8 +57,7 @@ fn replace(
 ) -> Result<(), Trouble> {
     let other = defined(told.alloc(), rules)?;
     let tiles = lexed_and_replaced(told.alloc(), definition, other, text)?;
-    told.key("tiles");
-    told.number(tiles);
+    told.key("tiles").number(tiles);
     Ok(())
 }
 
@@ -73,7 +74,7 @@ fn type_keys(
         Ok(place) => told.pair(place),
         Err(EditError::DoesNotFit) => told.null(),
         Err(EditError::OutOfMemory) => return Err(Trouble::Memory),
-    }
+    };
     Ok(())
 }
 
@@ -87,7 +88,9 @@ fn retype(told: &mut Told, document: &mut Edited<'_>, change: Change<'_>) -> Res
             tell_change(told, changed);
             tell_words(told, Ok(came));
         }
-        Err(EditError::DoesNotFit) => told.null(),
+        Err(EditError::DoesNotFit) => {
+            told.null();
+        }
         Err(EditError::OutOfMemory) => return Err(Trouble::Memory),
     }
     Ok(())

@@ -4,8 +4,8 @@ ghost use Rattle.lrlex_base.specs.Spans.{Fits, as_span};
 ghost use Rattle.lrlex_base.specs.Edits.{edited};
 
 use crate::measure::{Definition, Run, time_runs};
+use crate::timing::{Fault, Relexed, Watch, boundary_from, tell_anew};
 use lrlex_base::{Edit, Span};
-use lrlex_bench_lib::{Fault, Relexed, Watch, boundary_from, tell_anew};
 
 /// What each edit inserts: one byte, of which any of the rule files in `rules` makes a tile or part of one.
 const PUT: &str = " ";

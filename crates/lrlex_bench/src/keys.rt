@@ -1,7 +1,7 @@
 //! Times a document while keys are typed.
 use crate::measure::Definition;
+use crate::timing::{Fault, Typed, Watch, boundary_from, tell_peak, tell_tiles};
 use lrlex::{DefaultLexerTypes, EditError};
-use lrlex_bench_lib::{Fault, Typed, Watch, boundary_from, tell_peak, tell_tiles};
 use std::alloc::Global;
 
 type Document<'d> = lrlex::Document<'d, DefaultLexerTypes<u32>>;

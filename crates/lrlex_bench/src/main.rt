@@ -7,10 +7,11 @@ mod cases;
 mod edits;
 mod keys;
 mod measure;
+mod timing;
 
 use crate::cases::replay_all;
 use crate::measure::{Definition, definition_by, tell_run};
-use lrlex_bench_lib::{Fault, Request, Task, Watch, asked, tell_usage};
+use crate::timing::{Fault, Request, Task, Watch, asked, tell_usage};
 use std::io;
 use std::process::ExitCode;
 

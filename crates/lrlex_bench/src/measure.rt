@@ -1,10 +1,10 @@
 //! Times lexing a text.
+use crate::timing::{
+    Counts, Fault, Scanned, Sizes, Watch, lexemes, tell_bytes, tell_lines, tell_peak,
+};
 use lrlex::{
     Budget, DefaultLexerTypes, LRNonStreamingLexerDef, LexBuildResult, LexRun, LexerDef, Step,
     UNSPECIFIED_LEX_FLAGS,
-};
-use lrlex_bench_lib::{
-    Counts, Fault, Scanned, Sizes, Watch, lexemes, tell_bytes, tell_lines, tell_peak,
 };
 use std::alloc::{AllocError, Global};
 

@@ -1,8 +1,8 @@
 -- The tile that entered the start state at the end, from what the search for it says.
-use Rattle.std.proofs.Common.{◌≡◌, ℕ, ◌+◌, ◌-◌, ◌<◌, ◌≤◌, List, length, Option, Some, None, IfSome, IsNone, MatchOption, refl, sym, subst, le_refl, arith}
+use Rattle.std.proofs.Common.{◌≡◌, ℕ, ◌-◌, ◌<◌, List, length, Option, Some, None, IfSome, IsNone, MatchOption, refl, sym, subst, le_refl, arith}
 use Rattle.std.specs.Prelude.{slice_get}
 use Rattle.lrlex_boundaries.specs.Boundaries.{Boundary, boundary_at}
-use Rattle.lrlex_boundaries.specs.Entering.{AllKeepEnd, IsEntering, Keeps, KeepsEnd, KeepsTop, end_at, end_entry}
+use Rattle.lrlex_boundaries.specs.Entering.{AllKeepEnd, IsEntering, Keeps, KeepsTop, end_at, end_entry}
 
 -- what a boundary's stack has at the place of the entry on top at the end
 abbrev there : List Boundary → ℕ → Option (ℕ × ℕ)

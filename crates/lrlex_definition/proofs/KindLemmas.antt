@@ -1,11 +1,10 @@
 -- What a kind says of its rule.
-use Rattle.std.proofs.Common.{◌≡◌, ℕ, ◌<◌, true, false, not, ◌&&◌, List, length, slice_get, Option, None, Some, is_some, is_none, option_map, if◌then◌else◌, refl, sym, ap, ◌∙◌, subst, inl, inr, arith, true≢false}
+use Rattle.std.proofs.Common.{◌≡◌, ℕ, ◌<◌, true, false, not, ◌&&◌, length, slice_get, Option, None, Some, is_some, is_none, option_map, if◌then◌else◌, refl, sym, ap, ◌∙◌, subst, inl, inr, arith, true≢false}
 use Rattle.std.proofs.lemmas.Option.{slice_get_cases}
 use Rattle.lrlex_rules.specs.Definition.{Rule}
 use Rattle.lrlex_rules.specs.RuleParts.{RuleParts, as_rule}
 use Rattle.lrlex_rules.specs.Active.{rule_at}
 use Rattle.lrlex_rules.specs.Kinds.{kind_of, IsPlain}
-use Rattle.lrlex_rules.specs.declared.states.StartStateOperation.{StartStateOperation}
 use Rattle.lrlex_definition.specs.RuleTable.{definition_by}
 use Rattle.lrlex_rules.specs.declared.kinds.Kind.{Kind}
 use Rattle.lrlex_definition.specs.declared.rule_table.RuleTable.{RuleTable}

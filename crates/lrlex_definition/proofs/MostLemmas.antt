@@ -1,16 +1,9 @@
 -- The most tables that one of some lists has.
-use Rattle.std.proofs.Common.{◌≡◌, ℕ, zero, suc, ◌+◌, ◌-◌, ◌<◌, ◌≤◌, max, Bool, true, List, [], ◌∷◌, ◌++◌, length, drop, Option, Some, None, is_some, Result, Ok, Err, IfOk, IfSome, IsCharBoundary, vec_len, slice_get, refl, sym, ap, ◌∙◌, arith, length-drop}
-use Rattle.std.proofs.Props.{props}
+use Rattle.std.proofs.Common.{◌≡◌, ℕ, zero, suc, ◌+◌, ◌≤◌, max, true, List, [], ◌∷◌, ◌++◌, Some, is_some, vec_len, slice_get, refl, sym, ap, ◌∙◌, arith}
 use Rattle.std.proofs.lemmas.Bool.{true≢false}
 use Rattle.std.proofs.lemmas.Option.{same_Some}
-use Rattle.std.proofs.Math.Nat.{mul-le-mul_left}
-use Rattle.std.proofs.Math.Logic.{∥∥₁_elim}
-use Rattle.lrlex_table.specs.Linear.{HasWorkedTo, count_of_rows, most_cells}
-use Rattle.lrlex_table.proofs.LinearLemmas.{linear_later}
-use Rattle.lrlex_table.specs.declared.dead_ends.DeadEnds.{DeadEnds}
 use Rattle.lrlex_table.specs.declared.tables.Tables.{Tables}
 use Rattle.lrlex_definition.specs.StateTables.{most_tables}
-use Rattle.lrlex_definition.specs.declared.rule_table.RuleTable.{RuleTable}
 
 -- a list's tables are no more than the most
 pub few_tables : (lists : List Tables) (k : ℕ) (t : Tables) → slice_get lists k ≡ Some t → vec_len t.parts ≤ most_tables lists

@@ -1,36 +1,27 @@
 -- Which tables a list of rules has, and which a start state.
-use Rattle.std.proofs.Common.{◌≡◌, ℕ, zero, suc, ◌+◌, ◌-◌, ◌<◌, ◌≤◌, ◌⊎◌, ◌||◌, Bool, true, false, List, [], ◌∷◌, ◌++◌, length, map, take, drop, get_or, set, Option, None, Some, IfSome, option_map, unwrap_or, slice_get, MatchOption, IsCharBoundary, ◌==◌, refl, sym, ap, ap₂, ◌∙◌, subst, inl, inr, arith, slice_range, append-nil, append_assoc, length-append, option_and_then, bytes_eq}
-use Rattle.std.proofs.Props.{props}
-use Rattle.std.proofs.Math.Logic.{∥∥₁_elim}
+use Rattle.std.proofs.Common.{◌≡◌, ℕ, zero, suc, ◌+◌, ◌-◌, ◌<◌, Bool, true, List, [], ◌∷◌, ◌++◌, length, map, take, drop, get_or, set, Option, None, Some, IfSome, option_map, unwrap_or, slice_get, ◌==◌, refl, sym, ap, ap₂, ◌∙◌, subst, inl, inr, arith, length-append, option_and_then}
 use mathlib.Core.Logic.{∥∥₁_map}
-use Rattle.std.specs.List.{list_any, position, sum_by}
-use Rattle.std.proofs.lemmas.Bool.{cases_lt, cases_eq, eqb-true, cond-true, cond-false, lt-ltb, le-ltb, cases_Bool, true≢false}
-use Rattle.std.proofs.lemmas.Option.{MatchOption-at_some, MatchOption-at_none, slice_get-map, slice_get-get_or, slice_get_within, get_or_from_slice_get, same_Some, none-some}
-use Rattle.std.proofs.lemmas.List.{length-map, length-set, length-take, length-drop, length-append, length_push, get_or-take, get_or-drop, get_or-append_right, get_or_append_left, get_or_push, get_or-set_same, get_or-set_other, take_all, take_at, map-append, drop-append-le}
-use Rattle.std.proofs.lemmas.List.Folds.{list_any_more}
-use Rattle.regex_hir.specs.Text.{is_some_and}
-use Rattle.regex.specs.Patterns.{Re, SameCaptures, empty}
-use Rattle.lrlex_rules.specs.Definition.{Definition, Rule}
-use Rattle.lrlex_matching.specs.Matching.{match_length}
+use Rattle.std.specs.List.{list_any, position}
+use Rattle.std.proofs.lemmas.Bool.{cases_lt, cases_eq, eqb-true}
+use Rattle.std.proofs.lemmas.Option.{slice_get-map, slice_get-get_or, slice_get_within, get_or_from_slice_get}
+use Rattle.std.proofs.lemmas.List.{length-set, length-take, length-drop, length-append, length_push, get_or-take, get_or-drop, get_or-append_right, get_or_append_left, get_or_push, get_or-set_same, get_or-set_other}
+use Rattle.regex.specs.Patterns.{Re, SameCaptures}
+use Rattle.lrlex_rules.specs.Definition.{Rule}
 use Rattle.lrlex_rules.specs.Patterns.{pattern_of}
 use Rattle.lrlex_rules.specs.RuleParts.{RuleParts, as_rule, as_state}
 use Rattle.lrlex_rules.specs.declared.states.StartState as start
-use Rattle.lrlex_table.specs.Table.{next_rows, pattern_at, IsTableOf, IsLongest, NoneMatches}
-use Rattle.lrlex_table.specs.Tables.{AreCached, is_among, is_tabled, AreRising, AreTablesOf, IsBestAmong}
+use Rattle.lrlex_table.specs.Table.{next_rows, pattern_at, IsTableOf}
+use Rattle.lrlex_table.specs.Tables.{AreCached, AreTablesOf}
 use Rattle.lrlex_table.specs.declared.cached_table.CachedTable.{CachedTable}
 use Rattle.lrlex_table.specs.declared.table.Table.{Table}
-use Rattle.lrlex_table.specs.declared.merged_tables.Part.{Part}
 use Rattle.lrlex_table.specs.declared.tables.Tables.{Tables}
-use Rattle.lrlex_table.specs.declared.walk.PatternMatch.{PatternMatch}
 use Rattle.lrlex_table.proofs.ForCallers.{serves_alike}
 use Rattle.lrlex_rules.specs.RuleLists.{list_in}
 use Rattle.lrlex_definition.specs.StateTables.{pattern_in, patterns_on, AreServed}
-use Rattle.lrlex_rules.specs.Active.{is_active, active_places, taken, taken_by_any, rule_at, no_rule}
+use Rattle.lrlex_rules.specs.Active.{active_places, no_rule}
 use Rattle.lrlex_rules.specs.Ids.{with_own_id}
-use Rattle.lrlex_rules.proofs.ViewLemmas.{taken_active, position_within, item_at, position_some, position_none, rule_at_place}
+use Rattle.lrlex_rules.proofs.ViewLemmas.{position_within, item_at, position_some, position_none}
 use Rattle.lrlex_rules.proofs.PlaceLemmas.{active_places-by}
-use Rattle.std.proofs.lemmas.List.Sums.{sum_by-append, sum_by-cons}
-use Rattle.std.proofs.lemmas.Slice.Eq.{bytes_eq-Decides}
 use Rattle.lrlex_definition.specs.RuleTable.{tables_in, untabled_count}
 use Rattle.lrlex_definition.specs.declared.rule_table.RuleTable.{RuleTable}
 

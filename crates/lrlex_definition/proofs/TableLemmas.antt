@@ -1,37 +1,29 @@
 -- What the tables of a state and the answers of the other rules say together: the best of them wins.
-use Rattle.std.proofs.Common.{◌≡◌, ℕ, zero, suc, ◌+◌, ◌-◌, ◌<◌, ◌≤◌, ◌⊎◌, ◌||◌, Bool, true, false, List, [], ◌∷◌, ◌++◌, length, map, take, drop, get_or, set, Option, None, Some, IfSome, option_map, unwrap_or, slice_get, MatchOption, IsCharBoundary, ◌==◌, refl, sym, ap, ap₂, ◌∙◌, subst, inl, inr, arith}
+use Rattle.std.proofs.Common.{◌≡◌, ℕ, zero, suc, ◌+◌, ◌-◌, ◌<◌, ◌≤◌, ◌⊎◌, ◌||◌, Bool, true, false, List, [], ◌∷◌, length, map, take, get_or, Option, None, Some, option_map, unwrap_or, slice_get, MatchOption, IsCharBoundary, ◌==◌, refl, sym, ap, ◌∙◌, subst, inl, inr, arith}
 use Rattle.std.proofs.Props.{props}
 use Rattle.std.proofs.Math.Logic.{∥∥₁_elim}
-use mathlib.Core.Logic.{∥∥₁_map}
-use Rattle.std.specs.List.{list_any, position}
-use Rattle.std.proofs.lemmas.Bool.{cases_lt, cases_eq, eqb-true}
-use Rattle.std.proofs.lemmas.Option.{MatchOption-at_some, MatchOption-at_none, slice_get-map, slice_get-get_or, slice_get_within, get_or_from_slice_get}
-use Rattle.std.proofs.lemmas.List.{length-map, length-set, length-take, length-drop, length-append, length_push, get_or-take, get_or-drop, get_or-append_right, get_or_append_left, get_or_push, get_or-set_same, get_or-set_other, take_all}
+use Rattle.std.proofs.lemmas.Bool.{cases_lt, eqb-true}
+use Rattle.std.proofs.lemmas.Option.{MatchOption-at_some, MatchOption-at_none, slice_get-map, slice_get-get_or, get_or_from_slice_get}
+use Rattle.std.proofs.lemmas.List.{length-map, take_all}
 use Rattle.std.proofs.lemmas.List.Folds.{list_any_more}
 use Rattle.regex_hir.specs.Text.{is_some_and}
-use Rattle.regex.specs.Patterns.{Re, SameCaptures, empty}
+use Rattle.regex.specs.Patterns.{Re, empty}
 use Rattle.lrlex_rules.specs.Definition.{Definition, Rule}
 use Rattle.lrlex_matching.specs.Matching.{match_length}
 use Rattle.lrlex_rules.specs.Patterns.{pattern_of}
-use Rattle.lrlex_rules.specs.RuleParts.{RuleParts, as_rule, as_state}
+use Rattle.lrlex_rules.specs.RuleParts.{RuleParts, as_rule}
 use Rattle.lrlex_rules.specs.declared.states.StartState as start
-use Rattle.lrlex_table.specs.Table.{next_rows, pattern_at, IsTableOf, IsLongest, NoneMatches}
-use Rattle.lrlex_table.specs.Tables.{AreCached, is_among, is_tabled, AreRising, AreTablesOf, IsBestAmong}
-use Rattle.lrlex_table.specs.declared.cached_table.CachedTable.{CachedTable}
-use Rattle.lrlex_table.specs.declared.table.Table.{Table}
+use Rattle.lrlex_table.specs.Table.{pattern_at, IsLongest, NoneMatches}
+use Rattle.lrlex_table.specs.Tables.{is_among, is_tabled, AreRising, AreTablesOf, IsBestAmong}
 use Rattle.lrlex_table.specs.declared.merged_tables.Part.{Part}
 use Rattle.lrlex_table.specs.declared.tables.Tables.{Tables}
 use Rattle.lrlex_table.specs.declared.walk.PatternMatch.{PatternMatch}
-use Rattle.lrlex_table.proofs.ForCallers.{serves_alike}
-use Rattle.lrlex_rules.specs.RuleLists.{list_in}
-use Rattle.lrlex_definition.specs.StateTables.{pattern_in, patterns_on, AreServed}
+use Rattle.lrlex_definition.specs.StateTables.{pattern_in, patterns_on}
 use Rattle.lrlex_rules.specs.Active.{is_active, active_places, taken, taken_by_any, rule_at, no_rule}
-use Rattle.lrlex_rules.specs.Ids.{with_own_id}
 use Rattle.lrlex_rules.specs.Tiling.{Wins, IsStuck}
 use Rattle.lrlex_rules.proofs.BestLemmas.{Wins-of_IsBest, IsStuck-of_IsBest}
 use Rattle.lrlex_rules.proofs.ScanLemmas.{IsScanned, IsScanned-none, IsScanned-kept, IsScanned-taken, scanned_all, passes, place_within}
-use Rattle.lrlex_rules.proofs.ViewLemmas.{taken_active, position_within, item_at, position_some, position_none, rule_at_place}
-use Rattle.lrlex_rules.proofs.PlaceLemmas.{active_places-by}
+use Rattle.lrlex_rules.proofs.ViewLemmas.{taken_active, rule_at_place}
 
 -- the patterns of the rules at these places
 abbrev pub patterns_at : Definition → List ℕ → List Re

@@ -1,5 +1,5 @@
 -- What a rule table says, and what it holds of each start state.
-use Rattle.std.specs.Prelude.{◌≡◌, ◌==◌, ℕ, List, length, map, Option, Some, option_map, option_and_then, unwrap_or, slice_get}
+use Rattle.std.specs.Prelude.{◌≡◌, ◌==◌, ℕ, length, map, Option, Some, option_map, option_and_then, unwrap_or, slice_get}
 use Rattle.std.specs.List.{position}
 use Rattle.lrlex_rules.specs.Definition.{Definition}
 use Rattle.lrlex_rules.specs.RuleParts.{as_rule, as_state}

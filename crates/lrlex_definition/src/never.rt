@@ -9,7 +9,11 @@ use lrlex_table::may_win_in;
 use std::alloc::{AllocError, Global};
 
 impl<S: Numbered> RuleTable<S> {
-    /// For each rule, by its place, whether it may win in some start state. False where it wins no text in any.
+    /// For each rule, by its place, whether it may win in some start state.
+    ///
+    /// False where the rule wins no text in any start state: a keyword below a rule that matches all that it does, a pattern that
+    /// matches no byte, or a rule that is active in no start state. Also true of a rule of which that isn't known, since it has no
+    /// table with the rules before it.
     pub fn may_win(&self, alloc: Global) -> Result<Vec<bool>, AllocError>
         ensures never { IfOk result (λ may. (k : ℕ) → slice_index_or may.items k true ≡ false →
             NeverWinsAnywhere (definition_by S.number self.now) k) }

@@ -1,12 +1,12 @@
 -- The line and the column of a place behind one more character.
-use Rattle.std.proofs.Common.{◌≡◌, inl, inr, ℕ, suc, ◌+◌, ◌-◌, ◌<◌, ◌≤◌, Bool, false, not, cond, eqb, List, [], ◌∷◌, ◌++◌, length, take, drop, get_or, refl, sym, ◌∙◌, ap, ap₂, subst, arith}
+use Rattle.std.proofs.Common.{◌≡◌, inl, inr, ℕ, ◌+◌, ◌-◌, ◌<◌, ◌≤◌, Bool, false, not, cond, eqb, List, [], ◌∷◌, ◌++◌, length, take, drop, get_or, sym, ◌∙◌, ap, ap₂, subst, arith}
 use Rattle.std.specs.List.{count_by, after_last, suffix_len}
 use Rattle.std.specs.Str.{chars, IsCharBoundary, IsUtf8}
 use Rattle.std.specs.Char.{len_utf8}
 use Rattle.std.proofs.Math.Utf8.{encode}
 use Rattle.std.proofs.lemmas.Bool.{ne_eqb, cases_eq}
 use Rattle.std.proofs.lemmas.List.{nil_from_length, length-append, length-drop, length-take-le, drop-drop, take_at, take-take, append-nil, get_or-drop}
-use Rattle.std.proofs.lemmas.List.Sums.{sum_by-append, sum_by-cons, count_by-le-length, suffix_len-take_no}
+use Rattle.std.proofs.lemmas.List.Sums.{sum_by-append, count_by-le-length, suffix_len-take_no}
 use Rattle.std.proofs.lemmas.Str.{chars-append, chars_past_char, chars-nil, IsUtf8-between, IsUtf8-drop, IsCharBoundary-past_char, drop_past_char, length-encode, length-le-encodes, encodes-chars, encode_ascii, NoCharPasses-byte}
 use Rattle.lrlex_base.specs.Places.{is_newline, newlines_from, starts_after, line_of, column_of, place_of}
 use Rattle.lrlex_base.proofs.NewlineLemmas.{begun_within, line_begin, line_front, line_begin_fits}

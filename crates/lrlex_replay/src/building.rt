@@ -1,10 +1,10 @@
 //! The definition that a case describes.
+use crate::cases::facts::Refusal;
+use crate::cases::parts::{rules_of, states_of};
+use crate::cases::reading::{budget_in, flags_in, list_in, text_in};
 use lrlex::{
     Budget, DefaultLexerTypes, LRNonStreamingLexerDef, LexBuildResult, LexFlags, LexerDef,
 };
-use lrlex_replay_cases::facts::Refusal;
-use lrlex_replay_cases::parts::{rules_of, states_of};
-use lrlex_replay_cases::reading::{budget_in, flags_in, list_in, text_in};
 use serde_json::Value;
 use std::alloc::{AllocError, Global};
 

@@ -1,13 +1,13 @@
 //! What a document shows, at first and after each of its edits, and its texts.
 use crate::building::Definition;
+use crate::cases::facts::tell_boundary;
+use crate::cases::reading::{
+    Change, Trouble, change_of, count_of, list_at, list_of, span_of, text_at,
+};
+use crate::cases::told::Told;
 use crate::items::tell_items;
 use crate::runs::{most_of, tell_pieces};
 use lrlex::{DefaultLexerTypes, Document, EditError};
-use lrlex_replay_cases::facts::tell_boundary;
-use lrlex_replay_cases::reading::{
-    Change, Trouble, change_of, count_of, list_at, list_of, span_of, text_at,
-};
-use lrlex_replay_cases::told::Told;
 use serde_json::Value;
 
 /// A document of a definition with ids of type `u32`.
@@ -30,18 +30,16 @@ fn tell_boundaries(told: &mut Told, document: &Edited<'_>) {
 /// Tells what a document shows: its counts, what the last edit changed in its items and in its pieces, its text, its items, its
 /// boundaries and its pieces.
 fn tell_shown(told: &mut Told, document: &Edited<'_>) {
-    told.key("document");
-    told.numbers(&[
-        document.tiles(),
-        document.recut_tiles(),
-        most_of(document.asked()),
-    ]);
-    told.list("changed");
+    told.key("document")
+        .numbers(&[
+            document.tiles(),
+            document.recut_tiles(),
+            most_of(document.asked()),
+        ])
+        .list("changed");
     tell_change(told, document.changed().items);
     tell_change(told, document.changed().pieces);
-    told.close();
-    told.key("text");
-    told.text(document.text());
+    told.close().key("text").text(document.text());
     tell_items(told, document.items());
     tell_boundaries(told, document);
     let pieces = document.pieces(told.alloc());
@@ -50,8 +48,7 @@ fn tell_shown(told: &mut Told, document: &Edited<'_>) {
 
 /// Tells that an edit was out of memory, and what the document shows then.
 fn tell_refused(told: &mut Told, document: &Edited<'_>) {
-    told.key("out_of_memory");
-    told.null();
+    told.key("out_of_memory").null();
     tell_shown(told, document);
 }
 
@@ -92,8 +89,7 @@ fn tell_places(told: &mut Told, document: &Edited<'_>, bytes: &[Value]) {
 fn tell_edit(told: &mut Told, document: &mut Edited<'_>, value: &Value) -> Result<(), Trouble> {
     let parts = list_of(value);
     let made = make(told, document, change_of(parts))?;
-    told.key("edit");
-    told.truth(made);
+    told.key("edit").truth(made);
     tell_shown(told, document);
     let bytes = list_at(parts, 3);
     if !bytes.is_empty() {

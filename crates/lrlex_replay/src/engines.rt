@@ -1,13 +1,13 @@
 //! Steps of the engine and of the program, over writers that break.
+use crate::cases::edits::edit_of;
+use crate::cases::reading::{Trouble, list_at, list_of, text_at};
+use crate::cases::told::Told;
+use crate::cases::writers::{BrokenWriter, Came, tell_came, tell_served};
 use lrlex::{DefaultLexerTypes, Edit, LRNonStreamingLexerDef, LexerDef, UNSPECIFIED_LEX_FLAGS};
 use lrlex_cli::engine::{Ended, EngineFault};
 use lrlex_cli::texts::TextFault;
 use lrlex_cli::words::WordsFault;
 use lrlex_cli::{engine, program};
-use lrlex_replay_cases::edits::edit_of;
-use lrlex_replay_cases::reading::{Trouble, list_at, list_of, text_at};
-use lrlex_replay_cases::told::Told;
-use lrlex_replay_cases::writers::{BrokenWriter, Came, tell_came, tell_served};
 use serde_json::Value;
 use std::alloc::Global;
 use std::error::Error;

@@ -1,9 +1,9 @@
 //! The step that tells all faults of a rule text.
 use crate::building::Definition;
+use crate::cases::facts::tell_faults;
+use crate::cases::reading::{Trouble, flags_in, text_in};
+use crate::cases::told::Told;
 use lrlex::LexBuildError;
-use lrlex_replay_cases::facts::tell_faults;
-use lrlex_replay_cases::reading::{Trouble, flags_in, text_in};
-use lrlex_replay_cases::told::Told;
 use serde_json::Value;
 use std::alloc::{AllocError, Global};
 

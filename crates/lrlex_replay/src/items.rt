@@ -1,8 +1,8 @@
 //! Lexemes and errors of `lrlex`, as facts.
+use crate::cases::facts::{Item, tell_item};
+use crate::cases::told::Told;
 use lrlex::{DefaultLexeme, LRLexError};
 use lrlex_base::{LexError, Lexeme};
-use lrlex_replay_cases::facts::{Item, tell_item};
-use lrlex_replay_cases::told::Told;
 
 /// An error, as plain numbers.
 pub fn error_seen(error: &LRLexError) -> Item {

@@ -3,12 +3,12 @@ ghost use Rattle.std.specs.Prelude.{◌≡◌};
 ghost use Rattle.lrlex.specs.Lexer.{lexer_text};
 
 use crate::building::Definition;
+use crate::cases::facts::{Fitting, tell_fitting, tell_item};
+use crate::cases::reading::{Trouble, count_of, list_of, span_of};
+use crate::cases::told::Told;
 use crate::items::item_seen;
 use lrlex::{DefaultLexerTypes, LRNonStreamingLexer, LineCursor};
 use lrlex_base::{Lexer, NonStreamingLexer, Span};
-use lrlex_replay_cases::facts::{Fitting, tell_fitting, tell_item};
-use lrlex_replay_cases::reading::{Trouble, count_of, list_of, span_of};
-use lrlex_replay_cases::told::Told;
 use serde_json::Value;
 
 /// A lexer with ids of type `u32`.
@@ -34,8 +34,7 @@ fn fitting<'t>(lexer: &LexerOf<'_, 't>, input: &str, span: Span) -> Option<Fitti
 
 /// Tells the place before a byte, by `place` and by `position`.
 fn tell_place(told: &mut Told, lexer: &LexerOf<'_, '_>, byte: usize) {
-    told.pair(lexer.place(byte));
-    told.pair(lexer.position(byte));
+    told.pair(lexer.place(byte)).pair(lexer.position(byte));
 }
 
 /// Tells what the lexer of this input says of a span.
@@ -43,9 +42,9 @@ fn tell_span(told: &mut Told, lexer: &LexerOf<'_, '_>, input: &str, span: Span)
     requires { lexer_text lexer.now ≡ input.now }
 {
     told.list("told");
-    told.number(span.start());
-    told.number(span.end());
-    told.text(lexer.text_of(span));
+    told.number(span.start())
+        .number(span.end())
+        .text(lexer.text_of(span));
     tell_fitting(told, fitting(lexer, input, span));
     tell_place(told, lexer, span.start());
     tell_place(told, lexer, span.end());
@@ -85,8 +84,7 @@ fn tell_bytes(told: &mut Told, lexer: &LexerOf<'_, '_>, input: &str, bytes: &[Va
     for value in bytes {
         told.list("place");
         tell_place(told, lexer, count_of(value));
-        told.pair(cursor.place(count_of(value)));
-        told.close();
+        told.pair(cursor.place(count_of(value))).close();
     }
 }
 

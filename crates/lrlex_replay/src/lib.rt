@@ -3,6 +3,7 @@
 #![tactic(auto)]
 
 mod building;
+pub mod cases;
 mod documents;
 mod engines;
 mod faults;

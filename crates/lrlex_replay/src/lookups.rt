@@ -1,10 +1,10 @@
 //! Look-ups by id and by name, and token ids that are set.
 use crate::building::Definition;
+use crate::cases::facts::{tell_by_id, tell_by_name, tell_name_sets, tell_rules, tell_sets};
+use crate::cases::parts::{id_of, ids_of};
+use crate::cases::reading::{Trouble, text_of};
+use crate::cases::told::Told;
 use lrlex::{LexerDef, Rule};
-use lrlex_replay_cases::facts::{tell_by_id, tell_by_name, tell_name_sets, tell_rules, tell_sets};
-use lrlex_replay_cases::parts::{id_of, ids_of};
-use lrlex_replay_cases::reading::{Trouble, text_of};
-use lrlex_replay_cases::told::Told;
 use serde_json::Value;
 use std::collections::HashMap;
 
@@ -30,8 +30,7 @@ pub fn find(told: &mut Told, definition: &Definition<u32>, ids: &[Value], names:
 
 /// Tells that memory was refused, and the rules as they are then.
 fn tell_refused(told: &mut Told, definition: &Definition<u32>) {
-    told.key("out_of_memory");
-    told.null();
+    told.key("out_of_memory").null();
     tell_rules(told, definition.rules());
 }
 

@@ -1,11 +1,11 @@
 //! The positions of bytes and the bytes of positions, by a document after its edits and by lexers of its text.
 use crate::building::Definition;
+use crate::cases::reading::{Trouble, change_of, count_of, list_of};
+use crate::cases::told::Told;
 use crate::documents::{Edited, make};
 use crate::lexers::LexerOf;
 use lrlex::{Document, PositionEncoding};
 use lrlex_base::NewlineCache;
-use lrlex_replay_cases::reading::{Trouble, change_of, count_of, list_of};
-use lrlex_replay_cases::told::Told;
 use serde_json::Value;
 
 /// What is asked for.
@@ -27,28 +27,36 @@ fn asked_of(value: &Value) -> Question {
 /// Tells what a document answers: in columns of UTF-8, and of UTF-16.
 fn tell_of_document(told: &mut Told, document: &Edited<'_>, asked: Question) {
     match asked {
-        Question::Byte(byte) => told.pairs((
-            document.position_in(byte, PositionEncoding::Utf8),
-            document.position_in(byte, PositionEncoding::Utf16),
-        )),
-        Question::Position(position) => told.pair((
-            document.offset_at(position, PositionEncoding::Utf8),
-            document.offset_at(position, PositionEncoding::Utf16),
-        )),
+        Question::Byte(byte) => {
+            told.pairs((
+                document.position_in(byte, PositionEncoding::Utf8),
+                document.position_in(byte, PositionEncoding::Utf16),
+            ));
+        }
+        Question::Position(position) => {
+            told.pair((
+                document.offset_at(position, PositionEncoding::Utf8),
+                document.offset_at(position, PositionEncoding::Utf16),
+            ));
+        }
     }
 }
 
 /// Tells what a lexer answers, likewise.
 fn tell_of_lexer(told: &mut Told, lexer: &LexerOf<'_, '_>, asked: Question) {
     match asked {
-        Question::Byte(byte) => told.pairs((
-            lexer.position_in(byte, PositionEncoding::Utf8),
-            lexer.position_in(byte, PositionEncoding::Utf16),
-        )),
-        Question::Position(position) => told.pair((
-            lexer.offset_at(position, PositionEncoding::Utf8),
-            lexer.offset_at(position, PositionEncoding::Utf16),
-        )),
+        Question::Byte(byte) => {
+            told.pairs((
+                lexer.position_in(byte, PositionEncoding::Utf8),
+                lexer.position_in(byte, PositionEncoding::Utf16),
+            ));
+        }
+        Question::Position(position) => {
+            told.pair((
+                lexer.offset_at(position, PositionEncoding::Utf8),
+                lexer.offset_at(position, PositionEncoding::Utf16),
+            ));
+        }
     }
 }
 

@@ -1,11 +1,11 @@
 //! Steps that show people what is wrong, and where.
+use crate::cases::facts::tell_report;
+use crate::cases::reading::{Trouble, count_at, list_at, span_of, text_at};
+use crate::cases::told::Told;
 use lrlex::{
     DefaultLexerTypes, LRLexError, LRNonStreamingLexerDef, LexBuildError, LexerDef, Span,
     StartStateId,
 };
-use lrlex_replay_cases::facts::tell_report;
-use lrlex_replay_cases::reading::{Trouble, count_at, list_at, span_of, text_at};
-use lrlex_replay_cases::told::Told;
 use lrlex_report::{fault_text, place_text, stop_text};
 use serde_json::Value;
 use std::alloc::{AllocError, Global};

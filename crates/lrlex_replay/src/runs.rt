@@ -1,12 +1,12 @@
 //! What runs answer.
 use crate::building::Definition;
+use crate::cases::edits::{Made, all_made_of, tell_unfit};
+use crate::cases::facts::{tell_boundary, tell_piece};
+use crate::cases::reading::Trouble;
+use crate::cases::told::Told;
 use crate::items::tell_items;
 use lrlex::{DefaultLexerTypes, Document, LexRun, Piece, StartStateId};
 use lrlex_base::Edit;
-use lrlex_replay_cases::edits::{Made, all_made_of, tell_unfit};
-use lrlex_replay_cases::facts::{tell_boundary, tell_piece};
-use lrlex_replay_cases::reading::Trouble;
-use lrlex_replay_cases::told::Told;
 use serde_json::Value;
 use std::alloc::AllocError;
 
@@ -51,7 +51,9 @@ pub fn tell_pieces(told: &mut Told, text: &str, pieces: Result<Vec<Piece<'_, '_>
             }
             told.close();
         }
-        Err(_) => told.refuse(),
+        Err(_) => {
+            told.refuse();
+        }
     }
 }
 
@@ -67,8 +69,7 @@ fn last_entries(run: &Run<'_, '_>) -> usize {
 
 /// Tells what a run counts.
 fn tell_counts(told: &mut Told, run: &Run<'_, '_>) {
-    told.key("run");
-    told.numbers(&[
+    told.key("run").numbers(&[
         run.tiles(),
         run.items().len(),
         run.entries_peak(),
@@ -166,12 +167,11 @@ pub fn cut_run(
 
 /// Tells a place and the start state there, null where there is none.
 fn tell_state_at(told: &mut Told, place: usize, state: Option<StartStateId>) {
-    told.list("end");
-    told.number(place);
+    told.list("end").number(place);
     match state {
         Some(state) => told.number(state.id()),
         None => told.null(),
-    }
+    };
     told.close();
 }
 

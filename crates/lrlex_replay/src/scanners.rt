@@ -1,32 +1,40 @@
 //! What a scanner answers.
 use crate::building::Definition;
+use crate::cases::facts::tell_item;
+use crate::cases::reading::Trouble;
+use crate::cases::told::Told;
 use crate::items::error_seen;
 use lrlex::{LRLexError, ScanEnd, ScannedTile, Step};
-use lrlex_replay_cases::facts::tell_item;
-use lrlex_replay_cases::reading::Trouble;
-use lrlex_replay_cases::told::Told;
 
 /// Tells a tile: its rule, its first byte, how many bytes it has, and its id or null.
 fn tell_tile(told: &mut Told, tile: ScannedTile<u32>) {
-    told.open();
-    told.number(tile.rule);
-    told.number(tile.span.start());
-    told.number(tile.span.len());
+    told.open()
+        .number(tile.rule)
+        .number(tile.span.start())
+        .number(tile.span.len());
     match tile.id {
         Some(id) => told.number(id as usize),
         None => told.null(),
-    }
+    };
     told.close();
 }
 
 /// Tells why there are no more tiles.
 fn tell_end(told: &mut Told, end: ScanEnd<u32>) {
     match end {
-        ScanEnd::Done => told.text("done"),
-        ScanEnd::NoMatch(state) => told.number(state.id()),
-        ScanEnd::NoId(rule) => told.numbers(&[rule]),
+        ScanEnd::Done => {
+            told.text("done");
+        }
+        ScanEnd::NoMatch(state) => {
+            told.number(state.id());
+        }
+        ScanEnd::NoId(rule) => {
+            told.numbers(&[rule]);
+        }
         ScanEnd::NoTarget(tile) => tell_tile(told, tile),
-        ScanEnd::NoState => told.null(),
+        ScanEnd::NoState => {
+            told.null();
+        }
     }
 }
 
@@ -35,7 +43,9 @@ fn tell_stop(told: &mut Told, stop: Option<LRLexError>) {
     told.key("stop");
     match stop {
         Some(error) => tell_item(told, error_seen(&error)),
-        None => told.null(),
+        None => {
+            told.null();
+        }
     }
 }
 

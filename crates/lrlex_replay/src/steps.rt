@@ -1,5 +1,9 @@
 //! Steps: what is done with the definition of a case, and told.
 use crate::building::Definition;
+use crate::cases::edits::{edit_of, tell_edit};
+use crate::cases::facts::{tell_rules, tell_states};
+use crate::cases::reading::{Trouble, count_at, is_true_at, list_at, text_at};
+use crate::cases::told::Told;
 use crate::documents::{cut_document, show};
 use crate::engines::{display_faults, drive, serve};
 use crate::faults::tell_all_faults;
@@ -10,10 +14,6 @@ use crate::reports::report;
 use crate::runs::{cut_run, lex, tell_end};
 use crate::scanners::scan;
 use lrlex::{DEFAULT_LEX_FLAGS, LexerDef};
-use lrlex_replay_cases::edits::{edit_of, tell_edit};
-use lrlex_replay_cases::facts::{tell_rules, tell_states};
-use lrlex_replay_cases::reading::{Trouble, count_at, is_true_at, list_at, text_at};
-use lrlex_replay_cases::told::Told;
 use serde_json::Value;
 
 /// Tells whether the definition's flags are the default ones; null where it has none.
@@ -22,13 +22,12 @@ fn tell_flags(told: &mut Told, definition: &Definition<u32>) {
     match definition.lex_flags() {
         Some(flags) => told.truth(*flags == DEFAULT_LEX_FLAGS),
         None => told.null(),
-    }
+    };
 }
 
 /// Tells how many tables the definition has, how many rows these have, and how many rules have none, and then what it says.
 fn tell_definition(told: &mut Told, definition: &Definition<u32>) {
-    told.key("tables");
-    told.numbers(&[
+    told.key("tables").numbers(&[
         definition.tables(),
         definition.table_rows(),
         definition.asked_rules(),

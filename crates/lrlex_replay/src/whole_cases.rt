@@ -3,18 +3,18 @@ ghost use Rattle.std.specs.Prelude.{◌≡◌};
 ghost use Rattle.lrlex.specs.Lexer.{lexer_text};
 
 use crate::building::{Definition, build};
+use crate::cases::facts::{
+    Item, tell_counts, tell_faults, tell_items, tell_refusal, tell_rules, tell_sets, tell_states,
+};
+use crate::cases::parts::ids_of;
+use crate::cases::printing::{print_told, told_of_case};
+use crate::cases::reading::{Trouble, flags_in, text_in};
+use crate::cases::told::Told;
 use crate::items::{item_seen, item_seen_u8, item_seen_u16};
 use crate::lexers::LexerOf;
 use crate::runs::most_of;
 use lrlex::{Budget, LexerDef};
 use lrlex_base::{NewlineCache, NonStreamingLexer, Span};
-use lrlex_replay_cases::facts::{
-    Item, tell_counts, tell_faults, tell_items, tell_refusal, tell_rules, tell_sets, tell_states,
-};
-use lrlex_replay_cases::parts::ids_of;
-use lrlex_replay_cases::printing::{print_told, told_of_case};
-use lrlex_replay_cases::reading::{Trouble, flags_in, text_in};
-use lrlex_replay_cases::told::Told;
 use serde_json::Value;
 use std::alloc::{AllocError, Global};
 use std::io;

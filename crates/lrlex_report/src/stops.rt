@@ -102,7 +102,8 @@ fn name_in<'t, S: Numbered>(table: &'t RuleTable<S>, error: &LRLexError) -> Opti
 }
 
 /// Why lexing an input by a definition stopped, in one line, without its place: the character at which no rule matched, or the
-/// text's end. If that was in a start state other than `INITIAL`, the message names that state.
+/// text's end. If that was in a start state other than `INITIAL`, the message names that state. `table` is the definition's
+/// `rule_table`.
 pub fn stop_message_in<S: Numbered>(
     alloc: Global,
     table: &RuleTable<S>,
@@ -117,7 +118,8 @@ pub fn stop_message_in<S: Numbered>(
 }
 
 /// The error that stopped lexing an input by a definition, as people read it: `FILE:L:C: MESSAGE`, then the line with its number,
-/// then a caret under the place. If no rule matched in a start state other than `INITIAL`, the message names that state.
+/// then a caret under the place. If no rule matched in a start state other than `INITIAL`, the message names that state. `table` is
+/// the definition's `rule_table`.
 pub fn stop_text_in<S: Numbered>(
     alloc: Global,
     table: &RuleTable<S>,

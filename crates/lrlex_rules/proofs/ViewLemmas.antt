@@ -1,5 +1,5 @@
 -- Rules and states, seen through their views.
-use Rattle.std.proofs.Common.{◌≡◌, zero, suc, ℕ, ◌<◌, Bool, true, false, cond, not, ◌||◌, ◌==◌, List, [], ◌∷◌, map, length, get_or, Option, Some, None, option_map, unwrap_or, slice_get, refl, sym, ap, ◌∙◌, arith, eq-eqb, true≢false, nat_lt, ◌≤◌, take, ◌++◌}
+use Rattle.std.proofs.Common.{◌≡◌, zero, suc, ℕ, ◌<◌, Bool, true, false, cond, not, ◌||◌, ◌==◌, List, [], ◌∷◌, map, length, get_or, Option, Some, None, option_map, slice_get, refl, sym, ap, ◌∙◌, arith, eq-eqb, true≢false, nat_lt, ◌≤◌, take, ◌++◌}
 use Rattle.std.proofs.Math.Seq.{take-append_seam}
 use Rattle.std.proofs.lemmas.Bool.{cond-true, cond-false, ltb-true, ltb-false, eqb-true}
 use Rattle.std.proofs.lemmas.List.Sums.{passes_at_first, fails_before_first}
@@ -11,7 +11,7 @@ use Rattle.regex_hir.specs.Text.{is_some_and}
 use Rattle.lrlex_rules.specs.Definition.{Definition, Rule, StartState}
 use Rattle.lrlex_matching.specs.Matching.{match_length}
 use Rattle.lrlex_rules.specs.Patterns.{pattern_of}
-use Rattle.lrlex_rules.specs.Active.{is_active, is_inclusive, taken_by, taken_by_any, no_rule, rule_at}
+use Rattle.lrlex_rules.specs.Active.{is_active, is_inclusive, taken_by, taken_by_any}
 use Rattle.lrlex_rules.specs.RuleParts.{RuleParts, as_rule, as_state}
 use Rattle.lrlex_rules.specs.RuleLists.{ArePlaced}
 use Rattle.lrlex_rules.specs.declared.states.StartState as start

@@ -3,7 +3,7 @@ ghost use Rattle.lrlex_parser.specs.LexBuildResult.{IsAnswer, AreOwnRefusals, Ar
 
 use crate::definition::non_streaming::LRNonStreamingLexerDef;
 use crate::definition::read_table::read_table;
-use lrlex_base::{Id, LexerTypes, Span};
+use lrlex_base::{LexerTypes, Numbered, Span};
 use lrlex_definition::{RuleTable, usual_budget};
 use lrlex_parser::{LexBuildError, LexBuildResult, all_faults};
 use lrlex_rules::{

@@ -47,7 +47,7 @@ impl<'lexer, 'input, L: LexerTypes<LexErrorT = LRLexError>> Model for LexRun<'le
     ghost use Rattle.lrlex_rules.specs.declared.errors.LRLexError.{LRLexError};
     ghost use Rattle.lrlex.specs.declared.definition.non_streaming.LRNonStreamingLexerDef.{LRNonStreamingLexerDef};
 
-    ghost Value = { Run (LRNonStreamingLexerDef L L.LexemeT L.StorageT LRLexError L.StorageT.FromStrRadixErr L.StorageT.Error) L.LexemeT };
+    ghost Value = { Run (LRNonStreamingLexerDef L L.LexemeT L.StorageT LRLexError) L.LexemeT };
 
     ghost coded = { Prim.hlevel (codes, hir.the_row.coded) };
 

@@ -25,14 +25,14 @@ first_pass-requires-clause-initial g c = ap (λ (y : Scanned). is_state y.defini
 
 pub second_pass-written-requires-clause-definition : goal.second_pass-written-requires-clause-definition
 second_pass-written-requires-clause-definition g c =
-    c.in_ok-first.ensures.definition ∙ ap (λ (y : Scanned). y.definition) c.in_ok-scanner.ensures ∙ ap (definition_by g.L.StorageT.Id.number) (sym c.rule_table.ensures)
+    c.in_ok-first.ensures.definition ∙ ap (λ (y : Scanned). y.definition) c.in_ok-scanner.ensures ∙ ap (definition_by g.L.StorageT.Numbered.number) (sym c.rule_table.ensures)
 
 pub second_pass-written-requires-clause-text : goal.second_pass-written-requires-clause-text
 second_pass-written-requires-clause-text g c = c.in_ok-first.ensures.text ∙ ap (λ (y : Scanned). y.text) c.in_ok-scanner.ensures
 
 pub second_pass-written-requires-clause-found : goal.second_pass-written-requires-clause-found
 second_pass-written-requires-clause-found g c =
-    rw (sym c.rule_table.ensures) at (subst (λ (y : Scanned). IsFirstPass g.L.StorageT.Id.number y.definition y.text c.in_ok-first.first) c.in_ok-scanner.ensures c.in_ok-first.ensures.found)
+    rw (sym c.rule_table.ensures) at (subst (λ (y : Scanned). IsFirstPass g.L.StorageT.Numbered.number y.definition y.text c.in_ok-first.first) c.in_ok-scanner.ensures c.in_ok-first.ensures.found)
 
 pub returns : goal.returns
 returns g c =

@@ -1,5 +1,5 @@
 -- An error's line is told at its place.
-use Rattle.std.proofs.Common.{◌≡◌, [], ◌∷◌, ◌++◌, ◌∙◌, ap, map, sym}
+use Rattle.std.proofs.Common.{◌≡◌, [], ◌∷◌, ◌++◌, ◌∙◌, ap, sym}
 use Rattle.lrlex_base.specs.Spans.{span_start}
 use Rattle.lrlex.specs.Errors.{lex_error_span, stop_text}
 use Rattle.lrlex.specs.Views.{definition_by, item_of}

@@ -15,20 +15,20 @@ returns-clause-run g c =
     let r = c.in_ok-run.field-0 in
     both _ _ _ (λ lexer text run. (
       r.boundaries,
-      subst (λ t. IsRun (definition_of g.L.StorageT.Id.number c.args.self.now) t (items_by g.L.StorageT.Id.number g.L.LexemeT.Lexeme.seen (lexer_items lexer)) r.boundaries) (text ∙ c.in_ok-run.ensures.text)
-          (subst (λ d. IsRun (definition_of g.L.StorageT.Id.number d) (lexer_text lexer) (items_by g.L.StorageT.Id.number g.L.LexemeT.Lexeme.seen (lexer_items lexer)) r.boundaries) c.in_ok-run.ensures.definition run),
+      subst (λ t. IsRun (definition_of g.L.StorageT.Numbered.number c.args.self.now) t (items_by g.L.StorageT.Numbered.number g.L.LexemeT.Lexeme.seen (lexer_items lexer)) r.boundaries) (text ∙ c.in_ok-run.ensures.text)
+          (subst (λ d. IsRun (definition_of g.L.StorageT.Numbered.number d) (lexer_text lexer) (items_by g.L.StorageT.Numbered.number g.L.LexemeT.Lexeme.seen (lexer_items lexer)) r.boundaries) c.in_ok-run.ensures.definition run),
     ))
     c.into_lexer.result c.into_lexer.ensures.text c.into_lexer.ensures.run
 
 pub returns-clause-fit : goal.returns-clause-fit
 returns-clause-fit g c =
     both _ _ _ (λ lexer text fit.
-    subst (λ t. All (FitsText t) (items_by g.L.StorageT.Id.number g.L.LexemeT.Lexeme.seen (lexer_items lexer))) (text ∙ c.in_ok-run.ensures.text) fit)
+    subst (λ t. All (FitsText t) (items_by g.L.StorageT.Numbered.number g.L.LexemeT.Lexeme.seen (lexer_items lexer))) (text ∙ c.in_ok-run.ensures.text) fit)
     c.into_lexer.result c.into_lexer.ensures.text c.into_lexer.ensures.fit
 
 pub returns-clause-laws : goal.returns-clause-laws
 returns-clause-laws g c =
-    let number = g.L.StorageT.Id.number in
+    let number = g.L.StorageT.Numbered.number in
     let seen = g.L.LexemeT.Lexeme.seen in
     both _ _ _ (λ lexer text laws.
     subst (λ t. AreItemsOf (definition_of number c.args.self.now) t (items_by number seen (lexer_items lexer))) (text ∙ c.in_ok-run.ensures.text)

@@ -5,5 +5,5 @@ use Rattle.lrlex.proofs.definition.non_streaming.LRNonStreamingLexerDef.new_with
 
 pub returns-in-Ok-clause-answer : goal.returns-in-Ok-clause-answer
 returns-in-Ok-clause-answer g c =
-    let number = g.L.StorageT.Id.number in
-    subst (IsAnswer (definition_by number) c.args.flags g.L.StorageT.Id.greatest c.args.text.now) c.in-Ok.is c.in_ok-table.ensures.answer
+    let number = g.L.StorageT.Numbered.number in
+    subst (IsAnswer (definition_by number) c.args.flags g.L.StorageT.Numbered.greatest c.args.text.now) c.in-Ok.is c.in_ok-table.ensures.answer

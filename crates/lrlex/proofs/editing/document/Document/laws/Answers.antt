@@ -9,7 +9,7 @@ use Rattle.lrlex.proofs.editing.document.Document.laws.Goals as goal
 
 pub returns-clause-run : goal.returns-clause-run
 returns-clause-run g c =
-    subst (λ (v : Run _ _). IsRun (definition_of g.L.StorageT.Id.number v.definition) v.text (items_by g.L.StorageT.Id.number g.L.LexemeT.Lexeme.seen v.items) v.boundaries)
+    subst (λ (v : Run _ _). IsRun (definition_of g.L.StorageT.Numbered.number v.definition) v.text (items_by g.L.StorageT.Numbered.number g.L.LexemeT.Lexeme.seen v.items) v.boundaries)
     c.self.view_is (known_run _ _ _ _ c.self.invariant.2)
 
 pub returns-clause-items : goal.returns-clause-items
@@ -17,5 +17,5 @@ returns-clause-items g c = have_laws _ _ _ _ (returns-clause-run g c)
 
 pub returns-clause-looks : goal.returns-clause-looks
 returns-clause-looks g c =
-    subst (λ (v : Run _ _). LooksAhead (definition_of g.L.StorageT.Id.number v.definition) v.text v.boundaries v.ahead)
+    subst (λ (v : Run _ _). LooksAhead (definition_of g.L.StorageT.Numbered.number v.definition) v.text v.boundaries v.ahead)
     c.self.view_is (looks_known _ _ _ _ c.self.invariant.1)

@@ -6,5 +6,5 @@ use Rattle.lrlex.proofs.lexing.run.LexRun.end_state.Goals as goal
 pub end_state_of-requires : goal.end_state_of-requires
 end_state_of-requires g c some =
     let s = c.self.inside in
-    stack_entries (definition_of g.L.StorageT.Id.number s.definition.now) s.text.now (items_by g.L.StorageT.Id.number g.L.LexemeT.Lexeme.seen s.lexed.items.items) s.lexed.boundaries c.self.invariant.1
+    stack_entries (definition_of g.L.StorageT.Numbered.number s.definition.now) s.text.now (items_by g.L.StorageT.Numbered.number g.L.LexemeT.Lexeme.seen s.lexed.items.items) s.lexed.boundaries c.self.invariant.1
     (length s.lexed.boundaries - 1) (omega (arith, some))

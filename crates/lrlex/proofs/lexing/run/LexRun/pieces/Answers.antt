@@ -8,9 +8,9 @@ use Rattle.lrlex.proofs.lexing.run.LexRun.pieces.Goals as goal
 pub pieces_of-requires : goal.pieces_of-requires
 pieces_of-requires g c =
     let s = c.self.inside in
-    let found = items_by g.L.StorageT.Id.number g.L.LexemeT.Lexeme.seen s.lexed.items.items in
-    (found, known_run (definition_of g.L.StorageT.Id.number s.definition.now) s.text.now found s.lexed.boundaries c.self.invariant.1)
+    let found = items_by g.L.StorageT.Numbered.number g.L.LexemeT.Lexeme.seen s.lexed.items.items in
+    (found, known_run (definition_of g.L.StorageT.Numbered.number s.definition.now) s.text.now found s.lexed.boundaries c.self.invariant.1)
 
 pub returns : goal.returns
 returns g c =
-    subst (λ (v : Run _ _). IfOk c.pieces_of.result (λ pieces. ArePieces (definition_of g.L.StorageT.Id.number v.definition) v.text v.boundaries pieces.items)) c.self.view_is c.pieces_of.ensures
+    subst (λ (v : Run _ _). IfOk c.pieces_of.result (λ pieces. ArePieces (definition_of g.L.StorageT.Numbered.number v.definition) v.text v.boundaries pieces.items)) c.self.view_is c.pieces_of.ensures

@@ -20,7 +20,7 @@ returns-clause-counts g c =
 
 pub returns-clause-changed : goal.returns-clause-changed
 returns-clause-changed g c =
-    let number = g.L.StorageT.Id.number in
+    let number = g.L.StorageT.Numbered.number in
     let seen = g.L.LexemeT.Lexeme.seen in
     let table = c.self.inside.definition.now.table in
     let old = c.self.inside.lexed in

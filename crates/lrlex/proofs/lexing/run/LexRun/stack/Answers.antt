@@ -9,4 +9,4 @@ pub returns-clause-entries : goal.returns-clause-entries
 returns-clause-entries g c =
     let s = c.self.inside in
     let within = subst (λ (v : Run _ _). c.args.index < length v.boundaries) (sym c.self.view_is) c.requires in
-    subst AreEntries (sym c.stack.ensures) (stack_entries (definition_of g.L.StorageT.Id.number s.definition.now) s.text.now (items_by g.L.StorageT.Id.number g.L.LexemeT.Lexeme.seen s.lexed.items.items) s.lexed.boundaries c.self.invariant.1 c.args.index within)
+    subst AreEntries (sym c.stack.ensures) (stack_entries (definition_of g.L.StorageT.Numbered.number s.definition.now) s.text.now (items_by g.L.StorageT.Numbered.number g.L.LexemeT.Lexeme.seen s.lexed.items.items) s.lexed.boundaries c.self.invariant.1 c.args.index within)

@@ -1,7 +1,7 @@
 //! What the program is asked: its words, with the texts that they name.
-use crate::faults::Fault;
-use crate::texts::text_at;
-use crate::words::matches_of;
+use crate::timing::faults::Fault;
+use crate::timing::texts::text_at;
+use crate::timing::words::matches_of;
 use clap::ArgMatches;
 use std::env;
 

@@ -1,8 +1,7 @@
 //! The parts of a case, read from JSON. What isn't there, or is of another kind, is read as nothing: as 0, as an empty text or list,
 //! or as null. Whoever makes a case sees to its form.
+use lrlex::{Budget, LexFlags, StartState, StartStateOperation, UNSPECIFIED_LEX_FLAGS};
 use lrlex_base::Span;
-use lrlex_rules::{LexFlags, StartState, StartStateOperation, UNSPECIFIED_LEX_FLAGS};
-use lrlex_table::Budget;
 use serde_json::Value;
 use std::alloc::{AllocError, AllocFailed, Global};
 use std::io;

@@ -1,7 +1,7 @@
 //! The texts that are lexed: reading them, their places, their lines, and the lexemes among what they were cut into.
-use crate::clock::Watch;
-use crate::faults::Fault;
-use crate::telling::tell_bytes;
+use crate::timing::clock::Watch;
+use crate::timing::faults::Fault;
+use crate::timing::telling::tell_bytes;
 use lrlex_base::NewlineCache;
 use std::{fs, io};
 

@@ -1,9 +1,9 @@
 //! What was measured, and the lines that tell it.
-use crate::faults::Fault;
-use crate::figures::Hundredths;
-use crate::memory::peak;
-use crate::spread::Spread;
-use crate::words::USAGE;
+use crate::timing::faults::Fault;
+use crate::timing::figures::Hundredths;
+use crate::timing::memory::peak;
+use crate::timing::spread::Spread;
+use crate::timing::words::USAGE;
 use std::io;
 
 /// Prints how the program is called.

@@ -1,8 +1,7 @@
 //! What definitions say, lexemes and errors, and what setting token ids gives.
-use crate::told::Told;
+use crate::cases::told::Told;
+use lrlex::{LexBuildError, LexErrorKind, Rule, StartState, StartStateOperation};
 use lrlex_base::{Span, Spanned};
-use lrlex_parser::{LexBuildError, LexErrorKind};
-use lrlex_rules::{Rule, StartState, StartStateOperation};
 use serde_json::Value;
 use std::alloc::AllocError;
 use std::collections::HashSet;
@@ -65,16 +64,15 @@ fn kind_name(kind: &LexErrorKind) -> &'static str {
 
 /// Tells a fault, by its kind and its spans.
 fn tell_fault(told: &mut Told, fault: &LexBuildError) {
-    told.open_object();
-    told.member("kind");
-    told.text(kind_name(fault.kind()));
-    told.member("spans");
-    told.open();
+    told.open_object()
+        .member("kind")
+        .text(kind_name(fault.kind()))
+        .member("spans")
+        .open();
     for span in fault.spans() {
         told.span(*span);
     }
-    told.close();
-    told.close_object();
+    told.close().close_object();
 }
 
 /// Tells the faults.
@@ -91,20 +89,19 @@ pub fn tell_refusal(told: &mut Told, refusal: &Refusal) {
     match refusal {
         Refusal::Faulty(faults) => tell_faults(told, faults.as_slice()),
         Refusal::Rule(place) => {
-            told.key("rule_refused");
-            told.number(*place);
+            told.key("rule_refused").number(*place);
         }
     }
 }
 
 /// Tells a start state: `[id, name, exclusive, span]`.
 fn tell_state(told: &mut Told, state: &StartState) {
-    told.open();
-    told.number(state.id());
-    told.text(state.name());
-    told.truth(state.exclusive());
-    told.span(state.name_span());
-    told.close();
+    told.open()
+        .number(state.id())
+        .text(state.name())
+        .truth(state.exclusive())
+        .span(state.name_span())
+        .close();
 }
 
 /// Tells the start states.
@@ -128,29 +125,31 @@ fn operation_name(operation: StartStateOperation) -> &'static str {
 fn tell_target(told: &mut Told, target: Option<(usize, StartStateOperation)>) {
     match target {
         Some((state, operation)) => {
-            told.open();
-            told.number(state);
-            told.text(operation_name(operation));
-            told.close();
+            told.open()
+                .number(state)
+                .text(operation_name(operation))
+                .close();
         }
-        None => told.null(),
+        None => {
+            told.null();
+        }
     }
 }
 
 /// Tells a rule, with all its fields.
 fn tell_rule(told: &mut Told, rule: RuleSeen<'_>) {
-    told.open_object();
-    told.member("tok_id");
-    told.value(&Value::from(rule.id));
-    told.member("name");
-    told.name(rule.name);
-    told.member("name_span");
-    told.span(rule.name_span);
-    told.member("re_str");
-    told.text(rule.re_str);
-    told.member("start_states");
-    told.numbers(rule.start_states);
-    told.member("target");
+    told.open_object()
+        .member("tok_id")
+        .value(&Value::from(rule.id))
+        .member("name")
+        .name(rule.name)
+        .member("name_span")
+        .span(rule.name_span)
+        .member("re_str")
+        .text(rule.re_str)
+        .member("start_states")
+        .numbers(rule.start_states)
+        .member("target");
     tell_target(told, rule.target);
     told.close_object();
 }
@@ -189,15 +188,15 @@ pub fn tell_item(told: &mut Told, item: Item) {
     told.open();
     match item {
         Item::Lexeme(id, span) => {
-            told.text("lex");
-            told.value(&Value::from(id));
-            told.number(span.start());
-            told.number(span.len());
+            told.text("lex")
+                .value(&Value::from(id))
+                .number(span.start())
+                .number(span.len());
         }
         Item::Error(span, state) => {
-            told.text("err");
-            told.number(span.start());
-            told.value(&Value::from(state));
+            told.text("err")
+                .number(span.start())
+                .value(&Value::from(state));
         }
     }
     told.close();
@@ -214,40 +213,36 @@ pub fn tell_items(told: &mut Told, items: &[Item]) {
 
 /// Tells that there are no items to tell of.
 pub fn tell_no_items(told: &mut Told) {
-    told.key("items");
-    told.null();
+    told.key("items").null();
 }
 
 /// Tells how many tiles a run has, the most entries of a stack, and how many matches it asked for.
 pub fn tell_counts(told: &mut Told, counts: [usize; 3]) {
     let [tiles, entries_peak, asked] = counts;
-    told.key("tiles");
-    told.number(tiles);
-    told.key("entries_peak");
-    told.number(entries_peak);
-    told.key("asked_max");
-    told.number(asked);
+    told.key("tiles")
+        .number(tiles)
+        .key("entries_peak")
+        .number(entries_peak)
+        .key("asked_max")
+        .number(asked);
 }
 
 /// Tells a boundary: `[place, [[count, state], ..]]`.
 pub fn tell_boundary(told: &mut Told, place: usize, stack: &[(usize, usize)]) {
-    told.open();
-    told.number(place);
-    told.open();
+    told.open().number(place).open();
     for entry in stack {
         told.pair(*entry);
     }
-    told.close();
-    told.close();
+    told.close().close();
 }
 
 /// Tells a piece: `[rule, start, length, name]`, and more where its text isn't the text's at its span.
 pub fn tell_piece(told: &mut Told, rule: usize, span: Span, name: Option<&str>, is_own: bool) {
-    told.open();
-    told.number(rule);
-    told.number(span.start());
-    told.number(span.len());
-    told.name(name);
+    told.open()
+        .number(rule)
+        .number(span.start())
+        .number(span.len())
+        .name(name);
     if !is_own {
         told.text("wrong text");
     }
@@ -256,10 +251,7 @@ pub fn tell_piece(told: &mut Told, rule: usize, span: Span, name: Option<&str>, 
 
 /// Tells a pair of a name and a text.
 fn tell_word(told: &mut Told, name: &str, text: &str) {
-    told.open();
-    told.text(name);
-    told.text(text);
-    told.close();
+    told.open().text(name).text(text).close();
 }
 
 /// Tells pairs of a name and a text, if memory was there for them.
@@ -272,50 +264,46 @@ pub fn tell_words(told: &mut Told, words: Result<Vec<(&str, &str)>, AllocError>)
             }
             told.close();
         }
-        Err(_) => told.refuse(),
+        Err(_) => {
+            told.refuse();
+        }
     }
 }
 
 /// Tells what is shown to people, if memory was there for it.
 pub fn tell_report(told: &mut Told, shown: Result<String, AllocError>) {
-    told.key("shown");
-    told.made(shown);
+    told.key("shown").made(shown);
 }
 
 /// Tells a span's text, its lines and the places of its ends, or as many nulls.
 pub fn tell_fitting(told: &mut Told, fitting: Option<Fitting<'_>>) {
     let Some((text, lines, places)) = fitting else {
-        told.null();
-        told.null();
-        told.null();
+        told.null().null().null();
         return;
     };
-    told.text(text);
-    told.text(lines);
-    told.pairs(places);
+    told.text(text).text(lines).pairs(places);
 }
 
 /// Tells the rule that was found, or null.
 fn tell_found(told: &mut Told, found: Option<&Rule<u32>>) {
     match found {
         Some(rule) => tell_rule(told, rule_seen(rule)),
-        None => told.null(),
+        None => {
+            told.null();
+        }
     }
 }
 
 /// Tells the rule with this id, and what lexemes of the id are called.
 pub fn tell_by_id(told: &mut Told, id: u32, found: Option<&Rule<u32>>, name: Option<&str>) {
-    told.list("by_id");
-    told.number(id as usize);
+    told.list("by_id").number(id as usize);
     tell_found(told, found);
-    told.name(name);
-    told.close();
+    told.name(name).close();
 }
 
 /// Tells the rule with this name.
 pub fn tell_by_name(told: &mut Told, name: &str, found: Option<&Rule<u32>>) {
-    told.list("by_name");
-    told.text(name);
+    told.list("by_name").text(name);
     tell_found(told, found);
     told.close();
 }
@@ -354,10 +342,7 @@ fn tell_placed_names(told: &mut Told, names: &Option<HashSet<(String, Span)>>) {
     };
     told.open();
     for (name, span) in names {
-        told.open();
-        told.text(name);
-        told.span(*span);
-        told.close();
+        told.open().text(name).span(*span).close();
     }
     told.close();
 }
@@ -371,7 +356,9 @@ pub fn tell_sets(told: &mut Told, key: &str, sets: Result<Sets<'_>, AllocError>)
             tell_placed_names(told, &sets.1);
             told.close();
         }
-        Err(_) => told.refuse(),
+        Err(_) => {
+            told.refuse();
+        }
     }
 }
 
@@ -384,6 +371,8 @@ pub fn tell_name_sets(told: &mut Told, key: &str, sets: Result<NameSets<'_>, All
             tell_own_names(told, &sets.1);
             told.close();
         }
-        Err(_) => told.refuse(),
+        Err(_) => {
+            told.refuse();
+        }
     }
 }

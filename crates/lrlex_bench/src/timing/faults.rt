@@ -1,5 +1,5 @@
 //! Why the program gives up.
-use crate::words::USAGE;
+use crate::timing::words::USAGE;
 use std::alloc::{AllocError, AllocFailed};
 use std::{fmt, io};
 

@@ -1,6 +1,6 @@
 //! How long something takes, several times.
-use crate::faults::Fault;
-use crate::spread::{Spread, spread_of};
+use crate::timing::faults::Fault;
+use crate::timing::spread::{Spread, spread_of};
 use std::time::Instant;
 
 /// A stopwatch, with the times that it took. Where it fails, `spread` tells.

@@ -1,7 +1,7 @@
 //! What is printed of cases: what is told of them and of their steps, and how many there were.
-use crate::facts::{Refusal, tell_refusal};
-use crate::reading::Trouble;
-use crate::told::Told;
+use crate::cases::facts::{Refusal, tell_refusal};
+use crate::cases::reading::Trouble;
+use crate::cases::told::Told;
 use serde_json::Value;
 use std::alloc::{AllocError, Global};
 use std::io;
@@ -9,16 +9,15 @@ use std::io;
 /// What is told of a step before its own lines: its name.
 pub fn told_of_step(alloc: Global, name: &str) -> Told {
     let mut told = Told::new(alloc);
-    told.key("step");
-    told.text(name);
+    told.key("step").text(name);
     told
 }
 
 /// What is told of a case before anything else: its id.
 pub fn told_of_case(alloc: Global, case: &Value) -> Told {
     let mut told = Told::new(alloc);
-    told.key("case");
-    told.value(case.get("id").unwrap_or(&Value::Null));
+    told.key("case")
+        .value(case.get("id").unwrap_or(&Value::Null));
     told
 }
 

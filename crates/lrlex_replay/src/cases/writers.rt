@@ -1,8 +1,8 @@
 //! A writer that breaks.
 ghost use Rattle.std.specs.Prelude.{Some};
 
-use crate::reading::{Trouble, count_at, text_at};
-use crate::told::Told;
+use crate::cases::reading::{Trouble, count_at, text_at};
+use crate::cases::told::Told;
 use serde_json::Value;
 use std::alloc::Global;
 use std::io;
@@ -83,23 +83,20 @@ pub fn tell_came(
     writer: &BrokenWriter,
 ) -> Result<(), Trouble> {
     let word = word_of(came?);
-    told.list("engine");
-    told.text(word);
+    told.list("engine").text(word);
     tell_held(told, writer);
-    told.number(writer.calls as usize);
-    told.number(writer.flushes as usize);
-    told.close();
+    told.number(writer.calls as usize)
+        .number(writer.flushes as usize)
+        .close();
     Ok(())
 }
 
 /// Tells the status of the program, what both of its writers have then, and how often the first was flushed.
 pub fn tell_served(told: &mut Told, status: u8, lines: &BrokenWriter, faults: &BrokenWriter) {
-    told.list("served");
-    told.number(status as usize);
+    told.list("served").number(status as usize);
     tell_held(told, lines);
     tell_held(told, faults);
-    told.number(lines.flushes as usize);
-    told.close();
+    told.number(lines.flushes as usize).close();
 }
 
 impl BrokenWriter {

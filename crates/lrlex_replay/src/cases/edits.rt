@@ -1,6 +1,6 @@
 //! The edits of a step, and the texts that they make.
-use crate::reading::{change_of, list_of, text_at};
-use crate::told::Told;
+use crate::cases::reading::{change_of, list_of, text_at};
+use crate::cases::told::Told;
 use lrlex_base::{Edit, Span};
 use serde_json::Value;
 use std::alloc::{AllocError, Global};
@@ -64,8 +64,7 @@ pub fn all_made_of<'v>(
 /// Tells the edit at this place of a list, behind all that were made, if there is one: it doesn't fit.
 pub fn tell_unfit(told: &mut Told, edits: &[Value], made: usize) {
     if let Some(edit) = edits.get(made) {
-        told.key("unfit");
-        told.span(edit_of(list_of(edit)).removed);
+        told.key("unfit").span(edit_of(list_of(edit)).removed);
     }
 }
 
@@ -86,8 +85,8 @@ pub fn edits_of(alloc: Global, list: &[Value]) -> Result<Vec<(Edit<'_>, &str)>, 
 
 /// Tells whether an edit fits a text, and whether it makes the other of it.
 pub fn tell_edit(told: &mut Told, old: &str, edit: Edit<'_>, new: &str) {
-    told.list("fits");
-    told.truth(edit.fits(old));
-    told.truth(edit.gives(old, new));
-    told.close();
+    told.list("fits")
+        .truth(edit.fits(old))
+        .truth(edit.gives(old, new))
+        .close();
 }

@@ -1,6 +1,4 @@
 //! The cases that `lrlex_replay` replays, as JSON: reading their parts, and telling what comes of them. Nothing here lexes.
-#![tactic(auto)]
-
 pub mod edits;
 pub mod facts;
 pub mod parts;

@@ -1,5 +1,5 @@
 //! The words of the command line.
-use crate::faults::Fault;
+use crate::timing::faults::Fault;
 use clap::error::ErrorKind;
 use clap::{Arg, ArgAction, ArgMatches, Command, value_parser};
 use std::alloc::{AllocError, Global};
