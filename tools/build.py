@@ -22,8 +22,8 @@ import processes
 import rooms
 
 SO_FAR = re.compile(r"^so far: (\d+) of (\d+) functions checked")
-# Memory of a check, in MB: of each of its processes, and more for each 1,000 lines. Measured: 1,200 for lrlex_boundaries, 2,800
-# for lrlex, of which much is shared.
+# Memory of a check, in MB: of its first process, and more for each 1,000 lines. Each further process shares most of that, and is
+# taken to need half as much. Measured: 1,200 for lrlex_boundaries; 3,300 for lrlex, and 4,500 for five processes of it together.
 PROCESS, LINES = 900, 140
 
 
@@ -83,10 +83,14 @@ class Build:
         elif text:
             print(f"build: {text}", file=sys.stderr, flush=True)
 
+    def memory_of(self, name, jobs):
+        """What the crate's check takes with so many processes."""
+        return self.memory[name] * (jobs + 1) // 2
+
     def jobs_for(self, name, used):
         """How many processes may check the crate at once; none where memory is short."""
         for jobs in range(self.jobs, 0, -1):
-            if used + self.memory[name] * jobs <= self.free:
+            if used + self.memory_of(name, jobs) <= self.free:
                 return jobs
         return 0 if used else 1
 
@@ -131,7 +135,7 @@ class Build:
                     if not jobs:
                         break
                     left.remove(name)
-                    used[name] = self.memory[name] * jobs
+                    used[name] = self.memory_of(name, jobs)
                     with self.alone:
                         self.running[name] = ""
                     futures[pool.submit(self.run, name, jobs)] = name
