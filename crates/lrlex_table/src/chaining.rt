@@ -9,6 +9,7 @@ use crate::checking::{begins_character, only_part};
 use crate::hash::hash_with;
 use crate::marks::Name;
 use crate::merged_tables::Part;
+use crate::table::row_of;
 use crate::tables::Tables;
 use std::alloc::{AllocError, Global};
 
@@ -203,90 +204,158 @@ impl Links {
         Ok(())
     }
 
-    /// The row to which this one goes on the byte, where its table goes nowhere: where the next match begins, if one ends.
-    fn next_match(&self, row: usize, byte: u8) -> Option<u16> {
-        if !begins_character(byte) {
-            return None;
+    /// Adds all rows of all tables, and then the fresh ones. Returns how many rows aren't fresh.
+    fn add_all(
+        &mut self,
+        parts: &[Option<&Part>],
+        follow: &[Vec<usize>],
+    ) -> Result<usize, AllocError> {
+        for list in 0..parts.len() {
+            match parts[list] {
+                Some(part) => self.add_table(list, part, follow)?,
+                None => {
+                    self.dead.push(0)?;
+                    self.starts.push(NONE)?;
+                }
+            }
         }
+        let fresh = self.bases.len();
+        for list in 0..parts.len() {
+            match parts[list] {
+                Some(part) => self.add_fresh(list, part, follow)?,
+                None => self
+                    .begins
+                    .resize(self.begins.len().saturating_add(256), NONE)?,
+            }
+        }
+        Ok(fresh)
+    }
+
+    /// For each byte the row at which the next match begins, where one ends in this row.
+    fn begins_behind(&self, row: usize) -> Option<&[u16; 256]> {
         let list = *self.follows.get(row)? as usize;
-        let begin = *self.begins.get(list * 256 + byte as usize)?;
-        if begin == NONE { None } else { Some(begin) }
+        let (begins, _) = self.begins.as_chunks::<256>();
+        begins.get(list)
     }
 
-    /// The row to which this one goes on the byte.
-    fn next(&self, parts: &[Option<&Part>], row: usize, byte: u8) -> u16 {
-        let list = match self.names.get(row) {
-            Some(name) => name.list as usize,
-            None => 0,
-        };
-        let dead = self.dead.get(list).copied().unwrap_or(0);
-        let base = self.bases.get(row).copied().unwrap_or(0);
-        let on = match parts.get(list) {
-            Some(Some(part)) => part.table.next_of(base, byte),
-            _ => 0,
-        };
-        if on != 0 {
-            return dead.saturating_add(on);
+    /// Fills in where the row goes, for one byte of each class.
+    fn fill_row(
+        &self,
+        parts: &[Option<&Part>],
+        heads: &[u8],
+        row: usize,
+        cells: &mut [u16],
+    ) -> Option<()> {
+        let list = self.names.get(row)?.list as usize;
+        let dead = *self.dead.get(list)?;
+        let part = (*parts.get(list)?)?;
+        let (rows, _) = part.table.cells.as_chunks::<256>();
+        let table_row = rows.get(*self.bases.get(row)? as usize)?;
+        let begins = self.begins_behind(row);
+        let mut at = row;
+        for head in heads {
+            let on = row_of(table_row[*head as usize]);
+            *cells.get_mut(at)? = next_row(on, dead, begins, *head);
+            at = at.saturating_add(self.bases.len());
         }
-        match self.next_match(row, byte) {
-            Some(begin) => begin,
-            None => dead,
-        }
+        Some(())
     }
 
-    /// The cells by columns, and for each byte where its column begins.
+    /// The cells, by columns: one for each class of bytes, which begins with this byte.
     fn cells(
         &self,
         alloc: Global,
         parts: &[Option<&Part>],
-        firsts: &[u8; 256],
-    ) -> Result<(Vec<u16>, Vec<u32>), AllocError> {
+        heads: &[u8],
+    ) -> Result<Vec<u16>, AllocError> {
         let mut cells = Vec::new(alloc);
-        let mut columns = Vec::with_capacity(alloc, 256)?;
-        for byte in 0..256usize {
-            let known = columns.get(firsts[byte] as usize).copied();
-            if let Some(column) = known {
-                columns.push(column)?;
-                continue;
-            }
-            columns.push(cells.len().min(u32::MAX as usize) as u32)?;
-            cells.reserve(self.bases.len())?;
-            for row in 0..self.bases.len() {
-                cells.push(self.next(parts, row, byte as u8))?;
-            }
+        cells.resize(heads.len().saturating_mul(self.bases.len()), 0)?;
+        for row in 0..self.bases.len() {
+            let _ = self.fill_row(parts, heads, row, &mut cells);
         }
-        Ok((cells, columns))
+        Ok(cells)
     }
 }
 
-/// The rows of the chain of these tables, and how many of them aren't fresh.
-fn links_of(
-    alloc: Global,
-    parts: &[Option<&Part>],
-    follow: &[Vec<usize>],
-) -> Result<(Links, usize), AllocError> {
-    let mut links = Links::new(alloc);
-    for list in 0..parts.len() {
-        match parts[list] {
-            Some(part) => links.add_table(list, part, follow)?,
-            None => {
-                links.dead.push(0)?;
-                links.starts.push(NONE)?;
+/// The row of the chain behind one whose table goes to row `on`: where that is dead, the one at which the next match begins, if one ends.
+fn next_row(on: u16, dead: u16, begins: Option<&[u16; 256]>, byte: u8) -> u16 {
+    if on != 0 {
+        return dead.saturating_add(on);
+    }
+    match begins {
+        Some(begins) if begins_character(byte) && begins[byte as usize] != NONE => {
+            begins[byte as usize]
+        }
+        _ => dead,
+    }
+}
+
+/// How many rows of 256 cells so many columns come to, of so many cells each.
+fn rows_held(columns: usize, rows: usize) -> usize {
+    columns.saturating_mul(rows).div_ceil(256)
+}
+
+/// Bytes in classes: no row of some tables tells bytes of one class apart.
+#[derive(Drop)]
+pub(crate) struct Classes {
+    /// For each byte the first of its class.
+    pub(crate) firsts: [u8; 256],
+    /// These first bytes, in order.
+    pub(crate) heads: Vec<u8>,
+}
+
+impl Classes {
+    /// The classes of bytes by which rows of these tables go.
+    fn of(alloc: Global, parts: &[Option<&Part>]) -> Result<Classes, AllocError> {
+        let firsts = firsts_of(&hashes_of(parts));
+        let mut heads = Vec::with_capacity(alloc, 256)?;
+        for byte in 0..256usize {
+            if firsts[byte] as usize == byte {
+                heads.push(byte as u8)?;
             }
         }
+        Ok(Classes { firsts, heads })
     }
-    let fresh = links.bases.len();
-    for list in 0..parts.len() {
-        match parts[list] {
-            Some(part) => links.add_fresh(list, part, follow)?,
-            None => {
-                for _ in 0..256usize {
-                    links.begins.push(NONE)?;
+
+    /// For each byte where its column begins, where each class has a column of so many cells.
+    fn columns(&self, alloc: Global, rows: usize) -> Result<Vec<u32>, AllocError> {
+        let mut columns: Vec<u32> = Vec::with_capacity(alloc, 256)?;
+        let mut cells = 0usize;
+        for byte in 0..256usize {
+            match columns.get(self.firsts[byte] as usize).copied() {
+                Some(column) => columns.push(column)?,
+                None => {
+                    columns.push(cells.min(u32::MAX as usize) as u32)?;
+                    cells = cells.saturating_add(rows);
                 }
             }
         }
+        Ok(columns)
     }
-    Ok((links, fresh))
+}
+
+/// The chain of these tables, if they fit in one and it has at most `most` rows of 256 cells. That it is theirs isn't checked.
+fn chain_of_parts(
+    alloc: Global,
+    parts: &[Option<&Part>],
+    follow: &[Vec<usize>],
+    classes: &Classes,
+    most: usize,
+) -> Result<Option<Chain>, AllocError> {
+    let mut links = Links::new(alloc);
+    let fresh = links.add_all(parts, follow)?;
+    if rows_held(classes.heads.len(), links.bases.len()) > most {
+        return Ok(None);
+    }
+    let columns = classes.columns(alloc, links.bases.len())?;
+    let cells = links.cells(alloc, parts, &classes.heads)?;
+    let Links {
+        bases,
+        names,
+        starts,
+        ..
+    } = links;
+    Ok(Chain::of_parts(cells, columns, bases, names, starts, fresh))
 }
 
 /// The chain of those of the first so many lists that can be in one, paid from the budget: a row for each 256 cells. None where the
@@ -304,26 +373,17 @@ fn chain_of(
     let parts = parts_of(alloc, lists, many)?;
     let rows = rows_of(&parts);
     let work = rows.saturating_mul(WORK_OF_A_ROW);
-    if rows == 0 || rows > budget.rows() || work > budget.work() || !budget.pay_work(work) {
+    if rows == 0 || work > budget.work() || !budget.pay_work(work) {
         return Ok(None);
     }
-    let firsts = firsts_of(&hashes_of(&parts));
-    let (links, fresh) = links_of(alloc, &parts, follow)?;
-    let (cells, columns) = links.cells(alloc, &parts, &firsts)?;
-    let Links {
-        bases,
-        names,
-        starts,
-        ..
-    } = links;
-    let Some(chain) = Chain::of_parts(cells, columns, bases, names, starts, fresh) else {
-        return Ok(None)
+    let classes = Classes::of(alloc, &parts)?;
+    let Some(chain) = chain_of_parts(alloc, &parts, follow, &classes, budget.rows())? else {
+        return Ok(None);
     };
-    let held = chain.cells.len().div_ceil(256);
-    if held > budget.rows() || !budget.pay_rows(held) {
+    if !budget.pay_rows(chain.cells.len().div_ceil(256)) {
         return Ok(None);
     }
-    if chain.is_of(lists, &firsts) {
+    if chain.is_of(lists, &classes) {
         Ok(Some(chain))
     } else {
         Ok(None)

@@ -6,6 +6,7 @@ ghost use Rattle.lrlex_table.specs.Chain.{row_behind, list_of, base_of, start_of
 ghost use Rattle.lrlex_table.specs.declared.merged_tables.Part.{Part};
 
 use crate::chain::Chain;
+use crate::chaining::Classes;
 use crate::marks::next;
 use crate::merged_tables::Part;
 use crate::table::Table;
@@ -31,6 +32,26 @@ fn begin_alike(firsts: &[u8; 256]) -> bool
 {
     'bytes: for byte in 0..256usize {
         if begins_character(firsts[byte]) && !begins_character(byte as u8) {
+            return false;
+        }
+    }
+    true
+}
+
+/// Whether the first byte of each class is one of these.
+fn are_heads(heads: &[u8], firsts: &[u8; 256]) -> bool
+    ensures { result ≡ true → (b : ℕ) → b < 256 →
+        (k : ℕ) × (k < length heads.now) × (slice_index_or heads.now k 0 ≡ slice_index_or firsts.now b 0) }
+{
+    let mut at = 0usize;
+    'bytes: for byte in 0..256usize {
+        let first = firsts[byte] as usize;
+        if first == byte {
+            if at >= heads.len() || heads[at] as usize != byte {
+                return false;
+            }
+            at += 1;
+        } else if first > byte || firsts[first] as usize != first {
             return false;
         }
     }
@@ -72,6 +93,14 @@ pub(crate) fn only_part(lists: &[Tables], list: usize) -> Option<&Part>
     tables.only()
 }
 
+/// The row of a list's only table for which a row of a chain stands.
+#[derive(Clone, Copy)]
+struct Origin<'p> {
+    list: usize,
+    part: &'p Part,
+    base: u16,
+}
+
 impl Chain {
     /// The row where a walk for the list begins, if the list is in the chain.
     pub(crate) fn start_of(&self, list: usize) -> Option<usize>
@@ -109,75 +138,91 @@ impl Chain {
         }
     }
 
-    /// Whether the row goes on the byte as the tables of the lists say.
+    /// Whether the row, which stands for this one, goes on the byte as the tables of the lists say.
     #[inline(always)]
-    fn goes_as(&self, lists: &[Tables], row: usize, byte: u8) -> bool
-        requires { row < vec_len self.now.bases }
+    fn goes_as(&self, lists: &[Tables], origin: Origin<'_>, row: usize, byte: u8) -> bool
+        requires row { row < vec_len self.now.bases }
+        requires list { origin.list ≡ list_of self.now row }
+        requires base { origin.base ≡ base_of self.now row }
+        requires part { IsOnly lists.now origin.list origin.part.now }
         ensures { result ≡ true → (l : ℕ) (p : Part) → IsOnly lists.now l p → GoesTo p.table l self.now row byte
             (row_behind self.now.cells.items self.now.columns.items row byte) }
     {
         let to = next(&self.cells, &self.columns, self.bases.len(), row, byte);
-        let list = self.list_of(row);
-        let Some(part) = only_part(lists, list) else {
-            return false
-        };
-        let base = self.base_of(row);
-        let on = part.table.next_of(base, byte);
+        let table = &origin.part.table;
+        let on = table.next_of(origin.base, byte);
         let then = self.list_of(to);
         let stands_for = self.base_of(to);
         if to < self.fresh {
-            return then == list && stands_for == on;
+            return then == origin.list && stands_for == on;
         }
         let Some(other) = only_part(lists, then) else {
             return false
         };
         on == 0
             && begins_character(byte)
-            && part.table.win_of(base).is_some()
-            && base != part.table.start
+            && table.win_of(origin.base).is_some()
+            && origin.base != table.start
             && stands_for == other.table.next_of(other.table.start, byte)
     }
 
-    /// Whether each row goes on the byte as the tables of the lists say.
-    fn all_go_as(&self, lists: &[Tables], byte: u8) -> bool
-        ensures { result ≡ true → (r : ℕ) → r < vec_len self.now.bases → (l : ℕ) (p : Part) → IsOnly lists.now l p →
-            GoesTo p.table l self.now r byte (row_behind self.now.cells.items self.now.columns.items r byte) }
+    /// Whether the row goes on each of these bytes as the tables of the lists say.
+    fn row_goes_as(&self, lists: &[Tables], row: usize, heads: &[u8]) -> bool
+        requires { row < vec_len self.now.bases }
+        ensures { result ≡ true → (k : ℕ) → k < length heads.now → (l : ℕ) (p : Part) → IsOnly lists.now l p →
+            GoesTo p.table l self.now row (slice_index_or heads.now k 0)
+            (row_behind self.now.cells.items self.now.columns.items row (slice_index_or heads.now k 0)) }
+    {
+        let list = self.list_of(row);
+        let base = self.base_of(row);
+        let Some(part) = only_part(lists, list) else {
+            return false
+        };
+        let origin = Origin { list, part, base };
+        'heads: for at in 0..heads.len() {
+            if !self.goes_as(lists, origin, row, heads[at]) {
+                return false;
+            }
+        }
+        true
+    }
+
+    /// Whether each row goes on each of these bytes as the tables of the lists say.
+    fn all_go_as(&self, lists: &[Tables], heads: &[u8]) -> bool
+        ensures { result ≡ true → (r k : ℕ) → r < vec_len self.now.bases → k < length heads.now →
+            (l : ℕ) (p : Part) → IsOnly lists.now l p → GoesTo p.table l self.now r (slice_index_or heads.now k 0)
+            (row_behind self.now.cells.items self.now.columns.items r (slice_index_or heads.now k 0)) }
     {
         'rows: for row in 0..self.bases.len() {
-            if !self.goes_as(lists, row, byte) {
+            if !self.row_goes_as(lists, row, heads) {
                 return false;
             }
         }
         true
     }
 
-    /// Whether the byte has the same column as the first one of its class.
-    fn has_column_of(&self, first: usize, byte: usize) -> bool
-        requires first { first < 256 }
-        requires byte { byte < 256 }
-        ensures { result ≡ true →
-            slice_index_or self.now.columns.items byte 0 ≡ slice_index_or self.now.columns.items first 0 }
-    {
-        self.columns[byte] == self.columns[first]
-    }
-
-    /// Whether each row goes on each byte as on the first of its class, which is the first of its own, and on that as the tables of the lists
-    /// say.
-    fn goes_by_classes(&self, lists: &[Tables], firsts: &[u8; 256]) -> bool
-        ensures { result ≡ true → (r b : ℕ) → r < vec_len self.now.bases → b < 256 → (l : ℕ) (p : Part) → IsOnly lists.now l p →
-            GoesTo p.table l self.now r (slice_index_or firsts.now b 0) (row_behind self.now.cells.items self.now.columns.items r b) }
+    /// Whether each byte has the same column as the first one of its class.
+    fn has_columns_of(&self, firsts: &[u8; 256]) -> bool
+        ensures { result ≡ true → (b : ℕ) → b < 256 → slice_index_or self.now.columns.items b 0 ≡
+            slice_index_or self.now.columns.items (slice_index_or firsts.now b 0) 0 }
     {
         'bytes: for byte in 0..256usize {
-            let first = firsts[byte] as usize;
-            if first == byte {
-                if !self.all_go_as(lists, byte as u8) {
-                    return false;
-                }
-            } else if firsts[first] as usize != first || !self.has_column_of(first, byte) {
+            if self.columns[byte] != self.columns[firsts[byte] as usize] {
                 return false;
             }
         }
         true
+    }
+
+    /// Whether each row goes on each byte as on the first of its class, and on that as the tables of the lists say.
+    fn goes_by_classes(&self, lists: &[Tables], classes: &Classes) -> bool
+        ensures { result ≡ true → (r b : ℕ) → r < vec_len self.now.bases → b < 256 → (l : ℕ) (p : Part) → IsOnly lists.now l p →
+            GoesTo p.table l self.now r (slice_index_or classes.now.firsts b 0) (row_behind self.now.cells.items self.now.columns.items r b) }
+    {
+        if !are_heads(&classes.heads, &classes.firsts) || !self.has_columns_of(&classes.firsts) {
+            return false;
+        }
+        self.all_go_as(lists, &classes.heads)
     }
 
     /// Whether the list, if it is in the chain, has one table of all its patterns, which goes alike on bytes of one class, and whether
@@ -261,14 +306,14 @@ impl Chain {
         true
     }
 
-    /// Whether it is a chain of these lists, where these are the first bytes of the classes of all bytes.
-    pub(crate) fn is_of(&self, lists: &[Tables], firsts: &[u8; 256]) -> bool
+    /// Whether it is a chain of these lists, by classes of bytes that their tables don't tell apart.
+    pub(crate) fn is_of(&self, lists: &[Tables], classes: &Classes) -> bool
         ensures { result ≡ true → IsChainOfLists lists.now self.now }
     {
-        if !self.begins_as_lists(lists, firsts) || !self.rows_are_in() {
+        if !self.begins_as_lists(lists, &classes.firsts) || !self.rows_are_in() {
             return false;
         }
-        if !begin_alike(firsts) || !self.goes_by_classes(lists, firsts) {
+        if !begin_alike(&classes.firsts) || !self.goes_by_classes(lists, classes) {
             return false;
         }
         self.names_winners(lists)

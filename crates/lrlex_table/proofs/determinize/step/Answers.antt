@@ -1,4 +1,4 @@
-use Rattle.std.proofs.Common.{◌≡◌, true, false, IsTrue, sym, ◌∙◌, subst, rules}
+use Rattle.std.proofs.Common.{◌≡◌, true, false, sym, ◌∙◌, subst, rules}
 use Rattle.std.proofs.lemmas.Bool.{not-false}
 use Rattle.std.proofs.lemmas.Slice.Eq.{bytes_eq-Decides}
 use Rattle.lrlex_table.specs.Determinizer.{side_at, StepsFrom, StepsOn}
@@ -20,7 +20,7 @@ returns-then-row-eq-START-clause-steps c =
           (steps_at_first dfa.nfa c.args.byte threads next matched
           (subst (λ r. StepsFrom dfa.nfa (side_at r false) c.args.byte threads next matched) w.if-row-eq-START.true steps))
       | then-row-eq-START-via-else-row-eq-START+then-not-dfa w ↦
-          steps_on_edge dfa c.args.row c.args.byte threads next matched c.requires.starts (search rules) steps
+          steps_on_edge dfa c.args.row c.args.byte threads next matched c.requires.starts w.if-not-dfa.true steps
     ]
 
 pub returns-clause-steps : goal.returns-clause-steps
@@ -46,5 +46,12 @@ returns-clause-steps c =
 pub returns-then-alone-clause-steps : goal.returns-then-alone-clause-steps
 unfolding StepsOn StepsFrom
 returns-then-alone-clause-steps c line test agrees =
-    let alone : IsTrue c.in_ok-alone.alone = search rules in
-    c.in_ok-alone.ensures.moves alone test
+    c.in_ok-alone.ensures.moves c.if-alone.true test
+
+pub returns-then-row-eq-START-clause-states : goal.returns-then-row-eq-START-clause-states
+returns-then-row-eq-START-clause-states c =
+    rw c.in-Some.is at c.in_ok-matched.ensures.states
+
+pub returns-clause-states : goal.returns-clause-states
+returns-clause-states c =
+    rw c.in-Some-2.is at c.in_ok-after.ensures.states
