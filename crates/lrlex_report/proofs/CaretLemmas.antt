@@ -1,15 +1,22 @@
 -- Characters that are added one after the other, and those at the end of a text.
 use Rattle.std.proofs.Common.{◌≡◌, inl, inr, ℕ, ◌+◌, ◌-◌, ◌<◌, ◌≤◌, Bool, true, false, cond, ltb, List, [], ◌∷◌, ◌++◌, length, take, drop, replicate, codes, refl, sym, ap, subst, ◌∙◌, arith, append_assoc, append-nil}
-use Rattle.std.specs.Prelude.{Option, None, Some, is_some, option_map, slice_get, IsUtf8}
+use Rattle.std.specs.Prelude.{Option, None, Some, is_some, option_map, slice_get, flat_map, IsUtf8}
 use Rattle.std.specs.Str.{chars}
 use Rattle.std.specs.Str.Iter.{chars_rest, chars_steps_back}
 use Rattle.std.proofs.Math.Utf8.{encode}
 use Rattle.std.proofs.lemmas.Bool.{cases_lt, lt-ltb, le-ltb}
 use Rattle.std.proofs.lemmas.List.{replicate-append-replicate, length-append, take_at, drop_at, nil_from_length}
+use Rattle.std.proofs.lemmas.List.Concat.{flat_map-append}
 use Rattle.std.proofs.lemmas.Option.{slice_get-get_or, slice_get_past}
 use Rattle.std.proofs.lemmas.Str.{IsUtf8-nil, IsUtf8-append, IsUtf8-drop, IsCharBoundary-from_take, chars_past_char, chars-append, chars-nil}
 use Rattle.unicode_width.specs.Width.{char_width}
 use Rattle.lrlex_report.specs.Carets.{padding, or_caret}
+
+-- one character more adds what it stands for
+pub one_more : (f : ℕ → List ℕ) (old out new cs : List ℕ) (c : ℕ) → out ≡ old ++ flat_map f cs → new ≡ out ++ f c → new ≡ old ++ flat_map f (cs ++ c ∷ [])
+one_more f old out new cs c e h =
+    h ∙ ap (λ s. s ++ f c) e ∙ append_assoc old (flat_map f cs) (f c)
+    ∙ ap (λ s. old ++ s) (ap (λ s. flat_map f cs ++ s) (sym (append-nil (f c))) ∙ sym (flat_map-append f cs (c ∷ [])))
 
 -- the character once more
 pub replicate_more : (old : List ℕ) (n x : ℕ) → (old ++ replicate n x) ++ x ∷ [] ≡ old ++ replicate (n + 1) x

@@ -6,24 +6,27 @@ ghost use Rattle.lrlex_report.specs.ClassNames.{names_letters, names_space, name
 
 use crate::warnings::pattern_classes::{BEGINNING, Context, Part};
 
+/// The names of classes of letters.
+const LETTERS: [&[u8]; 5] = [b"alnum", b"alpha", b"lower", b"upper", b"word"];
+
+/// The names of classes of white space.
+const SPACE: [&[u8]; 2] = [b"blank", b"space"];
+
+/// The names of other classes that `regex` knows, but those of digits.
+const OTHERS: [&[u8]; 5] = [b"ascii", b"cntrl", b"graph", b"print", b"punct"];
+
 /// Whether this is the name of a class of letters.
 fn names_letters(name: &[u8]) -> bool
     ensures { result ≡ names_letters name.now }
 {
-    match name {
-        b"alnum" | b"alpha" | b"lower" | b"upper" | b"word" => true,
-        _ => false,
-    }
+    LETTERS.iter().any(|known| name == *known)
 }
 
 /// Whether this is the name of a class of white space.
 fn names_space(name: &[u8]) -> bool
     ensures { result ≡ names_space name.now }
 {
-    match name {
-        b"blank" | b"space" => true,
-        _ => false,
-    }
+    SPACE.iter().any(|known| name == *known)
 }
 
 /// Whether this is the name of the class of decimal digits.
@@ -50,10 +53,7 @@ fn names_hex_digits(name: &[u8]) -> bool
 fn names_others(name: &[u8]) -> bool
     ensures { result ≡ names_others name.now }
 {
-    match name {
-        b"ascii" | b"cntrl" | b"graph" | b"print" | b"punct" => true,
-        _ => false,
-    }
+    OTHERS.iter().any(|known| name == *known)
 }
 
 /// Whether `regex` knows a class with this name.
