@@ -41,8 +41,8 @@ fn tell_place(told: &mut Told, lexer: &LexerOf<'_, '_>, byte: usize) {
 fn tell_span(told: &mut Told, lexer: &LexerOf<'_, '_>, input: &str, span: Span)
     requires { lexer_text lexer.now ≡ input.now }
 {
-    told.list("told");
-    told.number(span.start())
+    told.list("told")
+        .number(span.start())
         .number(span.end())
         .text(lexer.text_of(span));
     tell_fitting(told, fitting(lexer, input, span));

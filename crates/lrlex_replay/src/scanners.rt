@@ -5,18 +5,16 @@ use crate::cases::reading::Trouble;
 use crate::cases::told::Told;
 use crate::items::error_seen;
 use lrlex::{LRLexError, ScanEnd, ScannedTile, Step};
+use serde_json::Value;
 
 /// Tells a tile: its rule, its first byte, how many bytes it has, and its id or null.
 fn tell_tile(told: &mut Told, tile: ScannedTile<u32>) {
     told.open()
         .number(tile.rule)
         .number(tile.span.start())
-        .number(tile.span.len());
-    match tile.id {
-        Some(id) => told.number(id as usize),
-        None => told.null(),
-    };
-    told.close();
+        .number(tile.span.len())
+        .value(&Value::from(tile.id))
+        .close();
 }
 
 /// Tells why there are no more tiles.

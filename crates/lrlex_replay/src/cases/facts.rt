@@ -1,7 +1,8 @@
 //! What definitions say, lexemes and errors, and what setting token ids gives.
 use crate::cases::told::Told;
-use lrlex::{LexBuildError, LexErrorKind, Rule, StartState, StartStateOperation};
+use lrlex::{LexBuildError, Rule, StartState, StartStateOperation};
 use lrlex_base::{Span, Spanned};
+use lrlex_report::fault_name;
 use serde_json::Value;
 use std::alloc::AllocError;
 use std::collections::HashSet;
@@ -44,29 +45,11 @@ pub type Sets<'n> = (Option<HashSet<&'n str>>, Option<HashSet<(String, Span)>>);
 /// The same without places.
 pub type NameSets<'n> = (Option<HashSet<&'n str>>, Option<HashSet<String>>);
 
-fn kind_name(kind: &LexErrorKind) -> &'static str {
-    match kind {
-        LexErrorKind::PrematureEnd => "PrematureEnd",
-        LexErrorKind::RoutinesNotSupported => "RoutinesNotSupported",
-        LexErrorKind::UnknownDeclaration => "UnknownDeclaration",
-        LexErrorKind::MissingSpace => "MissingSpace",
-        LexErrorKind::InvalidName => "InvalidName",
-        LexErrorKind::UnknownStartState => "UnknownStartState",
-        LexErrorKind::DuplicateStartState => "DuplicateStartState",
-        LexErrorKind::InvalidStartState => "InvalidStartState",
-        LexErrorKind::InvalidStartStateName => "InvalidStartStateName",
-        LexErrorKind::DuplicateName => "DuplicateName",
-        LexErrorKind::RegexError(_) => "RegexError",
-        LexErrorKind::VerbatimNotSupported => "VerbatimNotSupported",
-        LexErrorKind::TooManyRules => "TooManyRules",
-    }
-}
-
 /// Tells a fault, by its kind and its spans.
 fn tell_fault(told: &mut Told, fault: &LexBuildError) {
     told.open_object()
         .member("kind")
-        .text(kind_name(fault.kind()))
+        .text(fault_name(fault))
         .member("spans")
         .open();
     for span in fault.spans() {
