@@ -2,9 +2,14 @@ use Rattle.std.proofs.Common.{sym, subst, ◌∙◌, Bor}
 use Rattle.std.specs.Prelude.{IsCharBoundary}
 use Rattle.std.proofs.lemmas.Option.{same_Some}
 use Rattle.lrlex_table.specs.Ahead.{AreWonAhead, IsFoundIn}
+use Rattle.lrlex_table.specs.Chain.{BeginsIn}
 use Rattle.lrlex_table.specs.declared.chain.Chain.{Chain}
 use Rattle.lrlex_table.proofs.AheadLemmas.{found_between, found_won, found_begins}
 use Rattle.lrlex_table.proofs.dead_ends.DeadEnds.look_ahead.Goals as goal
+
+pub look-requires-clause-begins : goal.look-requires-clause-begins
+look-requires-clause-begins c t l is =
+    subst (BeginsIn t l c.in-Some.chain.now) (sym c.in-Some-start_of.ensures.row) (is.0 c.args.list c.in-Some-start_of.ensures.within)
 
 pub invariant_of-self-2 : goal.invariant_of-self-2
 invariant_of-self-2 c =
