@@ -6,14 +6,14 @@ import crates
 import processes
 
 
-def main(cases=10000, seed=1):
+def main(cases=10000, seed=1, tell=lambda line: print(line, flush=True)):
     """Tries so many cases. The status is 0 where nothing differs, 1 where something does, 2 where there is no program."""
     words = [sys.executable, "-B", "-m", "laws", str(cases), str(seed)]
     child = processes.start(words, cwd=f"{crates.TOP}/tests", stdout=-1, stderr=-2, text=True, errors="replace")
     last = ""
     for last in child.stdout:
-        print(last, end="", flush=True)
+        tell(last.rstrip("\n"))
     status = processes.ended(child)
     if status != 2:
-        print(f"soak: {'FAILED' if status else 'passed'}, {cases} cases, {last.strip()}", flush=True)
+        tell(f"soak: {'FAILED' if status else 'passed'}, {cases} cases, {last.strip()}")
     return status
