@@ -1,7 +1,7 @@
 -- What the rows of the chain say of their rules.
-use Rattle.std.proofs.Common.{◌≡◌, ◌≢◌, ℕ, zero, suc, ◌+◌, ◌<◌, ◌≤◌, ◌⊎◌, ⊎_elim, true, List, [], ◌∷◌, ◌++◌, length, map, set, Option, None, Some, slice_get, slice_index_or, refl, sym, ap, ◌∙◌, inl, inr, arith, Bor}
+use Rattle.std.proofs.Common.{◌≡◌, ◌≢◌, ℕ, zero, suc, ◌+◌, ◌<◌, ◌≤◌, ◌⊎◌, ⊎_elim, Bool, true, List, [], ◌∷◌, ◌++◌, length, map, set, Option, None, Some, slice_get, slice_index_or, refl, sym, ap, ◌∙◌, inl, inr, arith, Bor}
 use Rattle.std.proofs.lemmas.Bool.{cases_lt}
-use Rattle.std.specs.Prelude.{option_copied}
+use Rattle.std.specs.Prelude.{option_copied, is_some, unwrap_or}
 use Rattle.std.proofs.Props.{props}
 use Rattle.std.proofs.Math.Logic.{∥∥₁_elim}
 use Rattle.std.proofs.lemmas.Option.{none-some, slice_get_cases, slice_get_within, same_Some}
@@ -122,3 +122,8 @@ set_more rules lists names rows name new are named list rule kind r w e =
 pub set_none : {S : Type 0} (old rules : List (RuleParts S)) (lists : List (List ℕ)) (chain : Chain) (rows : List (RowKind S)) →
     ((r : ℕ) (w : RowKind S) → slice_get rows r ≡ Some w → IsRowKind old lists (list_of chain r) (name_of chain r) w) → AreSet rules lists chain.names.items 0 rows
 set_none old rules lists chain rows are r w e = let it = are r w e in (it.list, it.rule, λ lt. absurd (omega (arith, lt)))
+
+-- a row that has what a kind says has that kind
+pub kind_again : {S : Type 0} (id : Option S) (plain : Bool) (rule list : ℕ) (other : S) → own_kind (record { rule = rule; id = unwrap_or id other; named = is_some id; plain = plain; list = list }) ≡ record { id = id; plain = plain }
+kind_again None plain rule list other = refl
+kind_again (Some x) plain rule list other = refl

@@ -23,3 +23,12 @@ returns g c old lists chains are = (
   λ none. c.rows.invariant.0 ∙ are.0 none,
   λ chain at r w e. set_all c.args.rules.now lists chain c.rows.row c.rows.rows (c.rows.invariant.1 old lists chains chain are at) (omega (arith, c.rows-test.false, c.rows.invariant.0)) r w e,
 )
+
+pub bounds-rows-row : goal.bounds-rows-row
+bounds-rows-row g c = omega (arith, c.rows-test.true, c.rows.auto.rows)
+
+pub bounds-rows-row-in-rows : goal.bounds-rows-row-in-rows
+bounds-rows-row-in-rows g c = omega (arith, c.rows-test.true, c.rows.auto.rows)
+
+pub rows-smaller : goal.rows-smaller
+rows-smaller g c = omega (arith, c.rows-test.true)

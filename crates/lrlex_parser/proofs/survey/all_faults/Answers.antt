@@ -1,10 +1,25 @@
-use Rattle.std.proofs.Common.{◌∙◌, [], ◌∷◌, map, sym, ap, subst}
+use Rattle.std.proofs.Common.{◌∙◌, ◌^◌, ◌-◌, [], ◌∷◌, map, sym, ap, subst}
 use Rattle.lrlex_parser.specs.Event.Event.{NewState}
 use Rattle.lrlex_parser.specs.Declaration.{initial}
-use Rattle.lrlex_parser.specs.LexParser.{AreApart, as_piece}
+use Rattle.lrlex_parser.specs.LexParser.{AreApart, EndBy, as_piece}
 use Rattle.lrlex_parser.proofs.AllOf.{are_all, all_begin, all_in_place}
 use Rattle.lrlex_rules.proofs.PatternLemmas.{if_ok}
 use Rattle.lrlex_parser.proofs.survey.all_faults.Goals as goal
+
+pub read_declarations-requires-clause-fit : goal.read_declarations-requires-clause-fit
+read_declarations-requires-clause-fit g c = subst (EndBy (2 ^ 64 - 1)) (sym c.as_slice.ensures.value) c.in_ok-declared.ensures.declared_fit
+
+pub read_declarations-requires-clause-calm : goal.read_declarations-requires-clause-calm
+read_declarations-requires-clause-calm g c = c.in_ok-survey.ensures.calm
+
+pub read_rules-requires-clause-fit : goal.read_rules-requires-clause-fit
+read_rules-requires-clause-fit g c = subst (EndBy (2 ^ 64 - 1)) (sym c.as_slice-2.ensures.value) c.in_ok-declared.ensures.rules_fit
+
+pub read_rules-requires-clause-calm : goal.read_rules-requires-clause-calm
+read_rules-requires-clause-calm g c = c.in_ok-read_declarations.ensures.calm
+
+pub finish-requires : goal.finish-requires
+finish-requires g c = c.in_ok-read_rules.ensures.calm
 
 pub read_rules-requires-clause-apart : goal.read_rules-requires-clause-apart
 read_rules-requires-clause-apart g c = subst AreApart (sym c.as_slice-2.ensures.value) c.in_ok-declared.ensures.apart

@@ -1,4 +1,4 @@
-use Rattle.std.proofs.Common.{◌≡◌, map, sym, subst}
+use Rattle.std.proofs.Common.{◌≡◌, length, map, refl, sym, subst}
 use Rattle.lrlex_definition.specs.RowKinds.{AreRowKinds}
 use Rattle.lrlex_rules.specs.Active.{active_places}
 use Rattle.lrlex_definition.specs.StateTables.{AreServed}
@@ -31,3 +31,27 @@ invariant_of-result-clause-by_rows g c =
 
 pub chained_tables-requires : goal.chained_tables-requires
 chained_tables-requires g c placed = subst ArePlaced (sym c.deref-4.ensures.value) (subst ArePlaced c.deref.ensures.value (c.are_placed-placed.ensures.0 placed))
+
+pub invariant_of-result-clause-distinct : goal.invariant_of-result-clause-distinct
+invariant_of-result-clause-distinct g c = c.requires
+
+pub invariant_of-result-clause-each : goal.invariant_of-result-clause-each
+invariant_of-result-clause-each g c = subst (λ lists. length c.in_ok-tables.tables.items ≡ length lists) c.deref-6.ensures.value c.in_ok-tables.ensures.each
+
+pub invariant_of-result-clause-chained : goal.invariant_of-result-clause-chained
+invariant_of-result-clause-chained g c = c.in_ok-tables.ensures.chained
+
+pub invariant_of-result-clause-within : goal.invariant_of-result-clause-within
+invariant_of-result-clause-within g c = c.in_ok-lists.ensures.within
+
+pub returns-clause-paid : goal.returns-clause-paid
+returns-clause-paid g c = c.in_ok-tables.ensures.paid
+
+pub returns-clause-rules : goal.returns-clause-rules
+returns-clause-rules g c = refl
+
+pub returns-clause-states : goal.returns-clause-states
+returns-clause-states g c = refl
+
+pub returns-clause-flags : goal.returns-clause-flags
+returns-clause-flags g c = refl
