@@ -2,7 +2,8 @@
 
 A crate is built once those that it needs are: a library for the first time by anew.py, which shares the work best, and later by
 rt lib, which proves what changed; a program by rt run. The crate with the longest chain of others after it goes ahead, and the
-others take what processor time it leaves. What was built when a build is interrupted, the next takes.
+others take what processor time it leaves. There is one process more than processors at most, since each slows the others down,
+and a crate's first and last seconds need one alone. What was built when a build is interrupted, the next takes.
 
 A terminal gets one line, which is written over; a pipe gets a line for each crate that is done. All of it goes to standard error.
 """
@@ -64,9 +65,10 @@ class Build:
             after = [self.chain[one] for one in self.chain if it in self.below[one]]
             self.chain[it] = code[it] + proofs[it] // 3 + max(after, default=0)
         self.memory = {it: PROCESS + LINES * (code[it] + proofs[it]) // 1000 for it in self.wanted}
-        self.jobs = jobs or min(len(os.sched_getaffinity(0)), 8)
+        self.processors = jobs or min(len(os.sched_getaffinity(0)), 8)
         self.free = 0.85 * free_memory()
-        self.alone, self.running, self.done = threading.Lock(), {}, {}
+        # how many processes check each of those that are being built, how far they are, and when each was built
+        self.alone, self.jobs, self.running, self.done = threading.Lock(), {}, {}, {}
         self.begun, self.failed = time.monotonic(), None
 
     def said(self):
@@ -87,9 +89,22 @@ class Build:
         """What the crate's check takes with so many processes."""
         return self.memory[name] * (jobs + 1) // 2
 
-    def jobs_for(self, name, used):
-        """How many processes may check the crate at once; none where memory is short."""
-        for jobs in range(self.jobs, 0, -1):
+    def share(self, name):
+        """How many processes should check the crate at once, as far as processors go; none where there are enough.
+
+        The longest chain gets more than half of the processors, another crate half, and one beside which no other can be built all.
+        """
+        others = [it for it in self.wanted if it not in self.done and it != name]
+        if all(name in crates.with_below([it], self.listed) for it in others):
+            return self.processors
+        is_longest = all(self.chain[name] >= self.chain[it] for it in others)
+        left = self.processors + 1 - sum(self.jobs.values())
+        return min(self.processors // 2 + 1 if is_longest else max(self.processors // 2, 1), left)
+
+    def jobs_for(self, name):
+        """How many processes may check the crate at once. None where there are enough of others, or memory is short."""
+        used = sum(self.memory_of(it, jobs) for it, jobs in self.jobs.items())
+        for jobs in range(self.share(name), 0, -1):
             if used + self.memory_of(name, jobs) <= self.free:
                 return jobs
         return 0 if used else 1
@@ -127,15 +142,15 @@ class Build:
     def all(self):
         """Builds all, and gives the name and the log of a crate that failed."""
         left = sorted(self.wanted, key=lambda it: -self.chain[it])
-        used, futures = {}, {}
+        futures = {}
         with concurrent.futures.ThreadPoolExecutor(len(left)) as pool:
             while left or futures:
                 for name in [it for it in left if all(one in self.done for one in self.below[it])]:
-                    jobs = self.jobs_for(name, sum(used.values()))
+                    jobs = self.jobs_for(name)
                     if not jobs:
                         break
                     left.remove(name)
-                    used[name] = self.memory_of(name, jobs)
+                    self.jobs[name] = jobs
                     with self.alone:
                         self.running[name] = ""
                     futures[pool.submit(self.run, name, jobs)] = name
@@ -143,7 +158,7 @@ class Build:
                     self.tell()
                 for it in concurrent.futures.wait(futures, 1, concurrent.futures.FIRST_COMPLETED).done:
                     name = futures.pop(it)
-                    del used[name]
+                    del self.jobs[name]
                     if it.result():
                         processes.end_all()
                         return name, it.result()
