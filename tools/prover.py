@@ -70,9 +70,9 @@ def checked(folder, name, needs, more=(), much=0):
     return processes.run(processes.give_way(words, much), cwd=folder)[1]
 
 
-def built(crate, archive, much=0):
+def built(crate, archive):
     """Proves a static library from nothing, and writes its archive. What the prover says if it fails."""
     words = [f"{kit()}/bin/rattle", "build", *words_for(crate.name, crate.needs), "--jobs", "1"]
     words += ["--toolchain", f"{kit()}/toolchain", "--backend", "llvm", "-o", archive]
-    status, told = processes.run(processes.give_way(words, much), cwd=crate.folder)
+    status, told = processes.run(words, cwd=crate.folder)
     return (told or f"it ended with status {status}") if status else ""

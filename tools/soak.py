@@ -7,7 +7,10 @@ import processes
 
 
 def main(cases=10000, seed=1, tell=lambda line: print(line, flush=True)):
-    """Tries so many cases. The status is 0 where nothing differs, 1 where something does, 2 where there is no program."""
+    """Tries so many cases, and hands on each line that says what came of it.
+
+    The status is 0 where nothing differs, 1 where something does, 2 where there is no program.
+    """
     words = [sys.executable, "-B", "-m", "laws", str(cases), str(seed)]
     child = processes.start(words, cwd=f"{crates.TOP}/tests", stdout=-1, stderr=-2, text=True, errors="replace")
     last = ""
