@@ -115,7 +115,7 @@ class Build:
             # A program that takes no run without arguments, as its file `args` tells, is asked for its help.
             needs_words = os.path.isfile(f"{self.listed[name].folder}/args")
             return ["rt", "run", "--jobs", str(jobs), *(["--", "--help"] if needs_words else [])]
-        if jobs == 1 or self.listed[name].kind:
+        if self.listed[name].kind:
             return ["rt", "lib", "--jobs", str(jobs)]
         return [sys.executable, "-B", f"{crates.TOP}/tools/anew.py", name, str(jobs)]
 

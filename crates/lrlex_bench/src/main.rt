@@ -2,15 +2,14 @@
 //! cases of standard input, and `lrlex_bench --example NAME` runs an example.
 #![tactic(auto)]
 
-mod callers;
-mod cases;
 mod edits;
 mod keys;
 mod measure;
+mod replay;
 mod timing;
 
-use crate::cases::replay_all;
 use crate::measure::{Definition, definition_by, tell_run};
+use crate::replay::replay_all;
 use crate::timing::{Fault, Request, Task, Watch, asked, tell_usage};
 use std::io;
 use std::process::ExitCode;

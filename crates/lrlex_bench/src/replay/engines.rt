@@ -1,8 +1,8 @@
 //! Steps of the engine and of the program, over writers that break.
-use crate::cases::edits::edit_of;
-use crate::cases::reading::{Trouble, list_at, list_of, text_at};
-use crate::cases::told::Told;
-use crate::cases::writers::{BrokenWriter, Came, tell_came, tell_served};
+use crate::replay::cases::edits::edit_of;
+use crate::replay::cases::reading::{Trouble, list_at, list_of, text_at};
+use crate::replay::cases::told::Told;
+use crate::replay::cases::writers::{BrokenWriter, Came, tell_came, tell_served};
 use lrlex::{DefaultLexerTypes, Edit, LRNonStreamingLexerDef, LexerDef, UNSPECIFIED_LEX_FLAGS};
 use lrlex_cli::engine::{Ended, EngineFault};
 use lrlex_cli::texts::TextFault;

@@ -1,9 +1,9 @@
 //! What a scanner answers.
-use crate::building::Definition;
-use crate::cases::facts::tell_item;
-use crate::cases::reading::Trouble;
-use crate::cases::told::Told;
-use crate::items::error_seen;
+use crate::replay::building::Definition;
+use crate::replay::cases::facts::tell_item;
+use crate::replay::cases::reading::Trouble;
+use crate::replay::cases::told::Told;
+use crate::replay::items::error_seen;
 use lrlex::{LRLexError, ScanEnd, ScannedTile, Step};
 use serde_json::Value;
 

@@ -1,7 +1,7 @@
 //! The definition that a case describes.
-use crate::cases::facts::Refusal;
-use crate::cases::parts::{rules_of, states_of};
-use crate::cases::reading::{budget_in, flags_in, list_in, text_in};
+use crate::replay::cases::facts::Refusal;
+use crate::replay::cases::parts::{rules_of, states_of};
+use crate::replay::cases::reading::{budget_in, flags_in, list_in, text_in};
 use lrlex::{
     Budget, DefaultLexerTypes, LRNonStreamingLexerDef, LexBuildResult, LexFlags, LexerDef,
 };

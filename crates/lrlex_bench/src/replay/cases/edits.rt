@@ -1,6 +1,6 @@
 //! The edits of a step, and the texts that they make.
-use crate::cases::reading::{change_of, list_of, text_at};
-use crate::cases::told::Told;
+use crate::replay::cases::reading::{change_of, list_of, text_at};
+use crate::replay::cases::told::Told;
 use lrlex_base::{Edit, Span};
 use serde_json::Value;
 use std::alloc::{AllocError, Global};

@@ -1,8 +1,8 @@
 //! The step that tells all faults of a rule text.
-use crate::building::Definition;
-use crate::cases::facts::tell_faults;
-use crate::cases::reading::{Trouble, flags_in, text_in};
-use crate::cases::told::Told;
+use crate::replay::building::Definition;
+use crate::replay::cases::facts::tell_faults;
+use crate::replay::cases::reading::{Trouble, flags_in, text_in};
+use crate::replay::cases::told::Told;
 use lrlex::LexBuildError;
 use serde_json::Value;
 use std::alloc::{AllocError, Global};

@@ -1,10 +1,10 @@
 //! What runs answer.
-use crate::building::Definition;
-use crate::cases::edits::{Made, all_made_of, tell_unfit};
-use crate::cases::facts::{tell_boundary, tell_piece};
-use crate::cases::reading::Trouble;
-use crate::cases::told::Told;
-use crate::items::tell_items;
+use crate::replay::building::Definition;
+use crate::replay::cases::edits::{Made, all_made_of, tell_unfit};
+use crate::replay::cases::facts::{tell_boundary, tell_piece};
+use crate::replay::cases::reading::Trouble;
+use crate::replay::cases::told::Told;
+use crate::replay::items::tell_items;
 use lrlex::{DefaultLexerTypes, Document, LexRun, Piece, StartStateId};
 use lrlex_base::Edit;
 use serde_json::Value;

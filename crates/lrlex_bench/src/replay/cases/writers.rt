@@ -1,8 +1,8 @@
 //! A writer that breaks.
 ghost use Rattle.std.specs.Prelude.{Some};
 
-use crate::cases::reading::{Trouble, count_at, text_at};
-use crate::cases::told::Told;
+use crate::replay::cases::reading::{Trouble, count_at, text_at};
+use crate::replay::cases::told::Told;
 use serde_json::Value;
 use std::alloc::Global;
 use std::io;

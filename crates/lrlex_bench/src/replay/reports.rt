@@ -1,7 +1,7 @@
 //! Steps that show people what is wrong, and where.
-use crate::cases::facts::tell_report;
-use crate::cases::reading::{Trouble, count_at, list_at, span_of, text_at};
-use crate::cases::told::Told;
+use crate::replay::cases::facts::tell_report;
+use crate::replay::cases::reading::{Trouble, count_at, list_at, span_of, text_at};
+use crate::replay::cases::told::Told;
 use lrlex::{
     DefaultLexerTypes, LRLexError, LRNonStreamingLexerDef, LexBuildError, LexerDef, Span,
     StartStateId,

@@ -1,6 +1,6 @@
 //! Lexemes and errors of `lrlex`, as facts.
-use crate::cases::facts::{Item, tell_item};
-use crate::cases::told::Told;
+use crate::replay::cases::facts::{Item, tell_item};
+use crate::replay::cases::told::Told;
 use lrlex::{DefaultLexeme, LRLexError};
 use lrlex_base::{LexError, Lexeme};
 

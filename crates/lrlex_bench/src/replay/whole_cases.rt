@@ -2,17 +2,17 @@
 ghost use Rattle.std.specs.Prelude.{◌≡◌};
 ghost use Rattle.lrlex.specs.Lexer.{lexer_text};
 
-use crate::building::{Definition, build};
-use crate::cases::facts::{
+use crate::replay::building::{Definition, build};
+use crate::replay::cases::facts::{
     Item, tell_counts, tell_faults, tell_items, tell_refusal, tell_rules, tell_sets, tell_states,
 };
-use crate::cases::parts::ids_of;
-use crate::cases::printing::{print_told, told_of_case};
-use crate::cases::reading::{Trouble, flags_in, text_in};
-use crate::cases::told::Told;
-use crate::items::{item_seen, item_seen_u8, item_seen_u16};
-use crate::lexers::LexerOf;
-use crate::runs::most_of;
+use crate::replay::cases::parts::ids_of;
+use crate::replay::cases::printing::{print_told, told_of_case};
+use crate::replay::cases::reading::{Trouble, flags_in, text_in};
+use crate::replay::cases::told::Told;
+use crate::replay::items::{item_seen, item_seen_u8, item_seen_u16};
+use crate::replay::lexers::LexerOf;
+use crate::replay::runs::most_of;
 use lrlex::{Budget, LexerDef};
 use lrlex_base::{NewlineCache, NonStreamingLexer, Span};
 use serde_json::Value;

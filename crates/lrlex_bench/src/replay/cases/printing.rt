@@ -1,7 +1,7 @@
 //! What is printed of cases: what is told of them and of their steps, and how many there were.
-use crate::cases::facts::{Refusal, tell_refusal};
-use crate::cases::reading::Trouble;
-use crate::cases::told::Told;
+use crate::replay::cases::facts::{Refusal, tell_refusal};
+use crate::replay::cases::reading::Trouble;
+use crate::replay::cases::told::Told;
 use serde_json::Value;
 use std::alloc::{AllocError, Global};
 use std::io;

@@ -1,9 +1,9 @@
 //! The positions of bytes and the bytes of positions, by a document after its edits and by lexers of its text.
-use crate::building::Definition;
-use crate::cases::reading::{Trouble, change_of, count_of, list_of};
-use crate::cases::told::Told;
-use crate::documents::{Edited, make};
-use crate::lexers::LexerOf;
+use crate::replay::building::Definition;
+use crate::replay::cases::reading::{Trouble, change_of, count_of, list_of};
+use crate::replay::cases::told::Told;
+use crate::replay::documents::{Edited, make};
+use crate::replay::lexers::LexerOf;
 use lrlex::{Document, PositionEncoding};
 use lrlex_base::NewlineCache;
 use serde_json::Value;

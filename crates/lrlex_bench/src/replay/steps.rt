@@ -1,18 +1,18 @@
 //! Steps: what is done with the definition of a case, and told.
-use crate::building::Definition;
-use crate::cases::edits::{edit_of, tell_edit};
-use crate::cases::facts::{tell_rules, tell_states};
-use crate::cases::reading::{Trouble, count_at, is_true_at, list_at, text_at};
-use crate::cases::told::Told;
-use crate::documents::{cut_document, show};
-use crate::engines::{display_faults, drive, serve};
-use crate::faults::tell_all_faults;
-use crate::lexers::ask_lexer;
-use crate::lookups::{find, set_ids};
-use crate::positions::ask_positions;
-use crate::reports::report;
-use crate::runs::{cut_run, lex, tell_end};
-use crate::scanners::scan;
+use crate::replay::building::Definition;
+use crate::replay::cases::edits::{edit_of, tell_edit};
+use crate::replay::cases::facts::{tell_rules, tell_states};
+use crate::replay::cases::reading::{Trouble, count_at, is_true_at, list_at, text_at};
+use crate::replay::cases::told::Told;
+use crate::replay::documents::{cut_document, show};
+use crate::replay::engines::{display_faults, drive, serve};
+use crate::replay::faults::tell_all_faults;
+use crate::replay::lexers::ask_lexer;
+use crate::replay::lookups::{find, set_ids};
+use crate::replay::positions::ask_positions;
+use crate::replay::reports::report;
+use crate::replay::runs::{cut_run, lex, tell_end};
+use crate::replay::scanners::scan;
 use lrlex::{DEFAULT_LEX_FLAGS, LexerDef};
 use serde_json::Value;
 

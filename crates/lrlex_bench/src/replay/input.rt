@@ -1,10 +1,12 @@
 //! Replays cases: each line of standard input is one, as JSON. The last line that is printed is how many there were.
-use crate::callers::make_by_caller;
-use lrlex_replay::cases::printing::{
+use crate::replay::building::{Definition, build_within};
+use crate::replay::callers::make_by_caller;
+use crate::replay::cases::printing::{
     introduce, print_count, print_refused, print_told, told_of_step,
 };
-use lrlex_replay::cases::reading::{Trouble, list_of, text_at, value_of};
-use lrlex_replay::{Definition, build_within, make, replay};
+use crate::replay::cases::reading::{Trouble, list_of, text_at, value_of};
+use crate::replay::steps::make;
+use crate::replay::whole_cases::replay;
 use serde_json::Value;
 use std::io;
 use std::io::{BufRead, BufReader};

@@ -1,5 +1,5 @@
 //! What definitions say, lexemes and errors, and what setting token ids gives.
-use crate::cases::told::Told;
+use crate::replay::cases::told::Told;
 use lrlex::{LexBuildError, Rule, StartState, StartStateOperation};
 use lrlex_base::{Span, Spanned};
 use lrlex_report::fault_name;

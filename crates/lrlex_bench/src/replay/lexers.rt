@@ -2,11 +2,11 @@
 ghost use Rattle.std.specs.Prelude.{◌≡◌};
 ghost use Rattle.lrlex.specs.Lexer.{lexer_text};
 
-use crate::building::Definition;
-use crate::cases::facts::{Fitting, tell_fitting, tell_item};
-use crate::cases::reading::{Trouble, count_of, list_of, span_of};
-use crate::cases::told::Told;
-use crate::items::item_seen;
+use crate::replay::building::Definition;
+use crate::replay::cases::facts::{Fitting, tell_fitting, tell_item};
+use crate::replay::cases::reading::{Trouble, count_of, list_of, span_of};
+use crate::replay::cases::told::Told;
+use crate::replay::items::item_seen;
 use lrlex::{DefaultLexerTypes, LRNonStreamingLexer, LineCursor};
 use lrlex_base::{Lexer, NonStreamingLexer, Span};
 use serde_json::Value;

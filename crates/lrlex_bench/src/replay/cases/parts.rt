@@ -1,5 +1,5 @@
 //! The start states, the rules and the token ids of a case.
-use crate::cases::reading::{RuleParts, Trouble, count_of, number_in, parts_of, state_of};
+use crate::replay::cases::reading::{RuleParts, Trouble, count_of, number_in, parts_of, state_of};
 use lrlex::{LexFlags, Rule, StartState};
 use serde_json::Value;
 use std::alloc::{AllocError, Global};

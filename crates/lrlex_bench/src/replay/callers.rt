@@ -1,17 +1,19 @@
 //! Steps that make what the callers of `lrlex_examples` make of a definition, a document or a rule text.
+use crate::replay::building::Definition;
+use crate::replay::cases::edits::edits_of;
+use crate::replay::cases::facts::{tell_no_items, tell_report, tell_words};
+use crate::replay::cases::reading::{
+    Change, Trouble, change_of, file_of, list_at, span_of, text_at,
+};
+use crate::replay::cases::told::Told;
+use crate::replay::documents::{Edited, tell_change};
+use crate::replay::lexers::tell_lexed;
 use lrlex::{DefaultLexerTypes, Document, Edit, EditError, LRNonStreamingLexerDef, LexerDef, Span};
 use lrlex_examples::callers::editing::{highlighted, retyped, typed, visible};
 use lrlex_examples::callers::lending::lexed_and_replaced;
 use lrlex_examples::callers::lexing::{lexer_after, words};
 use lrlex_examples::callers::marking::{Diagnostic, faults, stop};
 use lrlex_examples::callers::reporting::complaints_of_file;
-use lrlex_replay::cases::edits::edits_of;
-use lrlex_replay::cases::facts::{tell_no_items, tell_report, tell_words};
-use lrlex_replay::cases::reading::{
-    Change, Trouble, change_of, file_of, list_at, span_of, text_at,
-};
-use lrlex_replay::cases::told::Told;
-use lrlex_replay::{Definition, Edited, tell_change, tell_lexed};
 use serde_json::Value;
 use std::alloc::{AllocError, Global};
 

@@ -1,9 +1,11 @@
 //! Look-ups by id and by name, and token ids that are set.
-use crate::building::Definition;
-use crate::cases::facts::{tell_by_id, tell_by_name, tell_name_sets, tell_rules, tell_sets};
-use crate::cases::parts::{id_of, ids_of};
-use crate::cases::reading::{Trouble, text_of};
-use crate::cases::told::Told;
+use crate::replay::building::Definition;
+use crate::replay::cases::facts::{
+    tell_by_id, tell_by_name, tell_name_sets, tell_rules, tell_sets,
+};
+use crate::replay::cases::parts::{id_of, ids_of};
+use crate::replay::cases::reading::{Trouble, text_of};
+use crate::replay::cases::told::Told;
 use lrlex::{LexerDef, Rule};
 use serde_json::Value;
 use std::collections::HashMap;

@@ -1,12 +1,12 @@
 //! What a document shows, at first and after each of its edits, and its texts.
-use crate::building::Definition;
-use crate::cases::facts::tell_boundary;
-use crate::cases::reading::{
+use crate::replay::building::Definition;
+use crate::replay::cases::facts::tell_boundary;
+use crate::replay::cases::reading::{
     Change, Trouble, change_of, count_of, list_at, list_of, span_of, text_at,
 };
-use crate::cases::told::Told;
-use crate::items::tell_items;
-use crate::runs::{most_of, tell_pieces};
+use crate::replay::cases::told::Told;
+use crate::replay::items::tell_items;
+use crate::replay::runs::{most_of, tell_pieces};
 use lrlex::{DefaultLexerTypes, Document, EditError};
 use serde_json::Value;
 
