@@ -1,7 +1,8 @@
 -- What putting values into a list in place of some of its own leaves of the list.
-use Rattle.std.proofs.Common.{◌≡◌, ℕ, ◌+◌, ◌-◌, ◌≤◌, List, ◌++◌, length, take, drop, ap, ap₂, ◌∙◌, arith, length-append, length-drop, length-take-le}
-use Rattle.std.proofs.lemmas.List.{drop-append-le, drop-drop, drop_at, take-append-le, take-take, take_at}
+use Rattle.std.proofs.Common.{◌≡◌, ℕ, ◌+◌, ◌-◌, ◌≤◌, List, [], ◌++◌, length, take, drop, refl, sym, ap, ap₂, ◌∙◌, arith, length-append, length-drop, length-take-le}
+use Rattle.std.proofs.lemmas.List.{append-nil, drop-append-le, drop-drop, drop_at, take-append-le, take-take, take_at}
 use Rattle.std.specs.List.{copy_within}
+use Rattle.std.specs.Prelude.{Result, Ok, Err, IfOk, IsErr, OnErr}
 use borrow.Rule.Slice.PartMut.{put_mid}
 
 module _ {X : Type 0} where
@@ -52,3 +53,18 @@ module _ {X : Type 0} where
   length-put_mid xs ys a k within long =
       let rest = drop k (drop a xs) in
       omega (arith, length-append (take a xs) (ys ++ rest), length-append ys rest, length-take-le a xs (omega arith), length-drop k (drop a xs), length-drop a xs)
+
+  -- a list with values behind those of another
+  pub longer_by : (old more : List X) {new : List X} → new ≡ old ++ more → new ≡ old ++ drop (length old) new
+  longer_by old more {new} e = e ∙ ap (λ ys. old ++ ys) (sym (ap (drop (length old)) e ∙ drop_at old more (length old) refl))
+
+  pub same_behind : {old new : List X} → new ≡ old → new ≡ old ++ drop (length old) new
+  same_behind {old} e = longer_by old [] (e ∙ sym (append-nil old))
+
+pub on_err : {T E : Type 0} {P : Type 0} (r : Result T E) → P → OnErr r P
+on_err (Ok x) p = tt
+on_err (Err e) p = p
+
+pub none_of_err : {T E : Type 0} (r : Result T E) (P : T → Type 0) → IsErr r → IfOk r P
+none_of_err (Ok x) P h = absurd (cc h)
+none_of_err (Err e) P h = tt
