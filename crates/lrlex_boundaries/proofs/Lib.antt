@@ -3,3 +3,4 @@ pub mod ArenaLemmas
 pub mod SliceLemmas
 pub mod PairLemmas
 pub mod EnteringLemmas
+pub mod RoomLemmas

@@ -9,7 +9,7 @@ use Rattle.std.specs.List.{AllPairs}
 use borrow.Rule.Slice.PartMut.{put_mid}
 use Rattle.lrlex_boundaries.specs.Boundaries.{Boundary, boundary_at, no_boundary, last_entries}
 use Rattle.lrlex_boundaries.specs.Moves.{IsMovableBoundary, moved_boundary}
-use Rattle.lrlex_boundaries.specs.Ranges.{no_stretch, last_stretch, begun_by, stretch_at, entries_of, boundaries_from, moved_place, moved_stretch, placed_stretch, IsMovablePlace, IsRange, StandFor, AreRising, AreBefore, AreBegun, AreJoined, AreInOrder}
+use Rattle.lrlex_boundaries.specs.Ranges.{no_stretch, last_stretch, begun_by, stretch_at, entries_of, boundaries_from, moved_place, moved_stretch, placed_stretch, IsMovablePlace, IsPlaceable, IsRange, StandFor, AreRising, AreBefore, AreBegun, AreJoined, AreInOrder}
 use Rattle.lrlex_boundaries.specs.declared.stretch.Stretch.{Stretch}
 use Rattle.lrlex_boundaries.proofs.StretchLemmas.{begun_by-append, begun_by-all, begun_by-none, stretch_at-begun, stretch_at-after, rising-take, rising-drop}
 use Rattle.lrlex_boundaries.proofs.ArenaLemmas.{slice_range-append, bounds_agree, bounds_more_entries, in_order_more_entries, length-boundaries_from, place_is, last_range, range_is}
@@ -269,6 +269,12 @@ moved_behind f xs front behind ys n e long is =
     let rest : drop n xs ≡ behind = ap (drop n) e ∙ drop_at front behind n long in
     let past : drop (length xs - n) (drop n xs) ≡ [] = drop_all (length xs - n) (drop n xs) (omega (arith, length-drop n xs)) in
     ap₂ ◌++◌ kept (ap₂ ◌++◌ (is ∙ ap (map f) (take_rest xs n ∙ rest)) past ∙ append-nil (map f behind))
+
+-- a part of stretches that can be placed behind the entries
+pub placeable : (ss : List Stretch) (m b k n stacks : ℕ) → All (IsRange stacks) ss → All (λ s. s.from + k < 2 ^ 64) ss → stacks + n < 2 ^ 64 → All (IsPlaceable k n) (take m (drop b ss))
+placeable ss m b k n stacks ranges fits room =
+    All-take (IsPlaceable k n) m (drop b ss)
+    (All-drop (IsPlaceable k n) b ss (λ i d lt. let r = ranges i d lt in record { from = fits i d lt; first = omega (arith, r.ordered, r.within); end = omega (arith, r.within) }))
 
 -- places behind the boundary
 pub tail_movable : (entries : List (ℕ × ℕ)) (ss : List Stretch) (ps : List ℕ) (os : List Boundary) (index p q : ℕ) → boundaries_from entries ss 0 ps ≡ os →
