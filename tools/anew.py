@@ -3,7 +3,7 @@
 rt lib checks a new crate in batches, which it keeps in out/incremental for the next check. A check that keeps nothing shares its
 work better among processors: lrlex_boundaries takes 58 seconds on four in place of 87. So a first build has the kit make the
 library as rt lib does, but keeps nothing. And one with many crates below it, such as lrlex, holds what other crates can cite and
-no proofs, as rt ci makes all: lrlex takes 442 MB in place of 877, and what is built over it begins sooner. The others would be no
+no proofs, as rt ci makes all: lrlex is far smaller so, and what is built over it begins sooner. The others would be hardly
 smaller, and take longer to write.
 
 The notes that rt leaves are left too: one beside the library, so that rt takes it for its own, and, with a kit whose rt has that,
