@@ -54,7 +54,7 @@ def sums(libraries, rtlib):
 
 
 def fits(crate, rtlib):
-    """Whether the crate's library was built over those that are below it now, or is one that fits all of the same text."""
+    """Whether the crate's library was built over those that are below it now. One with proofs fits all that are built of the same text."""
     with contextlib.suppress(FileNotFoundError, ValueError), open(f"{os.path.dirname(crate.rlib)}/{OVER}", encoding="utf-8") as it:
         return json.load(it) == sums(crate.below(), rtlib)
     return True
